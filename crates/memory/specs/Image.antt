@@ -1,0 +1,140 @@
+-- Document 01, "Image and stream": kinds, pages, check bytes, and the stream between them.
+use mathlib.Core.Bool.{not, cond}
+use mathlib.Core.List.{List, [], _∷_, _++_}
+use Prim.Native.Nat.{ℕ, zero, suc, _+_, _-_, _*_, _/_, _%_}
+use lib.ListN.{length, take, drop, set}
+use lib.Dec.{eqb, ltb}
+use Rattle.refusal.specs.Outcome.{Outcome, good, refused, _>>_, _>>=_, refuse_if_}
+use Rattle.refusal.specs.Rows.{wrongImage, wrongSum, pastEnd}
+use Rattle.memory.specs.declared.Sizes.{Sizes}
+use Rattle.memory.specs.Bits.{number, bytesOf, fieldAt, putAt}
+
+-- ---- kinds
+
+-- Kind 0: a register of 8 bytes and one page. Kind 1: 4 pages. Kind 2: 16 pages. There is no other.
+abbrev pub sizesOf : ℕ → Outcome Sizes
+sizesOf zero = good (record { register = 8; pages = 1 })
+sizesOf (suc zero) = good (record { register = 0; pages = 4 })
+sizesOf (suc (suc zero)) = good (record { register = 0; pages = 16 })
+sizesOf (suc (suc (suc k))) = refused wrongImage
+
+-- A page is 32 bytes; all but its byte 0 are the stream's.
+abbrev pub imageBytes : Sizes → ℕ
+imageBytes z = z .register + 32 * z .pages
+
+abbrev pub streamBytes : Sizes → ℕ
+streamBytes z = z .register + 31 * z .pages
+
+abbrev pub streamBits : Sizes → ℕ
+streamBits z = 8 * streamBytes z
+
+-- Row 1: the sizes of an image of this kind and length.
+unfoldable pub imageSizes : ℕ → ℕ → Outcome Sizes
+imageSizes kind bytes = do
+  z ← sizesOf kind
+  refuse wrongImage if not (eqb bytes (imageBytes z))
+  good z
+
+-- ---- pages and their sums
+
+-- Where page i begins: its byte 0 is its check byte.
+abbrev pub pageAt : Sizes → ℕ → ℕ
+pageAt z i = z .register + 32 * i
+
+abbrev pub page : Sizes → List ℕ → ℕ → List ℕ
+page z image i = take 32 (drop (pageAt z i) image)
+
+-- The bytes that the check byte of page i makes add up to 0: the page, and with page 0 the register (document 000, 6.2.2).
+abbrev pub covered : Sizes → List ℕ → ℕ → List ℕ
+covered z image zero = take (z .register + 32) image
+covered z image (suc i) = page z image (suc i)
+
+abbrev pub total : List ℕ → ℕ
+total [] = 0
+total (b ∷ bytes) = b + total bytes
+
+abbrev pub pageSum : Sizes → List ℕ → ℕ → ℕ
+pageSum z image i = total (covered z image i) % 256
+
+-- Row 2, page by page: n pages from page i on.
+unfoldable pub sumsFrom : Sizes → List ℕ → ℕ → ℕ → Outcome (Unit {0})
+sumsFrom z image zero i = good tt
+sumsFrom z image (suc n) i = do
+  refuse wrongSum i if not (eqb (pageSum z image i) 0)
+  sumsFrom z image n (suc i)
+
+abbrev pub sums : Sizes → List ℕ → Outcome (Unit {0})
+sums z image = sumsFrom z image (z .pages) 0
+
+-- A page's stream bytes, its bytes 1 to 31; empty for a wrong kind, image length or page number.
+abbrev pub partOf : List ℕ → ℕ → Outcome Sizes → List ℕ
+partOf image i (good z) = cond (ltb i (z .pages)) (drop 1 (page z image i)) []
+partOf image i (refused r) = []
+
+unfoldable pub pageBytes : ℕ → List ℕ → ℕ → List ℕ
+pageBytes kind image i = partOf image i (imageSizes kind (length image))
+
+-- ---- image to stream
+
+-- Bytes 1 to 31 of each of n pages.
+abbrev pub pagesStream : ℕ → List ℕ → List ℕ
+pagesStream zero bytes = []
+pagesStream (suc n) bytes = take 31 (drop 1 bytes) ++ pagesStream n (drop 32 bytes)
+
+-- The stream is the register, if any, then bytes 1 to 31 of each page.
+unfoldable pub streamOf : Sizes → List ℕ → List ℕ
+streamOf z image = take (z .register) image ++ pagesStream (z .pages) (drop (z .register) image)
+
+-- The stream as one number.
+abbrev pub streamNumber : Sizes → List ℕ → ℕ
+streamNumber z image = number (streamOf z image)
+
+-- Row 3: the field of w bits at a place, within the stream.
+unfoldable pub takeAt : Sizes → List ℕ → ℕ → ℕ → Outcome ℕ
+takeAt z image at w = do
+  refuse pastEnd at if ltb (streamBits z) (at + w)
+  good (fieldAt (streamNumber z image) at w)
+
+-- ---- stream to image
+
+-- What has to be added to a sum to make it 0 modulo 256.
+abbrev pub checkByte : ℕ → ℕ
+checkByte sum = (256 - sum % 256) % 256
+
+-- n pages from stream bytes; the check byte of the first covers a further sum.
+abbrev pub pagesOf : ℕ → ℕ → List ℕ → List ℕ
+pagesOf zero sum bytes = []
+pagesOf (suc n) sum bytes = checkByte (sum + total (take 31 bytes)) ∷ (take 31 bytes ++ pagesOf n 0 (drop 31 bytes))
+
+-- The image with these stream bytes and right check bytes.
+abbrev pub withRight : Sizes → List ℕ → List ℕ
+withRight z bytes = take (z .register) bytes ++ pagesOf (z .pages) (total (take (z .register) bytes)) (drop (z .register) bytes)
+
+-- The image with this stream and right check bytes.
+unfoldable pub imageOf : Sizes → ℕ → List ℕ
+imageOf z N = withRight z (bytesOf (streamBytes z) N)
+
+-- The image with page i's check byte right, whatever stood there.
+unfoldable pub sealed : Sizes → List ℕ → ℕ → List ℕ
+sealed z image i =
+    let cleared = set image (pageAt z i) 0 in
+    set image (pageAt z i) (checkByte (total (covered z cleared i)))
+
+-- The page whose check byte covers bit n of the stream: the register's bits belong to page 0.
+abbrev pub pageOf : Sizes → ℕ → ℕ
+pageOf z n = (n / 8 - z .register) / 31
+
+-- n pages with other stream bytes, each check byte as it stands.
+abbrev pub pagesWith : ℕ → List ℕ → List ℕ → List ℕ
+pagesWith zero image bytes = []
+pagesWith (suc n) image bytes = take 1 image ++ (take 31 bytes ++ pagesWith n (drop 32 image) (drop 31 bytes))
+
+-- The image with another stream, each check byte as it stands.
+unfoldable pub withStream : Sizes → List ℕ → ℕ → List ℕ
+withStream z image N =
+    let bytes = bytesOf (streamBytes z) N in
+    take (z .register) bytes ++ pagesWith (z .pages) (drop (z .register) image) (drop (z .register) bytes)
+
+-- The image with the field of w bits at a place replaced by a code: no other bit, and no check byte.
+abbrev pub putIn : Sizes → List ℕ → ℕ → ℕ → ℕ → List ℕ
+putIn z image at w code = withStream z image (putAt (streamNumber z image) at w code)

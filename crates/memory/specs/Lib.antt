@@ -1,0 +1,4 @@
+pub mod Bits
+pub mod Pieces
+pub mod Image
+pub mod Answers

@@ -1,0 +1,52 @@
+// A place in the stream, carried by value and handed back moved on.
+ghost use mathlib.Core.Path.{_≡_};
+ghost use Prim.Native.Nat.{_≤_};
+ghost use Rattle.memory.specs.Answers.{Whole, takenSaid, takenAt};
+use crate::Sizes;
+use crate::fields;
+use refusal::Refusal;
+
+pub struct Cursor {
+    pub at: usize,
+}
+
+pub enum Taken {
+    // The field's code, and the cursor behind it.
+    Field(u64, Cursor),
+    // 3: the field would pass the stream's end.
+    Refused(Refusal),
+}
+
+impl Cursor {
+    // The stream's first bit.
+    pub fn start() -> Self
+        ensures { λ r. ⌜ r .at ≡ 0 ⌝ }
+    {
+        Cursor { at: 0 }
+    }
+
+    // The field of `width` bits at the cursor, and the cursor behind it, or 3 where the field would pass the end.
+    pub fn take(self, sizes: Sizes, image: &[u8], width: usize) -> Taken
+        requires { ⌜ Whole sizes (now image) × (1 ≤ width) × (width ≤ 32) ⌝ }
+        ensures { λ r. ⌜ takenSaid r ≡ takenAt sizes (now (image .entry)) (self .at) width ⌝ }
+    {
+        let at = self.at;
+        let bits = 8 * (sizes.register + 31 * sizes.pages);
+        if bits < at {
+            return Taken::Refused(Refusal {
+                number: refusal::PAST_END,
+                place: at as u64,
+            });
+        }
+        if bits - at < width {
+            return Taken::Refused(Refusal {
+                number: refusal::PAST_END,
+                place: at as u64,
+            });
+        }
+        Taken::Field(
+            fields::take(sizes, image, at, width),
+            Cursor { at: at + width },
+        )
+    }
+}

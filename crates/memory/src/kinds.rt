@@ -1,0 +1,66 @@
+// The three kinds of chip.
+ghost use mathlib.Core.Path.{_≡_};
+ghost use mathlib.Core.Bool.{cond};
+ghost use Prim.Native.Nat.{_^_, _<_};
+ghost use lib.Dec.{eqb};
+ghost use Rattle.memory.specs.Image.{imageBytes, imageSizes};
+ghost use Rattle.refusal.specs.Outcome.{good, refused};
+ghost use Rattle.refusal.specs.Rows.{wrongImage};
+ghost use Rattle.memory.specs.Answers.{sizesSaid};
+use crate::Sizes;
+use refusal::Refusal;
+
+pub enum SizesAnswer {
+    Are(Sizes),
+    Refused(Refusal),
+}
+
+// The sizes of an image of this kind and length, or 1 where the kind is not 0 to 2 or the length is not the kind's.
+pub fn image_sizes(kind: u8, bytes: usize) -> SizesAnswer
+    ensures { λ r. ⌜ sizesSaid r ≡ imageSizes kind bytes ⌝ }
+{
+    match kind {
+        0 => fitting(
+            Sizes {
+                register: 8,
+                pages: 1,
+            },
+            bytes,
+        ),
+        1 => fitting(
+            Sizes {
+                register: 0,
+                pages: 4,
+            },
+            bytes,
+        ),
+        2 => fitting(
+            Sizes {
+                register: 0,
+                pages: 16,
+            },
+            bytes,
+        ),
+        _ => wrong_image(),
+    }
+}
+
+// These sizes, or 1 where the length is not theirs.
+fn fitting(sizes: Sizes, bytes: usize) -> SizesAnswer
+    requires { ⌜ imageBytes sizes < 2 ^ 32 ⌝ }
+    ensures { λ r. ⌜ sizesSaid r ≡ cond (eqb bytes (imageBytes sizes)) (good sizes) (refused wrongImage) ⌝ }
+{
+    if bytes == sizes.register + 32 * sizes.pages {
+        return SizesAnswer::Are(sizes);
+    }
+    wrong_image()
+}
+
+fn wrong_image() -> SizesAnswer
+    ensures { λ r. ⌜ sizesSaid r ≡ refused wrongImage ⌝ }
+{
+    SizesAnswer::Refused(Refusal {
+        number: refusal::WRONG_IMAGE,
+        place: 0,
+    })
+}

@@ -1,0 +1,70 @@
+-- Document 01, "Turning down", row by row: the number returned and its place.
+use Prim.Native.Nat.{ℕ, min}
+use Rattle.refusal.specs.declared.Refusal.{Refusal}
+
+abbrev pub returned : ℕ → ℕ → Refusal
+returned number place = record { number = number; place = place }
+
+-- 1: kind not 0 to 2, or a wrong image length.
+abbrev pub wrongImage : Refusal
+wrongImage = returned 1 0
+
+-- 2: page sum.
+abbrev pub wrongSum : ℕ → Refusal
+wrongSum page = returned 2 page
+
+-- 3: a field, selector, template number or end bit would pass the stream's end.
+abbrev pub pastEnd : ℕ → Refusal
+pastEnd bit = returned 3 bit
+
+-- 4: selector 1 or 2; first selector 3; first template not 33, second not 40; selector 0 after block 40.
+abbrev pub wrongBlock : ℕ → Refusal
+wrongBlock selectorBit = returned 4 selectorBit
+
+-- 5: code outside the table; count 0; all ones in a point or deviation; domain 1.
+abbrev pub outsideTable : ℕ → Refusal
+outsideTable bit = returned 5 bit
+
+-- 6: Single infinite, or a NaN that isn't all ones.
+abbrev pub notFinite : ℕ → Refusal
+notFinite bit = returned 6 bit
+
+-- 7: points not rising as codes. The place is the later point's bit, in a build its index from 0.
+abbrev pub notRising : ℕ → Refusal
+notRising place = returned 7 place
+
+-- 8: field not 1 to 21; pair or character index past the last; for text, field not 3, 18 or 19.
+abbrev pub noSuch : ℕ → Refusal
+noSuch given = returned 8 given
+
+-- 9: wrong sort of value; missing where it may not be; text with end bit 0; date or letter text of wrong length.
+abbrev pub wrongSort : ℕ → Refusal
+wrongSort field = returned 9 field
+
+-- 10: figure out of range, Single not finite, character 0 or above 127; text or code that the field can't hold. The place is the field, or the index from 0 of the point.
+abbrev pub outOfRange : ℕ → Refusal
+outOfRange place = returned 10 place
+
+-- 11: more bits needed than the stream has; 65,535 if they are more than that.
+abbrev pub tooLong : ℕ → Refusal
+tooLong needed = returned 11 (min needed 65_535)
+
+-- 12: field 9 changed alone.
+abbrev pub changedAlone : ℕ → Refusal
+changedAlone field = returned 12 field
+
+-- 13: reading: one is missing, or e ≥ f. The place is the first missing of 7, 8, 10, 11, else 11.
+abbrev pub noSpan : ℕ → Refusal
+noSpan field = returned 13 field
+
+-- 14: reading: v below −2,000,000,000 or above 2,000,000,000, or more than a tenth of the span outside it.
+abbrev pub outsideSpan : Refusal
+outsideSpan = returned 14 0
+
+-- 15: reading with precision 2.
+abbrev pub singleSpan : Refusal
+singleSpan = returned 15 9
+
+-- 16: points list odd or over 254 long.
+abbrev pub wrongList : ℕ → Refusal
+wrongList length = returned 16 length
