@@ -1,0 +1,10 @@
+pub mod RowLaws
+pub mod CodeLaws
+pub mod StepLaws
+pub mod Table
+pub mod ScaleLaws
+pub mod ClosestLaws
+pub mod FloatLaws
+pub mod DecodeLaws
+pub mod EncodeLaws
+pub mod StoredLaws

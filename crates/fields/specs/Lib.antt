@@ -1,0 +1,5 @@
+pub mod Rules
+pub mod Rows
+pub mod Stored
+pub mod Figure
+pub mod Answers

@@ -1,0 +1,118 @@
+-- Document 01, demand 2: what a rule keeps of a value, for any width, start and step together.
+use mathlib.Core.Path.{_≡_}
+use mathlib.Core.Bool.{cond}
+use mathlib.Core.List.{List, [], _∷_}
+use Prim.Native.Nat.{ℕ, suc, _+_, _*_, _^_, _≤_, _<_}
+use lib.Dec.{T}
+use lib.IntN.{ℤ, pos, natAbs, _-ℤ_}
+use lib.Signed.{_≤ℤ_, _<ℤ_}
+use lib.Ieee.{binary32, fits}
+use Rattle.refusal.specs.Outcome.{good, refused}
+use Rattle.refusal.specs.Rows.{outOfRange}
+use Rattle.fields.specs.declared.Value.{Value}
+use Rattle.fields.specs.declared.Value.the-variants.{Whole, Single, Missing}
+use Rattle.fields.specs.declared.Scale.{Scale}
+use Rattle.fields.specs.declared.Scale.the-variants.{ResponseTime}
+use Rattle.fields.specs.declared.Rule.{Rule}
+use Rattle.fields.specs.declared.Rule.the-variants.{Plain, Stepped, Geometric, Single as Ieee}
+use Rattle.fields.specs.declared.Row.{Row}
+use Rattle.fields.specs.Rules.{topCode, steppedValue, steppedCode, progression, geometricValue, closest, decode, encode}
+use Rattle.fields.specs.Rows.{template33, rowsOf, domain, pointCount, calPoint, calDeviation}
+
+-- A stepped or geometric figure at the step its rule gives; any other value as it is.
+abbrev pub keptBy : Rule → ℕ → Value → Value
+keptBy (Plain least greatest) w (Whole z) = Whole z
+keptBy (Stepped start step) w (Whole z) = Whole (steppedValue start step (steppedCode start step z))
+keptBy (Geometric scale) w (Whole z) =
+    let value = geometricValue (progression scale) in Whole (value (closest value (topCode w) z))
+keptBy Ieee w (Whole z) = Whole z
+keptBy rule w (Single x) = Single x
+keptBy rule w Missing = Missing
+
+unfoldable pub kept : Row → Value → Value
+kept row v = keptBy (row .rule) (row .width) v
+
+-- What an f32 is: a value that a caller can lend.
+abbrev pub Real : Value → Type 0
+Real (Whole z) = Unit {0}
+Real (Single x) = T (fits binary32 x)
+Real Missing = Unit {0}
+
+-- What a row has to be: 1 to 32 bits, its codes fit them, all ones means one thing, and its figures fit 64 bits.
+abbrev pub SoundRule : Rule → Row → Type 0
+SoundRule (Plain least greatest) row = (least ≤ greatest) × (greatest + cond (row .missing) 1 0 < 2 ^ row .width)
+SoundRule (Stepped start step) row = (0 < step) × (1 < row .width) × (natAbs start < 2 ^ 62) × (step * 2 ^ row .width < 2 ^ 62)
+SoundRule (Geometric ResponseTime) row = row .width ≡ 6
+SoundRule Ieee row = row .width ≡ 32
+
+pub record Sound (row : Row) : Type 0 where
+  pub some : 1 ≤ row .width
+  pub most : row .width ≤ 32
+  pub rules : SoundRule (row .rule) row
+
+-- So is every row of the layout, whatever the choice.
+abbrev pub AllSound : List Row → Type 0
+AllSound [] = Unit {0}
+AllSound (row ∷ rows) = Sound row × AllSound rows
+
+abbrev pub RowsSound : Type 0
+RowsSound = (latest : ℕ) → AllSound (domain ∷ pointCount ∷ calPoint ∷ calDeviation ∷ rowsOf template33 latest)
+
+-- ---- for any row
+
+-- A stored value reads back as the rule keeps it.
+abbrev pub ReadsBack : Type 0
+ReadsBack =
+    (row : Row) (place at code : ℕ) (v : Value) → Sound row → Real v →
+    encode row place v ≡ good code → (code < 2 ^ row .width) × (decode row at code ≡ good (kept row v))
+
+-- A value read from a code is stored at that code again.
+abbrev pub StoredAgain : Type 0
+StoredAgain =
+    (row : Row) (place at code : ℕ) (v : Value) → Sound row → code < 2 ^ row .width →
+    decode row at code ≡ good v → encode row place v ≡ good code
+
+-- ---- stepped, for any width, start and step
+
+-- A figure moves by half a step at most, and by a whole half only upward.
+pub record Nearest (step : ℕ) (z y : ℤ) : Type 0 where
+  pub near : 2 * natAbs (y -ℤ z) ≤ step
+  pub below : y <ℤ z → 2 * natAbs (y -ℤ z) < step
+
+abbrev pub SteppedNearest : Type 0
+SteppedNearest =
+    (row : Row) (start : ℤ) (step place code : ℕ) (z : ℤ) → row .rule ≡ Stepped start step → 0 < step →
+    encode row place (Whole z) ≡ good code → Nearest step z (steppedValue start step code)
+
+-- The order of codes follows the order of figures.
+abbrev pub SteppedRises : Type 0
+SteppedRises =
+    (row : Row) (start : ℤ) (step place c d : ℕ) (y z : ℤ) → row .rule ≡ Stepped start step → 0 < step → y ≤ℤ z →
+    encode row place (Whole y) ≡ good c → encode row place (Whole z) ≡ good d → c ≤ d
+
+-- A figure from the lowest to the highest value is stored, one outside is refused with 10.
+abbrev pub SteppedRange : Type 0
+SteppedRange =
+    (row : Row) (start : ℤ) (step place : ℕ) (z : ℤ) → row .rule ≡ Stepped start step →
+    (start ≤ℤ z → z ≤ℤ steppedValue start step (topCode (row .width)) → encode row place (Whole z) ≡ good (steppedCode start step z)) ×
+    (z <ℤ start → encode row place (Whole z) ≡ refused (outOfRange place)) ×
+    (steppedValue start step (topCode (row .width)) <ℤ z → encode row place (Whole z) ≡ refused (outOfRange place))
+
+-- ---- geometric, for any rising table
+
+-- The values of codes 0 to n rise strictly.
+abbrev pub Rising : (ℕ → ℤ) → ℕ → Type 0
+Rising value n = (c : ℕ) → c < n → value c <ℤ value (suc c)
+
+-- No code's value is nearer than the one stored, and of two as near the stored one is the greater.
+pub record Closest (value : ℕ → ℤ) (n : ℕ) (z : ℤ) (code : ℕ) : Type 0 where
+  pub inside : code ≤ n
+  pub nearer : (k : ℕ) → k ≤ n → natAbs (value code -ℤ z) ≤ natAbs (value k -ℤ z)
+  pub greater : (k : ℕ) → k ≤ n → natAbs (value k -ℤ z) ≡ natAbs (value code -ℤ z) → k ≤ code
+
+abbrev pub GeometricClosest : Type 0
+GeometricClosest = (value : ℕ → ℤ) (n : ℕ) (z : ℤ) → Rising value n → Closest value n z (closest value n z)
+
+-- The response times rise strictly.
+abbrev pub ResponseRises : Type 0
+ResponseRises = Rising (geometricValue (progression ResponseTime)) 62

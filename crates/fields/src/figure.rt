@@ -1,0 +1,21 @@
+// Document 01, "Reading": the physical figure.
+ghost use mathlib.Core.Path.{_≡_};
+ghost use mathlib.Core.Bool.{not};
+ghost use Prim.Native.Nat.{_^_, _≤_};
+ghost use lib.Dec.{T};
+ghost use lib.IntN.{natAbs};
+ghost use lib.Ieee.{isNan};
+ghost use Rattle.fields.specs.Figure.{physicalFigure};
+
+// least + (greatest − least) × (q / 1,000,000,000), in f64, each operation rounded once.
+// The caller shows that the two Singles are no NaNs, and that an f64 holds q, as it does every fraction that a reading can have.
+pub fn physical_figure(least: f32, greatest: f32, q: i64) -> f64
+    requires { ⌜ T (not (isNan least)) ⌝ }
+    requires { ⌜ T (not (isNan greatest)) ⌝ }
+    requires { ⌜ natAbs q ≤ 2 ^ 53 ⌝ }
+    ensures { λ r. ⌜ r ≡ physicalFigure least greatest q ⌝ }
+{
+    let low = least as f64;
+    let high = greatest as f64;
+    low + (high - low) * (q as f64 / 1_000_000_000.0)
+}
