@@ -1,0 +1,26 @@
+-- A rule at each number below n, by one test that antt computes.
+-- Assumes nothing.
+use mathlib.Core.Path.{sym, subst}
+use mathlib.Core.Logic.{⊎-elim}
+use mathlib.Core.Bool.{Bool, true, false, _&&_}
+use Prim.Native.Nat.{ℕ, zero, suc, _<_}
+use native.Mathlib.Nat.{eq-or-lt-of-le, le-of-suc-le-suc, not-suc-le-zero}
+use lib.Dec.{T}
+
+abbrev pub below : (ℕ → Bool) → ℕ → Bool
+below f zero = true
+below f (suc n) = f n && below f n
+
+pub first : (a b : Bool) → T (a && b) → T a
+first true b t = tt
+first false b t = t
+
+pub second : (a b : Bool) → T (a && b) → T b
+second true b t = t
+second false b t = absurd t
+
+pub at : (f : ℕ → Bool) (n : ℕ) → T (below f n) → (k : ℕ) → k < n → T (f k)
+at f zero t k h = absurd (not-suc-le-zero h)
+at f (suc n) t k h =
+    ⊎-elim (λ e. subst (λ (m : ℕ). T (f m)) (sym e) (first (f n) (below f n) t))
+    (λ l. at f n (second (f n) (below f n) t) k l) (eq-or-lt-of-le (le-of-suc-le-suc h))

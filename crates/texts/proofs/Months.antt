@@ -1,0 +1,88 @@
+-- Laws of months and years, for any year.
+-- Assumes nothing.
+use mathlib.Core.Path.{_≡_, refl, sym, ap, subst, _∙_}
+use mathlib.Core.Bool.{Bool, true, false, _&&_, cond}
+use mathlib.Core.List.{List, [], _∷_}
+use Prim.Native.Nat.{ℕ, zero, suc, _+_, _-_, _*_, _≤_, zero-le, suc-le-suc}
+use native.Mathlib.Omega.{arith}
+use lib.Dec.{T, leb, leb→le}
+use lib.ListN.{getD, take}
+use Rattle.texts.specs.Dates.{leap, monthLengths, monthLength, total, daysOfYears, daysBeforeYear, daysBeforeMonth}
+use Rattle.texts.proofs.Below.{below, at, first, second}
+use Rattle.texts.proofs.Rising.{risen}
+
+-- ---- two sorts of year
+
+-- A leap year, and another.
+abbrev pub model : Bool → ℕ
+model true = 2000
+model false = 1999
+
+pub like-model : (year : ℕ) (long : Bool) → leap year ≡ long → monthLengths year ≡ monthLengths (model long)
+like-model year true e = rw e
+like-model year false e = rw e
+
+pub year-days : (year : ℕ) → total (monthLengths year) ≡ 365 + cond (leap year) 1 0
+year-days year = by (leap year) refl
+  where
+    by : (long : Bool) → leap year ≡ long → total (monthLengths year) ≡ 365 + cond long 1 0
+    by true e = ap total (like-model year true e)
+    by false e = ap total (like-model year false e)
+
+pub year-range : (year : ℕ) → (365 ≤ total (monthLengths year)) × (total (monthLengths year) ≤ 366)
+year-range year = by (leap year) (year-days year)
+  where
+    by : (long : Bool) → total (monthLengths year) ≡ 365 + cond long 1 0 → (365 ≤ total (monthLengths year)) × (total (monthLengths year) ≤ 366)
+    by true e = omega arith
+    by false e = omega arith
+
+-- A month has 1 to 31 days.
+abbrev sized : Bool → ℕ → Bool
+sized long month = leb 1 (monthLength (model long) month) && leb (monthLength (model long) month) 31
+
+all-sized : (long : Bool) → T (below (sized long) 13)
+all-sized true = tt
+all-sized false = tt
+
+pub month-range : (year month : ℕ) → month ≤ 12 → (1 ≤ monthLength year month) × (monthLength year month ≤ 31)
+month-range year month h =
+    let long = leap year in
+    let days = monthLength (model long) month in
+    let t = at (sized long) 13 (all-sized long) month (suc-le-suc h) in
+    subst (λ (l : List ℕ). (1 ≤ getD l (month - 1) 0) × (getD l (month - 1) 0 ≤ 31)) (sym (like-model year long refl))
+    (leb→le 1 days (first (leb 1 days) (leb days 31) t), leb→le days 31 (second (leb 1 days) (leb days 31) t))
+
+-- ---- from month to month
+
+total-suc : (l : List ℕ) (k : ℕ) → total (take (suc k) l) ≡ total (take k l) + getD l k 0
+total-suc [] zero = refl
+total-suc [] (suc k) = refl
+total-suc (x ∷ l) zero = omega arith
+total-suc (x ∷ l) (suc k) = omega (arith, total-suc l k)
+
+pub month-suc : (year month : ℕ) → 1 ≤ month → daysBeforeMonth year (suc month) ≡ daysBeforeMonth year month + monthLength year month
+month-suc year month h =
+    let e : suc month - 1 ≡ suc (month - 1) = omega arith in
+    ap (λ (m : ℕ). total (take m (monthLengths year))) e ∙ total-suc (monthLengths year) (month - 1)
+
+pub months-rise : (year month : ℕ) → daysBeforeMonth year month ≤ daysBeforeMonth year (suc month)
+months-rise year zero = zero-le
+months-rise year (suc month) = omega (arith, month-suc year (suc month) (suc-le-suc zero-le))
+
+-- ---- from year to year
+
+pub year-suc : (year : ℕ) → 1998 ≤ year → daysBeforeYear (suc year) ≡ daysBeforeYear year + total (monthLengths year)
+unfolding daysOfYears
+year-suc year h =
+    let e : suc year - 1998 ≡ suc (year - 1998) = omega arith in
+    let s : 1998 + (year - 1998) ≡ year = omega arith in
+    ap daysOfYears e ∙ ap (λ (y : ℕ). daysBeforeYear year + total (monthLengths y)) s
+
+pub years-rise : (year : ℕ) → daysBeforeYear year ≤ daysBeforeYear (suc year)
+unfolding daysOfYears
+years-rise year = risen daysOfYears (λ n. omega arith) (year - 1998) (suc year - 1998) (omega arith)
+
+pub years-range : (n : ℕ) → (365 * n ≤ daysOfYears n) × (daysOfYears n ≤ 366 * n)
+unfolding daysOfYears
+years-range zero = omega arith
+years-range (suc n) = omega (arith, years-range n, year-range (1998 + n))

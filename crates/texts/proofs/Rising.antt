@@ -1,0 +1,20 @@
+-- What rises passes a number once: one law for the days before a year and for the days before a month.
+-- Assumes nothing.
+use mathlib.Core.Path.{_≡_, sym, subst}
+use mathlib.Core.Logic.{⊎-elim}
+use Prim.Native.Nat.{ℕ, zero, suc, _<_, _≤_}
+use native.Mathlib.Nat.{le-refl, le-trans, eq-or-lt-of-le, le-of-suc-le-suc}
+use native.Mathlib.Omega.{arith, by-contra}
+
+module _ (f : ℕ → ℕ) (rises : (k : ℕ) → f k ≤ f (suc k)) where
+  pub risen : (a b : ℕ) → a ≤ b → f a ≤ f b
+  risen a zero h = subst (λ (k : ℕ). f k ≤ f zero) (omega arith) (le-refl (f zero))
+  risen a (suc b) h =
+      ⊎-elim (λ e. subst (λ (k : ℕ). f k ≤ f (suc b)) (sym e) (le-refl (f (suc b))))
+      (λ l. le-trans (risen a b (le-of-suc-le-suc l)) (rises b)) (eq-or-lt-of-le h)
+
+  not-past : (a b n : ℕ) → f b ≤ n → n < f (suc a) → b ≤ a
+  not-past a b n low high = by-contra b a (λ l. let p : f (suc a) ≤ f b = risen (suc a) b l in omega arith)
+
+  pub one-place : (a b n : ℕ) → f a ≤ n → n < f (suc a) → f b ≤ n → n < f (suc b) → a ≡ b
+  one-place a b n la ha lb hb = omega (arith, not-past a b n lb ha, not-past b a n la hb)

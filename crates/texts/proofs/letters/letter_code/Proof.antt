@@ -1,0 +1,53 @@
+-- `texts::letters::letter_code` meets its contract: the letters before the one that is found are others, and no letter stands twice.
+-- Assumes nothing.
+use mathlib.Core.Path.{_≡_, sym, _∙_}
+use Prim.Native.Nat.{ℕ, _≤_, _<_, _-_}
+use native.Mathlib.Omega.{arith}
+use lib.ListN.{getD}
+use borrow.Author.Count.{below-more}
+use borrow.Author.Needs.{needs}
+use Rattle.texts.specs.Letters.{letters}
+use Rattle.texts.proofs.Alphabet.{distinct}
+use Rattle.texts.proofs.letters.letter_code.Statement.{statement}
+use Rattle.texts.proofs.letters.letter_code.Tie as tie
+
+abbrev Inv-loop : tie.InvT-loop
+Inv-loop character at₀ at = (at ≤ 32) × ((k : ℕ) → k < at → getD letters k 0 ≡ character → ⊥)
+
+abbrev μ-loop : tie.MeasureT-loop
+μ-loop character at₀ at = 32 - at
+
+loop-holds : tie.Need-loop-holds Inv-loop μ-loop
+loop-holds c = search needs
+
+array-read-if1 : tie.Need-array-read-if1 Inv-loop μ-loop
+array-read-if1 c = search needs
+
+returns : tie.Need-returns Inv-loop μ-loop
+returns c = (search needs, λ code below e. distinct _ code (c .before .loop-test .taken) (omega arith) (c .if1 .taken ∙ sym e))
+
+add-at : tie.Need-add-at Inv-loop μ-loop
+add-at c = search needs
+
+loop-less : tie.Need-loop-less Inv-loop μ-loop
+loop-less c = search needs
+
+loop-again : tie.Need-loop-again Inv-loop μ-loop
+loop-again c = (search needs, below-more _ _ (c .before .before .loop .inv .1) (c .if1 .left))
+
+returns-2 : tie.Need-returns-2 Inv-loop μ-loop
+returns-2 c = (search needs, λ code below e. absurd (c .before .loop .inv .1 code (omega arith) e))
+
+pub letter-code-spec : {M : Type 1} → statement M
+letter-code-spec =
+    tie.close
+    (tie.spec
+    Inv-loop
+    μ-loop
+    loop-holds
+    array-read-if1
+    returns
+    add-at
+    loop-less
+    loop-again
+    returns-2)

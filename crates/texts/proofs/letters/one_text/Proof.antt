@@ -1,0 +1,16 @@
+-- `texts::letters::one_text` meets its contract.
+-- Assumes nothing.
+use borrow.Author.Needs.{needs}
+use Rattle.texts.specs.Letters.{lettersText}
+use Rattle.texts.proofs.letters.one_text.Statement.{statement}
+use Rattle.texts.proofs.letters.one_text.Tie as tie
+
+letter-requires : tie.Need-letter-requires
+letter-requires c κs = search needs
+
+returns : tie.Need-returns
+unfolding lettersText
+returns c = search needs
+
+pub one-text-spec : {M : Type 1} → statement M
+one-text-spec = tie.close (tie.spec letter-requires returns)

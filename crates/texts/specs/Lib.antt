@@ -1,0 +1,4 @@
+pub mod Letters
+pub mod Dates
+pub mod Text
+pub mod Whose

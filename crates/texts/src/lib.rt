@@ -1,0 +1,150 @@
+// Document 01, "Layout": letters and dates as text and back, by value. Every function is proved, nothing is assumed, and
+// neither call asks anything of its caller.
+ghost use mathlib.Core.Path.{_≡_};
+ghost use Rattle.refusal.specs.Outcome.{refused};
+ghost use Rattle.refusal.specs.Rows.{returned};
+ghost use Rattle.texts.specs.Text.{textOf, textSaid, same, codeOf, codeSaid};
+ghost use Rattle.texts.specs.Whose.{codeIfShown};
+
+mod dates; // dates.rt: dates and their text
+mod letters; // letters.rt: letters and their text
+
+use refusal::Refusal;
+
+// The text of a code: how many characters it has, or the refusal.
+pub enum TextAnswer {
+    Length(u64),
+    Refused(Refusal),
+}
+
+// An enum holds no array: the characters stand beside the answer, with zeros behind them.
+pub struct Text {
+    pub answer: TextAnswer,
+    pub characters: [u8; 10],
+}
+
+// The code of a text, or the refusal.
+pub enum CodeAnswer {
+    Code(u64),
+    Refused(Refusal),
+}
+
+// The text of a code that the field can hold and that does not mean missing: one letter for field 3, a date for 18, three
+// letters for 19. Else 8, for another field, or 10, with the field as place.
+pub fn text_of(field: u64, code: u64) -> Text
+    ensures { λ r. ⌜ r ≡ textSaid (textOf field code) ⌝ }
+{
+    if field == 3 {
+        if code < 1 {
+            return no_text(refusal::OUT_OF_RANGE, field);
+        }
+        if 26 < code {
+            return no_text(refusal::OUT_OF_RANGE, field);
+        }
+        let characters = letters::one_text(code);
+        return Text {
+            answer: TextAnswer::Length(1),
+            characters,
+        };
+    }
+    if field == 18 {
+        if 65_534 < code {
+            return no_text(refusal::OUT_OF_RANGE, field);
+        }
+        let characters = dates::text_of(code);
+        return Text {
+            answer: TextAnswer::Length(10),
+            characters,
+        };
+    }
+    if field == 19 {
+        if 32_767 < code {
+            return no_text(refusal::OUT_OF_RANGE, field);
+        }
+        let characters = letters::three_text(code);
+        return Text {
+            answer: TextAnswer::Length(3),
+            characters,
+        };
+    }
+    no_text(refusal::NO_SUCH, field)
+}
+
+// The code whose text this is, if the field can hold it. Else 8, for another field than 3, 18 and 19, then 9, for a text of
+// another length than the field's, or 10, with the field as place.
+pub fn code_of(field: u64, text: &[u8]) -> CodeAnswer
+    ensures { λ r. ⌜ codeSaid r ≡ codeOf field (now (text .entry)) ⌝ }
+{
+    if field == 3 {
+        if text.len() != 1 {
+            return no_code(refusal::WRONG_SORT, field);
+        }
+        return code_if_shown(field, letters::one_code(text), text);
+    }
+    if field == 18 {
+        if text.len() != 10 {
+            return no_code(refusal::WRONG_SORT, field);
+        }
+        return code_if_shown(field, dates::code_of(text), text);
+    }
+    if field == 19 {
+        if text.len() != 3 {
+            return no_code(refusal::WRONG_SORT, field);
+        }
+        return code_if_shown(field, letters::three_code(text), text);
+    }
+    no_code(refusal::NO_SUCH, field)
+}
+
+// A code, if this is its text. Else 10, with the field as place: so is turned down whatever is no text of a code.
+fn code_if_shown(field: u64, code: u64, text: &[u8]) -> CodeAnswer
+    ensures { λ r. ⌜ codeSaid r ≡ codeIfShown field code (now (text .entry)) ⌝ }
+{
+    let shown = text_of(field, code);
+    let answer = shown.answer;
+    let characters = shown.characters;
+    match answer {
+        TextAnswer::Refused(refusal) => CodeAnswer::Refused(refusal),
+        TextAnswer::Length(n) => {
+            let end = n as usize;
+            if equal(&characters[..end], text) {
+                return CodeAnswer::Code(code);
+            }
+            no_code(refusal::OUT_OF_RANGE, field)
+        }
+    }
+}
+
+// Whether two slices hold the same bytes.
+fn equal(a: &[u8], b: &[u8]) -> bool
+    ensures { λ r. ⌜ r ≡ same (now (a .entry)) (now (b .entry)) ⌝ }
+{
+    if a.len() != b.len() {
+        return false;
+    }
+    let mut at = 0;
+    while at < a.len() {
+        if a[at] != b[at] {
+            return false;
+        }
+        at += 1;
+    }
+    true
+}
+
+// A refusal, and zeros.
+fn no_text(number: u8, place: u64) -> Text
+    ensures { λ r. ⌜ r ≡ textSaid (refused (returned number place)) ⌝ }
+{
+    Text {
+        answer: TextAnswer::Refused(Refusal { number, place }),
+        characters: [0; 10],
+    }
+}
+
+// A refusal.
+fn no_code(number: u8, place: u64) -> CodeAnswer
+    ensures { λ r. ⌜ r ≡ CodeAnswer.Refused (returned number place) ⌝ }
+{
+    CodeAnswer::Refused(Refusal { number, place })
+}
