@@ -1,31 +1,68 @@
--- Document 01, "Edges": the starred cases, one table and one statement over it.
+-- Document 01, "Edges": the starred cases, one table and one statement over it; and that the demands' hypotheses can be met.
 use mathlib.Core.Path.{_≡_}
-use mathlib.Core.List.{List, [], _∷_}
-use Prim.Native.Nat.{ℕ}
-use lib.IntN.{ℤ, pos}
-use Rattle.refusal.specs.Outcome.{good, _>>=_}
+use mathlib.Core.Bool.{false, true}
+use mathlib.Core.List.{List, [], _∷_, _++_, map}
+use Prim.Native.Nat.{ℕ, _+_, _*_, _≤_}
+use lib.ListN.{take, replicate}
+use lib.IntN.{ℤ, pos, negℤ, natAbs, _-ℤ_, _*ℤ_}
+use lib.Ieee.{binary32, ofInt}
+use Rattle.refusal.specs.Outcome.{Outcome, good, _>>=_}
+use Rattle.memory.specs.Bits.{bytesOf}
+use Rattle.memory.specs.Pieces.{pack}
 use Rattle.fields.specs.declared.Value.{Value}
-use Rattle.fields.specs.declared.Value.the-variants.{Whole, Missing}
+use Rattle.fields.specs.declared.Value.the-variants.{Whole, Single, Missing}
 use Rattle.fields.specs.declared.Row.{Row}
 use Rattle.fields.specs.Rules.{decode, encode}
-use Rattle.fields.specs.Rows.{electrical, excitation}
+use Rattle.fields.specs.Rows.{template33, electrical, excitation}
 use Rattle.texts.specs.Dates.{dateOf}
+use Rattle.edit.specs.declared.Sheet.{Sheet}
+use Rattle.edit.specs.Build.{slot, fieldPieces, pairsOf, build}
+use Rattle.reading.specs.Line.{deviation}
+use Rattle.reading.specs.Reading.{position, takeReading}
+use Rattle.promises.specs.Changes.{Change, changed}
+
+-- A sheet at a precision, with the ends of its span.
+abbrev pub sheetAt : ℕ → ℤ → ℤ → Sheet
+sheetAt precision e f = record {
+  fields =
+      map (λ n. slot (Whole (pos n))) (17 ∷ 1 ∷ 1 ∷ 0 ∷ 1 ∷ 0 ∷ []) ++
+      (slot (Single (ofInt binary32 (pos 0))) ∷ slot (Single (ofInt binary32 (pos 10))) ∷ slot (Whole (pos precision)) ∷ slot (Whole e) ∷ slot (Whole f) ∷ slot (Whole (pos 2)) ∷ []) ++
+      map slot (replicate 6 Missing) ++
+      map (λ n. slot (Whole (pos n))) (0 ∷ 0 ∷ 0 ∷ []);
+  «end_bit» = false;
+}
 
 pub data Case : Type 0 where
+  -- Fields 1 to 5 are these bytes.
+  basic : List ℤ → List ℕ → Case
   -- Under a row a figure reads back as another.
   readsBack : Row → ℤ → ℤ → Case
   -- Under a row a code means a value.
   means : Row → ℕ → Value → Case
   -- A date's code, year, month and day.
   dated : ℕ → ℕ → ℕ → ℕ → Case
+  -- e, f, v and p.
+  placed : ℤ → ℤ → ℤ → ℤ → Case
+  -- Points by turns, a place and the deviation there.
+  deviates : List ℤ → ℤ → ℤ → Case
+  -- A kind and its image's length, a sheet, points, changes, v and q: built, changed and read.
+  reads : ℕ → ℕ → Sheet → List ℤ → List Change → ℤ → ℤ → Case
 
 abbrev pub Holds : Case → Type 0
+Holds (basic figures bytes) =
+    (fieldPieces (record { fields = map (λ n. slot (Whole n)) figures; «end_bit» = false }) (take 5 template33) 0 1 >>= λ pieces. good (bytesOf 8 (pack pieces))) ≡ good bytes
 Holds (readsBack row figure value) = (encode row 0 (Whole figure) >>= decode row 0) ≡ good (Whole value)
 Holds (means row code value) = decode row 0 code ≡ good value
 Holds (dated code year month day) = dateOf code ≡ record { year = year; month = month; day = day }
+Holds (placed e f v p) = position v e f ≡ p
+Holds (deviates points p d) = deviation (pairsOf points) p ≡ d
+Holds (reads kind bytes sheet points changes v q) =
+    (build kind (replicate bytes 0) sheet [] points >>= λ image. takeReading kind (changed image changes) v >>= λ r. good (r .fraction)) ≡ good q
 
+-- The cases that document 01 stars.
 abbrev pub starred : List Case
 starred =
+    basic (pos 17 ∷ pos 1 ∷ pos 1 ∷ pos 0 ∷ pos 1 ∷ []) (0x11 ∷ 0x40 ∷ 0x00 ∷ 0x20 ∷ 0x00 ∷ 0x01 ∷ 0x00 ∷ 0x00 ∷ []) ∷
     readsBack (electrical 0) (pos 2_499_999) (pos 2_000_000) ∷
     readsBack (electrical 0) (pos 2_500_000) (pos 3_000_000) ∷
     means excitation 510 (Whole (pos 511)) ∷
@@ -34,6 +71,30 @@ starred =
     dated 7_306 2018 1 2 ∷
     dated 37_314 2100 3 1 ∷
     dated 65_534 2177 6 5 ∷
+    placed (pos 0) (pos 3_000_000) (pos 1_000_000) (pos 333_333_333) ∷
+    placed (pos 0) (pos 3_000_000) (pos 2_000_000) (pos 666_666_667) ∷
+    deviates (pos 0 ∷ pos 0 ∷ pos 400 ∷ negℤ (pos 200) ∷ []) (pos 1) (pos 0) ∷
+    deviates (pos 0 ∷ pos 0 ∷ pos 400 ∷ negℤ (pos 200) ∷ []) (pos 500) (negℤ (pos 200)) ∷
+    deviates (pos 0 ∷ pos 0 ∷ pos 400 ∷ pos 200 ∷ []) (pos 1) (pos 1) ∷
+    []
+
+-- A change of field 11, and one of field 9, which is refused.
+abbrev pub twoChanges : ℕ → ℤ → List Change
+twoChanges kind f = record { kind = kind; field = 11; value = Whole f } ∷ record { kind = kind; field = 9; value = Whole (pos 1) } ∷ []
+
+-- Points half a step and deviations half a step off what a chip can hold, on a steep fall.
+abbrev pub steep : List ℤ
+steep = pos 7_650 ∷ pos 500 ∷ pos 22_950 ∷ negℤ (pos 152_500) ∷ []
+
+-- Demand 3 can be met: a build, changes and an accepted reading for each kind, at precisions 0 and 1.
+abbrev pub met : List Case
+met =
+    reads 0 40 (sheetAt 0 (pos 0) (pos 2_000_000)) [] (twoChanges 0 (pos 3_000_000)) (pos 1_000_000) (pos 333_333_333) ∷
+    reads 0 40 (sheetAt 1 (pos 0) (pos 2_000_000)) [] (twoChanges 0 (pos 3_000_000)) (pos 2_000_000) (pos 666_666_667) ∷
+    reads 1 128 (sheetAt 0 (pos 0) (pos 2_000_000)) (pos 0 ∷ pos 5_000 ∷ []) (twoChanges 1 (pos 3_000_000)) (pos 1_000_000) (pos 333_338_333) ∷
+    reads 1 128 (sheetAt 1 (pos 0) (pos 2_000_000)) (pos 0 ∷ pos 5_000 ∷ []) (twoChanges 1 (pos 3_000_000)) (pos 1_000_000) (pos 333_338_333) ∷
+    reads 2 512 (sheetAt 0 (pos 0) (pos 2_000_000)) (pos 0 ∷ pos 5_000 ∷ []) (twoChanges 2 (pos 3_000_000)) (pos 1_000_000) (pos 333_338_333) ∷
+    reads 2 512 (sheetAt 1 (pos 0) (pos 2_000_000)) steep (twoChanges 2 (pos 3_000_000)) (pos 61) (negℤ (pos 28_997)) ∷
     []
 
 abbrev pub AllHold : List Case → Type 0
@@ -42,4 +103,4 @@ AllHold (c ∷ cases) = Holds c × AllHold cases
 
 -- The one statement.
 abbrev pub Edges : Type 0
-Edges = AllHold starred
+Edges = AllHold (starred ++ met)

@@ -1,1 +1,6 @@
+pub mod Lent
+pub mod Again
+pub mod Changes
+pub mod Certificate
 pub mod Edges
+pub mod Attained

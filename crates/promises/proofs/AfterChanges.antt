@@ -1,0 +1,167 @@
+-- Demand 2 after each change: the image is accepted and holds what the changes make of it.
+use mathlib.Core.Path.{_≡_, refl, sym, ap, _∙_, subst}
+use mathlib.Core.Bool.{Bool, true, false, not, cond}
+use mathlib.Core.List.{List, [], _∷_}
+use Prim.Native.Nat.{ℕ, zero, suc, _-_}
+use native.Mathlib.Omega.{arith}
+use lib.Dec.{eqb}
+use lib.ListN.{length}
+use borrow.Author.Tests.{eqb-true, eqb-false, not-false}
+use Rattle.refusal.specs.declared.Refusal.{Refusal}
+use Rattle.refusal.specs.Outcome.{Outcome, good, refused, _>>_, _>>=_, refuse_if_}
+use Rattle.refusal.specs.Rows.{wrongImage}
+use Rattle.memory.specs.declared.Sizes.{Sizes}
+use Rattle.memory.specs.Bits.{Bytes}
+use Rattle.memory.specs.Image.{imageSizes}
+use Rattle.fields.specs.declared.Value.{Value}
+use Rattle.fields.specs.Rules.{encode}
+use Rattle.fields.specs.Stored.{Real}
+use Rattle.sheet.specs.Contents.{Found, Contents}
+use Rattle.sheet.specs.Check.{contents, field}
+use Rattle.refusal.proofs.Outcomes.{good-same, passed}
+use Rattle.sheet.proofs.Sections.{Accepted, contents-accepted}
+use Rattle.sheet.proofs.Puts.{withField}
+use Rattle.edit.specs.Build.{afterwards}
+use Rattle.edit.specs.Change.{change}
+use Rattle.edit.proofs.Changing.{fixed, recodedIn, change-unread, change-fixed, change-free, Free, free-is, change-made, recoded-contents, recoded-same, made-length, made-bytes}
+use Rattle.promises.specs.Changes.{Change, changedBy, changed, stores, heldBy, held, AfterChanges, ChangedToTheSame}
+
+-- ---- another kind
+
+-- The kind that an image's length tells.
+kindOf : ℕ → ℕ
+kindOf bytes = cond (eqb bytes 40) 0 (cond (eqb bytes 128) 1 2)
+
+told : {A : Type 0} (bytes n : ℕ) (a b : A) → ((refuse wrongImage if not (eqb bytes n)) >> good a) ≡ good b → n ≡ bytes
+told bytes n a b e = sym (eqb-true bytes n (not-false (eqb bytes n) (passed wrongImage (not (eqb bytes n)) (good a) b e .0)))
+
+kind-told : (kind bytes : ℕ) (z : Sizes) → imageSizes kind bytes ≡ good z → kind ≡ kindOf bytes
+unfolding imageSizes kindOf
+kind-told zero bytes z e = ap kindOf (told bytes 40 _ _ e)
+kind-told (suc zero) bytes z e = ap kindOf (told bytes 128 _ _ e)
+kind-told (suc (suc zero)) bytes z e = ap kindOf (told bytes 512 _ _ e)
+kind-told (suc (suc (suc k))) bytes z e = absurd (let q : _≡_ {A = ℕ} 0 1 = cc in omega arith)
+
+-- An image is of one kind: as of any other it is refused.
+pub same-kind : (kind other : ℕ) (image : List ℕ) (c d : Contents) → contents kind image ≡ good c → contents other image ≡ good d → other ≡ kind
+same-kind kind other image c d e h =
+    let a = contents-accepted kind image c e in
+    let b = contents-accepted other image d h in
+    kind-told other (length image) (b .sizes) (b .sized) ∙ sym (kind-told kind (length image) (a .sizes) (a .sized))
+
+other-kind : (kind other : ℕ) (image : List ℕ) (c : Contents) → contents kind image ≡ good c → (other ≡ kind → ⊥) → (r : Refusal) × (contents other image ≡ refused r)
+other-kind kind other image c e n = go (contents other image) refl
+  where
+    go : (o : Outcome Contents) → contents other image ≡ o → (r : Refusal) × (contents other image ≡ refused r)
+    go (refused r) h = (r, h)
+    go (good d) h = absurd (n (same-kind kind other image c d e h))
+
+-- ---- one change
+
+-- What a sheet holds after a change of its own kind.
+abbrev own : Contents → Change → Contents
+own c ch = cond (fixed c (ch .field)) c (stores c (ch .field) (ch .value) (encode (field c (ch .field) .row) (ch .field) (ch .value)))
+
+after-own : (image : List ℕ) (c : Contents) (ch : Change) → Bytes image → Real (ch .value) → contents (ch .kind) image ≡ good c →
+    contents (ch .kind) (changedBy image ch) ≡ good (own c ch)
+after-own image c ch bytes real e = tested (fixed c f) refl
+  where
+    k : ℕ
+    k = ch .kind
+
+    f : ℕ
+    f = ch .field
+
+    v : Value
+    v = ch .value
+
+    a : Accepted k image c
+    a = contents-accepted k image c e
+
+    z : Sizes
+    z = a .sizes
+
+    after : (o : Outcome (List ℕ)) → change k image f v ≡ o → contents k (changedBy image ch) ≡ contents k (afterwards image o)
+    after o = ap (λ u. contents k (afterwards image u))
+
+    encoded : (o : Outcome ℕ) → encode (field c f .row) f v ≡ o → fixed c f ≡ false → contents k (changedBy image ch) ≡ good (stores c f v o)
+    encoded (refused r) h t =
+        after (refused r) (change-free k image c z e (a .sized) f v t ∙ ap (λ o. o >>= λ code. good (recodedIn z image (field c f) code)) h) ∙ e
+    encoded (good code) h t =
+        after (good (recodedIn z image (field c f) code))
+        (change-free k image c z e (a .sized) f v t ∙ ap (λ o. o >>= λ code. good (recodedIn z image (field c f) code)) h)
+        ∙ recoded-contents k image c z bytes e (a .sized) f (free-is c f t) v real code h
+
+    tested : (b : Bool) → fixed c f ≡ b → contents k (changedBy image ch) ≡ good (cond b c (stores c f v (encode (field c f .row) f v)))
+    tested true t = let g = change-fixed k image c z e (a .sized) f v t in after (refused (g .0)) (g .1) ∙ e
+    tested false t = encoded (encode (field c f .row) f v) refl t
+
+after-change : (kind : ℕ) (image : List ℕ) (c : Contents) (ch : Change) → Bytes image → Real (ch .value) → contents kind image ≡ good c →
+    contents kind (changedBy image ch) ≡ good (heldBy kind c ch)
+after-change kind image c ch bytes real e = go (eqb (ch .kind) kind) refl
+  where
+    go : (b : Bool) → eqb (ch .kind) kind ≡ b → contents kind (changedBy image ch) ≡ good (cond b (own c ch) c)
+    go true b =
+        let q : ch .kind ≡ kind = eqb-true (ch .kind) kind b in
+        ap (λ (n : ℕ). contents n (changedBy image ch)) (sym q) ∙ after-own image c ch bytes real (ap (λ (n : ℕ). contents n image) q ∙ e)
+    go false b =
+        let r = other-kind kind (ch .kind) image c e (eqb-false (ch .kind) kind b) in
+        ap (λ o. contents kind (afterwards image o)) (change-unread (ch .kind) image (ch .field) (ch .value) (r .0) (r .1)) ∙ e
+
+-- ---- every change
+
+-- The bytes of an image, as many as before, accepted or refused.
+module _ (image : List ℕ) (ch : Change) where
+  by-length : length (changedBy image ch) ≡ length image
+  by-length = go (change (ch .kind) image (ch .field) (ch .value)) refl
+    where
+      go : (o : Outcome (List ℕ)) → change (ch .kind) image (ch .field) (ch .value) ≡ o → length (afterwards image o) ≡ length image
+      go (refused r) h = refl
+      go (good after) h = made-length (ch .kind) image (ch .field) (ch .value) after h
+
+  by-bytes : Bytes image → Bytes (changedBy image ch)
+  by-bytes bytes = go (change (ch .kind) image (ch .field) (ch .value)) refl
+    where
+      go : (o : Outcome (List ℕ)) → change (ch .kind) image (ch .field) (ch .value) ≡ o → Bytes (afterwards image o)
+      go (refused r) h = bytes
+      go (good after) h = made-bytes (ch .kind) image (ch .field) (ch .value) after h
+
+pub changed-length : (image : List ℕ) (changes : List Change) → length (changed image changes) ≡ length image
+changed-length image [] = refl
+changed-length image (ch ∷ changes) = changed-length (changedBy image ch) changes ∙ by-length image ch
+
+pub changed-bytes : (image : List ℕ) (changes : List Change) → Bytes image → Bytes (changed image changes)
+changed-bytes image [] bytes = bytes
+changed-bytes image (ch ∷ changes) bytes = changed-bytes (changedBy image ch) changes (by-bytes image ch bytes)
+
+pub after-changes : AfterChanges
+after-changes kind image c [] bytes real e = e
+after-changes kind image c (ch ∷ changes) bytes real e =
+    after-changes kind (changedBy image ch) (heldBy kind c ch) changes (by-bytes image ch bytes) (real .1) (after-change kind image c ch bytes (real .0) e)
+
+pub changed-to-the-same : ChangedToTheSame
+changed-to-the-same kind image after c f bytes e h =
+    let m = change-made kind image f (field c f .value) after h in
+    let q : m .held ≡ c = good-same (sym (m .accepted) ∙ e) in
+    m .is ∙ ap (λ d. recodedIn (m .sizes) image (field d f) (m .code)) q
+    ∙ recoded-same kind image c (m .sizes) bytes e (m .sized) f (subst (λ d. Free d f) q (m .free)) (m .code)
+    (subst (λ d. encode (field d f .row) f (field c f .value) ≡ good (m .code)) q (m .stored))
+
+-- ---- what no change alters
+
+-- What does not go by the fields is as it was, and so are the points.
+pub held-keeps : {A : Type 0} (g : Contents → A) → ((c : Contents) (i : ℕ) (x : Found) → g (withField c i x) ≡ g c) → (kind : ℕ) (c : Contents) (changes : List Change) →
+    g (held kind c changes) ≡ g c
+held-keeps g same kind c [] = refl
+held-keeps g same kind c (ch ∷ changes) =
+    held-keeps g same kind (heldBy kind c ch) changes
+    ∙ go (eqb (ch .kind) kind) (fixed c (ch .field)) (encode (field c (ch .field) .row) (ch .field) (ch .value))
+  where
+    go : (a b : Bool) (o : Outcome ℕ) → g (cond a (cond b c (stores c (ch .field) (ch .value) o)) c) ≡ g c
+    go false b o = refl
+    go true true o = refl
+    go true false (refused r) = refl
+    go true false (good code) = same c (ch .field - 1) _
+
+pub held-points : (kind : ℕ) (c : Contents) (changes : List Change) → held kind c changes .points ≡ c .points
+held-points = held-keeps (λ c. c .points) (λ c i x. refl)

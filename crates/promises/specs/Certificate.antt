@@ -1,0 +1,49 @@
+-- Demand 3, the certificate distance: one claim from the points lent to the q returned.
+use mathlib.Core.Path.{_≡_}
+use mathlib.Core.List.{List}
+use Prim.Native.Nat.{ℕ}
+use lib.IntN.{ℤ, pos, natAbs, _-ℤ_, _*ℤ_}
+use Rattle.integers.specs.Nearest.{Fraction}
+use Rattle.refusal.specs.Outcome.{Outcome, good, refused}
+use Rattle.fields.specs.declared.Value.{Value}
+use Rattle.fields.specs.Rows.{D, R}
+use Rattle.fields.specs.Figure.{billion}
+use Rattle.sheet.specs.Contents.{figure}
+use Rattle.sheet.specs.Check.{readField}
+use Rattle.edit.specs.declared.Sheet.{Sheet}
+use Rattle.edit.specs.Build.{pairsOf, build}
+use Rattle.reading.specs.declared.Reading.{Reading}
+use Rattle.reading.specs.Certificate.{Slopes, Within}
+use Rattle.reading.specs.Line.{certificateLine}
+use Rattle.reading.specs.Reading.{takeReading}
+use Rattle.promises.specs.Lent.{Lendable}
+use Rattle.promises.specs.Changes.{Change, RealChanges, changed}
+
+-- The figure of a field as it is read; an accepted reading has both ends as whole numbers.
+abbrev pub whole : Outcome Value → ℤ
+whole (good v) = figure v
+whole (refused r) = pos 0
+
+-- e and f as a reading reads them from an image.
+abbrev pub leastIn : ℕ → List ℕ → ℤ
+leastIn kind image = whole (readField kind image 10)
+
+abbrev pub greatestIn : ℕ → List ℕ → ℤ
+greatestIn kind image = whole (readField kind image 11)
+
+-- The exact certificate line through the points as lent, at x = (v − e) × 1,000,000,000 / (f − e).
+abbrev pub lineFor : List ℤ → ℤ → ℤ → ℤ → Fraction
+lineFor points v e f = certificateLine (pairsOf points) ((v -ℤ e) *ℤ pos billion) (natAbs (f -ℤ e))
+
+-- Whatever the points, fields, kind of chip, buffer and input: if the build is accepted and, after any list of one-field changes, accepted or
+-- refused, a reading of that image is accepted, then q lies within the distance of the certificate line.
+abbrev pub CertificateDistance : Type 0
+CertificateDistance =
+    (kind : ℕ) (buffer : List ℕ) (sheet : Sheet) (text : List ℕ) (points : List ℤ) (built : List ℕ) →
+    (changes : List Change) (readingKind : ℕ) (v : ℤ) (r : Reading) (K : ℕ) →
+    Lendable sheet → RealChanges changes →
+    build kind buffer sheet text points ≡ good built →
+    let image = changed built changes in
+    takeReading readingKind image v ≡ good r →
+    Slopes K (pairsOf points) →
+    Within D R K (r .fraction) (lineFor points v (leastIn readingKind image) (greatestIn readingKind image))
