@@ -4,3 +4,13 @@ pub mod EndingPlan
 pub mod SheetPlan
 pub mod Changing
 pub mod ChangeSteps
+pub mod Laying
+pub mod CodeLaws
+pub mod SealAll
+pub mod Outcomes
+pub mod FieldTurns
+pub mod TextTurns
+pub mod PairTurns
+pub mod PlanLaws
+pub mod NeededLaws
+pub mod WroteLaws

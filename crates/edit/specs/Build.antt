@@ -1,4 +1,5 @@
 -- Document 01: build an image. Order: 1, 16, fields 1 to 22 each 9 then 10, points each 10 for point, 10 for deviation, then 7; last 11.
+use mathlib.Core.Path.{_≡_}
 use mathlib.Core.Bool.{Bool, true, false, not, _||_, _&&_}
 use mathlib.Core.List.{List, [], _∷_, _++_, map}
 use Prim.Native.Nat.{ℕ, suc, _-_, _%_}
@@ -106,3 +107,8 @@ writtenSaid (Refused r) image = refused r
 abbrev pub afterwards : List ℕ → Outcome (List ℕ) → List ℕ
 afterwards buffer (good image) = image
 afterwards buffer (refused r) = buffer
+
+-- What a call answers, and every byte afterwards.
+pub record Wrote (before : List ℕ) (outcome : Outcome (List ℕ)) (answer : Written) (after : List ℕ) : Type 0 where
+  pub said : writtenSaid answer after ≡ outcome
+  pub bytes : after ≡ afterwards before outcome

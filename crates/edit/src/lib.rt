@@ -1,7 +1,13 @@
-// Document 01: change one field of an image.
-mod altering;
+// Document 01: build an image, and change one field of it. No call asks anything of its caller, and a refusal writes to no
+// buffer.
+mod altering; // altering.rt: one field of an image
+mod building; // building.rt: an image from a sheet
+mod codes; // codes.rt: the code that a value is stored at
+mod plan; // plan.rt: what a build tests before it writes
+mod write; // write.rt: what a build writes
 
 pub use altering::change;
+pub use building::build;
 use fields::Value;
 use refusal::Refusal;
 
