@@ -17,7 +17,7 @@ use Rattle.promises.specs.Edges.{Edges}
 use Rattle.promises.specs.Attained.{NearlyAttained}
 
 pub edges : Edges
-unfolding encode decode nearest fieldPieces template33 position deviation correction correctionAfter between build plan endingPieces pairPieces imageSizes imageOf change contents sumsFrom streamOf fieldOf blockOf fieldsOf pairsOf tableAt lastSelector pointsOf textOf sheet takeReading ofInt toBits ofBits nanBits ofFields round units odd span climb size neg
+unfolding encode decode nearest geometricValue fieldPieces template33 position deviation correction correctionAfter between build plan endingPieces pairPieces imageSizes imageOf change contents sumsFrom streamOf fieldOf blockOf fieldsOf pairsOf tableAt lastSelector pointsOf textOf sheet takeReading ofInt toBits ofBits nanBits ofFields round units odd span climb size neg
 edges = (
   refl,
   (
@@ -46,7 +46,7 @@ edges = (
                           refl,
                           (
                             refl,
-                            (refl, (refl, (refl, (refl, (refl, (refl, tt)))))),
+                            (refl, (refl, (refl, (refl, (refl, (refl, (refl, (refl, (refl, (refl, (refl, (refl, tt)))))))))))),
                           ),
                         ),
                       ),

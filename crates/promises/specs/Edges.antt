@@ -1,4 +1,4 @@
--- Document 01, "Edges": the starred cases, one table and one statement over it; and that the demands' hypotheses can be met.
+-- Document 01, "Edges": the starred cases; examples that document 000 prints; and that the demands' hypotheses can be met: one table, and one statement over it.
 use mathlib.Core.Path.{_≡_}
 use mathlib.Core.Bool.{false, true}
 use mathlib.Core.List.{List, [], _∷_, _++_, map}
@@ -12,8 +12,9 @@ use Rattle.memory.specs.Pieces.{pack}
 use Rattle.fields.specs.declared.Value.{Value}
 use Rattle.fields.specs.declared.Value.the-variants.{Whole, Single, Missing}
 use Rattle.fields.specs.declared.Row.{Row}
-use Rattle.fields.specs.Rules.{decode, encode}
-use Rattle.fields.specs.Rows.{template33, electrical, excitation}
+use Rattle.fields.specs.declared.Rule.the-variants.{Stepped}
+use Rattle.fields.specs.Rules.{Progression, decode, encode, geometricValue}
+use Rattle.fields.specs.Rows.{optional, template33, electrical, excitation}
 use Rattle.texts.specs.Dates.{dateOf}
 use Rattle.edit.specs.declared.Sheet.{Sheet}
 use Rattle.edit.specs.Build.{slot, fieldPieces, pairsOf, build}
@@ -39,6 +40,8 @@ pub data Case : Type 0 where
   readsBack : Row → ℤ → ℤ → Case
   -- Under a row a code means a value.
   means : Row → ℕ → Value → Case
+  -- A code's value in a progression.
+  scaled : Progression → ℕ → ℤ → Case
   -- A date's code, year, month and day.
   dated : ℕ → ℕ → ℕ → ℕ → Case
   -- e, f, v and p.
@@ -53,6 +56,7 @@ Holds (basic figures bytes) =
     (fieldPieces (record { fields = map (λ n. slot (Whole n)) figures; «end_bit» = false }) (take 5 template33) 0 1 >>= λ pieces. good (bytesOf 8 (pack pieces))) ≡ good bytes
 Holds (readsBack row figure value) = (encode row 0 (Whole figure) >>= decode row 0) ≡ good (Whole value)
 Holds (means row code value) = decode row 0 code ≡ good value
+Holds (scaled progression code value) = geometricValue progression code ≡ value
 Holds (dated code year month day) = dateOf code ≡ record { year = year; month = month; day = day }
 Holds (placed e f v p) = position v e f ≡ p
 Holds (deviates points p d) = deviation (pairsOf points) p ≡ d
@@ -76,6 +80,20 @@ starred =
     deviates (pos 0 ∷ pos 0 ∷ pos 400 ∷ negℤ (pos 200) ∷ []) (pos 1) (pos 0) ∷
     deviates (pos 0 ∷ pos 0 ∷ pos 400 ∷ negℤ (pos 200) ∷ []) (pos 500) (negℤ (pos 200)) ∷
     deviates (pos 0 ∷ pos 0 ∷ pos 400 ∷ pos 200 ∷ []) (pos 1) (pos 1) ∷
+    []
+
+-- Document 000's examples of ConRes (7.4.5.3.3: the temperature coefficient in thousandths, a signed integer, a granularity of 10^-5) and of ConRelRes (7.4.5.3.4: the quality factor in 10^-9), none of which is a field of the sheet.
+abbrev pub stepped : ℕ → ℕ → ℕ → Row
+stepped width below step = optional width (Stepped (negℤ (pos below)) step)
+
+abbrev pub printed : List Case
+printed =
+    means (stepped 9 500 2) 8 (Whole (negℤ (pos 484))) ∷
+    means (stepped 9 500 2) 510 (Whole (pos 520)) ∷
+    means (stepped 8 128 1) 254 (Whole (pos 126)) ∷
+    means (stepped 8 128 1) 255 Missing ∷
+    means (stepped 25 10_000_000 1) 20_000_000 (Whole (pos 10_000_000)) ∷
+    scaled (record { start = 300_000_000; tolerance = 3; parts = 100 }) 126 (pos 463_084_535_408) ∷
     []
 
 -- A change of field 11, and one of field 9, which is refused.
@@ -103,4 +121,4 @@ AllHold (c ∷ cases) = Holds c × AllHold cases
 
 -- The one statement.
 abbrev pub Edges : Type 0
-Edges = AllHold (starred ++ met)
+Edges = AllHold (starred ++ printed ++ met)

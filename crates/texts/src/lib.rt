@@ -116,7 +116,7 @@ fn code_if_shown(field: u64, code: u64, text: &[u8]) -> CodeAnswer
 }
 
 // Whether two slices hold the same bytes.
-fn equal(a: &[u8], b: &[u8]) -> bool
+pub fn equal(a: &[u8], b: &[u8]) -> bool
     ensures { λ r. ⌜ r ≡ same (now (a .entry)) (now (b .entry)) ⌝ }
 {
     if a.len() != b.len() {

@@ -1,0 +1,66 @@
+// What an answer is made of.
+use fields::Value;
+use libc::STDOUT_FILENO;
+use lines::Filled;
+use refusal::Refusal;
+use shown::put;
+use shown::put_figure;
+use shown::put_number;
+
+// The most bytes that an answer spells: the largest image.
+const LARGEST: usize = 512;
+
+// Bytes in hexadecimal, `-` for none.
+pub fn bytes(bytes: &[u8]) {
+    let mut digits = [0u8; 2 * LARGEST];
+    match lines::spell(bytes, &mut digits) {
+        Filled::To(count) => put(lines::front(&digits, count)),
+        Filled::Not => {}
+    }
+}
+
+pub fn end() {
+    put(b"\n");
+}
+
+// No command.
+pub fn unknown() {
+    put(b"?\n");
+}
+
+pub fn refused(r: Refusal) {
+    put(b"no ");
+    put_number(r.number as u64);
+    put(b" ");
+    put_number(r.place);
+    end();
+}
+
+// The bits of a float in hexadecimal; a NaN, which no sheet holds and no reading shows, as `nan`.
+pub fn single(x: f32) {
+    if x != x {
+        return put(b"nan");
+    }
+    io::print_hex(STDOUT_FILENO, f32::to_bits(x) as u64, 8);
+}
+
+pub fn double(x: f64) {
+    if x != x {
+        return put(b"nan");
+    }
+    io::print_hex(STDOUT_FILENO, f64::to_bits(x), 16);
+}
+
+pub fn value(v: Value) {
+    match v {
+        Value::Whole(z) => {
+            put(b"w");
+            put_figure(z);
+        }
+        Value::Single(x) => {
+            put(b"s");
+            single(x);
+        }
+        Value::Missing => put(b"m"),
+    }
+}

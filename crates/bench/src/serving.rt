@@ -1,0 +1,101 @@
+// Lines from standard input, each answered on standard output.
+use crate::commands;
+use crate::printing;
+use libc::STDIN_FILENO;
+
+// The longest line.
+const LONGEST: usize = 32_768;
+
+// What has come of a line: so many bytes, and whether it is longer than the longest.
+struct Gathered {
+    length: usize,
+    long: bool,
+}
+
+// A line just begun.
+fn nothing() -> Gathered {
+    Gathered {
+        length: 0,
+        long: false,
+    }
+}
+
+// Answers a line.
+fn finish(line: &[u8], so_far: Gathered) {
+    if so_far.long {
+        return printing::unknown();
+    }
+    commands::answer(lines::front(line, so_far.length));
+}
+
+// One byte more: a line's end has it answered, any other byte is kept where there is room.
+fn step(line: &mut [u8], so_far: Gathered, b: u8) -> Gathered {
+    if b == b'\n' {
+        finish(line, so_far);
+        return nothing();
+    }
+    let length = so_far.length;
+    if length >= line.len() {
+        return Gathered { length, long: true };
+    }
+    line[length] = b;
+    Gathered {
+        length: length + 1,
+        long: so_far.long,
+    }
+}
+
+// A block of bytes, one after another.
+fn gather(line: &mut [u8], before: Gathered, block: &[u8]) -> Gathered {
+    let mut so_far = before;
+    let mut at = 0;
+    while at < block.len() {
+        so_far = step(line, so_far, block[at]);
+        at += 1;
+    }
+    so_far
+}
+
+// What has come of a line, and whether the input goes on.
+struct Turn {
+    so_far: Gathered,
+    more: bool,
+}
+
+// Reads a block, and answers the lines that end in it.
+fn next_block(line: &mut [u8], so_far: Gathered) -> Turn {
+    let mut block = io::large_buffer();
+    let n = io::count(libc::read(STDIN_FILENO, &mut block), &block);
+    if n == 0 {
+        return Turn {
+            so_far,
+            more: false,
+        };
+    }
+    let so_far = gather(line, so_far, &block[..n]);
+    Turn { so_far, more: true }
+}
+
+// Nothing says that an input ends, and a proved loop does: it counts its turns down, from a number that no run uses up.
+fn serve_lines(line: &mut [u8]) {
+    let mut now = Turn {
+        so_far: nothing(),
+        more: true,
+    };
+    let mut turns = u64::MAX;
+    while turns > 0 && now.more {
+        let so_far = now.so_far;
+        now = next_block(line, so_far);
+        turns -= 1;
+    }
+    let last = now.so_far;
+    if last.length > 0 {
+        finish(line, last);
+    }
+}
+
+// Answers every line of standard input, to its end.
+pub fn serve() {
+    let mut line = [0u8; LONGEST];
+    serve_lines(&mut line);
+}

@@ -1,0 +1,4 @@
+// The bench console.
+fn main() {
+    bench::serve();
+}

@@ -1,0 +1,25 @@
+-- `parts::front` meets its contract.
+use mathlib.Core.Path.{sym}
+use native.Mathlib.Nat.{le-of-lt, sub-zero}
+use lib.Seq.{take-all}
+use borrow.Author.Needs.{needs}
+use Rattle.lines.proofs.parts.front.Statement.{statement}
+use Rattle.lines.proofs.parts.front.Tie as tie
+
+returns : tie.Need-returns
+returns c = sym (take-all _ _ (le-of-lt (c .if1 .taken)))
+
+sub-result : tie.Need-sub-result
+sub-result c = search needs
+
+part-result-start : tie.Need-part-result-start
+part-result-start c = search needs
+
+part-result-end : tie.Need-part-result-end
+part-result-end c = search needs
+
+returns-2 : tie.Need-returns-2
+returns-2 c = rw sub-zero
+
+pub front-spec : {M : Type 1} → statement M
+front-spec = tie.close (tie.spec returns sub-result part-result-start part-result-end returns-2)

@@ -1,0 +1,5 @@
+pub mod Words
+pub mod Said
+pub mod Figures
+pub mod Hexadecimal
+pub mod Values

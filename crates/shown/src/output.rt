@@ -1,0 +1,67 @@
+// Standard output. A write that fails is not reported: the person sees that the text stops.
+use integers::minus;
+use integers::plus;
+use libc::STDOUT_FILENO;
+
+pub fn put(text: &[u8]) {
+    io::write_all(STDOUT_FILENO, text);
+}
+
+pub fn put_number(n: u64) {
+    io::print_decimal(STDOUT_FILENO, n);
+}
+
+// A number, with a minus sign where it is negative.
+pub fn put_figure(z: i64) {
+    if z < 0 {
+        put(b"-");
+        put_number(minus(z));
+        return;
+    }
+    put_number(plus(z));
+}
+
+// The first bytes of a text, up to its end.
+pub fn put_first(text: &[u8], count: usize) {
+    if count <= text.len() {
+        put(&text[..count]);
+        return;
+    }
+    put(text);
+}
+
+// The bytes of a text from an index on, none past its end.
+pub fn put_from(text: &[u8], from: usize) {
+    if from <= text.len() {
+        put(&text[from..]);
+    }
+}
+
+// So many noughts.
+pub fn put_zeros(count: u64) {
+    let mut left = count;
+    while 0 < left {
+        put(b"0");
+        left -= 1;
+    }
+}
+
+// A character of the closing text: itself if it prints, else its number.
+pub fn put_character(c: u8) {
+    if c < 32 {
+        put_escape(c);
+        return;
+    }
+    if 126 < c {
+        put_escape(c);
+        return;
+    }
+    let one = [c];
+    put(&one);
+}
+
+// \x and two hexadecimal digits.
+fn put_escape(c: u8) {
+    put(b"\\x");
+    io::print_hex(STDOUT_FILENO, c as u64, 2);
+}
