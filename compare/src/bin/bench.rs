@@ -1,0 +1,190 @@
+//! bench: nanoseconds a call, the product's and the plain implementation's, by turns on the same buffers.
+
+#![forbid(unsafe_code)]
+
+use std::hint::black_box;
+use std::time::Instant;
+
+use compare::calls::{Calls, Given, Plain, Sheet, Values};
+use compare::ffi::Product;
+use compare::plain::Value;
+
+const ROUNDS: usize = 1_000;
+const ROUND_NANOSECONDS: f64 = 1e5;
+
+/// A sheet on a chip, with what the calls are lent.
+struct Case {
+    kind: u8,
+    image: Vec<u8>,
+    sorts: [u8; 21],
+    wholes: [i64; 21],
+    singles: [f32; 21],
+    text: &'static [u8],
+    points: Vec<i64>,
+    out: [u64; 4],
+    whole: [i64; 2],
+    single: [f32; 1],
+    figure: [f64; 1],
+}
+
+fn values() -> [Value; 21] {
+    use Value::{Missing, Single, Whole};
+    [
+        Whole(17),
+        Whole(1),
+        Whole(1),
+        Whole(0),
+        Whole(1),
+        Whole(6),
+        Single(0.0),
+        Single(16.0),
+        Whole(0),
+        Whole(0),
+        Whole(3_000_000),
+        Whole(2),
+        Whole(3_500),
+        Whole(100),
+        Whole(50),
+        Missing,
+        Missing,
+        Whole(7_306),
+        Whole(1_057),
+        Whole(365),
+        Whole(21),
+    ]
+}
+
+impl Case {
+    fn new(kind: u8, count: i64, text: &'static [u8]) -> Case {
+        let given = values().map(Given::from);
+        let mut case = Case {
+            kind,
+            image: vec![0; [40, 128, 512][usize::from(kind)]],
+            sorts: given.map(|given| given.sort),
+            wholes: given.map(|given| given.whole),
+            singles: given.map(|given| given.single),
+            text,
+            points: (0..count)
+                .flat_map(|i| [i * 1_000_000_000 / count.max(1), (i * 7_919 % 200 - 100) * 10_000])
+                .collect(),
+            out: [0; 4],
+            whole: [0; 2],
+            single: [0.0],
+            figure: [0.0],
+        };
+        let number = build(&Plain, &mut case, 0);
+        assert_eq!(number, 0, "kind {kind}, {count} points");
+        case
+    }
+}
+
+// Both sides are called through the same functions, which are not inlined, and with the same arguments.
+
+#[inline(never)]
+fn check<C: Calls>(calls: &C, case: &mut Case, _: usize) -> u8 {
+    calls.check(black_box(case.kind), black_box(&case.image), &mut case.out)
+}
+
+#[inline(never)]
+fn field<C: Calls>(calls: &C, case: &mut Case, field: u64) -> u8 {
+    calls.field(
+        black_box(case.kind),
+        black_box(&case.image),
+        black_box(field),
+        &mut case.out,
+        &mut case.whole,
+        &mut case.single,
+    )
+}
+
+fn first_field<C: Calls>(calls: &C, case: &mut Case, _: usize) -> u8 {
+    field(calls, case, 1)
+}
+
+fn last_field<C: Calls>(calls: &C, case: &mut Case, _: usize) -> u8 {
+    field(calls, case, 21)
+}
+
+#[inline(never)]
+fn reading<C: Calls>(calls: &C, case: &mut Case, turn: usize) -> u8 {
+    let input = -250_000 + 220_000 * (turn % 16) as i64;
+    calls.reading(
+        black_box(case.kind),
+        black_box(&case.image),
+        black_box(input),
+        &mut case.out,
+        &mut case.whole,
+        &mut case.figure,
+    )
+}
+
+#[inline(never)]
+fn change<C: Calls>(calls: &C, case: &mut Case, turn: usize) -> u8 {
+    let given = Given::from(Value::Whole(7_306 + (turn % 2) as i64));
+    calls.change(black_box(case.kind), black_box(&mut case.image), black_box(18), black_box(given), &mut case.out)
+}
+
+#[inline(never)]
+fn build<C: Calls>(calls: &C, case: &mut Case, _: usize) -> u8 {
+    let sheet = Sheet {
+        values: Values { sorts: &case.sorts, wholes: &case.wholes, singles: &case.singles },
+        end_bit: 1,
+        text: case.text,
+        points: &case.points,
+    };
+    calls.build(black_box(case.kind), black_box(&mut case.image), black_box(sheet), &mut case.out)
+}
+
+type Run<'a> = &'a dyn Fn(&mut Case, usize);
+
+/// Nanoseconds a call over so many calls.
+fn timed(run: Run, case: &mut Case, turns: usize) -> f64 {
+    let start = Instant::now();
+    run(case, turns);
+    start.elapsed().as_nanos() as f64 / turns as f64
+}
+
+/// Both sides by turns, in many short rounds; the least of each, so that what else the machine does is left out.
+fn measure(product: Run, plain: Run, case: &mut Case) -> (f64, f64) {
+    let turns = (ROUND_NANOSECONDS / timed(product, case, 1_000)).max(10.0) as usize;
+    let (mut ours, mut theirs) = (f64::MAX, f64::MAX);
+    for _ in 0..ROUNDS {
+        ours = ours.min(timed(product, case, turns));
+        theirs = theirs.min(timed(plain, case, turns));
+    }
+    (ours, theirs)
+}
+
+/// A loop over one side's call; every call must be accepted.
+fn over<C: Calls>(calls: C, call: fn(&C, &mut Case, usize) -> u8) -> impl Fn(&mut Case, usize) {
+    move |case, turns| {
+        let mut refused = 0u64;
+        for turn in 0..turns {
+            refused += u64::from(call(&calls, case, turn) != 0);
+            black_box((&case.out, &case.whole, &case.single, &case.figure, &case.image));
+        }
+        assert_eq!(refused, 0);
+    }
+}
+
+fn main() {
+    println!("| Kind | Points | Call | Product, ns | Plain, ns | Product / plain |");
+    println!("|---|---|---|---|---|---|");
+    for (kind, points, text) in
+        [(0, 0, &b"Dash"[..]), (1, 0, b"Dash"), (1, 18, b"Dash"), (2, 0, b"Dash"), (2, 20, b"Dash"), (2, 99, b"D")]
+    {
+        let mut case = Case::new(kind, points, text);
+        let rows: [(&str, Run, Run); 6] = [
+            ("check", &over(Product, check), &over(Plain, check)),
+            ("field 1", &over(Product, first_field), &over(Plain, first_field)),
+            ("field 21", &over(Product, last_field), &over(Plain, last_field)),
+            ("reading", &over(Product, reading), &over(Plain, reading)),
+            ("change field 18", &over(Product, change), &over(Plain, change)),
+            ("build", &over(Product, build), &over(Plain, build)),
+        ];
+        for (name, product, plain) in rows {
+            let (ours, theirs) = measure(product, plain, &mut case);
+            println!("| {kind} | {points} | {name} | {ours:.0} | {theirs:.0} | {:.2} |", ours / theirs);
+        }
+    }
+}

@@ -1,0 +1,210 @@
+//! Images: laid bit by bit with anything wrong now and then, and damaged.
+
+use compare::plain;
+
+use crate::layout::{Row, bits_without_text, capacity, first_bit, image_length, mend, put, row, stream_bits, width};
+use crate::{Differ, MARGIN};
+
+impl Differ {
+    pub fn pick_kind(&mut self) {
+        let before = image_length(self.kind);
+        self.kind = self.random.pick(&[0, 1, 2]);
+        match self.random.below(4) {
+            0 => self.lent.image.fill(0),
+            1 => self.lent.image.fill(0xff),
+            2 => self.random.fill(&mut self.lent.image),
+            // What the buffer held before.
+            _ => self.lent.image[MARGIN + before..].fill(0x5a),
+        }
+    }
+
+    pub fn pick_precision(&mut self) -> usize {
+        match self.random.below(20) {
+            0 => 2,
+            1 | 2 if self.kind > 0 => 2,
+            choice => (choice % 2) as usize,
+        }
+    }
+
+    /// A code of a field: mostly one that is accepted.
+    pub fn field_code(&mut self, field: usize, precision: usize, wrong: u64) -> u64 {
+        let ones = (1u64 << width(field, precision)) - 1;
+        if self.random.percent(wrong) {
+            return match row(field, precision) {
+                Row::Single => {
+                    let any = self.random.word() & ones | 0x7f80_0000;
+                    self.random.pick(&[0x7f80_0000, 0xff80_0000, 0xffff_fffe, 0x7fff_ffff, any])
+                }
+                _ => self.random.word() & ones,
+            };
+        }
+        match row(field, precision) {
+            Row::Plain(least, most) => self.random.within(least, most) as u64,
+            _ if self.random.percent(4) => ones,
+            Row::Single => u64::from(self.finite().to_bits()),
+            _ => self.random.below(ones),
+        }
+    }
+
+    /// An image laid bit by bit, with anything wrong now and then and its end anywhere.
+    pub fn lay(&mut self) {
+        let kind = self.kind;
+        let mut image = self.image().to_vec();
+        let precision = self.pick_precision();
+        let mut bit = 0;
+        let mut lay = |image: &mut Vec<u8>, width: usize, code: u64| {
+            put(kind, image, bit, width, code);
+            bit += width;
+        };
+        for field in 1..=21 {
+            if field == 6 {
+                let selector = if self.random.percent(1) { self.random.below(4) } else { 0 };
+                lay(&mut image, 2, selector);
+                let template = if self.random.percent(1) { self.random.pick(&[32, 34, 40, 161, 0, 255]) } else { 33 };
+                lay(&mut image, 8, template);
+            }
+            let mut code = self.field_code(field, precision, 1);
+            if field == 9 && code < 3 {
+                code = precision as u64;
+            }
+            if (field == 10 || field == 11) && precision < 2 && self.random.percent(80) {
+                let half = 1 << (width(field, precision) - 1);
+                code = self.random.below(half - 1) + if field == 11 { half } else { 0 };
+            }
+            lay(&mut image, width(field, precision), code);
+        }
+        let mut points = 0;
+        // Kind 0 has no room for a point.
+        if self.random.percent(if kind == 0 { 12 } else { 60 }) {
+            let selector = if self.random.percent(2) { self.random.pick(&[1, 2]) } else { 0 };
+            lay(&mut image, 2, selector);
+            let template = if self.random.percent(2) { self.random.pick(&[33, 41, 168, 0, 255]) } else { 40 };
+            lay(&mut image, 8, template);
+            lay(&mut image, 1, u64::from(self.random.percent(2)));
+            let most = capacity(kind, precision) as u64;
+            points = match self.random.below(20) {
+                0 => 0,
+                1 => self.random.below(128),
+                2 => 127,
+                3..=5 => most,
+                6 | 7 => most + 1,
+                8 => most + 2,
+                _ => 1 + self.random.below(most.max(1)),
+            };
+            lay(&mut image, 7, points);
+            let gap = 65_534 / points.max(1);
+            let mut code = self.random.below(gap / 2);
+            let mut last = 0;
+            let wrong = if self.random.percent(25) { self.random.below(points.max(1)) } else { u64::MAX };
+            for index in 0..points {
+                let (mut point, mut deviation) = (code, self.random.below((1 << 21) - 1));
+                if self.random.percent(30) {
+                    deviation = 1_000_000 + self.random.below(4_000);
+                }
+                if index == wrong {
+                    match self.random.below(6) {
+                        0 => point = 0xffff,
+                        1 => deviation = 0x1f_ffff,
+                        2 => {
+                            point = self.random.word() & 0xffff;
+                            deviation = self.random.word() & 0x1f_ffff;
+                        }
+                        3 => (point, deviation) = (0, 0x1f_ffff),
+                        4 => point = last,
+                        _ => point = point.saturating_sub(gap),
+                    }
+                }
+                lay(&mut image, 16, point);
+                lay(&mut image, 21, deviation);
+                last = point;
+                let next = 1 + self.random.below(gap.max(2) - 1);
+                code += if self.random.percent(30) { next.min(1 << self.random.below(8)) } else { next };
+            }
+        }
+        let selector = if self.random.percent(6) { self.random.below(4) } else { 3 };
+        lay(&mut image, 2, selector);
+        lay(&mut image, 1, u64::from(self.random.percent(60)));
+        let rest = stream_bits(kind) - bits_without_text(precision, points as usize).min(stream_bits(kind));
+        let length = match self.random.below(4) {
+            0 => 0,
+            1 => rest / 7,
+            2 => (rest / 7).saturating_sub(1),
+            _ => self.random.below(rest as u64 / 7 + 1) as usize,
+        };
+        for _ in 0..length {
+            let character = 1 + self.random.below(127);
+            lay(&mut image, 7, character);
+        }
+        if self.random.percent(70) {
+            lay(&mut image, 7, 0);
+        }
+        if self.random.percent(50) {
+            for _ in 0..rest / 32 + 1 {
+                lay(&mut image, 32, 0);
+            }
+        }
+        mend(kind, &mut image);
+        self.lent.image[MARGIN..MARGIN + image.len()].copy_from_slice(&image);
+    }
+
+    /// Damages the image, mostly with its check bytes mended.
+    pub fn damage(&mut self) {
+        let kind = self.kind;
+        let bits = stream_bits(kind) as u64;
+        let precision = self.precision();
+        let points = plain::check(kind, self.image()).map_or(0, |summary| summary.points);
+        let mut image = self.image().to_vec();
+        let length = image.len() as u64;
+        let mut mended = true;
+        let after = first_bit(21, precision) + 11;
+        let pairs = after + 18;
+        match self.random.below(12) {
+            0 => {
+                mended = false;
+                for _ in 0..self.random.within(1, 3) {
+                    image[self.random.below(length) as usize] ^= 1 << self.random.below(8);
+                }
+            }
+            1 => {
+                for _ in 0..self.random.within(1, 3) {
+                    image[self.random.below(length) as usize] ^= 1 << self.random.below(8);
+                }
+            }
+            2..=4 => {
+                let field = self.random.within(1, 21) as usize;
+                let code = self.field_code(field, precision, 50);
+                put(kind, &mut image, first_bit(field, precision), width(field, precision), code);
+            }
+            5 => {
+                let precision = self.random.below(4);
+                put(kind, &mut image, 144, 2, precision);
+            }
+            6 => put(kind, &mut image, after, 2, self.random.below(4)),
+            7 if points > 0 => put(kind, &mut image, after + 11, 7, self.random.below(128)),
+            8 if points > 0 => {
+                let near = points + self.random.below(3);
+                put(kind, &mut image, after + 11, 7, near.min(127));
+            }
+            9 if points > 0 => {
+                let bit = pairs + 37 * self.random.below(points) as usize;
+                let point = self.random.pick(&[0, 1, 0xfffe, 0xffff, 0x8000]);
+                put(kind, &mut image, bit, 16, point);
+            }
+            10 if points > 0 => {
+                let bit = pairs + 37 * self.random.below(points + 1) as usize;
+                put(kind, &mut image, bit, 3, self.random.below(8));
+            }
+            _ => {
+                let bit = self.random.below(bits) as usize;
+                let tail = self.random.below(200) as usize;
+                for bit in bit..(bit + tail).min(bits as usize) {
+                    put(kind, &mut image, bit, 1, self.random.below(2));
+                }
+            }
+        }
+        if mended {
+            mend(kind, &mut image);
+        }
+        self.lent.image[MARGIN..MARGIN + image.len()].copy_from_slice(&image);
+    }
+}

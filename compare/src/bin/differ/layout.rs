@@ -1,0 +1,115 @@
+//! The chip and the table of fields, as the generator knows them.
+
+pub const BILLION: i64 = 1_000_000_000;
+
+pub fn register(kind: u8) -> usize {
+    if kind == 0 { 8 } else { 0 }
+}
+
+pub fn pages(kind: u8) -> usize {
+    [1, 4, 16][usize::from(kind % 3)]
+}
+
+pub fn image_length(kind: u8) -> usize {
+    register(kind) + 32 * pages(kind)
+}
+
+pub fn stream_bits(kind: u8) -> usize {
+    8 * (register(kind) + 31 * pages(kind))
+}
+
+pub fn stream_byte(kind: u8, byte: usize) -> usize {
+    match byte.checked_sub(register(kind)) {
+        Some(byte) => register(kind) + byte / 31 * 32 + 1 + byte % 31,
+        None => byte,
+    }
+}
+
+/// Puts bits into the stream; those past its end fall away.
+pub fn put(kind: u8, image: &mut [u8], bit: usize, width: usize, code: u64) {
+    for i in 0..width {
+        if bit + i < stream_bits(kind) {
+            let byte = &mut image[stream_byte(kind, (bit + i) / 8)];
+            let one = 1 << ((bit + i) % 8);
+            *byte = if code >> i & 1 == 1 { *byte | one } else { *byte & !one };
+        }
+    }
+}
+
+pub fn get(kind: u8, image: &[u8], bit: usize, width: usize) -> u64 {
+    (0..width)
+        .filter(|i| bit + i < stream_bits(kind))
+        .map(|i| u64::from(image[stream_byte(kind, (bit + i) / 8)] >> ((bit + i) % 8) & 1) << i)
+        .sum()
+}
+
+pub fn mend(kind: u8, image: &mut [u8]) {
+    for page in 0..pages(kind) {
+        let check = register(kind) + 32 * page;
+        let first = if page == 0 { 0 } else { check };
+        image[check] = 0;
+        let sum = image[first..check + 32].iter().fold(0u8, |sum, byte| sum.wrapping_add(*byte));
+        image[check] = sum.wrapping_neg();
+    }
+}
+
+#[derive(Clone, Copy, PartialEq)]
+pub enum Row {
+    Plain(i64, i64),
+    /// Lowest and highest figure, step.
+    Stepped(i64, i64, i64),
+    Response,
+    Single,
+}
+
+pub fn row(field: usize, precision: usize) -> Row {
+    match field {
+        1 => Row::Plain(17, 16381),
+        3 => Row::Plain(1, 26),
+        6 => Row::Plain(0, 45),
+        9 | 12 => Row::Plain(0, 2),
+        2 | 4 | 5 | 19 | 20 | 21 => Row::Plain(0, (1 << width(field, precision)) - 1),
+        7 | 8 => Row::Single,
+        10 | 11 => match precision {
+            0 => Row::Stepped(-BILLION, 1_046_000_000, 1_000_000),
+            1 => Row::Stepped(-6_550_000, -6_550_000 + 25 * 524_286, 25),
+            _ => Row::Single,
+        },
+        13 => Row::Stepped(10, 10 + 262_142, 1),
+        14 => Row::Response,
+        18 => Row::Stepped(0, 65_534, 1),
+        _ => Row::Stepped(1, 511, 1),
+    }
+}
+
+pub fn width(field: usize, precision: usize) -> usize {
+    const WIDTHS: [usize; 21] = [14, 15, 5, 6, 24, 6, 32, 32, 2, 0, 0, 2, 18, 6, 9, 9, 9, 16, 15, 12, 11];
+    match field {
+        10 | 11 => [11, 19, 32][precision],
+        _ => WIDTHS[field - 1],
+    }
+}
+
+pub fn first_bit(field: usize, precision: usize) -> usize {
+    let before: usize = (1..field).map(|field| width(field, precision)).sum();
+    before + if field > 5 { 10 } else { 0 }
+}
+
+pub fn response(code: u64) -> i64 {
+    (100.0 * 1.292f64.powi(code as i32)).round() as i64
+}
+
+/// Bits of a sheet with selector 3 and the end bit, without text.
+pub fn bits_without_text(precision: usize, points: usize) -> usize {
+    let block = if points > 0 { 18 + 37 * points } else { 0 };
+    first_bit(21, precision) + 11 + block + 3
+}
+
+/// The most points that a kind holds.
+pub fn capacity(kind: u8, precision: usize) -> usize {
+    stream_bits(kind).saturating_sub(bits_without_text(precision, 0) + 18) / 37
+}
+
+pub fn gcd(a: i64, b: i64) -> i64 {
+    if b == 0 { a.abs() } else { gcd(b, a % b) }
+}

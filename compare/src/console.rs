@@ -1,0 +1,282 @@
+//! Console lines: parsed, written and answered.
+
+use std::fmt::{self, Display, Formatter};
+
+use crate::calls::Calls;
+use crate::plain::{Refusal, Value};
+
+/// A line's command with what it is handed.
+#[derive(Clone, Debug, PartialEq)]
+pub enum Command {
+    Check(u8, Vec<u8>),
+    Page(u8, Vec<u8>, u64),
+    Field(u8, Vec<u8>, u64),
+    Pair(u8, Vec<u8>, u64),
+    Char(u8, Vec<u8>, u64),
+    Build { kind: u8, length: usize, values: Box<[Value; 21]>, end_bit: bool, text: Vec<u8>, points: Vec<i64> },
+    Change(u8, Vec<u8>, u64, Value),
+    Reading(u8, Vec<u8>, i64),
+    Text(u64, u64),
+    Code(u64, Vec<u8>),
+}
+
+/// Answers a line; `?` if it is no command.
+pub fn answer(line: &str, calls: &dyn Calls) -> String {
+    match parse(line) {
+        Some(command) => command.answer(calls),
+        None => "?".to_string(),
+    }
+}
+
+// ---- parsing ----
+
+pub fn parse(line: &str) -> Option<Command> {
+    let words: Vec<&str> = line.split(' ').collect();
+    let command = match words[..] {
+        ["check", kind, image] => Command::Check(unsigned(kind)?, bytes(image)?),
+        ["page", kind, image, page] => Command::Page(unsigned(kind)?, bytes(image)?, unsigned(page)?),
+        ["field", kind, image, field] => Command::Field(unsigned(kind)?, bytes(image)?, unsigned(field)?),
+        ["pair", kind, image, index] => Command::Pair(unsigned(kind)?, bytes(image)?, unsigned(index)?),
+        ["char", kind, image, index] => Command::Char(unsigned(kind)?, bytes(image)?, unsigned(index)?),
+        ["change", kind, image, field, given] => {
+            Command::Change(unsigned(kind)?, bytes(image)?, unsigned(field)?, value(given)?)
+        }
+        ["reading", kind, image, input] => Command::Reading(unsigned(kind)?, bytes(image)?, signed(input)?),
+        ["text", field, code] => Command::Text(unsigned(field)?, unsigned(code)?),
+        ["code", field, text] => Command::Code(unsigned(field)?, bytes(text)?),
+        ["build", kind, length, ref rest @ ..] if rest.len() == 24 => {
+            let mut values = Box::new([Value::Missing; 21]);
+            for (place, word) in values.iter_mut().zip(rest) {
+                *place = value(word)?;
+            }
+            Command::Build {
+                kind: unsigned(kind)?,
+                length: unsigned(length)?,
+                values,
+                end_bit: match rest[21] {
+                    "0" => false,
+                    "1" => true,
+                    _ => return None,
+                },
+                text: bytes(rest[22])?,
+                points: match rest[23] {
+                    "-" => Vec::new(),
+                    list => list.split(',').map(signed).collect::<Option<_>>()?,
+                },
+            }
+        }
+        _ => return None,
+    };
+    Some(command)
+}
+
+fn unsigned<T: std::str::FromStr>(word: &str) -> Option<T> {
+    if word.bytes().all(|digit| digit.is_ascii_digit()) { word.parse().ok() } else { None }
+}
+
+fn signed(word: &str) -> Option<i64> {
+    if word.starts_with('+') { None } else { word.parse().ok() }
+}
+
+fn digit(digit: u8) -> Option<u8> {
+    match digit {
+        b'0'..=b'9' => Some(digit - b'0'),
+        b'a'..=b'f' => Some(digit - b'a' + 10),
+        _ => None,
+    }
+}
+
+fn bytes(word: &str) -> Option<Vec<u8>> {
+    match word {
+        "-" => Some(Vec::new()),
+        "" => None,
+        _ if word.len() % 2 == 1 => None,
+        _ => word.as_bytes().chunks_exact(2).map(|pair| Some(digit(pair[0])? << 4 | digit(pair[1])?)).collect(),
+    }
+}
+
+fn value(word: &str) -> Option<Value> {
+    if word == "m" {
+        return Some(Value::Missing);
+    }
+    if let Some(figure) = word.strip_prefix('w') {
+        return Some(Value::Whole(signed(figure)?));
+    }
+    let digits = word.strip_prefix('s')?;
+    if digits.len() != 8 || !digits.bytes().all(|each| digit(each).is_some()) {
+        return None;
+    }
+    let bits = u32::from_str_radix(digits, 16).ok()?;
+    Some(Value::Single(f32::from_bits(bits)))
+}
+
+// ---- writing ----
+
+struct Hex<'a>(&'a [u8]);
+
+impl Display for Hex<'_> {
+    fn fmt(&self, to: &mut Formatter) -> fmt::Result {
+        if self.0.is_empty() {
+            return to.write_str("-");
+        }
+        self.0.iter().try_for_each(|byte| write!(to, "{byte:02x}"))
+    }
+}
+
+impl Display for Value {
+    fn fmt(&self, to: &mut Formatter) -> fmt::Result {
+        match self {
+            Value::Whole(figure) => write!(to, "w{figure}"),
+            Value::Single(figure) => write!(to, "s{:08x}", figure.to_bits()),
+            Value::Missing => to.write_str("m"),
+        }
+    }
+}
+
+impl Display for Refusal {
+    fn fmt(&self, to: &mut Formatter) -> fmt::Result {
+        write!(to, "no {} {}", self.number, self.place)
+    }
+}
+
+impl Display for Command {
+    fn fmt(&self, to: &mut Formatter) -> fmt::Result {
+        match self {
+            Command::Check(kind, image) => write!(to, "check {kind} {}", Hex(image)),
+            Command::Page(kind, image, page) => write!(to, "page {kind} {} {page}", Hex(image)),
+            Command::Field(kind, image, field) => {
+                write!(to, "field {kind} {} {field}", Hex(image))
+            }
+            Command::Pair(kind, image, index) => write!(to, "pair {kind} {} {index}", Hex(image)),
+            Command::Char(kind, image, index) => write!(to, "char {kind} {} {index}", Hex(image)),
+            Command::Build { kind, length, values, end_bit, text, points } => {
+                write!(to, "build {kind} {length}")?;
+                for value in values.iter() {
+                    write!(to, " {value}")?;
+                }
+                write!(to, " {} {} ", u8::from(*end_bit), Hex(text))?;
+                if points.is_empty() {
+                    return to.write_str("-");
+                }
+                for (i, figure) in points.iter().enumerate() {
+                    write!(to, "{}{figure}", if i > 0 { "," } else { "" })?;
+                }
+                Ok(())
+            }
+            Command::Change(kind, image, field, value) => {
+                write!(to, "change {kind} {} {field} {value}", Hex(image))
+            }
+            Command::Reading(kind, image, input) => {
+                write!(to, "reading {kind} {} {input}", Hex(image))
+            }
+            Command::Text(field, code) => write!(to, "text {field} {code}"),
+            Command::Code(field, text) => write!(to, "code {field} {}", Hex(text)),
+        }
+    }
+}
+
+// ---- answering ----
+
+impl Command {
+    pub fn answer(&self, calls: &dyn Calls) -> String {
+        match self.accepted(calls) {
+            Ok(answer) => answer,
+            Err(refusal) => refusal.to_string(),
+        }
+    }
+
+    fn accepted(&self, calls: &dyn Calls) -> Result<String, Refusal> {
+        Ok(match self {
+            Command::Check(kind, image) => {
+                let summary = calls.checked(*kind, image)?;
+                format!("ok {} {} {} {}", summary.bits, summary.points, summary.end_bit, summary.characters)
+            }
+            Command::Page(kind, image, page) => {
+                let (bytes, length) = calls.page_read(*kind, image, *page)?;
+                Hex(&bytes[..length]).to_string()
+            }
+            Command::Field(kind, image, field) => calls.field_read(*kind, image, *field)?.to_string(),
+            Command::Pair(kind, image, index) => {
+                let (point, deviation) = calls.pair_read(*kind, image, *index)?;
+                format!("{point} {deviation}")
+            }
+            Command::Char(kind, image, index) => calls.character_read(*kind, image, *index)?.to_string(),
+            Command::Build { kind, length, values, end_bit, text, points } => {
+                // A buffer longer than any image is as wrong as one of 513 bytes.
+                let mut image = vec![0; (*length).min(513)];
+                calls.built(*kind, &mut image, values, *end_bit, text, points)?;
+                format!("ok {}", Hex(&image))
+            }
+            Command::Change(kind, image, field, value) => {
+                let mut image = image.clone();
+                calls.changed(*kind, &mut image, *field, *value)?;
+                format!("ok {}", Hex(&image))
+            }
+            Command::Reading(kind, image, input) => {
+                let reading = calls.reading_taken(*kind, image, *input)?;
+                format!("{} {:016x}", reading.fraction, reading.figure.to_bits())
+            }
+            Command::Text(field, code) => {
+                let text = calls.text_of(*field, *code)?;
+                Hex(&text.characters[..text.length]).to_string()
+            }
+            Command::Code(field, text) => calls.code_of(*field, text)?.to_string(),
+        })
+    }
+}
+
+#[cfg(test)]
+mod tests {
+    use super::*;
+    use crate::calls::Plain;
+
+    #[test]
+    fn lines_that_are_no_command() {
+        for line in [
+            "",
+            " ",
+            "check",
+            "check 0",
+            "check 0 ",
+            "check 0 -  ",
+            "check  0 -",
+            "check 0 - ",
+            "check +1 -",
+            "check -1 -",
+            "check 0 0",
+            "check 0 AB",
+            "Check 0 -",
+            "reading 0 - +5",
+            "reading 0 - 9223372036854775808",
+            "text 18 18446744073709551616",
+            "text 18 ",
+            "change 0 - 1 s0000000",
+            "change 0 - 1 s+0000000",
+            "change 0 - 1 w",
+            "build 0 40 m",
+        ] {
+            assert_eq!(answer(line, &Plain), "?", "{line}");
+        }
+    }
+
+    #[test]
+    fn lines_are_written_as_they_were() {
+        let fields = "w1 m s7fc00000 ".repeat(7);
+        for line in [
+            "check 3 -",
+            "page 0 00ff 18446744073709551615",
+            "field 0 - 1",
+            "pair 0 - 1",
+            "char 0 - 1",
+            "change 0 - 1 sffffffff",
+            "change 0 - 1 w-9223372036854775808",
+            "reading 0 - -9223372036854775808",
+            "text 18 0",
+            "code 18 -",
+            &format!("build 0 40 {fields}1 6162 -"),
+            &format!("build 0 40 {fields}0 - 5,-6"),
+        ] {
+            assert_eq!(parse(line).unwrap().to_string(), line);
+        }
+    }
+}

@@ -1,0 +1,10 @@
+//! Dartelm's calls against a plain Rust implementation of the same document 01.
+
+#![deny(unsafe_code)]
+
+pub mod calls;
+pub mod console;
+#[allow(unsafe_code)]
+pub mod ffi;
+pub mod plain;
+pub mod random;

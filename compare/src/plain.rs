@@ -1,0 +1,1007 @@
+//! Document 01 as a firmware programmer would write it: plain loops over the bytes, nothing allocated, nothing proved.
+//! It was written from the document and shares no line with the product.
+
+/// A field's value.
+#[derive(Clone, Copy, Debug)]
+pub enum Value {
+    Whole(i64),
+    Single(f32),
+    Missing,
+}
+
+/// Singles are compared by their bits.
+impl PartialEq for Value {
+    fn eq(&self, other: &Value) -> bool {
+        match (self, other) {
+            (Value::Whole(a), Value::Whole(b)) => a == b,
+            (Value::Single(a), Value::Single(b)) => a.to_bits() == b.to_bits(),
+            (Value::Missing, Value::Missing) => true,
+            _ => false,
+        }
+    }
+}
+
+/// Number and place of a refused call, as in the table "Turning down".
+#[derive(Clone, Copy, Debug, PartialEq, Eq)]
+pub struct Refusal {
+    pub number: u8,
+    pub place: u64,
+}
+
+/// What an accepted check gives.
+#[derive(Clone, Copy, Debug, PartialEq, Eq)]
+pub struct Summary {
+    pub bits: u64,
+    pub points: u64,
+    pub end_bit: u64,
+    pub characters: u64,
+}
+
+#[derive(Clone, Copy, Debug)]
+pub struct Reading {
+    pub fraction: i64,
+    pub figure: f64,
+}
+
+/// A text of field 3, 18 or 19, with zeros behind it.
+#[derive(Clone, Copy, Debug, PartialEq, Eq)]
+pub struct Text {
+    pub length: usize,
+    pub characters: [u8; 10],
+}
+
+type Answer<T> = Result<T, Refusal>;
+
+fn refuse<T>(number: u8, place: u64) -> Answer<T> {
+    Err(Refusal { number, place })
+}
+
+const PAGE: usize = 32;
+const BILLION: i64 = 1_000_000_000;
+
+// Block 40: steps and starts in billionths of the span.
+const POINT: Rule = Rule::Stepped { width: 16, start: 0, step: 15_300 };
+const DEVIATION: Rule = Rule::Stepped { width: 21, start: -BILLION, step: 1_000 };
+const PAIR_BITS: u64 = 37;
+
+/// Response times, in 10 ns: 100 x 1.292^c to the nearest.
+#[rustfmt::skip]
+const RESPONSE: [i64; 63] = [
+    100, 129, 167, 216, 279, 360, 465, 601, 776, 1003,
+    1296, 1675, 2163, 2795, 3611, 4666, 6028, 7789, 10063, 13001,
+    16798, 21703, 28040, 36227, 46806, 60473, 78131, 100946, 130422, 168505,
+    217709, 281279, 363413, 469530, 606632, 783769, 1012629, 1308317, 1690346, 2183927,
+    2821633, 3645550, 4710051, 6085385, 7862318, 10158115, 13124284, 16956575, 21907895, 28305001,
+    36570061, 47248519, 61045086, 78870251, 101900365, 131655271, 170098610, 219767404, 283939486, 366849816,
+    473969963, 612369192, 791180996,
+];
+
+// ---- the chip ----
+
+#[derive(Clone, Copy)]
+struct Chip {
+    register: usize,
+    pages: usize,
+}
+
+fn chip(kind: u8, length: usize) -> Option<Chip> {
+    match (kind, length) {
+        (0, 40) => Some(Chip { register: 8, pages: 1 }),
+        (1, 128) => Some(Chip { register: 0, pages: 4 }),
+        (2, 512) => Some(Chip { register: 0, pages: 16 }),
+        _ => None,
+    }
+}
+
+impl Chip {
+    fn stream_bits(self) -> u64 {
+        8 * (self.register + 31 * self.pages) as u64
+    }
+
+    /// Where a byte of the stream stands in the image.
+    fn offset(self, byte: usize) -> usize {
+        if byte < self.register {
+            byte
+        } else {
+            let byte = byte - self.register;
+            self.register + byte / 31 * PAGE + byte % 31 + 1
+        }
+    }
+
+    fn page_of(self, byte: usize) -> usize {
+        byte.saturating_sub(self.register) / 31
+    }
+
+    fn page_start(self, page: usize) -> usize {
+        self.register + PAGE * page
+    }
+
+    /// The sum of what a page's check byte covers: page 0 with the register.
+    fn sum(self, image: &[u8], page: usize) -> u8 {
+        let start = self.page_start(page);
+        let first = if page == 0 { 0 } else { start };
+        image[first..start + PAGE].iter().fold(0u8, |sum, byte| sum.wrapping_add(*byte))
+    }
+
+    fn seal(self, image: &mut [u8], page: usize) {
+        let sum = self.sum(image, page);
+        let check = &mut image[self.page_start(page)];
+        *check = check.wrapping_sub(sum);
+    }
+
+    /// A field of 1 to 32 bits that lies in the stream.
+    fn get(self, image: &[u8], bit: u64, width: u32) -> u32 {
+        let first = (bit / 8) as usize;
+        let shift = (bit % 8) as u32;
+        let bytes = (shift + width).div_ceil(8) as usize;
+        let mut gathered = 0u64;
+        for i in 0..bytes {
+            gathered |= u64::from(image[self.offset(first + i)]) << (8 * i);
+        }
+        ((gathered >> shift) & mask(width)) as u32
+    }
+
+    fn put(self, image: &mut [u8], bit: u64, width: u32, code: u32) {
+        let first = (bit / 8) as usize;
+        let shift = (bit % 8) as u32;
+        let bytes = (shift + width).div_ceil(8) as usize;
+        let kept = !(mask(width) << shift);
+        let code = u64::from(code) << shift;
+        for i in 0..bytes {
+            let byte = &mut image[self.offset(first + i)];
+            *byte = *byte & (kept >> (8 * i)) as u8 | (code >> (8 * i)) as u8;
+        }
+    }
+}
+
+fn mask(width: u32) -> u64 {
+    (1u64 << width) - 1
+}
+
+/// A walk over the stream from its start.
+struct Walk<'a> {
+    image: &'a [u8],
+    register: usize,
+    next: usize,
+    held: u64,
+    holds: u32,
+    at: u64,
+    end: u64,
+}
+
+impl<'a> Walk<'a> {
+    fn new(chip: Chip, image: &'a [u8]) -> Walk<'a> {
+        Walk { image, register: chip.register, next: 0, held: 0, holds: 0, at: 0, end: chip.stream_bits() }
+    }
+
+    fn take(&mut self, width: u32) -> Answer<u32> {
+        if self.at + u64::from(width) > self.end {
+            return refuse(3, self.at);
+        }
+        while self.holds < width {
+            if self.next.wrapping_sub(self.register).is_multiple_of(PAGE) {
+                self.next += 1;
+            }
+            self.held |= u64::from(self.image[self.next]) << self.holds;
+            self.holds += 8;
+            self.next += 1;
+        }
+        let code = (self.held & mask(width)) as u32;
+        self.held >>= width;
+        self.holds -= width;
+        self.at += u64::from(width);
+        Ok(code)
+    }
+}
+
+/// Writes the stream from its start.
+struct Pen<'a> {
+    image: &'a mut [u8],
+    register: usize,
+    next: usize,
+    held: u64,
+    holds: u32,
+}
+
+impl Pen<'_> {
+    fn put(&mut self, code: u32, width: u32) {
+        self.held |= u64::from(code) << self.holds;
+        self.holds += width;
+        while self.holds >= 8 {
+            self.byte();
+            self.holds -= 8;
+        }
+    }
+
+    fn byte(&mut self) {
+        if self.next.wrapping_sub(self.register).is_multiple_of(PAGE) {
+            self.image[self.next] = 0;
+            self.next += 1;
+        }
+        self.image[self.next] = self.held as u8;
+        self.held >>= 8;
+        self.next += 1;
+    }
+
+    /// The last bits and zeros to the end.
+    fn finish(mut self) {
+        if self.holds > 0 {
+            self.byte();
+        }
+        self.image[self.next..].fill(0);
+    }
+}
+
+// ---- fields ----
+
+#[derive(Clone, Copy)]
+enum Rule {
+    Plain { width: u32, least: u32, most: u32 },
+    Stepped { width: u32, start: i64, step: i64 },
+    Geometric,
+    Single,
+}
+
+impl Rule {
+    fn width(self) -> u32 {
+        match self {
+            Rule::Plain { width, .. } | Rule::Stepped { width, .. } => width,
+            Rule::Geometric => 6,
+            Rule::Single => 32,
+        }
+    }
+
+    /// Refuses a code that the table has not, at its first bit.
+    fn judge(self, code: u32, bit: u64) -> Answer<()> {
+        match self {
+            Rule::Plain { least, most, .. } if code < least || code > most => refuse(5, bit),
+            Rule::Single if code >> 23 & 0xff == 0xff && code != u32::MAX => refuse(6, bit),
+            _ => Ok(()),
+        }
+    }
+
+    fn value(self, code: u32) -> Value {
+        match self {
+            Rule::Plain { .. } => Value::Whole(i64::from(code)),
+            _ if u64::from(code) == mask(self.width()) => Value::Missing,
+            Rule::Stepped { start, step, .. } => Value::Whole(start + step * i64::from(code)),
+            Rule::Geometric => Value::Whole(RESPONSE[code as usize]),
+            Rule::Single => Value::Single(f32::from_bits(code)),
+        }
+    }
+
+    /// The code that a value is stored at, or the refusal's number.
+    fn code(self, value: Value) -> Result<u32, u8> {
+        match (self, value) {
+            (Rule::Plain { least, most, .. }, Value::Whole(figure)) => {
+                if figure < i64::from(least) || figure > i64::from(most) {
+                    return Err(10);
+                }
+                Ok(figure as u32)
+            }
+            (Rule::Stepped { width, start, step }, Value::Whole(figure)) => {
+                let top = start + step * (mask(width) as i64 - 1);
+                if figure < start || figure > top {
+                    return Err(10);
+                }
+                Ok(((figure - start + step / 2) / step) as u32)
+            }
+            (Rule::Geometric, Value::Whole(figure)) => {
+                if figure < RESPONSE[0] || figure > RESPONSE[62] {
+                    return Err(10);
+                }
+                let above = RESPONSE.partition_point(|value| *value < figure);
+                if above > 0 && figure - RESPONSE[above - 1] < RESPONSE[above] - figure {
+                    return Ok(above as u32 - 1);
+                }
+                Ok(above as u32)
+            }
+            (Rule::Single, Value::Single(figure)) => {
+                if !figure.is_finite() {
+                    return Err(10);
+                }
+                Ok(figure.to_bits())
+            }
+            (Rule::Plain { .. }, Value::Missing) => Err(9),
+            (_, Value::Missing) => Ok(mask(self.width()) as u32),
+            _ => Err(9),
+        }
+    }
+}
+
+const fn any(width: u32) -> Rule {
+    range(width, 0, ((1u64 << width) - 1) as u32)
+}
+
+const fn range(width: u32, least: u32, most: u32) -> Rule {
+    Rule::Plain { width, least, most }
+}
+
+const fn steps(width: u32, start: i64, step: i64) -> Rule {
+    Rule::Stepped { width, start, step }
+}
+
+/// Rules of fields 1 to 21; those of 10 and 11 for each precision stand below.
+const RULES: [Rule; 21] = [
+    range(14, 17, 16381),
+    any(15),
+    range(5, 1, 26),
+    any(6),
+    any(24),
+    range(6, 0, 45),
+    Rule::Single,
+    Rule::Single,
+    range(2, 0, 2),
+    ELECTRICAL[0],
+    ELECTRICAL[0],
+    range(2, 0, 2),
+    steps(18, 10, 1),
+    Rule::Geometric,
+    steps(9, 1, 1),
+    steps(9, 1, 1),
+    steps(9, 1, 1),
+    steps(16, 0, 1),
+    any(15),
+    any(12),
+    any(11),
+];
+
+const ELECTRICAL: [Rule; 3] = [steps(11, -1_000_000_000, 1_000_000), steps(19, -6_550_000, 25), Rule::Single];
+
+/// First bits of fields 1 to 21 with precision 0.
+const FIRST_BITS: [u64; 21] =
+    [0, 14, 29, 34, 40, 74, 80, 112, 144, 146, 157, 168, 170, 188, 194, 203, 212, 221, 237, 252, 264];
+
+/// The rule of field 1 to 21.
+fn rule(field: usize, precision: usize) -> Rule {
+    if field == 10 || field == 11 { ELECTRICAL[precision] } else { RULES[field - 1] }
+}
+
+fn first_bit(field: usize, precision: usize) -> u64 {
+    let wider = u64::from(ELECTRICAL[precision].width() - 11);
+    let before = match field {
+        0..=10 => 0,
+        11 => 1,
+        _ => 2,
+    };
+    FIRST_BITS[field - 1] + before * wider
+}
+
+// ---- check and read ----
+
+/// An accepted image.
+struct Open {
+    chip: Chip,
+    precision: usize,
+    summary: Summary,
+    /// First bit of the first point, if there is one.
+    pairs: u64,
+    /// First bit of the text, if there is one.
+    text: u64,
+}
+
+fn open(kind: u8, image: &[u8]) -> Answer<Open> {
+    let Some(chip) = chip(kind, image.len()) else {
+        return refuse(1, 0);
+    };
+    for page in 0..chip.pages {
+        if chip.sum(image, page) != 0 {
+            return refuse(2, page as u64);
+        }
+    }
+    let mut walk = Walk::new(chip, image);
+    for rule in &RULES[..5] {
+        let bit = walk.at;
+        rule.judge(walk.take(rule.width())?, bit)?;
+    }
+    let selector = walk.at;
+    if walk.take(2)? != 0 || walk.take(8)? != 33 {
+        return refuse(4, selector);
+    }
+    let mut precision = 0;
+    for field in 6..=21 {
+        let rule = rule(field, precision);
+        let bit = walk.at;
+        let code = walk.take(rule.width())?;
+        rule.judge(code, bit)?;
+        if field == 9 {
+            precision = code as usize;
+        }
+    }
+    let mut points = 0;
+    let mut pairs = 0;
+    let mut selector = walk.at;
+    let mut which = walk.take(2)?;
+    if which == 0 {
+        if walk.take(8)? != 40 {
+            return refuse(4, selector);
+        }
+        let bit = walk.at;
+        if walk.take(1)? != 0 {
+            return refuse(5, bit);
+        }
+        let bit = walk.at;
+        points = walk.take(7)?;
+        if points == 0 {
+            return refuse(5, bit);
+        }
+        pairs = walk.at;
+        let mut last = 0;
+        for index in 0..points {
+            let bit = walk.at;
+            let point = walk.take(16)?;
+            if point == 0xffff {
+                return refuse(5, bit);
+            }
+            let after = walk.at;
+            if walk.take(21)? == 0x1f_ffff {
+                return refuse(5, after);
+            }
+            if index > 0 && point <= last {
+                return refuse(7, bit);
+            }
+            last = point;
+        }
+        selector = walk.at;
+        which = walk.take(2)?;
+    }
+    if which != 3 {
+        return refuse(4, selector);
+    }
+    let end_bit = walk.take(1)?;
+    let text = walk.at;
+    let mut characters = 0;
+    if end_bit == 1 {
+        while walk.end - walk.at >= 7 && walk.take(7)? != 0 {
+            characters += 1;
+        }
+    }
+    Ok(Open {
+        chip,
+        precision,
+        summary: Summary { bits: walk.at, points: u64::from(points), end_bit: u64::from(end_bit), characters },
+        pairs,
+        text,
+    })
+}
+
+impl Open {
+    fn field(&self, image: &[u8], field: usize) -> Value {
+        let rule = rule(field, self.precision);
+        let bit = first_bit(field, self.precision);
+        rule.value(self.chip.get(image, bit, rule.width()))
+    }
+
+    fn stepped(&self, image: &[u8], bit: u64, rule: Rule) -> i64 {
+        match rule {
+            Rule::Stepped { width, start, step } => start + step * i64::from(self.chip.get(image, bit, width)),
+            _ => 0,
+        }
+    }
+
+    fn point(&self, image: &[u8], index: u64) -> i64 {
+        self.stepped(image, self.pairs + PAIR_BITS * index, POINT)
+    }
+
+    fn deviation(&self, image: &[u8], index: u64) -> i64 {
+        self.stepped(image, self.pairs + PAIR_BITS * index + 16, DEVIATION)
+    }
+
+    /// The deviation at p: on the line between its neighbours, to the nearest, halves upward.
+    fn deviation_at(&self, image: &[u8], p: i64) -> i64 {
+        let points = self.summary.points;
+        let (mut low, mut high) = (0, points);
+        while low < high {
+            let middle = (low + high) / 2;
+            if self.point(image, middle) <= p {
+                low = middle + 1;
+            } else {
+                high = middle;
+            }
+        }
+        if points == 0 {
+            0
+        } else if low == 0 {
+            self.deviation(image, 0)
+        } else if low == points {
+            self.deviation(image, points - 1)
+        } else {
+            let a = self.point(image, low - 1);
+            let s = self.deviation(image, low - 1);
+            let b = self.point(image, low);
+            let t = self.deviation(image, low);
+            s + nearest((t - s) * (p - a), b - a)
+        }
+    }
+}
+
+/// To the nearest whole number, halves upward; the divisor is above 0.
+fn nearest(dividend: i64, divisor: i64) -> i64 {
+    (2 * dividend + divisor).div_euclid(2 * divisor)
+}
+
+pub fn check(kind: u8, image: &[u8]) -> Answer<Summary> {
+    Ok(open(kind, image)?.summary)
+}
+
+/// The 31 stream bytes of a page, or nothing.
+pub fn page(kind: u8, image: &[u8], page: u64) -> &[u8] {
+    match chip(kind, image.len()) {
+        Some(chip) if page < chip.pages as u64 => {
+            let start = chip.page_start(page as usize);
+            &image[start + 1..start + PAGE]
+        }
+        _ => &[],
+    }
+}
+
+pub fn field(kind: u8, image: &[u8], field: u64) -> Answer<Value> {
+    let open = open(kind, image)?;
+    if !(1..=21).contains(&field) {
+        return refuse(8, field);
+    }
+    Ok(open.field(image, field as usize))
+}
+
+pub fn pair(kind: u8, image: &[u8], index: u64) -> Answer<(i64, i64)> {
+    let open = open(kind, image)?;
+    if index >= open.summary.points {
+        return refuse(8, index);
+    }
+    Ok((open.point(image, index), open.deviation(image, index)))
+}
+
+pub fn character(kind: u8, image: &[u8], index: u64) -> Answer<u8> {
+    let open = open(kind, image)?;
+    if index >= open.summary.characters {
+        return refuse(8, index);
+    }
+    Ok(open.chip.get(image, open.text + 7 * index, 7) as u8)
+}
+
+// ---- write ----
+
+pub fn build(
+    kind: u8,
+    image: &mut [u8],
+    values: &[Value; 21],
+    end_bit: bool,
+    text: &[u8],
+    points: &[i64],
+) -> Answer<()> {
+    let Some(chip) = chip(kind, image.len()) else {
+        return refuse(1, 0);
+    };
+    if points.len() % 2 == 1 || points.len() > 254 {
+        return refuse(16, points.len() as u64);
+    }
+    let mut codes = [0u32; 21];
+    let mut precision = 0;
+    for field in 1..=21 {
+        match rule(field, precision).code(values[field - 1]) {
+            Ok(code) => codes[field - 1] = code,
+            Err(number) => return refuse(number, field as u64),
+        }
+        if field == 9 {
+            precision = codes[8] as usize;
+        }
+    }
+    if !end_bit && !text.is_empty() {
+        return refuse(9, 22);
+    }
+    if text.iter().any(|character| !(1..=127).contains(character)) {
+        return refuse(10, 22);
+    }
+    let mut last = 0;
+    for (index, pair) in points.chunks_exact(2).enumerate() {
+        let index = index as u64;
+        let Ok(point) = POINT.code(Value::Whole(pair[0])) else {
+            return refuse(10, index);
+        };
+        if DEVIATION.code(Value::Whole(pair[1])).is_err() {
+            return refuse(10, index);
+        }
+        if index > 0 && point <= last {
+            return refuse(7, index);
+        }
+        last = point;
+    }
+    let count = points.len() as u64 / 2;
+    let block = if count > 0 { 18 + PAIR_BITS * count } else { 0 };
+    let text_bits = 7 * text.len().min(0xffff) as u64;
+    let needed = first_bit(21, precision) + 11 + block + 3 + text_bits;
+    if needed > chip.stream_bits() {
+        return refuse(11, needed.min(0xffff));
+    }
+
+    let mut pen = Pen { image, register: chip.register, next: 0, held: 0, holds: 0 };
+    for field in 1..=21 {
+        if field == 6 {
+            pen.put(33 << 2, 10);
+        }
+        pen.put(codes[field - 1], rule(field, precision).width());
+    }
+    if count > 0 {
+        pen.put(40 << 2, 10);
+        pen.put((count as u32) << 1, 8);
+        for pair in points.chunks_exact(2) {
+            pen.put(POINT.code(Value::Whole(pair[0])).unwrap_or(0), 16);
+            pen.put(DEVIATION.code(Value::Whole(pair[1])).unwrap_or(0), 21);
+        }
+    }
+    pen.put(3 | u32::from(end_bit) << 2, 3);
+    for character in text {
+        pen.put(u32::from(*character), 7);
+    }
+    pen.finish();
+    for page in 0..chip.pages {
+        chip.seal(image, page);
+    }
+    Ok(())
+}
+
+pub fn change(kind: u8, image: &mut [u8], field: u64, value: Value) -> Answer<()> {
+    let open = open(kind, image)?;
+    if !(1..=21).contains(&field) {
+        return refuse(8, field);
+    }
+    if field == 9 {
+        return refuse(12, 9);
+    }
+    let rule = rule(field as usize, open.precision);
+    let code = match rule.code(value) {
+        Ok(code) => code,
+        Err(number) => return refuse(number, field),
+    };
+    let bit = first_bit(field as usize, open.precision);
+    let width = rule.width();
+    let chip = open.chip;
+    chip.put(image, bit, width, code);
+    let first = chip.page_of((bit / 8) as usize);
+    let last = chip.page_of(((bit + u64::from(width) - 1) / 8) as usize);
+    for page in first..=last {
+        chip.seal(image, page);
+    }
+    Ok(())
+}
+
+// ---- reading ----
+
+pub fn reading(kind: u8, image: &[u8], input: i64) -> Answer<Reading> {
+    let open = open(kind, image)?;
+    if open.precision == 2 {
+        return refuse(15, 9);
+    }
+    let single = |field| match open.field(image, field) {
+        Value::Single(figure) => Ok(f64::from(figure)),
+        _ => refuse(13, field as u64),
+    };
+    let whole = |field| match open.field(image, field) {
+        Value::Whole(figure) => Ok(figure),
+        _ => refuse(13, field as u64),
+    };
+    let least = single(7)?;
+    let greatest = single(8)?;
+    let e = whole(10)?;
+    let f = whole(11)?;
+    if e >= f {
+        return refuse(13, 11);
+    }
+    if !(-2 * BILLION..=2 * BILLION).contains(&input) {
+        return refuse(14, 0);
+    }
+    let above = input - e;
+    let span = f - e;
+    if 10 * above < -span || 10 * above > 11 * span {
+        return refuse(14, 0);
+    }
+    let p = nearest(above * BILLION, span);
+    let fraction = p + open.deviation_at(image, p);
+    let figure = least + (greatest - least) * (fraction as f64 / 1e9);
+    Ok(Reading { fraction, figure })
+}
+
+// ---- letters and dates ----
+
+const LETTERS: &[u8; 32] = b" ABCDEFGHIJKLMNOPQRSTUVWXYZ,./_@";
+
+/// Days from 1 March of the year 0 to 1 January 1998.
+const DAYS_TO_1998: u64 = 729_695;
+
+/// Days from 1 March of the year 0 to a day of the Gregorian calendar.
+fn days_to(year: u64, month: u64, day: u64) -> u64 {
+    let (year, month) = if month > 2 { (year, month - 3) } else { (year - 1, month + 9) };
+    365 * year + year / 4 - year / 100 + year / 400 + (153 * month + 2) / 5 + day - 1
+}
+
+fn days_in(year: u64, month: u64) -> u64 {
+    match month {
+        2 if year.is_multiple_of(4) && (!year.is_multiple_of(100) || year.is_multiple_of(400)) => 29,
+        2 => 28,
+        4 | 6 | 9 | 11 => 30,
+        _ => 31,
+    }
+}
+
+fn date_of(code: u64) -> (u64, u64, u64) {
+    let days = code + DAYS_TO_1998;
+    let era = days / 146_097;
+    let day = days % 146_097;
+    let year = (day - day / 1_460 + day / 36_524 - day / 146_096) / 365;
+    let day = day - (365 * year + year / 4 - year / 100);
+    let month = (5 * day + 2) / 153;
+    let day = day - (153 * month + 2) / 5 + 1;
+    let year = year + 400 * era;
+    if month < 10 { (year, month + 3, day) } else { (year + 1, month - 9, day) }
+}
+
+pub fn text(field: u64, code: u64) -> Answer<Text> {
+    let most = match field {
+        3 => 26,
+        18 => 65_534,
+        19 => 32_767,
+        _ => return refuse(8, field),
+    };
+    if code > most || field == 3 && code == 0 {
+        return refuse(10, field);
+    }
+    let mut characters = [0; 10];
+    let length = match field {
+        3 => {
+            characters[0] = LETTERS[code as usize];
+            1
+        }
+        19 => {
+            for (i, character) in characters[..3].iter_mut().enumerate() {
+                *character = LETTERS[(code >> (5 * i) & 31) as usize];
+            }
+            3
+        }
+        _ => {
+            let (year, month, day) = date_of(code);
+            let mut digits = year * 10_000 + month * 100 + day;
+            for i in [9, 8, 6, 5, 3, 2, 1, 0] {
+                characters[i] = b'0' + (digits % 10) as u8;
+                digits /= 10;
+            }
+            characters[4] = b'-';
+            characters[7] = b'-';
+            10
+        }
+    };
+    Ok(Text { length, characters })
+}
+
+pub fn code(field: u64, text: &[u8]) -> Answer<u64> {
+    let length = match field {
+        3 => 1,
+        18 => 10,
+        19 => 3,
+        _ => return refuse(8, field),
+    };
+    if text.len() != length {
+        return refuse(9, field);
+    }
+    let code = match field {
+        3 => letter(text[0]).filter(|code| (1..=26).contains(code)),
+        18 => date_code(text),
+        _ => text.iter().rev().try_fold(0, |code, character| Some(code << 5 | letter(*character)?)),
+    };
+    match code {
+        Some(code) => Ok(code),
+        None => refuse(10, field),
+    }
+}
+
+fn letter(character: u8) -> Option<u64> {
+    match character {
+        b' ' => Some(0),
+        b'A'..=b'Z' => Some(u64::from(character - b'A') + 1),
+        b',' => Some(27),
+        b'.' => Some(28),
+        b'/' => Some(29),
+        b'_' => Some(30),
+        b'@' => Some(31),
+        _ => None,
+    }
+}
+
+fn date_code(text: &[u8]) -> Option<u64> {
+    if text[4] != b'-' || text[7] != b'-' {
+        return None;
+    }
+    let year = digits(&text[0..4])?;
+    let month = digits(&text[5..7])?;
+    let day = digits(&text[8..10])?;
+    if year < 1998 || !(1..=12).contains(&month) || day < 1 || day > days_in(year, month) {
+        return None;
+    }
+    Some(days_to(year, month, day) - DAYS_TO_1998).filter(|code| *code <= 65_534)
+}
+
+fn digits(text: &[u8]) -> Option<u64> {
+    text.iter().try_fold(0, |number, digit| digit.is_ascii_digit().then(|| number * 10 + u64::from(digit - b'0')))
+}
+
+#[cfg(test)]
+mod tests {
+    use super::*;
+
+    /// A whole number of any size, lowest word first.
+    fn times(number: &[u32], factor: u64) -> Vec<u32> {
+        let mut product = vec![0u32; number.len() + 2];
+        for (shift, part) in [factor as u32, (factor >> 32) as u32].into_iter().enumerate() {
+            let mut carry = 0u64;
+            for i in 0..product.len() - shift {
+                let digit = number.get(i).copied().unwrap_or(0);
+                let sum = u64::from(digit) * u64::from(part) + u64::from(product[i + shift]) + carry;
+                product[i + shift] = sum as u32;
+                carry = sum >> 32;
+            }
+        }
+        while product.last() == Some(&0) {
+            product.pop();
+        }
+        product
+    }
+
+    fn less(a: &[u32], b: &[u32]) -> bool {
+        (a.len(), a.iter().rev().collect::<Vec<_>>()) < (b.len(), b.iter().rev().collect::<Vec<_>>())
+    }
+
+    #[test]
+    fn responses_are_the_powers_to_the_nearest() {
+        // 2 r - 1 <= 200 x 1292^c / 1000^c < 2 r + 1
+        let mut power = vec![200];
+        let mut unit = vec![1];
+        for response in RESPONSE {
+            let response = response as u64;
+            assert!(!less(&power, &times(&unit, 2 * response - 1)));
+            assert!(less(&power, &times(&unit, 2 * response + 1)));
+            power = times(&power, 1292);
+            unit = times(&unit, 1000);
+        }
+    }
+
+    #[test]
+    fn big_products() {
+        assert_eq!(times(&[u32::MAX], u64::MAX), [1, u32::MAX, u32::MAX - 1]);
+        assert_eq!(times(&[5, 7], 3), [15, 21]);
+        assert!(less(&[9], &[0, 1]) && less(&[9, 1], &[1, 2]) && !less(&[3], &[3]));
+    }
+
+    #[test]
+    fn dates_go_there_and_back() {
+        let mut expected = (1998, 1, 1);
+        for code in 0..=65_534 {
+            assert_eq!(date_of(code), expected);
+            let turned = text(18, code).unwrap();
+            assert_eq!(super::code(18, &turned.characters), Ok(code));
+            let (year, month, day) = expected;
+            expected = if day < days_in(year, month) {
+                (year, month, day + 1)
+            } else if month < 12 {
+                (year, month + 1, 1)
+            } else {
+                (year + 1, 1, 1)
+            };
+        }
+        assert_eq!(expected, (2177, 6, 6));
+        assert_eq!(&text(18, 789).unwrap().characters, b"2000-02-29");
+        assert_eq!(&text(18, 7306).unwrap().characters, b"2018-01-02");
+        assert_eq!(&text(18, 37314).unwrap().characters, b"2100-03-01");
+        assert_eq!(&text(18, 65534).unwrap().characters, b"2177-06-05");
+        for wrong in [b"2177-06-06", b"2100-02-29", b"1997-12-31", b"2018-1-02 "] {
+            let refusal = Refusal { number: 10, place: 18 };
+            assert_eq!(super::code(18, wrong), Err(refusal));
+        }
+    }
+
+    #[test]
+    fn letters_go_there_and_back() {
+        for field in [3, 19] {
+            for code in 0..=32_768 {
+                match text(field, code) {
+                    Ok(turned) => {
+                        let characters = &turned.characters[..turned.length];
+                        assert_eq!(super::code(field, characters), Ok(code));
+                    }
+                    Err(refusal) => {
+                        assert_eq!((refusal.number, refusal.place), (10, field));
+                        assert!(field == 3 && !(1..=26).contains(&code) || code > 32_767);
+                    }
+                }
+            }
+        }
+        assert_eq!(&text(19, 1 | 2 << 5 | 30 << 10).unwrap().characters[..3], b"AB_");
+    }
+
+    fn sheet() -> [Value; 21] {
+        use Value::*;
+        [
+            Whole(17),
+            Whole(1),
+            Whole(1),
+            Whole(0),
+            Whole(1),
+            Whole(6),
+            Single(0.0),
+            Single(16.0),
+            Whole(1),
+            Whole(0),
+            Whole(3_000_000),
+            Whole(2),
+            Whole(3500),
+            Whole(100),
+            Whole(50),
+            Missing,
+            Missing,
+            Whole(7306),
+            Whole(0),
+            Whole(365),
+            Whole(0),
+        ]
+    }
+
+    #[test]
+    fn the_documents_edges() {
+        let mut image = [0xaa; 40];
+        build(0, &mut image, &sheet(), false, &[], &[]).unwrap();
+        assert_eq!(image[..8], [0x11, 0x40, 0, 0x20, 0, 1, 0, 0]);
+        assert_eq!(check(0, &image).unwrap().bits, 294);
+        assert_eq!(reading(0, &image, 1_000_000).unwrap().fraction, 333_333_333);
+        assert_eq!(reading(0, &image, 2_000_000).unwrap().fraction, 666_666_667);
+        change(0, &mut image, 11, Value::Whole(2_000_000)).unwrap();
+        assert!(reading(0, &image, -200_000).is_ok());
+        let refusal = Refusal { number: 14, place: 0 };
+        assert_eq!(reading(0, &image, -200_001).err(), Some(refusal));
+
+        let mut values = sheet();
+        values[8] = Value::Whole(2);
+        values[9] = Value::Single(0.0);
+        values[10] = Value::Single(1.0);
+        let before = image;
+        let refusal = Refusal { number: 11, place: 320 };
+        assert_eq!(build(0, &mut image, &values, false, &[], &[]), Err(refusal));
+        assert_eq!(image, before);
+
+        values = sheet();
+        values[8] = Value::Whole(0);
+        values[9] = Value::Whole(2_499_999);
+        values[10] = Value::Whole(2_500_000);
+        values[14] = Value::Whole(511);
+        build(0, &mut image, &values, false, &[], &[]).unwrap();
+        assert_eq!(field(0, &image, 10), Ok(Value::Whole(2_000_000)));
+        assert_eq!(field(0, &image, 11), Ok(Value::Whole(3_000_000)));
+        assert_eq!(field(0, &image, 15), Ok(Value::Whole(511)));
+        for (figure, fits) in
+            [(1_046_000_000, true), (1_046_000_001, false), (-1_000_000_000, true), (-1_000_000_001, false)]
+        {
+            assert_eq!(change(0, &mut image, 10, Value::Whole(figure)).is_ok(), fits);
+        }
+        change(0, &mut image, 15, Value::Missing).unwrap();
+        assert_eq!(field(0, &image, 15), Ok(Value::Missing));
+    }
+
+    #[test]
+    fn deviations_round_halves_upward() {
+        assert_eq!(nearest(-200, 400), 0);
+        assert_eq!(nearest(200, 400), 1);
+        assert_eq!(nearest(-3, 2), -1);
+    }
+
+    #[test]
+    fn table_of_first_bits() {
+        for precision in 0..3 {
+            let mut bit = 0;
+            for field in 1..=21 {
+                if field == 6 {
+                    bit += 10;
+                }
+                assert_eq!(first_bit(field, precision), bit);
+                bit += u64::from(rule(field, precision).width());
+            }
+            assert_eq!(bit, 66 + [209, 225, 251][precision]);
+        }
+    }
+}

@@ -1,0 +1,4 @@
+pub mod PageLaws
+pub mod ToldLaws
+pub mod LentLaws
+pub mod TextLaws
