@@ -51,6 +51,23 @@ pub fn lent(line: &[u8], room: &mut [u8]) -> Asked {
     })
 }
 
+enum Numbered {
+    // The kind and the image, and the number behind them.
+    Of(Chip, u64),
+    Unknown,
+}
+
+// The kind, the image and a number, words 1 to 3 of a line.
+fn with_number(line: &[u8], room: &mut [u8]) -> Numbered {
+    let Asked::Of(asked) = lent(line, room) else {
+        return Numbered::Unknown;
+    };
+    let Number::Is(number) = lines::number_of(word(line, 3)) else {
+        return Numbered::Unknown;
+    };
+    Numbered::Of(asked, number)
+}
+
 fn accepted(summary: Summary) {
     put(b"ok ");
     put_number(summary.bits);
@@ -86,10 +103,7 @@ pub fn show(line: &[u8]) {
 
 pub fn page(line: &[u8]) {
     let mut room = [0u8; ROOM];
-    let Asked::Of(asked) = lent(line, &mut room) else {
-        return printing::unknown();
-    };
-    let Number::Is(page) = lines::number_of(word(line, 3)) else {
+    let Numbered::Of(asked, page) = with_number(line, &mut room) else {
         return printing::unknown();
     };
     printing::bytes(page_bytes(asked.kind, lines::front(&room, asked.length), page));
@@ -98,10 +112,7 @@ pub fn page(line: &[u8]) {
 
 pub fn field(line: &[u8]) {
     let mut room = [0u8; ROOM];
-    let Asked::Of(asked) = lent(line, &mut room) else {
-        return printing::unknown();
-    };
-    let Number::Is(field) = lines::number_of(word(line, 3)) else {
+    let Numbered::Of(asked, field) = with_number(line, &mut room) else {
         return printing::unknown();
     };
     match sheet::read_field(asked.kind, lines::front(&room, asked.length), field) {
@@ -115,10 +126,7 @@ pub fn field(line: &[u8]) {
 
 pub fn pair(line: &[u8]) {
     let mut room = [0u8; ROOM];
-    let Asked::Of(asked) = lent(line, &mut room) else {
-        return printing::unknown();
-    };
-    let Number::Is(index) = lines::number_of(word(line, 3)) else {
+    let Numbered::Of(asked, index) = with_number(line, &mut room) else {
         return printing::unknown();
     };
     match sheet::read_pair(asked.kind, lines::front(&room, asked.length), index) {
@@ -134,10 +142,7 @@ pub fn pair(line: &[u8]) {
 
 pub fn character(line: &[u8]) {
     let mut room = [0u8; ROOM];
-    let Asked::Of(asked) = lent(line, &mut room) else {
-        return printing::unknown();
-    };
-    let Number::Is(index) = lines::number_of(word(line, 3)) else {
+    let Numbered::Of(asked, index) = with_number(line, &mut room) else {
         return printing::unknown();
     };
     match sheet::read_character(asked.kind, lines::front(&room, asked.length), index) {

@@ -9,11 +9,12 @@ use native.Mathlib.Omega.{arith}
 use borrow.Author.Tests.{le-leb, lt-leb, leb-true, leb-false}
 use lib.Dec.{leb}
 use lib.IntN.{ℤ, pos, negsuc, natAbs, _-ℤ_}
+use lib.Signed.{ltZ}
 use mir.Syntax.{w64}
 use mir.Val.{SFits, toZ, ofZ}
 use mir.Facts.{toZ-ofZ}
 use Rattle.integers.specs.Parts.{up, dn}
-use Rattle.integers.proofs.PartLaws.{sub-parts-ℤ, abs-parts, ltZ-parts}
+use Rattle.integers.proofs.PartLaws.{sub-parts-ℤ, abs-parts, ltZ-parts, nltZ-parts, is-true, is-false}
 use Rattle.fields.specs.Rules.{closest}
 use Rattle.fields.specs.Stored.{Rising, Closest, GeometricClosest}
 
@@ -131,3 +132,96 @@ closest-back value n code rising h = go (eq-or-lt-of-le (c .greater code h (own 
     go : (code ≡ r) ⊎ (code < r) → r ≡ code
     go (inl e) = sym e
     go (inr l) = absurd (omega (arith, greater-later value n code r rising l (c .inside), found, abs-parts (value r -ℤ value code), sub-parts-ℤ (value r) (value code)))
+
+-- ---- a search by halves, where the values rise
+
+-- How far a value is from a figure, above it and below.
+from-below : (a z : ℤ) → up a + dn z < up z + dn a → natAbs (a -ℤ z) ≡ (up z + dn a) - (up a + dn z)
+from-below a z h = sym (apart-dn (a -ℤ z) (up a + dn z) (up z + dn a) (omega (arith, sub-parts-ℤ a z)) h)
+
+from-above : (a z : ℤ) → up z + dn a ≤ up a + dn z → natAbs (a -ℤ z) ≡ (up a + dn z) - (up z + dn a)
+from-above a z h = sym (apart-up (a -ℤ z) (up a + dn z) (up z + dn a) (omega (arith, sub-parts-ℤ a z)) h)
+
+-- Where the last code's value is below the figure, the last is the nearest.
+last-nearest : (value : ℕ → ℤ) (n : ℕ) (z : ℤ) → Rising value n → up (value n) + dn z < up z + dn (value n) → closest value n z ≡ n
+unfolding closest
+last-nearest value zero z rising h = refl
+last-nearest value (suc n) z rising h =
+    let step = ltZ-parts (value n) (value (suc n)) (rising n (omega arith) .lt) in
+    let below : up (value n) + dn z < up z + dn (value n) = omega arith in
+    let near : natAbs (value (suc n) -ℤ z) ≤ natAbs (value n -ℤ z) = omega (arith, from-below (value n) z below, from-below (value (suc n)) z h) in
+    rw (last-nearest value n z (λ c l. rising c (omega arith)) below, le-leb _ _ near)
+
+-- Codes behind one whose value is not below the figure change nothing.
+one-no-later : (value : ℕ → ℤ) (m n : ℕ) (z : ℤ) → Rising value (suc n) → up z + dn (value m) ≤ up (value m) + dn z → (m ≤ n → closest value n z ≡ closest value m z) → (m ≡ suc n) ⊎ (m < suc n) → closest value (suc n) z ≡ closest value m z
+unfolding closest
+one-no-later value m n z rising h before (inl e) = rw e
+one-no-later value m n z rising h before (inr l) =
+    let here : m ≤ n = le-of-suc-le-suc l in
+    let step = ltZ-parts (value n) (value (suc n)) (rising n (omega arith) .lt) in
+    let past : up z + dn (value n) ≤ up (value n) + dn z = omega (arith, no-less-later value (suc n) m n rising here (omega arith)) in
+    let near = closest-is value n z .nearer n (le-refl _) in
+    let far : natAbs (value (closest value n z) -ℤ z) < natAbs (value (suc n) -ℤ z) = omega (arith, from-above (value n) z past, from-above (value (suc n)) z (omega arith)) in
+    rw (lt-leb _ _ far) (before here)
+
+no-later : (value : ℕ → ℤ) (m n : ℕ) (z : ℤ) → Rising value n → m ≤ n → up z + dn (value m) ≤ up (value m) + dn z → closest value n z ≡ closest value m z
+no-later value m zero z rising l h = let e : m ≡ 0 = omega arith in rw e
+no-later value m (suc n) z rising l h = one-no-later value m n z rising h (λ k. no-later value m n z (λ c j. rising c (omega arith)) k h) (eq-or-lt-of-le l)
+
+-- What is left of a search: the codes before low are below the figure, and those behind high change nothing.
+pub record Left (value : ℕ → ℤ) (top : ℕ) (z : ℤ) (low high : ℕ) : Type 0 where
+  pub order : low ≤ high
+  pub inside : high ≤ top
+  pub before : closest value (low - 1) z ≡ low - 1
+  pub behind : closest value high z ≡ closest value top z
+
+module _ (value : ℕ → ℤ) (top : ℕ) (z : ℤ) where
+  pub whole : Left value top z 0 top
+  unfolding closest
+  whole = record { order = omega arith; inside = omega arith; before = refl; behind = refl }
+
+  pub upper : {low high : ℕ} (middle : ℕ) → Rising value top → Left value top z low high → middle < high → up (value middle) + dn z < up z + dn (value middle) → Left value top z (middle + 1) high
+  upper middle rising s l h =
+      let same : middle + 1 - 1 ≡ middle = omega arith in
+      record {
+        order = omega arith;
+        inside = s .inside;
+        before = rw same (last-nearest value middle z (λ c k. rising c (omega arith)) h);
+        behind = s .behind;
+      }
+
+  pub lower : {low high : ℕ} (middle : ℕ) → Rising value top → Left value top z low high → low ≤ middle → middle < high → up z + dn (value middle) ≤ up (value middle) + dn z → Left value top z low middle
+  lower middle rising s k l h =
+      record {
+        order = k;
+        inside = omega arith;
+        before = s .before;
+        behind = sym (no-later value middle _ z (λ c k. rising c (omega arith)) (omega arith) h) ∙ s .behind;
+      }
+
+  -- One code is left: it or the one before it is the nearest.
+  pub first-left : {low high : ℕ} → Left value top z low high → high ≤ low → low ≡ 0 → 0 ≡ closest value top z
+  unfolding closest
+  first-left {low} {high} s l e =
+      let none : high ≡ 0 = omega arith in
+      rw none at (s .behind)
+
+  pub one-left : {low high r : ℕ} → Left value top z low high → high ≤ low → 1 ≤ low → r ≡ cond (leb (natAbs (value low -ℤ z)) (natAbs (value (low - 1) -ℤ z))) low (low - 1) → r ≡ closest value top z
+  one-left {low} {high} s l some e =
+      let same : low ≡ low - 1 + 1 = omega arith in
+      let last : low - 1 + 1 ≡ high = omega arith in
+      turn value z (low - 1) (sym (s .before)) (e ∙ rw (← same)) ∙ (rw last (s .behind))
+
+-- What a test of an entry and a figure says.
+pub entry-below : {v : ℤ} (z : ℤ) {n : ℕ} → SFits w64 v → v ≡ pos n → ltZ (toZ w64 (ofZ w64 v)) z ≡ true → up (pos n) + dn z < up z + dn (pos n)
+entry-below z {n = n} f e t = ltZ-parts (pos n) z (is-true (rw (toZ-ofZ f, e) at t))
+
+pub entry-above : {v : ℤ} (z : ℤ) {n : ℕ} → SFits w64 v → v ≡ pos n → ltZ (toZ w64 (ofZ w64 v)) z ≡ false → up z + dn (pos n) ≤ up (pos n) + dn z
+entry-above z {n = n} f e t = nltZ-parts (pos n) z (is-false (rw (toZ-ofZ f, e) at t))
+
+-- The nearest goes by the values of the codes that there are.
+pub closest-same : (f g : ℕ → ℤ) (n : ℕ) (z : ℤ) → ((k : ℕ) → k ≤ n → f k ≡ g k) → closest f n z ≡ closest g n z
+unfolding closest
+closest-same f g zero z same = refl
+closest-same f g (suc n) z same =
+    rw (closest-same f g n z (λ k l. same k (omega arith)), same (suc n) (le-refl _), same (closest g n z) (omega (arith, closest-is g n z .inside)))

@@ -7,14 +7,13 @@ use native.Mathlib.Omega.{arith}
 use lib.Dec.{eqb, eqb→eq, ltb, ltb→lt, lt→ltb}
 use lib.IntN.{pos}
 use lib.ListN.{getD}
-use mir.Syntax.{w64}
-use mir.Val.{toZ}
-use mir.Facts.{toZ-pos, and-yes}
+use mir.Facts.{and-yes}
 use Rattle.integers.proofs.NearestLaws.{nearest-natural}
 use Rattle.fields.specs.declared.Scale.{Scale}
 use Rattle.fields.specs.declared.Scale.the-variants.{ResponseTime}
 use Rattle.fields.specs.Rules.{progression, geometricValue}
 use Rattle.fields.specs.Stored.{Rising, ResponseRises}
+use Rattle.fields.specs.Tables.{listed}
 use Rattle.fields.proofs.Table.{at}
 
 -- The table that code holds.
@@ -35,23 +34,20 @@ unfolding geometricValue
 size-is code = nearest-natural (100 * 1_292 ^ code) (1_000 ^ code)
 
 abbrev right : ℕ → ℕ → Bool
-right code x = eqb x (size code) && (ltb x (size (suc code)) && ltb x (2 ^ 30))
+right code x = eqb x (size code) && ltb x (size (suc code))
 
--- An entry is the value of its code, is less than the value of the next, and has 30 bits.
-pub record Entry (code : ℕ) : Type 0 where
-  pub value : pos (getD times code 0) ≡ geometricValue (progression ResponseTime) code
-  pub rises : getD times code 0 < size (suc code)
-  pub small : getD times code 0 < 2 ^ 30
+-- An entry is the value of its code, and is less than the value of the next.
+record Entry (code : ℕ) : Type 0 where
+  value : listed times code ≡ geometricValue (progression ResponseTime) code
+  rises : getD times code 0 < size (suc code)
 
-pub entry : (code : ℕ) → code < 63 → Entry code
+entry : (code : ℕ) → code < 63 → Entry code
 entry code h =
     let x = getD times code 0 in
-    let p = and-yes (eqb x (size code)) (ltb x (size (suc code)) && ltb x (2 ^ 30)) (at right times tt code h) in
-    let q = and-yes (ltb x (size (suc code))) (ltb x (2 ^ 30)) (p .1) in
+    let p = and-yes (eqb x (size code)) (ltb x (size (suc code))) (at right times tt code h) in
     record {
       value = ap pos (eqb→eq x (size code) (p .0)) ∙ sym (size-is code);
-      rises = ltb→lt x (size (suc code)) (q .0);
-      small = ltb→lt x (2 ^ 30) (q .1);
+      rises = ltb→lt x (size (suc code)) (p .1);
     }
 
 pub response-rises : ResponseRises
@@ -62,6 +58,10 @@ response-rises c h =
 pub scale-rises : (scale : Scale) → Rising (geometricValue (progression scale)) 62
 scale-rises ResponseTime = response-rises
 
--- An entry as the signed number that code hands out.
-pub handed : (scale : Scale) (code : ℕ) → code < 63 → toZ w64 (getD times code 0) ≡ geometricValue (progression scale) code
-handed ResponseTime code h = toZ-pos w64 (omega (arith, entry code h .small)) ∙ entry code h .value
+-- The table's values are those of the scale, and so rise.
+pub handed : (scale : Scale) (code : ℕ) → code < 63 → listed times code ≡ geometricValue (progression scale) code
+handed ResponseTime code h = entry code h .value
+
+pub table-rises : (top : ℕ) → top < 63 → Rising (listed times) top
+table-rises top h c l =
+    rw (handed ResponseTime c (omega arith), handed ResponseTime (suc c) (omega arith)) (response-rises c (omega arith))

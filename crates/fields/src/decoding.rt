@@ -1,65 +1,30 @@
 // Document 01, "Layout": what a field's code means.
 use crate::Decoded;
+use crate::Judged;
 use crate::Row;
 use crate::Rule;
 use crate::Scale;
 use crate::Value;
-use crate::codes::all_ones;
-use crate::codes::top_code;
+use crate::judging::finite_bits;
+use crate::judging::in_table;
+use crate::judging::is_missing;
+use crate::judging::up_to_top;
 use crate::scales::scale_value;
 use crate::steps::step_value;
-use refusal::Refusal;
 ghost use mathlib.Core.Path.{_≡_};
-ghost use mathlib.Core.Bool.{_&&_};
 ghost use Prim.Native.Nat.{_*_, _^_, _<_, _≤_};
-ghost use lib.Dec.{eqb};
 ghost use lib.IntN.{natAbs};
-ghost use Rattle.refusal.specs.Outcome.{refused};
-ghost use Rattle.refusal.specs.Rows.{outsideTable, notFinite};
-ghost use Rattle.fields.specs.Rules.{allOnes, meaning, decode as decodeOf};
+ghost use Rattle.fields.specs.Rules.{meaning, decode as decodeOf};
 ghost use Rattle.fields.specs.Stored.{Sound};
 ghost use Rattle.fields.specs.Answers.{decodedSaid};
-
-// Whether the code is the one that the row calls missing.
-fn is_missing(row: Row, code: u64) -> bool
-    requires { ⌜ row .width ≤ 32 ⌝ }
-    ensures { λ r. ⌜ r ≡ (row .missing && eqb code (allOnes (row .width))) ⌝ }
-{
-    if row.missing {
-        return code == all_ones(row.width);
-    }
-    false
-}
-
-// Row 5 of "Turning down", and row 6.
-fn outside_table(at: u64) -> Decoded
-    ensures { λ r. ⌜ decodedSaid r ≡ refused (outsideTable at) ⌝ }
-{
-    Decoded::Refused(Refusal {
-        number: refusal::OUTSIDE_TABLE,
-        place: at,
-    })
-}
-
-fn not_finite(at: u64) -> Decoded
-    ensures { λ r. ⌜ decodedSaid r ≡ refused (notFinite at) ⌝ }
-{
-    Decoded::Refused(Refusal {
-        number: refusal::NOT_FINITE,
-        place: at,
-    })
-}
 
 // The code itself, or 5 outside the table.
 fn plain(least: u64, greatest: u64, at: u64, code: u64) -> Decoded
     requires { ⌜ code < 2 ^ 32 ⌝ }
     ensures { λ r. ⌜ decodedSaid r ≡ meaning (Rule.Plain least greatest) 0 at code ⌝ }
 {
-    if code < least {
-        return outside_table(at);
-    }
-    if greatest < code {
-        return outside_table(at);
+    if let Judged::Refused(r) = in_table(least, greatest, at, code) {
+        return Decoded::Refused(r);
     }
     Decoded::Means(Value::Whole(code as i64))
 }
@@ -70,8 +35,8 @@ fn stepped(start: i64, step: u64, width: u64, at: u64, code: u64) -> Decoded
     requires { ⌜ (natAbs start < 2 ^ 62) × (step * code < 2 ^ 62) ⌝ }
     ensures { λ r. ⌜ decodedSaid r ≡ meaning (Rule.Stepped start step) width at code ⌝ }
 {
-    if top_code(width) < code {
-        return outside_table(at);
+    if let Judged::Refused(r) = up_to_top(width, at, code) {
+        return Decoded::Refused(r);
     }
     Decoded::Means(Value::Whole(step_value(start, step, code)))
 }
@@ -81,22 +46,21 @@ fn geometric(scale: Scale, width: u64, at: u64, code: u64) -> Decoded
     requires { ⌜ width ≡ 6 ⌝ }
     ensures { λ r. ⌜ decodedSaid r ≡ meaning (Rule.Geometric scale) width at code ⌝ }
 {
-    if top_code(width) < code {
-        return outside_table(at);
+    if let Judged::Refused(r) = up_to_top(width, at, code) {
+        return Decoded::Refused(r);
     }
     Decoded::Means(Value::Whole(scale_value(scale, code)))
 }
 
-// The float whose bits the code is, or 6: an exponent of all ones is an infinity's or a NaN's.
+// The float whose bits the code is, or 6.
 fn single(at: u64, code: u64) -> Decoded
     requires { ⌜ code < 2 ^ 32 ⌝ }
     ensures { λ r. ⌜ decodedSaid r ≡ meaning Rule.Single 32 at code ⌝ }
 {
-    let bits = code as u32;
-    if bits % 0x8000_0000 < 0x7f80_0000 {
-        return Decoded::Means(Value::Single(f32::from_bits(bits)));
+    if let Judged::Refused(r) = finite_bits(at, code) {
+        return Decoded::Refused(r);
     }
-    not_finite(at)
+    Decoded::Means(Value::Single(f32::from_bits(code as u32)))
 }
 
 // The value of the code of a field whose first bit is `at`: missing where the row says so, else what the rule says of it,

@@ -6,6 +6,7 @@ use crate::Scale;
 use crate::Value;
 use crate::codes::all_ones;
 use crate::codes::top_code;
+use crate::scales::TOP;
 use crate::scales::closest_code;
 use crate::scales::scale_value;
 use crate::steps::step_code;
@@ -75,15 +76,13 @@ fn stepped(start: i64, step: u64, width: u64, place: u64, figure: i64) -> Encode
 }
 
 // The code whose value is nearest, or 10 outside the lowest to the highest value.
-fn geometric(scale: Scale, width: u64, place: u64, figure: i64) -> Encoded
-    requires { ⌜ width ≡ 6 ⌝ }
-    ensures { λ r. ⌜ encodedSaid r ≡ wholeCode (Rule.Geometric scale) width place figure ⌝ }
+fn geometric(scale: Scale, place: u64, figure: i64) -> Encoded
+    ensures { λ r. ⌜ encodedSaid r ≡ wholeCode (Rule.Geometric scale) 6 place figure ⌝ }
 {
-    let top = top_code(width);
-    if is_outside(scale_value(scale, 0), scale_value(scale, top), figure) {
+    if is_outside(scale_value(scale, 0), scale_value(scale, TOP), figure) {
         return out_of_range(place);
     }
-    Encoded::Code(closest_code(scale, top, figure))
+    Encoded::Code(closest_code(scale, TOP, figure))
 }
 
 // The code of a whole figure, or 9 where the rule takes no whole number.
@@ -96,7 +95,7 @@ fn whole(row: Row, place: u64, figure: i64) -> Encoded
     match rule {
         Rule::Plain(least, greatest) => plain(least, greatest, place, figure),
         Rule::Stepped(start, step) => stepped(start, step, width, place, figure),
-        Rule::Geometric(scale) => geometric(scale, width, place, figure),
+        Rule::Geometric(scale) => geometric(scale, place, figure),
         Rule::Single => wrong_sort(place),
     }
 }

@@ -1,12 +1,13 @@
 // Document 01, "Layout": a field's value, the rows of the table of fields, and the two ways between a code and a value.
-// No call faults, whatever i64 or f32 it is given. `decode` and `encode` ask that the row is sound (specs/Stored.antt),
-// which every row of the table is, and `decode` that the code has no more bits than the row.
+// No call faults, whatever i64 or f32 it is given. `decode`, `judge` and `encode` ask that the row is sound
+// (specs/Stored.antt), which every row of the table is, and `decode` that the code has no more bits than the row.
 use refusal::Refusal;
 
 mod codes; // codes.rt: the codes of a field's bits
 mod decoding; // decoding.rt: what a code means
 mod encoding; // encoding.rt: the code that a value is stored at
 mod figure; // figure.rt: the physical figure
+mod judging; // judging.rt: whether a code may stand
 mod rows; // rows.rt: the table of fields
 mod scales; // scales.rt: geometric codes
 mod steps; // steps.rt: stepped codes
@@ -14,6 +15,7 @@ mod steps; // steps.rt: stepped codes
 pub use decoding::decode;
 pub use encoding::encode;
 pub use figure::physical_figure;
+pub use judging::judge;
 pub use rows::cal_deviation;
 pub use rows::cal_point;
 pub use rows::domain;
@@ -55,6 +57,12 @@ pub struct Row {
 // What a code means: a value, or 5 or 6.
 pub enum Decoded {
     Means(Value),
+    Refused(Refusal),
+}
+
+// Whether a code may stand: it does, or 5 or 6.
+pub enum Judged {
+    Stands,
     Refused(Refusal),
 }
 

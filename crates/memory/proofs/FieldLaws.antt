@@ -100,6 +100,19 @@ module _ (N n w code : ℕ) (hc : code < 2 ^ w) where
       let g : N < 2 ^ ((S - (w + n)) + (w + n)) = rw (← e) hN in
       rw (e, pow-add 2 (S - (w + n)) (w + n)) (digits-lt (shr-lt (S - (w + n)) (w + n) g) low-lt)
 
+  -- Of a put, the first S bits.
+  pub put-mod : (S : ℕ) → n + w ≤ S → putAt N n w code % 2 ^ S ≡ putAt (N % 2 ^ S) n w code
+  put-mod S h =
+      let u : ℕ = S - (w + n) in
+      let e : S ≡ u + (w + n) = omega arith in
+      let f : S ≡ (S - n) + n = omega arith in
+      ap (λ (k : ℕ). putAt N n w code % 2 ^ k) e
+      ∙ mod-pow-add (putAt N n w code) u (w + n)
+      ∙ ap₂ (λ (x y : ℕ). x % 2 ^ u * 2 ^ (w + n) + y) put-high put-low
+      ∙ sym (ap₂ (λ (x y : ℕ). x * 2 ^ (w + n) + (code * 2 ^ n + y))
+      (ap (λ (k : ℕ). N % 2 ^ k / 2 ^ (w + n)) e ∙ field N u (w + n))
+      (ap (λ (k : ℕ). N % 2 ^ k % 2 ^ n) f ∙ mod-mod-pow N (S - n) n))
+
 -- To put what is there changes nothing.
 pub put-same : (N n w : ℕ) → putAt N n w (fieldAt N n w) ≡ N
 put-same N n w =

@@ -6,6 +6,8 @@ pub mod PageParts
 pub mod Streams
 pub mod Written
 pub mod Turns
+pub mod Runs
+pub mod Laying
 pub mod Taking
 pub mod SumLaws
 pub mod Images

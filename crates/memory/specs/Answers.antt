@@ -2,7 +2,7 @@
 use mathlib.Core.Path.{_≡_}
 use mathlib.Core.Bool.{cond}
 use mathlib.Core.List.{List}
-use Prim.Native.Nat.{ℕ, _+_, _-_, _/_, _^_, _≤_, _<_}
+use Prim.Native.Nat.{ℕ, _+_, _-_, _/_, _%_, _^_, _≤_, _<_}
 use lib.ListN.{length}
 use lib.Dec.{ltb}
 use Rattle.refusal.specs.Outcome.{Outcome, good, refused, _>>=_}
@@ -29,15 +29,20 @@ pub record InStream (z : Sizes) (image : List ℕ) (at width : ℕ) : Type 0 whe
   pub some : 1 ≤ width
   pub most : width ≤ 32
 
--- At most 5 bytes from a byte of its stream on: as many as a field of 32 bits can touch.
+-- 1 to 5 bytes from a byte of its stream on: as many as a field of 32 bits can touch.
 pub record InBytes (z : Sizes) (image : List ℕ) (first count : ℕ) : Type 0 where
   pub whole : Whole z image
   pub inside : first + count ≤ streamBytes z
+  pub some : 1 ≤ count
   pub most : count ≤ 5
 
 -- Where byte i of the stream stands in the image: behind the check byte of its page and those before.
 abbrev pub streamIndex : Sizes → ℕ → ℕ
 streamIndex z i = cond (ltb i (z .register)) i (i + (i - z .register) / 31 + 1)
+
+-- How many bytes of the stream stand side by side from byte i on: to the end of the register or of the page.
+abbrev pub runBytes : Sizes → ℕ → ℕ
+runBytes z i = cond (ltb i (z .register)) (z .register - i) (31 - (i - z .register) % 31)
 
 -- ---- the answers
 

@@ -3,7 +3,7 @@ ghost use mathlib.Core.Path.{_≡_};
 ghost use Prim.Native.Nat.{_≤_};
 ghost use Rattle.memory.specs.Answers.{Whole, takenSaid, takenAt};
 use crate::Sizes;
-use crate::fields;
+use crate::bitfields;
 use refusal::Refusal;
 
 pub struct Cursor {
@@ -31,7 +31,7 @@ impl Cursor {
         ensures { λ r. ⌜ takenSaid r ≡ takenAt sizes (now (image .entry)) (self .at) width ⌝ }
     {
         let at = self.at;
-        let bits = 8 * (sizes.register + 31 * sizes.pages);
+        let bits = 8 * (image.len() - sizes.pages);
         if bits < at {
             return Taken::Refused(Refusal {
                 number: refusal::PAST_END,
@@ -45,7 +45,7 @@ impl Cursor {
             });
         }
         Taken::Field(
-            fields::take(sizes, image, at, width),
+            bitfields::take(sizes, image, at, width),
             Cursor { at: at + width },
         )
     }

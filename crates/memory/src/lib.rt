@@ -2,14 +2,14 @@
 // Every function is proved, and nothing is assumed. A dash calls `page_bytes`, which asks nothing of its caller;
 // what the other functions require, the layers above test first.
 
+mod bitfields;
 mod cursor;
-mod fields;
 mod kinds;
 mod pages;
 
+pub use bitfields::put;
 pub use cursor::Cursor;
 pub use cursor::Taken;
-pub use fields::put;
 pub use kinds::SizesAnswer;
 pub use kinds::image_sizes;
 pub use pages::Sums;

@@ -1,26 +1,26 @@
--- The deviation, point after point.
+-- The deviation from the points that lie before a position.
 use mathlib.Core.Path.{_≡_, sym, ap, _∙_, subst, subst₂}
 use mathlib.Core.Bool.{true, false}
 use mathlib.Core.List.{List, [], _∷_}
-use Prim.Native.Nat.{ℕ, suc, _+_, _≤_, _<_}
+use Prim.Native.Nat.{ℕ, zero, suc, _+_, _≤_, _<_}
 use native.Mathlib.Numerals.{add-one}
 use native.Mathlib.Omega.{arith}
 use lib.IntN.{ℤ, pos, one, _*ℤ_, *ℤ-one}
 use lib.ListN.{length, getD, drop}
 use lib.Seq.{drop-cons, drop-length}
-use lib.Signed.{leZ}
+use lib.Signed.{leZ, _≤ℤ_, _<ℤ_}
 use mir.Syntax.{w64}
 use mir.Val.{SFits, toZ, ofZ}
 use mir.Facts.{toZ-ofZ}
 use Rattle.integers.specs.Nearest.{_over_, nearest}
-use Rattle.integers.proofs.PartLaws.{nleZ-parts, parts-<ℤ, is-true, is-false}
+use Rattle.integers.proofs.PartLaws.{leZ-parts, ltZ-parts, nleZ-parts, le-leZ, lt-leZ, parts-<ℤ, is-true, is-false}
 use Rattle.integers.proofs.NearestLaws.{nearest-exact}
 use Rattle.sheet.specs.declared.Pair.{Pair}
 use Rattle.sheet.specs.declared.opening.Opened.{Opened}
 use Rattle.sheet.specs.Contents.{Contents}
 use Rattle.reading.specs.Line.{Correction, held, between, correctionAfter, correction, deviation}
 use Rattle.reading.specs.Ranges.{Between}
-use Rattle.reading.specs.Steps.{Opens, Held, none}
+use Rattle.reading.specs.Steps.{Opens, Before, none}
 use Rattle.reading.proofs.Opening.{opened-count, opened-neighbours}
 
 -- ---- over a list of points
@@ -71,11 +71,33 @@ module _ (p : ℤ) where
         let e : drop (i + 1) points ≡ [] = subst (λ (n : ℕ). drop n points ≡ []) m (drop-length points) in
         rw e (alone (getD points i none))
 
+  -- Behind point i the deviation is the one from there on: the points before it rise, so p lies behind them too.
+  module _ (points : List Pair) (rise : (i : ℕ) → suc i < length points → getD points i none .point <ℤ getD points (suc i) none .point) where
+    behind-before : (i : ℕ) → suc i < length points → leZ p (getD points (suc i) none .point) ≡ false → leZ p (getD points i none .point) ≡ false
+    behind-before i l t =
+        let a : ℤ = getD points i none .point in
+        let b : ℤ = getD points (suc i) none .point in
+        lt-leZ p a (omega (arith, ltZ-parts a b (rise i l .lt), nleZ-parts p b (is-false t)))
+
+    from-there : (i : ℕ) → i < length points → leZ p (getD points i none .point) ≡ false → from points p i ≡ deviation points p
+    from-there zero l t = behind-first points l t
+    from-there (suc i) l t =
+        let e = add-one i in
+        subst (λ (n : ℕ). from points p n ≡ from points p i) e (behind-next points i (omega arith) (rw e t)) ∙ from-there i (omega arith) (behind-before i l t)
+
 -- ---- over an opened sheet
 
--- p lies behind point i, and the deviation from there on is the deviation.
-abbrev pub Reached : Opened → List ℕ → ℤ → ℕ → Type 0
-Reached o image p i = (c : Contents) → Opens o image c → (leZ p (getD (c .points) i none .point) ≡ false) × (from (c .points) p i ≡ deviation (c .points) p)
+-- The last of so many points is below p.
+abbrev pub Below : Opened → List ℕ → ℤ → ℕ → Type 0
+Below o image p n = (c : Contents) → Opens o image c → (k : ℕ) → k + 1 ≡ n → getD (c .points) k none .point <ℤ p
+
+-- The next is not.
+abbrev pub Above : Opened → List ℕ → ℤ → ℕ → Type 0
+Above o image p n = (c : Contents) → Opens o image c → n < length (c .points) → p ≤ℤ getD (c .points) n none .point
+
+-- So many points lie before p.
+abbrev pub Lies : Opened → List ℕ → ℤ → ℕ → Type 0
+Lies o image p n = (c : Contents) → Opens o image c → Before (c .points) p n
 
 -- The deviation at p.
 abbrev pub Deviates : Opened → List ℕ → ℤ → ℤ → Type 0
@@ -86,62 +108,76 @@ abbrev pub IsPair : Opened → List ℕ → ℕ → Pair → Type 0
 IsPair o image i q = (c : Contents) → Opens o image c → q ≡ getD (c .points) i none
 
 -- The position is handed to a call as bits, and so is what comes back.
+pub told-lies : (o : Opened) (image : List ℕ) {p : ℤ} (n : ℕ) → SFits w64 p → Lies o image (toZ w64 (ofZ w64 p)) n → Lies o image p n
+told-lies o image n f h = subst (λ (x : ℤ). Lies o image x n) (toZ-ofZ f) h
+
 pub told-deviates : (o : Opened) (image : List ℕ) {p d : ℤ} → SFits w64 p → SFits w64 d → Deviates o image (toZ w64 (ofZ w64 p)) d → Deviates o image p (toZ w64 (ofZ w64 d))
 told-deviates o image {p} {d} f g h = subst₂ (λ (x y : ℤ). Deviates o image x y) (toZ-ofZ f) (sym (toZ-ofZ g)) h
 
 module _ (o : Opened) (image : List ℕ) (p : ℤ) where
+  -- ---- the search
+
+  pub below-none : Below o image p 0
+  below-none c h k e = absurd (omega arith)
+
+  pub above-all : Above o image p (o .summary .points)
+  above-all c h l = absurd (omega (arith, opened-count o image c h))
+
+  module _ (i : ℕ) (q : Pair) (s : IsPair o image i q) where
+    pub below-pair : leZ p (q .point) ≡ false → Below o image p (i + 1)
+    below-pair t c h k e =
+        let m : i ≡ k = omega arith in
+        let t′ : leZ p (getD (c .points) k none .point) ≡ false = rw (s c h, m) at t in
+        parts-<ℤ (getD (c .points) k none .point) p (omega (arith, nleZ-parts p (getD (c .points) k none .point) (is-false t′)))
+
+    pub above-pair : leZ p (q .point) ≡ true → Above o image p i
+    above-pair t c h l = record { le = is-true (rw (s c h) at t) }
+
+  -- Once the search has come to one place.
+  pub lies : (n m : ℕ) → n ≡ m → m ≤ o .summary .points → Below o image p n → Above o image p m → Lies o image p n
+  lies n m e l b a c h = record { most = omega (arith, opened-count o image c h); below = b c h; above = λ i. rw e (a c h (omega arith)) }
+
+  -- ---- the deviation
+
   pub none-deviates : o .summary .points ≡ 0 → Deviates o image p (pos 0)
   none-deviates e c h = no-points p (c .points) (omega (arith, opened-count o image c h))
 
-  module _ (q : Pair) (s : IsPair o image 0 q) (some : o .summary .points ≡ 0 → ⊥) where
-    first-some : (c : Contents) → Opens o image c → 0 < length (c .points)
-    first-some c h = omega (arith, opened-count o image c h, some)
+  pub first-deviates : (n : ℕ) → n ≡ 0 → Lies o image p n → (q : Pair) → IsPair o image 0 q → (o .summary .points ≡ 0 → ⊥) → Deviates o image p (q .deviation)
+  first-deviates n e b q s some c h =
+      let l : 0 < length (c .points) = omega (arith, opened-count o image c h, some) in
+      let a : ℤ = getD (c .points) 0 none .point in
+      let above : p ≤ℤ a = rw e at (b c h .above (omega arith)) in
+      ap (λ (x : Pair). x .deviation) (s c h) ∙ at-first p (c .points) l (le-leZ p a (leZ-parts p a (above .le)))
 
-    pub first-deviates : leZ p (q .point) ≡ true → Deviates o image p (q .deviation)
-    first-deviates t c h =
-        let e = s c h in
-        ap (λ (x : Pair). x .deviation) e ∙ at-first p (c .points) (first-some c h) (rw e at t)
+  -- Pair i is the last of the n points before p.
+  module _ (i n : ℕ) (e : n ≡ i + 1) (v : Pair) (sv : IsPair o image i v) (b : Lies o image p n) where
+    from-here : (c : Contents) (h : Opens o image c) → from (c .points) p i ≡ deviation (c .points) p
+    from-here c h =
+        let a : ℤ = getD (c .points) i none .point in
+        from-there p (c .points) (λ k l. opened-neighbours o image c h k none l .rise) i (omega (arith, b c h .most))
+        (lt-leZ p a (ltZ-parts a p (b c h .below i (sym e) .lt)))
 
-    pub first-reached : leZ p (q .point) ≡ false → Reached o image p 0
-    first-reached t c h =
-        let e = s c h in
-        let t′ : leZ p (getD (c .points) 0 none .point) ≡ false = rw e at t in
-        (t′, behind-first p (c .points) (first-some c h) t′)
+    pub last-deviates : n ≡ o .summary .points → Deviates o image p (v .deviation)
+    last-deviates m c h =
+        let l = opened-count o image c h in
+        ap (λ (x : Pair). x .deviation) (sv c h) ∙ behind-last p (c .points) i (omega arith) (omega arith) ∙ from-here c h
 
-  module _ (i : ℕ) (r : Reached o image p i) where
-    module _ (q : Pair) (s : IsPair o image (i + 1) q) (l : i + 1 < o .summary .points) where
-      next-some : (c : Contents) → Opens o image c → i + 1 < length (c .points)
-      next-some c h = omega (arith, opened-count o image c h)
+    module _ (q : Pair) (s : IsPair o image n q) (m : n ≡ o .summary .points → ⊥) (c : Contents) (h : Opens o image c) where
+      next-some : i + 1 < length (c .points)
+      next-some = omega (arith, opened-count o image c h, b c h .most, m)
 
-      pub next-reached : leZ p (q .point) ≡ false → Reached o image p (i + 1)
-      next-reached t c h =
-          let e = s c h in
-          let t′ : leZ p (getD (c .points) (i + 1) none .point) ≡ false = rw e at t in
-          (t′, behind-next p (c .points) i (next-some c h) t′ ∙ r c h .1)
+      next-is : q ≡ getD (c .points) (i + 1) none
+      next-is = rw e at (s c h)
 
-      module _ (b : Pair) (sb : IsPair o image i b) (t : leZ p (q .point) ≡ true) where
-        pub next-between : Held o image → Between p b q
-        next-between k =
-            let c = k .contents in
-            let h = k .opens in
-            let e : q ≡ getD (c .points) (suc i) none = s c h ∙ ap (λ (n : ℕ). getD (c .points) n none) (add-one i) in
-            let f = sb c h in
-            let n = opened-neighbours o image c h i none (omega (arith, next-some c h)) in
-            rw (e, f) (record {
-              past = parts-<ℤ (getD (c .points) i none .point) p (omega (arith, nleZ-parts p (getD (c .points) i none .point) (is-false (r c h .0))));
-              left = record { le = is-true (rw e at t) };
-              run = n .run;
-              first = n .first;
-              second = n .second;
-            })
+      next-above : p ≤ℤ getD (c .points) (i + 1) none .point
+      next-above = rw e at (b c h .above (omega (arith, next-some)))
 
-        pub next-deviates : (d : ℤ) → d ≡ nearest (between p 1 b q .num over between p 1 b q .run) → Deviates o image p d
-        next-deviates d ed c h =
-            let e = s c h in
-            let f = sb c h in
-            (rw (e, f) at ed) ∙ at-next p (c .points) i (next-some c h) (rw e at t) ∙ r c h .1
+      pub next-between : Between p v q
+      next-between =
+          let r = opened-neighbours o image c h i none (omega (arith, next-some)) in
+          rw (next-is, sv c h) (record { past = b c h .below i (sym e); left = next-above; run = rw add-one (r .run); first = r .first; second = rw add-one (r .second) })
 
-    pub last-deviates : (q : Pair) → IsPair o image i q → i < o .summary .points → o .summary .points ≤ i + 1 → Deviates o image p (q .deviation)
-    last-deviates q s l m c h =
-        let e = s c h in
-        ap (λ (x : Pair). x .deviation) e ∙ behind-last p (c .points) i (omega (arith, opened-count o image c h)) (omega (arith, opened-count o image c h)) ∙ r c h .1
+      pub next-deviates : (d : ℤ) → d ≡ nearest (between p 1 v q .num over between p 1 v q .run) → d ≡ deviation (c .points) p
+      next-deviates d ed =
+          let a : ℤ = getD (c .points) (i + 1) none .point in
+          (rw (next-is, sv c h) at ed) ∙ at-next p (c .points) i next-some (le-leZ p a (leZ-parts p a (next-above .le))) ∙ from-here c h

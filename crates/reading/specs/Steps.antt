@@ -2,12 +2,12 @@
 use mathlib.Core.Path.{_≡_}
 use mathlib.Core.Bool.{false, not}
 use mathlib.Core.List.{List, [], _∷_}
-use Prim.Native.Nat.{ℕ}
+use Prim.Native.Nat.{ℕ, _+_, _≤_, _<_}
 use lib.Dec.{T}
 use lib.IntN.{ℤ, pos}
 use lib.Ieee.{isNan}
-use lib.ListN.{length}
-use lib.Signed.{leZ}
+use lib.ListN.{length, getD}
+use lib.Signed.{leZ, _≤ℤ_, _<ℤ_}
 use Rattle.refusal.specs.Outcome.{Outcome, good, refused, _>>_, refuse_if_}
 use Rattle.refusal.specs.Rows.{noSpan}
 use Rattle.memory.specs.Image.{imageSizes}
@@ -39,6 +39,12 @@ pub record Held (o : Opened) (image : List ℕ) : Type 0 where
 -- What stands for a pair where there is none.
 abbrev pub none : Pair
 none = record { point = pos 0; deviation = pos 0 }
+
+-- So many points lie before a position: the last of them is below it, the next is not.
+pub record Before (points : List Pair) (p : ℤ) (n : ℕ) : Type 0 where
+  pub most : n ≤ length points
+  pub below : (k : ℕ) → k + 1 ≡ n → getD points k none .point <ℤ p
+  pub above : n < length points → p ≤ℤ getD points n none .point
 
 -- Row 13, and the ends that a reading is taken from.
 unfoldable pub spanOf : Contents → Outcome Span

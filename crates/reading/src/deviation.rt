@@ -5,10 +5,30 @@ use sheet::Opened;
 ghost use mathlib.Core.Path.{_≡_};
 ghost use Rattle.sheet.specs.Contents.{Contents};
 ghost use Rattle.reading.specs.Line.{deviation as deviationOf};
-ghost use Rattle.reading.specs.Steps.{Opens, Held};
+ghost use Rattle.reading.specs.Steps.{Opens, Held, Before};
+
+// How many points lie before p. They rise, so it is searched by halves.
+fn points_before(sheet: Opened, image: &[u8], p: i64) -> u64
+    requires { ⌜ Held sheet (now image) ⌝ }
+    ensures { λ r. ⌜ ((c : Contents) → Opens sheet (now (image .entry)) c → Before (c .points) p r) ⌝ }
+{
+    let summary = sheet.summary;
+    let mut low: u64 = 0;
+    let mut high = summary.points;
+    while low < high {
+        let middle = low + (high - low) / 2;
+        let pair = pair_in(sheet, image, middle);
+        if p <= pair.point {
+            high = middle;
+        } else {
+            low = middle + 1;
+        }
+    }
+    low
+}
 
 // The straight line between neighbouring points to the nearest whole, halves upward; the end deviation before the first
-// and after the last point, and 0 without points. Points are read from the image one after the other.
+// and after the last point, and 0 without points.
 pub fn deviation(sheet: Opened, image: &[u8], p: i64) -> i64
     requires { ⌜ Held sheet (now image) ⌝ }
     ensures { λ r. ⌜ ((c : Contents) → Opens sheet (now (image .entry)) c → r ≡ deviationOf (c .points) p) ⌝ }
@@ -18,19 +38,15 @@ pub fn deviation(sheet: Opened, image: &[u8], p: i64) -> i64
     if count == 0 {
         return 0;
     }
-    let first = pair_in(sheet, image, 0);
-    if p <= first.point {
+    let next = points_before(sheet, image, p);
+    if next == 0 {
+        let first = pair_in(sheet, image, 0);
         return first.deviation;
     }
-    let mut i: u64 = 0;
-    while i + 1 < count {
-        let next = pair_in(sheet, image, i + 1);
-        if p <= next.point {
-            let before = pair_in(sheet, image, i);
-            return between(p, before, next);
-        }
-        i += 1;
+    let before = pair_in(sheet, image, next - 1);
+    if next == count {
+        return before.deviation;
     }
-    let last = pair_in(sheet, image, i);
-    last.deviation
+    let behind = pair_in(sheet, image, next);
+    between(p, before, behind)
 }

@@ -14,11 +14,8 @@ use Rattle.refusal.specs.declared.Refusal.{Refusal}
 use Rattle.refusal.specs.Outcome as outcome
 use Rattle.refusal.specs.Outcome.{Outcome, good, refused}
 use Rattle.memory.specs.declared.cursor.Cursor.{Cursor}
-use Rattle.fields.specs.declared.Value.{Value}
 use Rattle.fields.specs.declared.Row.{Row}
 use Rattle.fields.specs.Rows.{Line, block, line, chose, template33, rowOf}
-use Rattle.sheet.specs.declared.walk.FieldStep.{FieldStep}
-use Rattle.sheet.specs.declared.walk.FieldStep.the-variants.{Field, Refused as NoField}
 use Rattle.sheet.specs.declared.walk.Step.{Step}
 use Rattle.sheet.specs.declared.walk.Step.the-variants.{Behind, Refused as NoStep}
 use Rattle.sheet.specs.declared.walk.NumberStep.{NumberStep}
@@ -26,7 +23,7 @@ use Rattle.sheet.specs.declared.walk.NumberStep.the-variants.{Number, Re
 use Rattle.sheet.specs.Format.{Format, ends, _>>=_, _>>_, Stream, Ran, run}
 use Rattle.sheet.specs.Contents.{Found, fieldOf, blockOf, fieldsOf}
 use Rattle.sheet.specs.Check.{nothing}
-use Rattle.sheet.specs.Walk.{fieldOn, lineOf, linesOf, behind, fieldStepSaid, stepSaid, numberSaid}
+use Rattle.sheet.specs.Walk.{codeOf, fieldOn, lineOf, linesOf, behind, stepSaid, numberSaid}
 use Rattle.sheet.proofs.Formats.{ran, run-bind}
 use Rattle.sheet.proofs.Places.{Settled, Steady, chooser, template-steady}
 use Rattle.sheet.proofs.Steps.{told, goes, halts, run-assoc, run-alike}
@@ -141,31 +138,31 @@ module _ (s : Stream) (i p at : ℕ) (block-line : i ≡ 5) (x : Step) (e : step
   block-halts h = sym (ap (λ f. run s f at) here ∙ halts s (blockOf 33) (λ u. ends p) at (told stepSaid h e))
 
 -- A field's line. Its code is the next choice, or the choice stays.
-module _ (s : Stream) (i p at f : ℕ) (row : Row) (x : FieldStep) (h : i < 22) (n : i ≡ 5 → ⊥) (ef : f ≡ fieldOn i) (er : row ≡ rowOf f p)
-    (e : fieldStepSaid row at x ≡ run s (fieldOf row) at) where
-  abbrev onward : Found → Format ℕ
-  onward y = ends (chose (eqb f 9) (y .code) p)
+module _ (s : Stream) (i p at f : ℕ) (row : Row) (x : NumberStep) (h : i < 22) (n : i ≡ 5 → ⊥) (ef : f ≡ fieldOn i) (er : row ≡ rowOf f p)
+    (e : numberSaid x ≡ run s (codeOf row) at) where
+  abbrev onward : ℕ → Format ℕ
+  onward code = ends (chose (eqb f 9) code p)
 
-  at-line : lineOf (getD template33 i (block 0)) p ≡ (fieldOf row >>= onward)
+  at-line : lineOf (getD template33 i (block 0)) p ≡ (codeOf row >>= onward)
   at-line =
       ap (λ l. lineOf l p) (field-line i h n)
-      ∙ ap (λ (k : ℕ). fieldOf (rowOf k p) >>= λ y. ends (chose (eqb k 9) (y .code) p)) (sym ef)
-      ∙ ap (λ (q : Row). fieldOf q >>= onward) (sym er)
+      ∙ ap (λ (k : ℕ). codeOf (rowOf k p) >>= λ code. ends (chose (eqb k 9) code p)) (sym ef)
+      ∙ ap (λ (q : Row). codeOf q >>= onward) (sym er)
 
-  next-choice : {code : ℕ} {value : Value} {next : Cursor} → x ≡ Field code value next →
+  next-choice : {code : ℕ} {next : Cursor} → x ≡ Number code next →
       run s (lineOf (getD template33 i (block 0)) p) at ≡ behind (chose (eqb f 9) code p) next
-  next-choice h = ap (λ m. run s m at) at-line ∙ goes s (fieldOf row) onward at (told (fieldStepSaid row at) h e)
+  next-choice h = ap (λ m. run s m at) at-line ∙ goes s (codeOf row) onward at (told numberSaid h e)
 
-  pub line-chooses : {code : ℕ} {value : Value} {next : Cursor} → x ≡ Field code value next → f ≡ 9 →
+  pub line-chooses : {code : ℕ} {next : Cursor} → x ≡ Number code next → f ≡ 9 →
       behind code next ≡ run s (lineOf (getD template33 i (block 0)) p) at
-  line-chooses {code} {value} {next} h k = sym (next-choice h ∙ ap (λ b. behind (chose b code p) next) (eq-eqb f 9 k))
+  line-chooses {code} {next} h k = sym (next-choice h ∙ ap (λ b. behind (chose b code p) next) (eq-eqb f 9 k))
 
-  pub line-keeps : {code : ℕ} {value : Value} {next : Cursor} → x ≡ Field code value next → (f ≡ 9 → ⊥) →
+  pub line-keeps : {code : ℕ} {next : Cursor} → x ≡ Number code next → (f ≡ 9 → ⊥) →
       behind p next ≡ run s (lineOf (getD template33 i (block 0)) p) at
-  line-keeps {code} {value} {next} h k = sym (next-choice h ∙ ap (λ b. behind (chose b code p) next) (ne-eqb f 9 k))
+  line-keeps {code} {next} h k = sym (next-choice h ∙ ap (λ b. behind (chose b code p) next) (ne-eqb f 9 k))
 
-  pub line-halts : {r : Refusal} → x ≡ NoField r → refused r ≡ run s (lineOf (getD template33 i (block 0)) p) at
-  line-halts h = sym (ap (λ m. run s m at) at-line ∙ halts s (fieldOf row) onward at (told (fieldStepSaid row at) h e))
+  pub line-halts : {r : Refusal} → x ≡ NoNumber r → refused r ≡ run s (lineOf (getD template33 i (block 0)) p) at
+  line-halts h = sym (ap (λ m. run s m at) at-line ∙ halts s (codeOf row) onward at (told numberSaid h e))
 
 -- ---- a turn of the loop
 
@@ -212,7 +209,8 @@ lines-fields s (line chooses row ∷ lines) c at =
     let choice : Found → ℕ = λ x. chose chooses (x .code) c in
     let last : List Found → Format ℕ = λ xs. ends (lastChoice (line chooses row ∷ lines) xs c) in
     let more : Found → Format (List Found) = λ x. fieldsOf lines (choice x) >>= λ rest. ends (x ∷ rest) in
-    run-assoc s (fieldOf (row c)) (λ x. ends (choice x)) (linesOf lines) at
+    run-assoc s (codeOf (row c)) (λ code. ends (chose chooses code c)) (linesOf lines) at
+    ∙ run-assoc s (fieldOf (row c)) (λ x. ends (x .code)) (λ code. linesOf lines (chose chooses code c)) at
     ∙ run-alike s (fieldOf (row c)) (λ x. linesOf lines (choice x)) (λ x. more x >>= last) at (λ x n.
     lines-fields s lines (choice x) n ∙ sym (run-assoc s (fieldsOf lines (choice x)) (λ rest. ends (x ∷ rest)) last n))
     ∙ sym (run-assoc s (fieldOf (row c)) more last at)

@@ -24,8 +24,6 @@ use Rattle.fields.specs.Rows.{domain, pointCount, calPoint, calDeviation}
 use Rattle.sheet.specs.declared.Pair.{Pair}
 use Rattle.sheet.specs.declared.walk.FieldStep.{FieldStep}
 use Rattle.sheet.specs.declared.walk.FieldStep.the-variants.{Field, Refused as NoField}
-use Rattle.sheet.specs.declared.table.PairStep.{PairStep}
-use Rattle.sheet.specs.declared.table.PairStep.the-variants.{Stands, Refused as NoPair}
 use Rattle.sheet.specs.declared.walk.Step.{Step}
 use Rattle.sheet.specs.declared.walk.Step.the-variants.{Behind, Refused as NoStep}
 use Rattle.sheet.specs.declared.walk.NumberStep.{NumberStep}
@@ -34,6 +32,7 @@ use Rattle.sheet.specs.Format.{Format, ends, _>>=_, _>>_, bits, refuse_i
 use Rattle.sheet.specs.Contents.{Found, figure, fieldOf, pairsOf, tableAt, lastSelector, pointsOf}
 use Rattle.sheet.specs.Check.{streamIn}
 use Rattle.sheet.specs.Walk.{
+  codeOf,
   selectorOf,
   templateOf,
   Paired,
@@ -43,7 +42,6 @@ use Rattle.sheet.specs.Walk.{
   counted,
   behind,
   fieldStepSaid,
-  pairStepSaid,
   stepSaid,
   numberSaid,
 }
@@ -51,7 +49,7 @@ use Rattle.sheet.proofs.Formats.{ran, run-bind}
 use Rattle.refusal.proofs.Outcomes.{good-same}
 use Rattle.sheet.proofs.Runs.{run-parts}
 use Rattle.sheet.proofs.Lines.{run-field}
-use Rattle.sheet.proofs.Steps.{told, codeSaid, took, goes, halts, goes-in, halts-in, run-assoc, run-alike}
+use Rattle.sheet.proofs.Steps.{told, codeSaid, took, goes, halts, goes-in, halts-in, run-assoc, run-alike, by-code}
 
 -- ---- a pair
 
@@ -87,42 +85,46 @@ module _ (s : Stream) (at : ℕ) (x : FieldStep) (e : fieldStepSaid calPoint at 
         ap (λ q. behind (record { at = at; code = code; pair = q }) end) is
         ∙ sym (at-deviation ∙ goes s (fieldOf calDeviation) (λ d. ends (paired (point code value) d)) (next .at) (told (fieldStepSaid calDeviation (next .at)) g f))
 
--- The code of a pair's point fits its 16 bits.
-paired-code : (s : Stream) (at : ℕ) (q : Ran Paired) → run s pairOf at ≡ good q → q .found .code < 2 ^ 16
-unfolding pairOf
-paired-code s at q e =
-    let p = run-parts s (fieldOf calPoint) (λ p. fieldOf calDeviation >>= λ d. ends (paired p d)) at q e in
-    let d = run-parts s (fieldOf calDeviation) (λ d. ends (paired (p .first .found) d)) (p .first .next) q (p .rest) in
-    let f = run-field s calPoint at (p .first) (p .head) in
-    let same : paired (p .first .found) (d .first .found) ≡ q .found = ap (λ x. x .found) (good-same (d .rest)) in
-    subst (λ (n : ℕ). n < 2 ^ 16) (sym (ap (λ x. x .code) (f .0 .is)) ∙ ap (λ x. x .code) same) (field-lt (s .number) at 16)
+-- ---- the codes of a pair, and its point's against the one before
 
-pub pair-code : (s : Stream) (at : ℕ) (x : PairStep) → pairStepSaid at x ≡ run s pairOf at →
-    {code : ℕ} {pair : Pair} {next : Cursor} → x ≡ Stands code pair next → code < 2 ^ 16
-pair-code s at x e h = paired-code s at _ (sym (told (pairStepSaid at) h e))
+module _ (s : Stream) (at least : ℕ) (x : NumberStep) (e : numberSaid x ≡ run s (codeOf calPoint) at) where
+  abbrev tested : ℕ → Format ℕ
+  tested code = (refuse notRising at if ltb code least) >> ends (suc code)
 
--- ---- a pair, and its point against the one before
+  abbrev behindPoint : ℕ → Format ℕ
+  behindPoint code = codeOf calDeviation >> tested code
 
-module _ (s : Stream) (at least : ℕ) (x : PairStep) (e : pairStepSaid at x ≡ run s pairOf at) where
-  abbrev tested : Paired → Format ℕ
-  tested q = (refuse notRising (q .at) if ltb (q .code) least) >> ends (suc (q .code))
+  -- The code of a point fits its 16 bits.
+  pub point-code : {code : ℕ} {next : Cursor} → x ≡ Number code next → code < 2 ^ 16
+  point-code {code} {next} h =
+      let p = run-parts s (fieldOf calPoint) (λ y. ends (y .code)) at (ran code (next .at)) (sym (told numberSaid h e)) in
+      let f = run-field s calPoint at (p .first) (p .head) in
+      let same : p .first .found .code ≡ code = ap (λ y. y .found) (good-same (p .rest)) in
+      subst (λ (n : ℕ). n < 2 ^ 16) (sym (ap (λ y. y .code) (f .0 .is)) ∙ same) (field-lt (s .number) at 16)
 
-  pub rising-halts : {r : Refusal} → x ≡ NoPair r → refused r ≡ run s (risingOf least) at
+  pub rising-past : {r : Refusal} → x ≡ NoNumber r → refused r ≡ run s (risingOf least) at
   unfolding risingOf
-  rising-halts h = sym (halts s pairOf tested at (told (pairStepSaid at) h e))
+  rising-past h = sym (halts s (codeOf calPoint) behindPoint at (told numberSaid h e))
 
-  module _ {code : ℕ} {pair : Pair} {next : Cursor} (h : x ≡ Stands code pair next) where
-    at-test : run s (risingOf least) at ≡ run s (tested (record { at = at; code = code; pair = pair })) (next .at)
+  module _ {code : ℕ} {middle : Cursor} (h : x ≡ Number code middle) (y : NumberStep) (f : numberSaid y ≡ run s (codeOf calDeviation) (middle .at)) where
+    at-code : run s (risingOf least) at ≡ run s (behindPoint code) (middle .at)
     unfolding risingOf
-    at-test = goes s pairOf tested at (told (pairStepSaid at) h e)
+    at-code = goes s (codeOf calPoint) behindPoint at (told numberSaid h e)
 
-    pub rising-not : code < least → refused (notRising at) ≡ run s (risingOf least) at
-    rising-not l = sym (at-test ∙ ap (λ t. run s ((refuse notRising at if t) >> ends (suc code)) (next .at)) (lt-ltb code least l))
+    pub rising-halts : {r : Refusal} → y ≡ NoNumber r → refused r ≡ run s (risingOf least) at
+    rising-halts g = sym (at-code ∙ halts s (codeOf calDeviation) (λ d. tested code) (middle .at) (told numberSaid g f))
 
-    pub rising-on : least ≤ code → behind (code + 1) next ≡ run s (risingOf least) at
-    rising-on l =
-        ap (λ (n : ℕ). behind n next) (add-one code)
-        ∙ sym (at-test ∙ ap (λ t. run s ((refuse notRising at if t) >> ends (suc code)) (next .at)) (le-ltb code least l))
+    module _ {d : ℕ} {next : Cursor} (g : y ≡ Number d next) where
+      at-test : run s (risingOf least) at ≡ run s (tested code) (next .at)
+      at-test = at-code ∙ goes s (codeOf calDeviation) (λ d. tested code) (middle .at) (told numberSaid g f)
+
+      pub rising-not : code < least → refused (notRising at) ≡ run s (risingOf least) at
+      rising-not l = sym (at-test ∙ ap (λ t. run s ((refuse notRising at if t) >> ends (suc code)) (next .at)) (lt-ltb code least l))
+
+      pub rising-on : least ≤ code → behind (code + 1) next ≡ run s (risingOf least) at
+      rising-on l =
+          ap (λ (n : ℕ). behind n next) (add-one code)
+          ∙ sym (at-test ∙ ap (λ t. run s ((refuse notRising at if t) >> ends (suc code)) (next .at)) (le-ltb code least l))
 
 -- ---- pairs one after the other
 
@@ -143,28 +145,29 @@ count-more s f a i at =
 -- A pair of so many, with one behind it at least.
 pairs-step : (s : Stream) (n least i at : ℕ) →
     run s (countFrom i (pairsOf (suc n) least)) at ≡ run s (risingOf least >>= λ above. countFrom (i + 1) (pairsOf n above)) at
-unfolding pairsOf risingOf pairOf
+unfolding pairsOf risingOf
 pairs-step s n least i at =
     run-assoc s (fieldOf calPoint) (λ p. fieldOf calDeviation >>= λ d. rest p d) (λ l. ends (i + length l)) at
-    ∙ run-alike s (fieldOf calPoint) (λ p. (fieldOf calDeviation >>= λ d. rest p d) >>= λ l. ends (i + length l)) (λ p. fieldOf calDeviation >>= λ d. onward p d) at
+    ∙ run-alike s (fieldOf calPoint) (λ p. countFrom i (fieldOf calDeviation >>= λ d. rest p d)) (λ p. onward (p .at) (p .code)) at
     (λ p m. run-assoc s (fieldOf calDeviation) (λ d. rest p d) (λ l. ends (i + length l)) m
-    ∙ run-alike s (fieldOf calDeviation) (λ d. countFrom i (rest p d)) (λ d. onward p d) m (λ d k. last p d k (ltb (p .code) least)))
-    ∙ sym (run-assoc s (fieldOf calPoint >>= λ p. fieldOf calDeviation >>= λ d. ends (paired p d)) (λ q. test q >> ends (suc (q .code))) next at
-    ∙ run-assoc s (fieldOf calPoint) (λ p. fieldOf calDeviation >>= λ d. ends (paired p d)) (λ q. (test q >> ends (suc (q .code))) >>= next) at
-    ∙ run-alike s (fieldOf calPoint) (λ p. (fieldOf calDeviation >>= λ d. ends (paired p d)) >>= λ q. (test q >> ends (suc (q .code))) >>= next)
-    (λ p. fieldOf calDeviation >>= λ d. onward p d) at (λ p m. run-assoc s (fieldOf calDeviation) (λ d. ends (paired p d)) (λ q. (test q >> ends (suc (q .code))) >>= next) m))
+    ∙ run-alike s (fieldOf calDeviation) (λ d. countFrom i (rest p d)) (λ d. test (p .at) (p .code) >>= next) m (λ d k. last p d k (ltb (p .code) least))
+    ∙ by-code s calDeviation m (λ at′ d. test (p .at) (p .code) >>= next))
+    ∙ by-code s calPoint at onward
+    ∙ sym (run-assoc s (codeOf calPoint) (λ code. codeOf calDeviation >> test at code) next at
+    ∙ run-alike s (codeOf calPoint) (λ code. (codeOf calDeviation >> test at code) >>= next) (onward at) at
+    (λ code m. run-assoc s (codeOf calDeviation) (λ d. test at code) next m))
   where
-    test : Paired → Format (Unit {0})
-    test q = refuse notRising (q .at) if ltb (q .code) least
-
-    rest : Found → Found → Format (List Pair)
-    rest p d = (refuse notRising (p .at) if ltb (p .code) least) >> (pairsOf n (suc (p .code)) >>= λ l. ends (paired p d .pair ∷ l))
+    test : ℕ → ℕ → Format ℕ
+    test place code = (refuse notRising place if ltb code least) >> ends (suc code)
 
     next : ℕ → Format ℕ
     next above = countFrom (i + 1) (pairsOf n above)
 
-    onward : Found → Found → Format ℕ
-    onward p d = (test (paired p d) >> ends (suc (p .code))) >>= next
+    onward : ℕ → ℕ → Format ℕ
+    onward place code = codeOf calDeviation >> (test place code >>= next)
+
+    rest : Found → Found → Format (List Pair)
+    rest p d = (refuse notRising (p .at) if ltb (p .code) least) >> (pairsOf n (suc (p .code)) >>= λ l. ends (paired p d .pair ∷ l))
 
     last : (p d : Found) (k : ℕ) (t : Bool) →
         run s (countFrom i ((refuse notRising (p .at) if t) >> (pairsOf n (suc (p .code)) >>= λ l. ends (paired p d .pair ∷ l)))) k

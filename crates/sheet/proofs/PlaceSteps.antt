@@ -144,6 +144,16 @@ place-end zero = omega arith
 place-end (suc zero) = omega arith
 place-end (suc (suc p)) = omega arith
 
+-- All fields but 10 and 11 take 253 bits, with the block's selector and template number.
+end-by-choice : (p : ℕ) → 253 + 2 * rowOf 10 p .width ≡ fieldPlace 22 p
+unfolding template33 rowOf
+end-by-choice zero = refl
+end-by-choice (suc zero) = refl
+end-by-choice (suc (suc p)) = refl
+
+pub end-by-row : (p : ℕ) (row : Row) → row ≡ rowOf 10 p → 253 + 2 * row .width ≡ fieldPlace 22 p
+end-by-row p row er = rw er (end-by-choice p)
+
 pub table-some : (n : ℕ) → (n ≡ 0 → ⊥) → 18 + 37 * n ≡ tableBits n
 table-some zero h = absurd (h refl)
 table-some (suc n) h = refl

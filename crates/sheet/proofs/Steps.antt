@@ -30,7 +30,7 @@ use Rattle.sheet.specs.Check.{streamIn}
 use Rattle.sheet.specs.declared.walk.FieldStep.{FieldStep}
 use Rattle.sheet.specs.declared.walk.Step.{Step as Selected}
 use Rattle.sheet.specs.declared.walk.Step.the-variants.{Behind, Refused as NoStep}
-use Rattle.sheet.specs.Walk.{selectorOf, templateOf, behind, fieldStepSaid, stepSaid}
+use Rattle.sheet.specs.Walk.{codeOf, selectorOf, templateOf, behind, judgedAt, fieldStepSaid, stepSaid}
 use Rattle.sheet.proofs.Formats.{ran, run-bind}
 
 -- What an answer says, its case known.
@@ -150,6 +150,22 @@ module _ (z : Sizes) (image : List ℕ) (at : ℕ) (row : Row) (t : Taken) (e : 
   unfolding fieldOf
   field-past h = sym (halts (streamIn z image) (bits (row .width)) meant at (told codeSaid h (took z image at (row .width) t e)))
 
+  -- Its code alone.
+  pub code-past : {r : Refusal} → t ≡ NoCode r → refused r ≡ run (streamIn z image) (codeOf row) at
+  code-past h = sym (halts (streamIn z image) (fieldOf row) (λ x. ends (x .code)) at (field-past h))
+
+  pub code-judged : {code : ℕ} {next : Cursor} → t ≡ Code code next → judgedAt row at code next ≡ run (streamIn z image) (codeOf row) at
+  unfolding fieldOf
+  code-judged {code} {next} h =
+      sym (goes-in (streamIn z image) (bits (row .width)) meant (λ y. ends (y .code)) at (told codeSaid h (took z image at (row .width) t e))
+      ∙ go (decode row at code))
+    where
+      go : (o : Outcome Value) →
+          run (streamIn z image) ((given o >>= λ value. ends (found code value)) >>= λ y. ends (y .code)) (next .at)
+          ≡ outcome._>>_ (outcome._>>_ o (good (tt {0}))) (behind code next)
+      go (good v) = refl
+      go (refused r) = refl
+
   module _ {code : ℕ} {next : Cursor} (h : t ≡ Code code next) (d : Decoded) (f : decodedSaid d ≡ decode row at code) where
     valued : run (streamIn z image) (fieldOf row) at ≡ run (streamIn z image) (given (decodedSaid d) >>= λ value. ends (found code value)) (next .at)
     unfolding fieldOf
@@ -162,6 +178,22 @@ module _ (z : Sizes) (image : List ℕ) (at : ℕ) (row : Row) (t : Taken) (e : 
 
     pub field-refused : {r : Refusal} → d ≡ NoValue r → refused r ≡ run (streamIn z image) (fieldOf row) at
     field-refused g = sym (valued ∙ ap (λ x. run (streamIn z image) (given (decodedSaid x) >>= λ value. ends (found code value)) (next .at)) g)
+
+-- What goes by a field's place and code goes by its code.
+pub by-code : {B : Type 0} (s : Stream) (row : Row) (at : ℕ) (k : ℕ → ℕ → Format B) →
+    run s (fieldOf row >>= λ x. k (x .at) (x .code)) at ≡ run s (codeOf row >>= k at) at
+unfolding fieldOf
+by-code s row at k =
+    ap (λ o. cond (ltb (s .bits) (at + row .width)) (refused (pastEnd at)) o) (go (decode row at (fieldAt (s .number) at (row .width))))
+  where
+    found-with : Value → Format Found
+    found-with v = ends (record { row = row; at = at; code = fieldAt (s .number) at (row .width); value = v })
+
+    go : (o : Outcome Value) →
+        run s ((given o >>= found-with) >>= λ x. k (x .at) (x .code)) (at + row .width)
+        ≡ run s (((given o >>= found-with) >>= λ x. ends (x .code)) >>= k at) (at + row .width)
+    go (good v) = refl
+    go (refused r) = refl
 
 -- A field of a row is a field of the row that it is.
 pub of-row : (s : Stream) (at : ℕ) (x : FieldStep) {row row′ : Row} → row ≡ row′ → fieldStepSaid row at x ≡ run s (fieldOf row) at →

@@ -4,10 +4,12 @@ use mathlib.Core.List.{List, [], _∷_}
 use Prim.Native.Nat.{ℕ, zero, suc, _+_, _*_, _/_, _-_}
 use lib.Dec.{eqb, ltb}
 use lib.ListN.{length}
+use Rattle.refusal.specs.Outcome as outcome
 use Rattle.refusal.specs.Outcome.{Outcome, good, refused}
 use Rattle.refusal.specs.Rows.{wrongBlock, notRising}
 use Rattle.fields.specs.declared.Row.{Row}
 use Rattle.fields.specs.declared.Value.{Value}
+use Rattle.fields.specs.Judgement.{judge}
 use Rattle.fields.specs.Rows.{Line, block, line, chose, calPoint, calDeviation}
 use Rattle.memory.specs.declared.cursor.Cursor.{Cursor}
 use Rattle.sheet.specs.declared.Pair.{Pair}
@@ -23,6 +25,10 @@ use Rattle.sheet.specs.declared.ending.EndStep.{EndStep}
 use Rattle.sheet.specs.declared.ending.EndStep.the-variants.{Ended, Refused as NoEnd}
 use Rattle.sheet.specs.Format.{Format, ends, _>>=_, _>>_, bits, place, remaining, refuse_if_, Ran}
 use Rattle.sheet.specs.Contents.{Found, figure, fieldOf, blockOf, tableAt, lastSelector, textOf}
+
+-- The code of the field of a row.
+abbrev pub codeOf : Row → Format ℕ
+codeOf row = fieldOf row >>= λ x. ends (x .code)
 
 -- ---- blocks
 
@@ -48,7 +54,7 @@ fieldOn i = cond (ltb i 5) (i + 1) i
 -- A line of the table: the latest choice behind it.
 abbrev pub lineOf : Line → ℕ → Format ℕ
 lineOf (block template) latest = blockOf template >> ends latest
-lineOf (line chooses rowOf) latest = fieldOf (rowOf latest) >>= λ x. ends (chose chooses (x .code) latest)
+lineOf (line chooses rowOf) latest = codeOf (rowOf latest) >>= λ code. ends (chose chooses code latest)
 
 -- Lines one after the other: the latest choice behind them.
 unfoldable pub linesOf : List Line → ℕ → Format ℕ
@@ -69,12 +75,14 @@ pairOf = do
   deviation ← fieldOf calDeviation
   ends (record { at = point .at; code = point .code; pair = record { point = figure (point .value); deviation = figure (deviation .value) } })
 
--- Row 7 behind a pair: one above its point's code, the least that the next may have.
+-- The codes of a pair, and row 7: one above its point's code, the least that the next may have.
 unfoldable pub risingOf : ℕ → Format ℕ
 risingOf least = do
-  x ← pairOf
-  refuse notRising (x .at) if ltb (x .code) least
-  ends (suc (x .code))
+  at ← place
+  code ← codeOf calPoint
+  codeOf calDeviation
+  refuse notRising at if ltb code least
+  ends (suc code)
 
 -- Block 40 behind its selector, and selector 3.
 abbrev pub onlyTable : ℕ → Format (List Pair)
@@ -102,6 +110,10 @@ endingOf = do
 
 abbrev pub behind : {A : Type 0} → A → Cursor → Outcome (Ran A)
 behind a cursor = good (record { found = a; next = cursor .at })
+
+-- A code that was taken at a place, as its row judges it.
+abbrev pub judgedAt : Row → ℕ → ℕ → Cursor → Outcome (Ran ℕ)
+judgedAt row at code cursor = outcome._>>_ (judge row at code) (behind code cursor)
 
 -- The field of a row at a place.
 abbrev pub fieldStepSaid : Row → ℕ → FieldStep → Outcome (Ran Found)

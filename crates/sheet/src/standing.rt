@@ -46,12 +46,23 @@ pub fn locate(field: u64, precision: u64) -> usize
     at as usize
 }
 
+// The bits of all fields but 10 and 11, with the block's selector and template number.
+const OTHER_BITS: u64 = 253;
+
+// The first bit behind the fields, at a precision.
+fn fields_end(precision: u64) -> usize
+    ensures { λ r. ⌜ r ≡ fieldPlace 22 precision ⌝ }
+{
+    let electrical = fields::row_of(10, precision).width;
+    (OTHER_BITS + 2 * electrical) as usize
+}
+
 // The first bit of a pair, counted from 0.
 pub fn locate_pair(precision: u64, index: u64) -> usize
     requires { ⌜ index < 2 ^ 32 ⌝ }
     ensures { λ r. ⌜ r ≡ pairPlace precision index ⌝ }
 {
-    locate(22, precision) + 18 + 37 * (index as usize)
+    fields_end(precision) + 18 + 37 * (index as usize)
 }
 
 // The bits of a table of pairs: none without one.
@@ -70,7 +81,7 @@ pub fn locate_character(precision: u64, points: u64, index: u64) -> usize
     requires { ⌜ (points < 2 ^ 32) × (index < 2 ^ 32) ⌝ }
     ensures { λ r. ⌜ r ≡ characterPlace precision points index ⌝ }
 {
-    locate(22, precision) + table_bits(points) + 3 + 7 * (index as usize)
+    fields_end(precision) + table_bits(points) + 3 + 7 * (index as usize)
 }
 
 // The field of an image, where it stands at a precision.

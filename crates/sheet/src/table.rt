@@ -1,10 +1,11 @@
 // Behind the fields: block 40, the calibration table, where there is one, and selector 3.
 ghost use mathlib.Core.Path.{_≡_};
 ghost use Rattle.memory.specs.Answers.{Whole};
+ghost use Rattle.fields.specs.Rows.{calPoint, calDeviation};
 ghost use Rattle.sheet.specs.Format.{run};
 ghost use Rattle.sheet.specs.Contents.{figure as figureOf, pairsOf, tableAt, pointsOf};
 ghost use Rattle.sheet.specs.Check.{streamIn};
-ghost use Rattle.sheet.specs.Walk.{pairOf, risingOf, onlyTable, counted, pairStepSaid, numberSaid};
+ghost use Rattle.sheet.specs.Walk.{codeOf, pairOf, risingOf, onlyTable, counted, pairStepSaid, numberSaid};
 use crate::Pair;
 use crate::walk;
 use crate::walk::FieldStep;
@@ -58,22 +59,50 @@ pub fn take_pair(sizes: Sizes, image: &[u8], cursor: Cursor) -> PairStep
     }
 }
 
-// A pair, then 7 where the code of its point is below `least`: the least that the next point's may be.
+// The code of a point: 3, then 5. The row is named here and is no parameter: a constant row makes a check of a long table
+// twice as fast.
+fn take_point(sizes: Sizes, image: &[u8], cursor: Cursor) -> NumberStep
+    requires { ⌜ Whole sizes (now image) ⌝ }
+    ensures { λ r. ⌜ numberSaid r ≡ run (streamIn sizes (now (image .entry))) (codeOf calPoint) (cursor .at) ⌝ }
+{
+    let row = fields::cal_point();
+    match cursor.take(sizes, image, row.width as usize) {
+        Taken::Refused(r) => NumberStep::Refused(r),
+        Taken::Field(code, next) => walk::judged(row, cursor.at as u64, code, next),
+    }
+}
+
+// The same of its deviation.
+fn take_deviation(sizes: Sizes, image: &[u8], cursor: Cursor) -> NumberStep
+    requires { ⌜ Whole sizes (now image) ⌝ }
+    ensures { λ r. ⌜ numberSaid r ≡ run (streamIn sizes (now (image .entry))) (codeOf calDeviation) (cursor .at) ⌝ }
+{
+    let row = fields::cal_deviation();
+    match cursor.take(sizes, image, row.width as usize) {
+        Taken::Refused(r) => NumberStep::Refused(r),
+        Taken::Field(code, next) => walk::judged(row, cursor.at as u64, code, next),
+    }
+}
+
+// The codes of a pair, then 7 where the point's is below `least`: the least that the next point's may be.
 fn take_rising(sizes: Sizes, image: &[u8], cursor: Cursor, least: u64) -> NumberStep
     requires { ⌜ Whole sizes (now image) ⌝ }
     ensures { λ r. ⌜ numberSaid r ≡ run (streamIn sizes (now (image .entry))) (risingOf least) (cursor .at) ⌝ }
 {
-    match take_pair(sizes, image, cursor) {
-        PairStep::Refused(r) => NumberStep::Refused(r),
-        PairStep::Stands(code, _, next) => {
-            if code < least {
-                return NumberStep::Refused(Refusal {
-                    number: refusal::NOT_RISING,
-                    place: cursor.at as u64,
-                });
+    match take_point(sizes, image, cursor) {
+        NumberStep::Refused(r) => NumberStep::Refused(r),
+        NumberStep::Number(code, middle) => match take_deviation(sizes, image, middle) {
+            NumberStep::Refused(r) => NumberStep::Refused(r),
+            NumberStep::Number(_, next) => {
+                if code < least {
+                    return NumberStep::Refused(Refusal {
+                        number: refusal::NOT_RISING,
+                        place: cursor.at as u64,
+                    });
+                }
+                NumberStep::Number(code + 1, next)
             }
-            NumberStep::Number(code + 1, next)
-        }
+        },
     }
 }
 

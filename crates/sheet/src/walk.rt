@@ -9,8 +9,20 @@ ghost use Rattle.fields.specs.Rows.{block, template33};
 ghost use Rattle.sheet.specs.Format.{run};
 ghost use Rattle.sheet.specs.Contents.{fieldOf, blockOf};
 ghost use Rattle.sheet.specs.Check.{streamIn};
-ghost use Rattle.sheet.specs.Walk.{selectorOf, templateOf, fieldOn, lineOf, linesOf, fieldStepSaid, stepSaid, numberSaid};
+ghost use Rattle.sheet.specs.Walk.{
+  codeOf,
+  judgedAt,
+  selectorOf,
+  templateOf,
+  fieldOn,
+  lineOf,
+  linesOf,
+  fieldStepSaid,
+  stepSaid,
+  numberSaid,
+};
 use fields::Decoded;
+use fields::Judged;
 use fields::Row;
 use fields::Value;
 use memory::Cursor;
@@ -65,6 +77,29 @@ pub fn take_field(sizes: Sizes, image: &[u8], cursor: Cursor, row: Row) -> Field
             Decoded::Refused(r) => FieldStep::Refused(r),
             Decoded::Means(value) => FieldStep::Field(code, value, next),
         },
+    }
+}
+
+// A code that was taken at a bit, and the cursor behind it; or 5 or 6, as its row says.
+pub fn judged(row: Row, at: u64, code: u64, next: Cursor) -> NumberStep
+    requires { ⌜ Sound row ⌝ }
+    ensures { λ r. ⌜ numberSaid r ≡ judgedAt row at code next ⌝ }
+{
+    match fields::judge(row, at, code) {
+        Judged::Refused(r) => NumberStep::Refused(r),
+        Judged::Stands => NumberStep::Number(code, next),
+    }
+}
+
+// The code of the field of a row, with the refusals of `take_field`: what a check needs of it. It has one caller, so that it
+// is compiled into the walk over the lines.
+fn take_code(sizes: Sizes, image: &[u8], cursor: Cursor, row: Row) -> NumberStep
+    requires { ⌜ Whole sizes (now image) × Sound row ⌝ }
+    ensures { λ r. ⌜ numberSaid r ≡ run (streamIn sizes (now (image .entry))) (codeOf row) (cursor .at) ⌝ }
+{
+    match cursor.take(sizes, image, row.width as usize) {
+        Taken::Refused(r) => NumberStep::Refused(r),
+        Taken::Field(code, next) => judged(row, cursor.at as u64, code, next),
     }
 }
 
@@ -134,9 +169,9 @@ fn take_line(sizes: Sizes, image: &[u8], cursor: Cursor, line: u64, precision: u
         }
     } else {
         let field = field_on(line);
-        match take_field(sizes, image, cursor, fields::row_of(field, precision)) {
-            FieldStep::Refused(r) => NumberStep::Refused(r),
-            FieldStep::Field(code, _, next) => {
+        match take_code(sizes, image, cursor, fields::row_of(field, precision)) {
+            NumberStep::Refused(r) => NumberStep::Refused(r),
+            NumberStep::Number(code, next) => {
                 if field == PRECISION {
                     return NumberStep::Number(code, next);
                 }

@@ -1,30 +1,30 @@
-use native.Mathlib.Omega.{arith}
-use borrow.Author.Tests.{lt-ltb, le-ltb}
 use borrow.Author.Needs.{needs}
+use native.Mathlib.Omega.{arith}
 use mir.Syntax.{w64}
 use mir.Facts.{toZ-pos}
+use Rattle.fields.proofs.DecodeLaws.{turned, stood}
 use Rattle.fields.proofs.decoding.plain.Statement.{statement}
 use Rattle.fields.proofs.decoding.plain.Tie as tie
 
-outside-table-requires : tie.Need-outside-table-requires
-outside-table-requires c κs = search needs
+in-table-requires : tie.Need-in-table-requires
+in-table-requires c κs = search needs
+
+enum-known-r : tie.Need-enum-known-r
+enum-known-r c = search needs
 
 returns : tie.Need-returns
-returns c = rw (lt-ltb _ _ (c .before .if1 .taken)) (c .outside-table .ensures)
+returns c = turned _ (c .before .before .before .in-table .ensures) (c .before .r .given .1)
 
-outside-table-requires-2 : tie.Need-outside-table-requires-2
-outside-table-requires-2 c κs = search needs
+enum-told : tie.Need-enum-told
+enum-told c = search needs
+
+cast-t7 : tie.Need-cast-t7
+cast-t7 c = search needs
 
 returns-2 : tie.Need-returns-2
-returns-2 c = rw (le-ltb _ _ (c .before .before .if1 .left), lt-ltb _ _ (c .before .if2 .taken)) (c .outside-table2 .ensures)
-
-cast-t6 : tie.Need-cast-t6
-cast-t6 c = search needs
-
-returns-3 : tie.Need-returns-3
-returns-3 c = rw (le-ltb _ _ (c .before .if1 .left), le-ltb _ _ (c .if2 .left), toZ-pos w64 {n = c .before .before .args .code} (omega arith))
+returns-2 c =
+    rw (toZ-pos w64 {n = c .before .before .before .args .code} (omega arith)) (stood _ (c .before .before .in-table .ensures) (c .enum-told .given .1))
 
 pub plain-spec : {M : Type 1} → statement M
 plain-spec =
-    tie.close
-    (tie.spec outside-table-requires returns outside-table-requires-2 returns-2 cast-t6 returns-3)
+    tie.close (tie.spec in-table-requires enum-known-r returns enum-told cast-t7 returns-2)

@@ -25,7 +25,7 @@ enum-known-rule-3 : tie.Need-enum-known-rule-3
 enum-known-rule-3 c = search needs
 
 geometric-requires : tie.Need-geometric-requires
-geometric-requires c κs = six (c .before .rule3 .given .0 .0) (c .before .before .before .pre) (c .before .rule3 .given .1)
+geometric-requires c κs = search needs
 
 enum-told : tie.Need-enum-told
 enum-told c = search needs
@@ -47,7 +47,8 @@ returns-2 c =
 returns-3 : tie.Need-returns-3
 returns-3 c =
     let figure = toZ-ofZ (c .before .before .before .before .fits .figure) in
-    rw (c .before .before .rule3 .given .1) (rw figure at (c .geometric .ensures))
+    let bits = six (c .before .before .rule3 .given .0 .0) (c .before .before .before .before .pre) (c .before .before .rule3 .given .1) in
+    rw (c .before .before .rule3 .given .1, bits) (rw figure at (c .geometric .ensures))
 
 returns-4 : tie.Need-returns-4
 returns-4 c = rw (c .before .enum-told .given .1) (c .wrong-sort .ensures)

@@ -5,12 +5,12 @@ use Rattle.sheet.proofs.standing.locate_character.Statement.{statement}
 use Rattle.sheet.proofs.standing.locate_character.Tie as tie
 use Rattle.sheet.proofs.standing.locate_character.Reads as reads
 use Rattle.sheet.proofs.standing.locate_character.Lts as lts
-use Rattle.sheet.proofs.standing.locate.Reads as locate-reads
+use Rattle.sheet.proofs.standing.fields_end.Reads as fields-end-reads
 use Rattle.sheet.proofs.standing.table_bits.Reads as table-bits-reads
 
 -- src/standing.rt:64:5
-locate-requires : tie.Need-locate-requires
-locate-requires c κs = search needs
+fields-end-requires : tie.Need-fields-end-requires
+fields-end-requires c κs = search needs
 
 -- src/standing.rt:64:29
 table-bits-requires : tie.Need-table-bits-requires
@@ -18,11 +18,11 @@ table-bits-requires c κs = search needs
 
 -- src/standing.rt:64:5
 add-result : tie.Need-add-result
-add-result c = omega (arith, place-end (c .before .before .args .precision), table-most (c .before .before .args .points), c .before .locate .ensures, c .table-bits .ensures)
+add-result c = omega (arith, place-end (c .before .before .args .precision), table-most (c .before .before .args .points), c .before .fields-end .ensures, c .table-bits .ensures)
 
 -- src/standing.rt:64:5
 add-result-2 : tie.Need-add-result-2
-add-result-2 c = omega (arith, place-end (c .before .before .args .precision), table-most (c .before .before .args .points), c .before .locate .ensures, c .table-bits .ensures)
+add-result-2 c = omega (arith, place-end (c .before .before .args .precision), table-most (c .before .before .args .points), c .before .fields-end .ensures, c .table-bits .ensures)
 
 -- src/standing.rt:64:54
 mul-result : tie.Need-mul-result
@@ -30,17 +30,17 @@ mul-result c = search needs
 
 -- src/standing.rt:64:5
 add-result-3 : tie.Need-add-result-3
-add-result-3 c = omega (arith, place-end (c .before .before .args .precision), table-most (c .before .before .args .points), c .before .locate .ensures, c .table-bits .ensures)
+add-result-3 c = omega (arith, place-end (c .before .before .args .precision), table-most (c .before .before .args .points), c .before .fields-end .ensures, c .table-bits .ensures)
 
 -- src/standing.rt:60:1
 returns : tie.Need-returns
-returns c = rw (c .before .locate .ensures, c .table-bits .ensures)
+returns c = rw (c .before .fields-end .ensures, c .table-bits .ensures)
 
 pub locate-character-spec : {M : Type 1} → statement M
 locate-character-spec =
     tie.close
     (tie.spec
-    locate-requires
+    fields-end-requires
     table-bits-requires
     add-result
     add-result-2

@@ -9,7 +9,7 @@ use Rattle.sheet.proofs.walk.take_line.Lts as lts
 use Rattle.fields.proofs.row_of.Reads as row-of-reads
 use Rattle.sheet.proofs.walk.field_on.Reads as field-on-reads
 use Rattle.sheet.proofs.walk.take_block.Reads as take-block-reads
-use Rattle.sheet.proofs.walk.take_field.Reads as take-field-reads
+use Rattle.sheet.proofs.walk.take_code.Reads as take-code-reads
 
 -- src/walk.rt:152:15
 take-block-requires : tie.Need-take-block-requires
@@ -33,8 +33,8 @@ row-of-requires c κs =
     rw (c .field-on .ensures) (field-on-range (c .before .before .before .args .line) (c .before .before .before .pre .1) (c .before .if1 .left))
 
 -- src/walk.rt:158:15
-take-field-requires : tie.Need-take-field-requires
-take-field-requires c κs =
+take-code-requires : tie.Need-take-code-requires
+take-code-requires c κs =
     let f = field-on-range (c .before .before .before .before .args .line) (c .before .before .before .before .pre .1) (c .before .before .if1 .left) in
     (c .before .before .before .before .pre .0, rw (c .row-of .ensures, c .before .field-on .ensures) (row-sound _ _ (f .0) (f .1)))
 
@@ -50,7 +50,7 @@ enum-known-code c = search needs
 returns : tie.Need-returns
 returns c =
     let a = c .before .before .before .before .before .before .before .before .before .args in
-    line-chooses (streamIn (a .sizes) (a .image .now)) (a .line) (a .precision) (a .cursor .at) _ _ _ (c .before .before .before .before .before .before .before .before .before .pre .1) (c .before .before .before .before .before .before .before .if1 .left) (c .before .before .before .before .before .before .field-on .ensures) (c .before .before .before .before .before .row-of .ensures) (c .before .before .before .before .take-field .ensures) (c .before .before .code .given .1) (c .if2 .taken)
+    line-chooses (streamIn (a .sizes) (a .image .now)) (a .line) (a .precision) (a .cursor .at) _ _ _ (c .before .before .before .before .before .before .before .before .before .pre .1) (c .before .before .before .before .before .before .before .if1 .left) (c .before .before .before .before .before .before .field-on .ensures) (c .before .before .before .before .before .row-of .ensures) (c .before .before .before .before .take-code .ensures) (c .before .before .code .given .1) (c .if2 .taken)
 
 -- src/walk.rt:147:1
 returns-2 : tie.Need-returns-2
@@ -68,13 +68,13 @@ returns-3 c =
 returns-4 : tie.Need-returns-4
 returns-4 c =
     let a = c .before .before .before .before .before .before .before .before .args in
-    line-halts (streamIn (a .sizes) (a .image .now)) (a .line) (a .precision) (a .cursor .at) _ _ _ (c .before .before .before .before .before .before .before .before .pre .1) (c .before .before .before .before .before .before .if1 .left) (c .before .before .before .before .before .field-on .ensures) (c .before .before .before .before .row-of .ensures) (c .before .before .before .take-field .ensures) (c .before .r2 .given .1)
+    line-halts (streamIn (a .sizes) (a .image .now)) (a .line) (a .precision) (a .cursor .at) _ _ _ (c .before .before .before .before .before .before .before .before .pre .1) (c .before .before .before .before .before .before .if1 .left) (c .before .before .before .before .before .field-on .ensures) (c .before .before .before .before .row-of .ensures) (c .before .before .before .take-code .ensures) (c .before .r2 .given .1)
 
 -- src/walk.rt:147:1
 returns-5 : tie.Need-returns-5
 returns-5 c =
     let a = c .before .before .before .before .before .before .before .before .before .args in
-    line-keeps (streamIn (a .sizes) (a .image .now)) (a .line) (a .precision) (a .cursor .at) _ _ _ (c .before .before .before .before .before .before .before .before .before .pre .1) (c .before .before .before .before .before .before .before .if1 .left) (c .before .before .before .before .before .before .field-on .ensures) (c .before .before .before .before .before .row-of .ensures) (c .before .before .before .before .take-field .ensures) (c .before .before .code .given .1) (c .if2 .left)
+    line-keeps (streamIn (a .sizes) (a .image .now)) (a .line) (a .precision) (a .cursor .at) _ _ _ (c .before .before .before .before .before .before .before .before .before .pre .1) (c .before .before .before .before .before .before .before .if1 .left) (c .before .before .before .before .before .before .field-on .ensures) (c .before .before .before .before .before .row-of .ensures) (c .before .before .before .before .take-code .ensures) (c .before .before .code .given .1) (c .if2 .left)
 
 pub take-line-spec : {M : Type 1} → statement M
 take-line-spec =
@@ -85,7 +85,7 @@ take-line-spec =
     enum-known-next
     field-on-requires
     row-of-requires
-    take-field-requires
+    take-code-requires
     enum-known-r-2
     enum-known-code
     returns

@@ -5,23 +5,20 @@ use Rattle.memory.proofs.Taking.{take-inside, take-past}
 use Rattle.memory.proofs.cursor.Cursor.take.Statement.{statement}
 use Rattle.memory.proofs.cursor.Cursor.take.Tie as tie
 
+sub-bits : tie.Need-sub-bits
+sub-bits c = search needs
+
 mul-bits : tie.Need-mul-bits
 mul-bits c = search needs
 
-add-bits : tie.Need-add-bits
-add-bits c = search needs
-
-mul-bits-2 : tie.Need-mul-bits-2
-mul-bits-2 c = search needs
-
 returns : tie.Need-returns
 returns c =
-    let a = c .before .before .before .before .args in
+    let a = c .before .before .before .args in
     rw (take-past (a .sizes) (a .image .now) (a .self .at) (a .width) (omega arith))
 
 returns-2 : tie.Need-returns-2
 returns-2 c =
-    let a = c .before .before .before .before .before .args in
+    let a = c .before .before .before .before .args in
     rw (take-past (a .sizes) (a .image .now) (a .self .at) (a .width) (omega arith))
 
 take-requires : tie.Need-take-requires
@@ -32,10 +29,9 @@ add-t8 c = search needs
 
 returns-3 : tie.Need-returns-3
 returns-3 c =
-    let a = c .before .before .before .before .before .before .args in
+    let a = c .before .before .before .before .before .args in
     rw (c .take .ensures, take-inside (a .sizes) (a .image .now) (a .self .at) (a .width) (omega arith))
 
 pub take-spec : {M : Type 1} → statement M
 take-spec =
-    tie.close
-    (tie.spec mul-bits add-bits mul-bits-2 returns returns-2 take-requires add-t8 returns-3)
+    tie.close (tie.spec sub-bits mul-bits returns returns-2 take-requires add-t8 returns-3)

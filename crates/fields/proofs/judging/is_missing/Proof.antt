@@ -1,6 +1,6 @@
 use borrow.Author.Needs.{needs}
-use Rattle.fields.proofs.decoding.is_missing.Statement.{statement}
-use Rattle.fields.proofs.decoding.is_missing.Tie as tie
+use Rattle.fields.proofs.judging.is_missing.Statement.{statement}
+use Rattle.fields.proofs.judging.is_missing.Tie as tie
 
 all-ones-requires : tie.Need-all-ones-requires
 all-ones-requires c κs = search needs

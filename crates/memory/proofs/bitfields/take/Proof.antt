@@ -1,11 +1,11 @@
--- `fields::take` meets its contract.
+-- `bitfields::take` meets its contract.
 use borrow.Author.Needs.{needs}
 use native.Mathlib.Omega.{arith}
 use lib.Pow.{pow-pos}
 use Rattle.memory.specs.Image.{streamNumber}
 use Rattle.memory.proofs.Turns.{one-shl, take-word}
-use Rattle.memory.proofs.fields.take.Statement.{statement}
-use Rattle.memory.proofs.fields.take.Tie as tie
+use Rattle.memory.proofs.bitfields.take.Statement.{statement}
+use Rattle.memory.proofs.bitfields.take.Tie as tie
 
 add-gather : tie.Need-add-gather
 add-gather c = search needs
@@ -30,7 +30,7 @@ sub-result c =
 returns : tie.Need-returns
 returns c =
     let a = c .before .before .args in
-    rw (c .gather .ensures) (take-word (streamNumber (a .sizes) (a .image .now)) (a .at) (a .width) (omega arith))
+    take-word (streamNumber (a .sizes) (a .image .now)) _ (a .at) (a .width) (omega arith) (c .gather .ensures)
 
 pub take-spec : {M : Type 1} → statement M
 take-spec =

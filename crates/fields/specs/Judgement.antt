@@ -1,0 +1,9 @@
+-- Whether a code may stand in a row.
+use Prim.Native.Nat.{ℕ}
+use Rattle.refusal.specs.Outcome.{Outcome, good, _>>_}
+use Rattle.fields.specs.declared.Row.{Row}
+use Rattle.fields.specs.Rules.{decode}
+
+-- What the code means, with the value left out.
+abbrev pub judge : Row → ℕ → ℕ → Outcome (Unit {0})
+judge row at code = decode row at code >> good tt

@@ -1,0 +1,111 @@
+-- Bytes of a word into an image: eight side by side, and some of the stream.
+use mathlib.Core.Path.{_≡_, refl, sym, ap, ap₂, _∙_}
+use mathlib.Core.Bool.{cond}
+use mathlib.Core.List.{List}
+use Prim.Native.Nat.{ℕ, zero, suc, _+_, _-_, _*_, _/_, _%_, _^_, _≤_, _<_}
+use native.Mathlib.Nat.{mod-lt, mod-eq-of-lt}
+use native.Mathlib.Numerals.{add-one}
+use native.Mathlib.Omega.{arith}
+use lib.ListN.{length, set, length-set}
+use lib.Dec.{ltb}
+use lib.Pow.{pow-pos}
+use borrow.Author.Tests.{lt-ltb}
+use Rattle.memory.specs.declared.Sizes.{Sizes}
+use Rattle.memory.specs.Bits.{Bytes, number, bytesOf, fieldAt, putAt}
+use Rattle.memory.specs.Image.{imageBytes, streamBytes, streamBits, putIn}
+use Rattle.memory.specs.Answers.{streamIndex, runBytes}
+use Rattle.memory.proofs.FieldLaws.{put-in, put-mod}
+use Rattle.memory.proofs.Digits.{bytes-set, bytes-number}
+use Rattle.memory.proofs.Streams.{index-lt}
+use Rattle.memory.proofs.Written.{Put, put-is}
+use Rattle.memory.proofs.Turns.{put-none, put-code, number-turn, scatter-none, scatter-turn}
+use Rattle.memory.proofs.Runs.{run-near, run-index, word-low, gather-near}
+
+-- ---- a word into eight bytes
+
+module _ (image : List ℕ) (f word : ℕ) where
+  -- The k low bytes of the word stand in the image from byte f on.
+  pub record Lies (k : ℕ) (l : List ℕ) : Type 0 where
+    pub long : length l ≡ length image
+    pub bytes : Bytes l
+    pub stands : number l ≡ putAt (number image) (8 * f) (8 * k) (word % 2 ^ (8 * k))
+
+  lay-none : Bytes image → Lies 0 image
+  lay-none hb = record { long = refl; bytes = hb; stands = sym (put-none (number image) (8 * f) word) }
+
+  pub lay-turn : (k b : ℕ) (l : List ℕ) → f + k < length image → b ≡ word / 2 ^ (8 * k) % 256 → Lies k l → Lies (k + 1) (set l (f + k) b)
+  lay-turn k b l h e p =
+      rw e
+      (record {
+        long = length-set l (f + k) (word / 2 ^ (8 * k) % 256) ∙ p .long;
+        bytes = bytes-set l (f + k) (word / 2 ^ (8 * k) % 256) (p .bytes) (mod-lt (word / 2 ^ (8 * k)) (pow-pos 8));
+        stands = number-turn l (p .bytes) (number image) f k word (omega (arith, p .long)) (p .stands);
+      })
+
+  pub lay-first : (b : ℕ) → Bytes image → f < length image → b ≡ word % 256 → Lies 1 (set image f b)
+  lay-first b hb h e =
+      let z : f + 0 ≡ f = omega arith in
+      rw z at (lay-turn 0 b image (omega arith) (omega arith) (lay-none hb))
+
+  pub laid-eight : {l : List ℕ} → word < 2 ^ 64 → Lies 8 l → l ≡ bytesOf (length image) (putAt (number image) (8 * f) 64 word)
+  laid-eight {l} h p =
+      sym (bytes-number l (p .bytes))
+      ∙ ap₂ bytesOf (p .long) (p .stands ∙ ap (putAt (number image) (8 * f) 64) (mod-eq-of-lt h))
+
+-- ---- bytes of a word into the stream
+
+-- The image with the n low bytes of a word in it, those behind the run behind its check byte.
+abbrev pub laid : ℕ → ℕ → List ℕ → ℕ → ℕ → List ℕ
+laid at run image word zero = image
+laid at run image word (suc n) = set (laid at run image word n) (cond (ltb n run) (at + n) (at + n + 1)) (word / 2 ^ (8 * n) % 256)
+
+pub laid-length : (at run : ℕ) (image : List ℕ) (word n : ℕ) → length (laid at run image word n) ≡ length image
+laid-length at run image word zero = refl
+laid-length at run image word (suc n) =
+    length-set (laid at run image word n) (cond (ltb n run) (at + n) (at + n + 1)) (word / 2 ^ (8 * n) % 256) ∙ laid-length at run image word n
+
+module _ (z : Sizes) (image : List ℕ) (whole : length image ≡ imageBytes z) (hb : Bytes image) (f at run word : ℕ) (ea : at ≡ streamIndex z f) (er : run ≡ runBytes z f) where
+  laid-put : (n : ℕ) → f + n ≤ streamBytes z → n ≤ 31 → Put z image (8 * f) (8 * n) (word % 2 ^ (8 * n)) (laid at run image word n)
+  laid-put zero h m = scatter-none z image hb (8 * f) word
+  laid-put (suc n) h m =
+      rw (run-index z f at run n ea er (omega arith), ← add-one n)
+      (scatter-turn z image (laid at run image word n) f n word whole (omega arith) (laid-put n (omega arith) (omega arith)))
+
+  pub scattered : (n : ℕ) → f + n ≤ streamBytes z → n ≤ 31 → laid at run image word n ≡ putIn z image (8 * f) (8 * n) (word % 2 ^ (8 * n))
+  scattered n h m = put-is z image (8 * f) (8 * n) (word % 2 ^ (8 * n)) whole (laid-put n h m)
+
+  laid-stands : (n : ℕ) → n ≤ run → at + n ≤ length image → Lies image at word n (laid at run image word n)
+  laid-stands zero h l = lay-none image at word hb
+  laid-stands (suc n) h l =
+      rw (lt-ltb n run (omega arith), ← add-one n) (lay-turn image at word n (word / 2 ^ (8 * n) % 256) (laid at run image word n) (omega arith) refl (laid-stands n (omega arith) (omega arith)))
+
+  -- Eight bytes with a field of the first n of them replaced are those n bytes laid.
+  laid-run : (n low width code old : ℕ) → n ≤ run → n ≤ 8 → at + n ≤ length image → low + width ≤ 8 * n → code < 2 ^ width
+      → old ≡ fieldAt (number image) (8 * at) 64 → word ≡ putAt old low width code
+      → bytesOf (length image) (putAt (number image) (8 * at) 64 word) ≡ laid at run image word n
+  laid-run n low width code old hr hn hi hl hc eo ew =
+      let M : ℕ = number image in
+      let p = laid-stands n hr hi in
+      let w : word % 2 ^ (8 * n) ≡ putAt (fieldAt M (8 * at) (8 * n)) low width code =
+      ap (λ (x : ℕ). x % 2 ^ (8 * n)) ew
+      ∙ put-mod old low width code hc (8 * n) hl
+      ∙ ap (λ (x : ℕ). putAt x low width code) (word-low M (8 * at) old n hn eo) in
+      let e : putAt M (8 * at) 64 word ≡ number (laid at run image word n) =
+      ap (putAt M (8 * at) 64) (ew ∙ ap (λ (x : ℕ). putAt x low width code) eo)
+      ∙ put-in M (8 * at) 64 low width code hc (omega arith)
+      ∙ sym (p .stands ∙ ap (putAt M (8 * at) (8 * n)) w ∙ put-in M (8 * at) (8 * n) low width code hc (omega arith)) in
+      ap₂ bytesOf (sym (p .long)) e ∙ bytes-number (laid at run image word n) (p .bytes)
+
+-- Eight bytes with a field within one run replaced are the field put.
+pub put-run : (z : Sizes) (image : List ℕ) → length image ≡ imageBytes z → Bytes image → (at width code from run old word : ℕ)
+    → at + width ≤ streamBits z → 1 ≤ width → width ≤ 32 → code < 2 ^ width
+    → from ≡ streamIndex z (at / 8) → run ≡ runBytes z (at / 8) → (at % 8 + width + 7) / 8 ≤ run
+    → old ≡ fieldAt (number image) (8 * from) 64 → word ≡ putAt old (at % 8) width code
+    → bytesOf (length image) (putAt (number image) (8 * from) 64 word) ≡ putIn z image at width code
+put-run z image whole hb at width code from run old word inside some most hc ef er hr eo ew =
+    let f : ℕ = at / 8 in
+    let n : ℕ = (at % 8 + width + 7) / 8 in
+    let last : from + n ≤ length image = omega (arith, run-near z f (n - 1) (omega arith), index-lt z (f + (n - 1)) (omega arith)) in
+    put-code z image _ at width code old word hc (gather-near z image whole hb f n from run old (omega arith) (omega arith) ef er eo hr) ew
+    (laid-run z image whole hb f from run word ef er n (at % 8) width code old hr (omega arith) last (omega arith) hc eo ew
+    ∙ scattered z image whole hb f from run word ef er n (omega arith) (omega arith))

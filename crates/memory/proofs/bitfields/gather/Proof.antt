@@ -1,0 +1,69 @@
+-- `bitfields::gather` meets its contract.
+use borrow.Author.Needs.{needs}
+use native.Mathlib.Omega.{arith}
+use lib.Pow.{pow-pos}
+use Prim.Native.Nat.{_*_}
+use Rattle.memory.proofs.Streams.{index-lt}
+use Rattle.memory.proofs.Turns.{one-shl}
+use Rattle.memory.proofs.Runs.{gather-near, gather-far}
+use Rattle.memory.proofs.bitfields.gather.Statement.{statement}
+use Rattle.memory.proofs.bitfields.gather.Tie as tie
+
+run-from-requires : tie.Need-run-from-requires
+run-from-requires c κs = search needs
+
+window-requires : tie.Need-window-requires
+window-requires c κs =
+    let a = c .before .before .args in
+    omega (arith, c .run-from .ensures .0, index-lt (a .sizes) (a .first) (omega arith))
+
+returns : tie.Need-returns
+returns c =
+    let s = c .before .before .before .before .before in
+    let a = s .args in
+    let r = c .before .before .before .run-from .ensures in
+    gather-near (a .sizes) (a .image .now) (s .pre .whole .long) (λ i. omega (arith, c .before .before .before .before .shared-slice-known .given i)) (a .first) (a .count) _ _ _ (s .pre .inside) (s .pre .most) (r .0) (r .1)
+    (c .before .before .window .ensures) (omega arith)
+
+mul-low : tie.Need-mul-low
+mul-low c = search needs
+
+add-result : tie.Need-add-result
+add-result c = search needs
+
+shr-result : tie.Need-shr-result
+shr-result c = search needs
+
+shl-result : tie.Need-shl-result
+shl-result c = search needs
+
+shl-result-2 : tie.Need-shl-result-2
+shl-result-2 c = search needs
+
+sub-result : tie.Need-sub-result
+sub-result c =
+    let low = 8 * c .before .before .before .before .run-from .result .bytes in
+    omega (arith, one-shl low (omega arith), pow-pos low)
+
+returns-2 : tie.Need-returns-2
+returns-2 c =
+    let s = c .before .before .before .before .before .before in
+    let a = s .args in
+    let r = c .before .before .before .before .run-from .ensures in
+    gather-far (a .sizes) (a .image .now) (s .pre .whole .long) (λ i. omega (arith, c .before .before .before .before .before .shared-slice-known .given i)) (a .first) (a .count) _ _ _ (s .pre .inside) (s .pre .most) (r .0) (r .1)
+    (c .before .before .before .window .ensures) (omega arith)
+
+pub gather-spec : {M : Type 1} → statement M
+gather-spec =
+    tie.close
+    (tie.spec
+    run-from-requires
+    window-requires
+    returns
+    mul-low
+    add-result
+    shr-result
+    shl-result
+    shl-result-2
+    sub-result
+    returns-2)

@@ -1,0 +1,82 @@
+-- `bitfields::put` meets its contract.
+use borrow.Author.Needs.{needs}
+use mathlib.Core.Path.{_∙_}
+use Prim.Native.Nat.{_/_}
+use native.Mathlib.Omega.{arith}
+use Rattle.memory.proofs.Streams.{index-lt}
+use Rattle.memory.proofs.Turns.{put-code}
+use Rattle.memory.proofs.Laying.{put-run}
+use Rattle.memory.proofs.bitfields.put.Statement.{statement}
+use Rattle.memory.proofs.bitfields.put.Tie as tie
+
+add-count : tie.Need-add-count
+add-count c = search needs
+
+add-count-2 : tie.Need-add-count-2
+add-count-2 c = search needs
+
+run-from-requires : tie.Need-run-from-requires
+run-from-requires c κs = search needs
+
+add-if2 : tie.Need-add-if2
+add-if2 c =
+    let a = c .before .before .before .before .args in
+    omega (arith, c .before .before .run-from .ensures .0, index-lt (a .sizes) (a .at / 8) (omega arith))
+
+eight-requires : tie.Need-eight-requires
+eight-requires c κs = search needs
+
+replaced-requires : tie.Need-replaced-requires
+replaced-requires c κs = search needs
+
+lay-eight-requires : tie.Need-lay-eight-requires
+lay-eight-requires c κs = search needs
+
+same-length : tie.Need-same-length
+same-length c = search needs
+
+returns : tie.Need-returns
+returns c =
+    let s = c .before .before .before .before .before .before .before .before .before .before .before .before in
+    let a = s .args in
+    let r = c .before .before .before .before .before .before .before .before .before .before .run-from .ensures in
+    c .before .before .lay-eight .ensures
+    ∙ put-run (a .sizes) (a .image .now) (s .pre .0 .whole .long) (λ i. omega (arith, c .before .before .before .before .before .before .before .before .before .before .before .slice-known .given i)) (a .at) (a .width) (a .code) _ _ _ _ (s .pre .0 .inside) (s .pre .0 .some) (s .pre .0 .most) (s .pre .1)
+    (r .0) (r .1) (c .before .before .before .before .before .before .before .before .if1 .taken) (c .before .before .before .before .before .eight .ensures) (c .before .before .before .replaced .ensures)
+
+gather-requires : tie.Need-gather-requires
+gather-requires c κs = search needs
+
+replaced-requires-2 : tie.Need-replaced-requires-2
+replaced-requires-2 c κs = search needs
+
+scatter-requires : tie.Need-scatter-requires
+scatter-requires c κs = search needs
+
+same-length-2 : tie.Need-same-length-2
+same-length-2 c = search needs
+
+returns-2 : tie.Need-returns-2
+returns-2 c =
+    let s = c .before .before .before .before .before .before .before .before .before .before .before in
+    let a = s .args in
+    put-code (a .sizes) (a .image .now) _ (a .at) (a .width) (a .code) _ _ (s .pre .1) (c .before .before .before .before .before .gather .ensures) (c .before .before .before .replaced2 .ensures) (c .before .before .scatter .ensures)
+
+pub put-spec : {M : Type 1} → statement M
+put-spec =
+    tie.close
+    (tie.spec
+    add-count
+    add-count-2
+    run-from-requires
+    add-if2
+    eight-requires
+    replaced-requires
+    lay-eight-requires
+    same-length
+    returns
+    gather-requires
+    replaced-requires-2
+    scatter-requires
+    same-length-2
+    returns-2)
