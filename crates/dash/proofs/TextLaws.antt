@@ -10,6 +10,7 @@ use Rattle.refusal.specs.declared.Refusal.{Refusal}
 use Rattle.texts.specs.declared.Text.{Text}
 use Rattle.texts.specs.declared.TextAnswer.the-variants.{Length, Refused}
 use Rattle.texts.specs.Text.{textSaid}
+use Rattle.texts.proofs.Answers.{said-refused}
 use Rattle.dash.specs.Calls.{padded}
 
 -- a text of n characters, with zeros behind them
@@ -29,11 +30,4 @@ shown (refused x) n r e a =
     absurd (omega arith)
 
 pub turned-down : (o : Outcome (List ℕ)) (x : Refusal) (r : Text) → r ≡ textSaid o → r .answer ≡ Refused x → o ≡ refused x
-turned-down (good t) x r e a =
-    let b : r .answer ≡ Length (length t) = ap (λ (y : Text). y .answer) e in
-    let z : _≡_ {A = ℕ} 0 1 = cc in
-    absurd (omega arith)
-turned-down (refused y) x r e a =
-    let b : r .answer ≡ Refused y = ap (λ (t : Text). t .answer) e in
-    let z : y ≡ x = cc in
-    ap refused z
+turned-down o x r e a = said-refused o x (ap (λ (t : Text). t .answer) (sym e) ∙ a)

@@ -14,7 +14,7 @@ ghost use lib.ListN.{length};
 ghost use Rattle.memory.specs.Image.{imageBytes};
 ghost use Rattle.memory.specs.Answers.{Whole};
 ghost use Rattle.memory.specs.Pieces.{needed};
-ghost use Rattle.edit.specs.Build.{build as buildOf, Wrote};
+ghost use Rattle.edit.specs.Build.{build as buildOf, writtenSaid, afterwards, Wrote};
 ghost use Rattle.edit.specs.Laid.{sheetLaid};
 ghost use Rattle.edit.specs.Planned.{builtIn};
 
@@ -65,8 +65,8 @@ fn build_in(sizes: Sizes, image: &mut [u8], sheet: Sheet, text: &[u8], points: &
 // points list, 9 or 10 for a field, the ending or a point, 7 for points that do not rise, and 11 where the stream has fewer
 // bits than are needed; then no byte is written.
 pub fn build(kind: u8, image: &mut [u8], sheet: Sheet, text: &[u8], points: &[i64]) -> Written
-    ensures { λ r. ⌜ Wrote (now (image .entry))
-        (buildOf kind (now (image .entry)) sheet (now (text .entry)) (now (points .entry))) r (now (image .exit)) ⌝ }
+    ensures { λ r. ⌜ (let outcome = buildOf kind (now (image .entry)) sheet (now (text .entry)) (now (points .entry)) in
+        (writtenSaid r (now (image .exit)) ≡ outcome) × (now (image .exit) ≡ afterwards (now (image .entry)) outcome)) ⌝ }
 {
     match memory::image_sizes(kind, image.len()) {
         SizesAnswer::Refused(r) => Written::Refused(r),

@@ -89,7 +89,7 @@ closest-is value (suc n) z =
     next value n z before (closest-is value n z) (leb (natAbs (value (suc n) -ℤ z)) (natAbs (value before -ℤ z))) refl
 
 pub geometric-closest : GeometricClosest
-geometric-closest value n z rising = closest-is value n z
+geometric-closest = closest-is
 
 -- ---- where the values rise
 

@@ -1,6 +1,6 @@
 -- What a code means in a row, where t is the outcome of the test for missing.
-use mathlib.Core.Path.{_≡_, refl, sym, _∙_}
-use mathlib.Core.Bool.{Bool, true, false, _&&_}
+use mathlib.Core.Path.{_≡_, refl, sym, ap, _∙_}
+use mathlib.Core.Bool.{Bool, true, false, _&&_, cond}
 use Prim.Native.Nat.{ℕ}
 use native.Mathlib.Omega.{arith}
 use lib.Dec.{eqb}
@@ -13,7 +13,7 @@ use Rattle.fields.specs.declared.Row.{Row}
 use Rattle.fields.specs.declared.Judged.{Judged}
 use Rattle.fields.specs.declared.Judged.the-variants.{Stands, Refused}
 use Rattle.fields.specs.Rules.{allOnes, meaning, decode}
-use Rattle.fields.specs.Judgement.{judge}
+use Rattle.fields.specs.Judgement.{judge, ruled}
 use Rattle.fields.specs.Answers.{judgedSaid}
 
 -- With the value left out, the tests before it are left.
@@ -30,12 +30,25 @@ module _ (row : Row) (at code : ℕ) {t : Bool} (e : t ≡ (row .missing && eqb 
   unfolding decode
   has-meaning h r m = rw (← e, h, r) m
 
-  -- Judged by a test o alone, where the rule gives a value behind that test.
-  pub judged-by : t ≡ false → {rule : Rule} → row .rule ≡ rule → (o : Outcome (Unit {0})) (v : Value) → meaning rule (row .width) at code ≡ (o >> good v) → {said : Outcome (Unit {0})} → said ≡ o → said ≡ judge row at code
-  judged-by h r o v m e = rw (← (has-meaning h r (sym m))) (e ∙ sym (left-out o v))
-
   pub missing-stands : t ≡ true → good tt ≡ judge row at code
   missing-stands h = rw (← (is-missing h))
+
+  -- A code that is not missing is judged by its rule alone.
+  pub ruled-alone : t ≡ false → {said : Outcome (Unit {0})} → said ≡ ruled row at code → said ≡ judge row at code
+  ruled-alone h k = k ∙ ap (λ (o : Outcome Value). o >> good tt) (has-meaning h refl refl)
+
+-- The rule's test o, where it gives a value behind that test.
+pub ruled-by : (row : Row) (at code : ℕ) {rule : Rule} → row .rule ≡ rule → (o : Outcome (Unit {0})) (v : Value) → meaning rule (row .width) at code ≡ (o >> good v) → {said : Outcome (Unit {0})} → said ≡ o → said ≡ ruled row at code
+ruled-by row at code r o v m e = rw r (rw m (e ∙ sym (left-out o v)))
+
+-- A code that stands by its rule stands, missing or not.
+either-way : (b : Bool) (m : Outcome Value) (u : Outcome (Unit {0})) → u ≡ (m >> u) → u ≡ (cond b (good Missing) m >> u)
+either-way true m u h = refl
+either-way false m u h = h
+
+pub stands-by-rule : (row : Row) (at code : ℕ) → good tt ≡ ruled row at code → good tt ≡ judge row at code
+unfolding decode
+stands-by-rule row at code h = either-way (row .missing && eqb code (allOnes (row .width))) (meaning (row .rule) (row .width) at code) (good tt) h
 
 -- What comes behind a judgement: its refusal, or else what is asked for.
 module _ {A : Type 0} {j : Judged} {o : Outcome (Unit {0})} (x : Outcome A) (e : judgedSaid j ≡ o) where

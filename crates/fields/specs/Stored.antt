@@ -111,7 +111,7 @@ pub record Closest (value : ℕ → ℤ) (n : ℕ) (z : ℤ) (code : ℕ) : Type
   pub greater : (k : ℕ) → k ≤ n → natAbs (value k -ℤ z) ≡ natAbs (value code -ℤ z) → k ≤ code
 
 abbrev pub GeometricClosest : Type 0
-GeometricClosest = (value : ℕ → ℤ) (n : ℕ) (z : ℤ) → Rising value n → Closest value n z (closest value n z)
+GeometricClosest = (value : ℕ → ℤ) (n : ℕ) (z : ℤ) → Closest value n z (closest value n z)
 
 -- The response times rise strictly.
 abbrev pub ResponseRises : Type 0

@@ -13,7 +13,7 @@ ghost use lib.Ieee.{binary32, ofBits};
 ghost use Rattle.refusal.specs.Outcome.{refused, refuse_if_};
 ghost use Rattle.refusal.specs.Rows.{outsideTable, notFinite};
 ghost use Rattle.fields.specs.Rules.{allOnes, topCode, finite};
-ghost use Rattle.fields.specs.Judgement.{judge as judgeOf};
+ghost use Rattle.fields.specs.Judgement.{judge as judgeOf, ruled};
 ghost use Rattle.fields.specs.Stored.{Sound};
 ghost use Rattle.fields.specs.Answers.{judgedSaid};
 
@@ -81,14 +81,11 @@ pub fn finite_bits(at: u64, code: u64) -> Judged
     not_finite(at)
 }
 
-// Whether `decode` gives the code a value, and the refusal where it does not, without working the value out.
-pub fn judge(row: Row, at: u64, code: u64) -> Judged
+// What the rule alone says of a code: 5 or 6, or that it stands.
+fn by_rule(row: Row, at: u64, code: u64) -> Judged
     requires { ⌜ Sound row ⌝ }
-    ensures { λ r. ⌜ judgedSaid r ≡ judgeOf row at code ⌝ }
+    ensures { λ r. ⌜ judgedSaid r ≡ ruled row at code ⌝ }
 {
-    if is_missing(row, code) {
-        return Judged::Stands;
-    }
     let width = row.width;
     let rule = row.rule;
     match rule {
@@ -96,5 +93,22 @@ pub fn judge(row: Row, at: u64, code: u64) -> Judged
         Rule::Stepped(_, _) => up_to_top(width, at, code),
         Rule::Geometric(_) => up_to_top(width, at, code),
         Rule::Single => finite_bits(at, code),
+    }
+}
+
+// Whether `decode` gives the code a value, and the refusal where it does not, without working the value out. Most codes stand
+// by their rule, so that is asked first.
+pub fn judge(row: Row, at: u64, code: u64) -> Judged
+    requires { ⌜ Sound row ⌝ }
+    ensures { λ r. ⌜ judgedSaid r ≡ judgeOf row at code ⌝ }
+{
+    match by_rule(row, at, code) {
+        Judged::Stands => Judged::Stands,
+        Judged::Refused(r) => {
+            if is_missing(row, code) {
+                return Judged::Stands;
+            }
+            Judged::Refused(r)
+        }
     }
 }

@@ -37,7 +37,7 @@ pub front-of : (field code n : ℕ) (r : Text) → r ≡ textSaid (textOf field 
 front-of field code n r e a =
     subst (λ (t : Text). Front (textOf field code) n (t .characters)) (sym e) (said-length (textOf field code) n (ap (λ (t : Text). t .answer) (sym e) ∙ a))
 
-said-refused : (o : Outcome (List ℕ)) (x : Refusal) → textSaid o .answer ≡ Refused x → o ≡ refused x
+pub said-refused : (o : Outcome (List ℕ)) (x : Refusal) → textSaid o .answer ≡ Refused x → o ≡ refused x
 said-refused (good t) x e = let z : _≡_ {A = ℕ} 0 1 = cc in absurd (omega arith)
 said-refused (refused r) x e = let z : r ≡ x = cc in ap refused z
 

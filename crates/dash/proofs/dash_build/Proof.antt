@@ -48,9 +48,9 @@ unfolding buildCall
 returns-2 c =
     let a = c .before .before .before .before .before .before .before .before .before .before .before .before .before .before .before .before .before .before .before .before .args in
     let t = sym (c .before .before .before .before .before .before .before .before .before .before .before .before .before .is-sheet .ensures) ∙ c .before .before .before .before .before .before .before .before .before .before .before .before .if2 .taken in
-    let v = sym (c .before .before .before .before .before .before .before .before .before .build .ensures .said) ∙ ap (λ (x : Written). writtenSaid x (c .before .before .before .before .before .before .before .before .before .build .last .1 .0)) (c .before .before .before .before .before .r .given .1) in
+    let v = sym (c .before .before .before .before .before .before .before .before .before .build .ensures .0) ∙ ap (λ (x : Written). writtenSaid x (c .before .before .before .before .before .before .before .before .before .build .last .1 .0)) (c .before .before .before .before .before .r .given .1) in
     let e : buildCall (a .kind) (a .image .now) (a .sorts .now) (a .wholes .now) (a .singles .now) (a .end-bit) (a .text .now) (a .points .now) (a .out .now) ≡ called (refused (c .before .before .before .before .before .r .given .0 .0)) = simp (le-leb 1 (length (a .out .now)) (c .before .before .before .before .before .before .before .before .before .before .before .before .before .before .if1 .left), t, sym (ap (λ (s : Sheet). build (a .kind) (a .image .now) s (a .text .now) (a .points .now)) (c .before .before .before .before .before .before .before .before .before .before .before .sheet-of .ensures t)) ∙ v) in
-    (refused-told _ _ _ _ _ _ e (c .before .before .refuse .ensures .0) (c .before .before .refuse .ensures .1), image-made _ _ _ _ e (c .before .before .before .before .before .before .before .before .before .build .ensures .bytes ∙ ap (afterwards (a .image .now)) v))
+    (refused-told _ _ _ _ _ _ e (c .before .before .refuse .ensures .0) (c .before .before .refuse .ensures .1), image-made _ _ _ _ e (c .before .before .before .before .before .before .before .before .before .build .ensures .1 ∙ ap (afterwards (a .image .now)) v))
 
 enum-told : tie.Need-enum-told
 enum-told c = search needs
@@ -63,7 +63,7 @@ unfolding buildCall
 returns-3 c =
     let a = c .before .before .before .before .before .before .before .before .before .before .before .before .before .before .before .args in
     let t = sym (c .before .before .before .before .before .before .before .before .is-sheet .ensures) ∙ c .before .before .before .before .before .before .before .if2 .taken in
-    let v = sym (c .before .before .before .before .build .ensures .said) ∙ ap (λ (x : Written). writtenSaid x (c .before .before .before .before .build .last .1 .0)) (c .enum-told .given .1) in
+    let v = sym (c .before .before .before .before .build .ensures .0) ∙ ap (λ (x : Written). writtenSaid x (c .before .before .before .before .build .last .1 .0)) (c .enum-told .given .1) in
     let e : buildCall (a .kind) (a .image .now) (a .sorts .now) (a .wholes .now) (a .singles .now) (a .end-bit) (a .text .now) (a .points .now) (a .out .now) ≡ called (good (c .before .before .before .before .build .last .1 .0)) = simp (le-leb 1 (length (a .out .now)) (c .before .before .before .before .before .before .before .before .before .if1 .left), t, sym (ap (λ (s : Sheet). build (a .kind) (a .image .now) s (a .text .now) (a .points .now)) (c .before .before .before .before .before .before .sheet-of .ensures t)) ∙ v) in
     (good-told _ _ _ _ _ e refl, image-made _ _ _ _ e refl)
 

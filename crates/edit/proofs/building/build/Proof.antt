@@ -28,7 +28,8 @@ build-in-requires c κs =
 returns : tie.Need-returns
 returns c =
     let a = c .before .before .before .before .before .before .args in
-    wrote-none (build-refused (a .kind) (a .image .now) (a .sheet) (a .text .now) (a .points .now) (sym (told sizesSaid (c .before .r .given .1) (c .before .before .before .image-sizes .ensures))))
+    let w = wrote-none (build-refused (a .kind) (a .image .now) (a .sheet) (a .text .now) (a .points .now) (sym (told sizesSaid (c .before .r .given .1) (c .before .before .before .image-sizes .ensures)))) in
+    (w .said, w .bytes)
 
 same-length : tie.Need-same-length
 same-length c = search needs
@@ -37,7 +38,8 @@ returns-2 : tie.Need-returns-2
 returns-2 c =
     let a = c .before .before .before .before .before .before .before .before .before .before .args in
     let e = sym (told sizesSaid (c .before .before .before .before .before .sizes .given .1) (c .before .before .before .before .before .before .before .image-sizes .ensures)) in
-    wrote-same (build-sized (a .kind) (a .image .now) (a .sheet) (a .text .now) (a .points .now) e) (c .before .before .build-in .ensures)
+    let w = wrote-same (build-sized (a .kind) (a .image .now) (a .sheet) (a .text .now) (a .points .now) e) (c .before .before .build-in .ensures) in
+    (w .said, w .bytes)
 
 pub build-spec : {M : Type 1} → statement M
 build-spec =

@@ -1,8 +1,8 @@
--- `lines::print_fields` is safe and ends. Nothing has to hold from turn to turn.
+-- `listing::print_fields` is safe and ends. Nothing has to hold from turn to turn.
 use Prim.Native.Nat.{_-_}
 use borrow.Author.Needs.{needs}
-use Rattle.shown.proofs.lines.print_fields.Statement.{statement}
-use Rattle.shown.proofs.lines.print_fields.Tie as tie
+use Rattle.shown.proofs.listing.print_fields.Statement.{statement}
+use Rattle.shown.proofs.listing.print_fields.Tie as tie
 
 abbrev Inv-loop : tie.InvT-loop
 Inv-loop kind image field₀ field = Unit {0}
