@@ -5,6 +5,7 @@ use fields::Value;
 ghost use mathlib.Core.Path.{_≡_};
 ghost use Prim.Native.Nat.{_^_, _<_};
 ghost use Rattle.fields.specs.Rules.{encode};
+ghost use Rattle.fields.specs.Rows.{calPoint, calDeviation};
 ghost use Rattle.fields.specs.Stored.{Sound};
 ghost use Rattle.edit.specs.Laid.{codeIn};
 ghost use Rattle.edit.specs.Planned.{Coded};
@@ -21,12 +22,20 @@ pub fn coded(row: Row, place: u64, value: Value) -> Encoded
     }
 }
 
-// The code of a figure that has one.
-pub fn figure_code(row: Row, place: u64, figure: i64) -> u64
-    requires { ⌜ Sound row ⌝ }
-    ensures { λ r. ⌜ (r ≡ codeIn (encode row place (Value.Whole figure))) × (r < 2 ^ row .width) ⌝ }
+// The code of a calibration point that has one, and of its deviation.
+pub fn point_code(place: u64, figure: i64) -> u64
+    ensures { λ r. ⌜ (r ≡ codeIn (encode calPoint place (Value.Whole figure))) × (r < 2 ^ calPoint .width) ⌝ }
 {
-    match fields::encode(row, place, Value::Whole(figure)) {
+    match fields::encode_point(place, figure) {
+        Encoded::Code(code) => code,
+        Encoded::Refused(_) => 0,
+    }
+}
+
+pub fn deviation_code(place: u64, figure: i64) -> u64
+    ensures { λ r. ⌜ (r ≡ codeIn (encode calDeviation place (Value.Whole figure))) × (r < 2 ^ calDeviation .width) ⌝ }
+{
+    match fields::encode_deviation(place, figure) {
         Encoded::Code(code) => code,
         Encoded::Refused(_) => 0,
     }

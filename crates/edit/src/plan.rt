@@ -2,7 +2,6 @@
 use crate::Sheet;
 use crate::codes::coded;
 use fields::Encoded;
-use fields::Value;
 use refusal::Refusal;
 ghost use mathlib.Core.Path.{_≡_};
 ghost use Rattle.refusal.specs.Outcome.{refuse_if_};
@@ -99,13 +98,9 @@ fn check_text(end_bit: bool, text: &[u8]) -> Planned
 fn check_pair(i: u64, least: u64, point: i64, deviation: i64) -> Encoded
     ensures { λ r. ⌜ PairCoded i least point deviation r ⌝ }
 {
-    match fields::encode(fields::cal_point(), i, Value::Whole(point)) {
+    match fields::encode_point(i, point) {
         Encoded::Refused(r) => Encoded::Refused(r),
-        Encoded::Code(code) => match fields::encode(
-            fields::cal_deviation(),
-            i,
-            Value::Whole(deviation),
-        ) {
+        Encoded::Code(code) => match fields::encode_deviation(i, deviation) {
             Encoded::Refused(r) => Encoded::Refused(r),
             Encoded::Code(_) => {
                 if code < least {

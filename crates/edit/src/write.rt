@@ -1,7 +1,7 @@
 // What a build writes, once nothing turns it down: pieces one behind the other into a cleared image, then every check byte.
 // A function that lays pieces takes the bit to lay them at, and gives the bit behind them.
-use crate::codes::figure_code;
-use fields::Row;
+use crate::codes::deviation_code;
+use crate::codes::point_code;
 use memory::Sizes;
 ghost use mathlib.Core.Path.{_≡_};
 ghost use mathlib.Core.List.{[], _∷_, _++_};
@@ -12,7 +12,6 @@ ghost use Rattle.memory.specs.Image.{streamBits, streamNumber, imageOf};
 ghost use Rattle.memory.specs.Answers.{Whole};
 ghost use Rattle.memory.specs.Pieces.{piece, pack, needed};
 ghost use Rattle.fields.specs.Rows.{calPoint, calDeviation};
-ghost use Rattle.fields.specs.Stored.{Sound};
 ghost use Rattle.edit.specs.Build.{pairsOf, tablePieces};
 ghost use Rattle.edit.specs.Laid.{
   Room,
@@ -88,13 +87,22 @@ fn lay_block(sizes: Sizes, image: &mut [u8], at: usize, template: u64) -> usize
     lay(sizes, image, next, 8, template)
 }
 
-// A figure of the calibration table.
-fn lay_figure(sizes: Sizes, image: &mut [u8], at: usize, row: Row, place: u64, figure: i64) -> usize
-    requires { ⌜ Room sizes (now image) at (figurePiece row place figure) ⌝ }
-    requires { ⌜ Sound row ⌝ }
-    ensures { λ r. ⌜ Laid sizes (now (image .entry)) at (figurePiece row place figure) (now (image .exit)) r ⌝ }
+// A calibration point, and a deviation.
+fn lay_point(sizes: Sizes, image: &mut [u8], at: usize, place: u64, figure: i64) -> usize
+    requires { ⌜ Room sizes (now image) at (figurePiece calPoint place figure) ⌝ }
+    ensures { λ r. ⌜ Laid sizes (now (image .entry)) at (figurePiece calPoint place figure) (now (image .exit)) r ⌝ }
 {
-    let code = figure_code(row, place, figure);
+    let code = point_code(place, figure);
+    let row = fields::cal_point();
+    lay(sizes, image, at, row.width as usize, code)
+}
+
+fn lay_deviation(sizes: Sizes, image: &mut [u8], at: usize, place: u64, figure: i64) -> usize
+    requires { ⌜ Room sizes (now image) at (figurePiece calDeviation place figure) ⌝ }
+    ensures { λ r. ⌜ Laid sizes (now (image .entry)) at (figurePiece calDeviation place figure) (now (image .exit)) r ⌝ }
+{
+    let code = deviation_code(place, figure);
+    let row = fields::cal_deviation();
     lay(sizes, image, at, row.width as usize, code)
 }
 
@@ -103,8 +111,8 @@ fn lay_pair(sizes: Sizes, image: &mut [u8], at: usize, i: u64, point: i64, devia
     requires { ⌜ Room sizes (now image) at (figurePiece calPoint i point ++ figurePiece calDeviation i deviation) ⌝ }
     ensures { λ r. ⌜ Laid sizes (now (image .entry)) at (figurePiece calPoint i point ++ figurePiece calDeviation i deviation) (now (image .exit)) r ⌝ }
 {
-    let next = lay_figure(sizes, image, at, fields::cal_point(), i, point);
-    lay_figure(sizes, image, next, fields::cal_deviation(), i, deviation)
+    let next = lay_point(sizes, image, at, i, point);
+    lay_deviation(sizes, image, next, i, deviation)
 }
 
 // Every point and its deviation.

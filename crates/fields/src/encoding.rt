@@ -6,6 +6,11 @@ use crate::Scale;
 use crate::Value;
 use crate::codes::all_ones;
 use crate::codes::top_code;
+use crate::rows::D;
+use crate::rows::DEVIATION_BITS;
+use crate::rows::LEAST_DEVIATION;
+use crate::rows::POINT_BITS;
+use crate::rows::R;
 use crate::scales::TOP;
 use crate::scales::closest_code;
 use crate::scales::scale_value;
@@ -19,6 +24,7 @@ ghost use lib.IntN.{natAbs};
 ghost use Rattle.refusal.specs.Outcome.{refused};
 ghost use Rattle.refusal.specs.Rows.{wrongSort, outOfRange};
 ghost use Rattle.fields.specs.Rules.{outside, wholeCode, singleCode, encode as encodeOf};
+ghost use Rattle.fields.specs.Rows.{calPoint, calDeviation};
 ghost use Rattle.fields.specs.Stored.{Sound};
 ghost use Rattle.fields.specs.Answers.{encodedSaid};
 
@@ -144,4 +150,19 @@ pub fn encode(row: Row, place: u64, value: Value) -> Encoded
             wrong_sort(place)
         }
     }
+}
+
+// The code of a calibration point's figure: `encode` of its row, which is a constant here. That makes a build of a long table
+// nearly twice as fast.
+pub fn encode_point(place: u64, figure: i64) -> Encoded
+    ensures { λ r. ⌜ encodedSaid r ≡ encodeOf calPoint place (Value.Whole figure) ⌝ }
+{
+    stepped(0, D, POINT_BITS, place, figure)
+}
+
+// The same of its deviation.
+pub fn encode_deviation(place: u64, figure: i64) -> Encoded
+    ensures { λ r. ⌜ encodedSaid r ≡ encodeOf calDeviation place (Value.Whole figure) ⌝ }
+{
+    stepped(LEAST_DEVIATION, R, DEVIATION_BITS, place, figure)
 }

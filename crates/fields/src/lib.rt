@@ -14,6 +14,8 @@ mod steps; // steps.rt: stepped codes
 
 pub use decoding::decode;
 pub use encoding::encode;
+pub use encoding::encode_deviation;
+pub use encoding::encode_point;
 pub use figure::physical_figure;
 pub use judging::judge;
 pub use rows::cal_deviation;

@@ -7,10 +7,17 @@ ghost use mathlib.Core.Path.{_≡_};
 ghost use Prim.Native.Nat.{_≤_};
 ghost use Rattle.fields.specs.Rows as spec;
 
-// The steps of a calibration point and of its deviation, in billionths of the span.
-const D: u64 = 15_300;
+// The calibration table: the bits of a point and of its deviation, their steps and the least deviation, in billionths of the
+// span.
+pub const POINT_BITS: u64 = 16;
 
-const R: u64 = 1_000;
+pub const D: u64 = 15_300;
+
+pub const DEVIATION_BITS: u64 = 21;
+
+pub const LEAST_DEVIATION: i64 = -1_000_000_000;
+
+pub const R: u64 = 1_000;
 
 // A row without missing, one in which all ones is missing, and one in which every code is a value.
 fn always(width: u64, rule: Rule) -> Row
@@ -97,11 +104,11 @@ pub fn point_count() -> Row
 pub fn cal_point() -> Row
     ensures { λ r. ⌜ r ≡ spec.calPoint ⌝ }
 {
-    always(16, Rule::Stepped(0, D))
+    always(POINT_BITS, Rule::Stepped(0, D))
 }
 
 pub fn cal_deviation() -> Row
     ensures { λ r. ⌜ r ≡ spec.calDeviation ⌝ }
 {
-    always(21, Rule::Stepped(-1_000_000_000, R))
+    always(DEVIATION_BITS, Rule::Stepped(LEAST_DEVIATION, R))
 }
