@@ -50,9 +50,6 @@ module _ (o : Opened) (image : List ℕ) (c : Contents) (h : Opens o image c) wh
   table : PairsAt (streamIn (o .sizes) image) 0 (fieldPlace 22 (choiceOf c) + 18) (c .points) × (length (c .points) ≤ 127)
   table = table-pairs (streamIn (o .sizes) image) (fieldPlace 22 (choiceOf c)) (c .points) (points-at (streamIn (o .sizes) image) c sections .table)
 
-  pub opened-most : length (c .points) ≤ 127
-  opened-most = table .1
-
   pub opened-neighbours : (i : ℕ) (none : Pair) → suc i < length (c .points) → Neighbours (getD (c .points) i none) (getD (c .points) (suc i) none)
   opened-neighbours = neighbours (streamIn (o .sizes) image) 0 (fieldPlace 22 (choiceOf c) + 18) (c .points) (table .0)
 

@@ -9,25 +9,20 @@ use Rattle.sheet.proofs.calls.check.Reads as reads
 use Rattle.sheet.proofs.calls.check.Lts as lts
 use Rattle.sheet.proofs.opening.open.Reads as open-reads
 
--- src/calls.rt:35:11
 open-requires : tie.Need-open-requires
 open-requires c κs = search needs
 
--- src/calls.rt:36:31
 enum-known-r : tie.Need-enum-known-r
 enum-known-r c = search needs
 
--- src/calls.rt:37:29
 enum-known-sheet : tie.Need-enum-known-sheet
 enum-known-sheet c = search needs
 
--- src/calls.rt:32:1
 returns : tie.Need-returns
 returns c =
     let a = c .before .before .before .before .before .args in
     sym (refused-reads (a .kind) (a .image .now) _ (not-opened (a .kind) (a .image .now) _ (c .before .before .before .«open» .ensures) (c .before .r .given .1)) .checked)
 
--- src/calls.rt:32:1
 returns-2 : tie.Need-returns-2
 returns-2 c =
     let a = c .before .before .before .before .before .before .args in

@@ -15,70 +15,57 @@ use Rattle.sheet.proofs.calls.no_such.Reads as no-such-reads
 use Rattle.sheet.proofs.opening.open.Reads as open-reads
 use Rattle.sheet.proofs.standing.locate_character.Reads as locate-character-reads
 
--- src/calls.rt:90:11
 open-requires : tie.Need-open-requires
 open-requires c κs = search needs
 
--- src/calls.rt:91:31
 enum-known-r : tie.Need-enum-known-r
 enum-known-r c = search needs
 
--- src/calls.rt:92:29
 enum-known-sheet : tie.Need-enum-known-sheet
 enum-known-sheet c = search needs
 
--- src/calls.rt:95:49
 no-such-requires : tie.Need-no-such-requires
 no-such-requires c κs = search needs
 
--- src/calls.rt:95:17
 returns : tie.Need-returns
 returns c =
     let a = c .before .before .before .before .before .before .before .before .before .args in
     let s = stands (a .kind) (a .image .now) _ (c .before .before .before .before .before .before .before .«open» .ensures) (c .before .before .before .before .before .sheet .given .1) in
     ap refused (c .no-such .ensures) ∙ sym (reads (a .kind) (a .image .now) _ s .no-character (a .index) (omega (arith, characters-are (a .kind) (a .image .now) _ s)))
 
--- src/calls.rt:99:21
 locate-character-requires : tie.Need-locate-character-requires
 locate-character-requires c κs =
     let a = c .before .before .before .before .before .before .before .before .before .args in
     let s = stands (a .kind) (a .image .now) _ (c .before .before .before .before .before .before .before .«open» .ensures) (c .before .before .before .before .before .sheet .given .1) in
     character-small (a .kind) (a .image .now) _ s (a .index) (omega (arith, characters-are (a .kind) (a .image .now) _ s))
 
--- src/calls.rt:101:19
 take-requires : tie.Need-take-requires
 take-requires c κs =
     let a = c .before .before .before .before .before .before .before .before .before .before .args in
     (whole (a .kind) (a .image .now) _ (stands (a .kind) (a .image .now) _ (c .before .before .before .before .before .before .before .before .«open» .ensures) (c .before .before .before .before .before .before .sheet .given .1)), search needs, search needs)
 
--- src/calls.rt:102:32
 enum-known-r-2 : tie.Need-enum-known-r-2
 enum-known-r-2 c = search needs
 
--- src/calls.rt:103:30
 enum-known-character : tie.Need-enum-known-character
 enum-known-character c = search needs
 
--- src/calls.rt:103:70
 cast-t18 : tie.Need-cast-t18
 cast-t18 c =
     let a = c .before .before .before .before .before .before .before .before .before .before .before .before .before .before .args in
     omega (arith, took-lt _ (a .image .now) _ 7 _ (c .before .before .before .take .ensures) (c .before .character .given .1))
 
--- src/calls.rt:87:1
 returns-2 : tie.Need-returns-2
 returns-2 c =
     let a = c .before .before .before .before .before .args in
     sym (refused-reads (a .kind) (a .image .now) _ (not-opened (a .kind) (a .image .now) _ (c .before .before .before .«open» .ensures) (c .before .r .given .1)) .character (a .index))
 
--- src/calls.rt:87:1
 returns-3 : tie.Need-returns-3
 returns-3 c =
     let a = c .before .before .before .before .before .before .before .before .before .before .before .before .before .before .args in
     let s = stands (a .kind) (a .image .now) _ (c .before .before .before .before .before .before .before .before .before .before .before .before .«open» .ensures) (c .before .before .before .before .before .before .before .before .before .before .sheet .given .1) in
     character-stands (a .kind) (a .image .now) _ s (a .index) (omega (arith, characters-are (a .kind) (a .image .now) _ s)) _ (c .before .before .before .before .locate-character .ensures) _ (c .before .before .before .take .ensures) (c .before .r2 .given .1)
 
--- src/calls.rt:87:1
 returns-4 : tie.Need-returns-4
 returns-4 c =
     let a = c .before .before .before .before .before .before .before .before .before .before .before .before .before .before .args in

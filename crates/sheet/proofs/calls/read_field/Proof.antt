@@ -13,65 +13,52 @@ use Rattle.sheet.proofs.calls.no_such.Reads as no-such-reads
 use Rattle.sheet.proofs.opening.open.Reads as open-reads
 use Rattle.sheet.proofs.standing.field_at.Reads as field-at-reads
 
--- src/calls.rt:48:11
 open-requires : tie.Need-open-requires
 open-requires c κs = search needs
 
--- src/calls.rt:49:31
 enum-known-r : tie.Need-enum-known-r
 enum-known-r c = search needs
 
--- src/calls.rt:50:29
 enum-known-sheet : tie.Need-enum-known-sheet
 enum-known-sheet c = search needs
 
--- src/calls.rt:52:45
 no-such-requires : tie.Need-no-such-requires
 no-such-requires c κs = search needs
 
--- src/calls.rt:52:17
 returns : tie.Need-returns
 returns c =
     let a = c .before .before .before .before .before .before .before .args in
     ap refused (c .no-such .ensures) ∙ sym (reads (a .kind) (a .image .now) _ (stands (a .kind) (a .image .now) _ (c .before .before .before .before .before .«open» .ensures) (c .before .before .before .sheet .given .1)) .no-field (a .field) (inl (c .before .if1 .taken)))
 
--- src/calls.rt:55:45
 no-such-requires-2 : tie.Need-no-such-requires-2
 no-such-requires-2 c κs = search needs
 
--- src/calls.rt:55:17
 returns-2 : tie.Need-returns-2
 returns-2 c =
     let a = c .before .before .before .before .before .before .before .before .args in
     ap refused (c .no-such2 .ensures) ∙ sym (reads (a .kind) (a .image .now) _ (stands (a .kind) (a .image .now) _ (c .before .before .before .before .before .before .«open» .ensures) (c .before .before .before .before .sheet .given .1)) .no-field (a .field) (inr (c .before .if2 .taken)))
 
--- src/calls.rt:58:19
 field-at-requires : tie.Need-field-at-requires
 field-at-requires c κs =
     let a = c .before .before .before .before .before .before .before .before .args in
     (whole (a .kind) (a .image .now) _ (stands (a .kind) (a .image .now) _ (c .before .before .before .before .before .before .«open» .ensures) (c .before .before .before .before .sheet .given .1)), search needs, search needs)
 
--- src/calls.rt:59:36
 enum-known-r-2 : tie.Need-enum-known-r-2
 enum-known-r-2 c = search needs
 
--- src/calls.rt:60:37
 enum-known-value : tie.Need-enum-known-value
 enum-known-value c = search needs
 
--- src/calls.rt:45:1
 returns-3 : tie.Need-returns-3
 returns-3 c =
     let a = c .before .before .before .before .before .args in
     sym (refused-reads (a .kind) (a .image .now) _ (not-opened (a .kind) (a .image .now) _ (c .before .before .before .«open» .ensures) (c .before .r .given .1)) .field (a .field))
 
--- src/calls.rt:45:1
 returns-4 : tie.Need-returns-4
 returns-4 c =
     let a = c .before .before .before .before .before .before .before .before .before .before .before .before .args in
     value-stands (a .kind) (a .image .now) _ (stands (a .kind) (a .image .now) _ (c .before .before .before .before .before .before .before .before .before .before .«open» .ensures) (c .before .before .before .before .before .before .before .before .sheet .given .1)) (a .field) (search needs) (search needs) _ (c .before .before .before .field-at .ensures) (c .before .r2 .given .1)
 
--- src/calls.rt:45:1
 returns-5 : tie.Need-returns-5
 returns-5 c =
     let a = c .before .before .before .before .before .before .before .before .before .before .before .before .args in

@@ -13,58 +13,47 @@ use Rattle.sheet.proofs.calls.no_such.Reads as no-such-reads
 use Rattle.sheet.proofs.opening.open.Reads as open-reads
 use Rattle.sheet.proofs.standing.pair_at.Reads as pair-at-reads
 
--- src/calls.rt:70:11
 open-requires : tie.Need-open-requires
 open-requires c κs = search needs
 
--- src/calls.rt:71:31
 enum-known-r : tie.Need-enum-known-r
 enum-known-r c = search needs
 
--- src/calls.rt:72:29
 enum-known-sheet : tie.Need-enum-known-sheet
 enum-known-sheet c = search needs
 
--- src/calls.rt:75:44
 no-such-requires : tie.Need-no-such-requires
 no-such-requires c κs = search needs
 
--- src/calls.rt:75:17
 returns : tie.Need-returns
 returns c =
     let a = c .before .before .before .before .before .before .before .before .before .args in
     let s = stands (a .kind) (a .image .now) _ (c .before .before .before .before .before .before .before .«open» .ensures) (c .before .before .before .before .before .sheet .given .1) in
     ap refused (c .no-such .ensures) ∙ sym (reads (a .kind) (a .image .now) _ s .no-pair (a .index) (omega (arith, points-are (a .kind) (a .image .now) _ s)))
 
--- src/calls.rt:78:19
 pair-at-requires : tie.Need-pair-at-requires
 pair-at-requires c κs =
     let a = c .before .before .before .before .before .before .before .before .before .args in
     let s = stands (a .kind) (a .image .now) _ (c .before .before .before .before .before .before .before .«open» .ensures) (c .before .before .before .before .before .sheet .given .1) in
     (whole (a .kind) (a .image .now) _ s, index-small (a .kind) (a .image .now) _ s (a .index) (omega (arith, points-are (a .kind) (a .image .now) _ s)))
 
--- src/calls.rt:79:35
 enum-known-r-2 : tie.Need-enum-known-r-2
 enum-known-r-2 c = search needs
 
--- src/calls.rt:80:37
 enum-known-pair : tie.Need-enum-known-pair
 enum-known-pair c = search needs
 
--- src/calls.rt:67:1
 returns-2 : tie.Need-returns-2
 returns-2 c =
     let a = c .before .before .before .before .before .args in
     sym (refused-reads (a .kind) (a .image .now) _ (not-opened (a .kind) (a .image .now) _ (c .before .before .before .«open» .ensures) (c .before .r .given .1)) .pair (a .index))
 
--- src/calls.rt:67:1
 returns-3 : tie.Need-returns-3
 returns-3 c =
     let a = c .before .before .before .before .before .before .before .before .before .before .before .before .before .args in
     let s = stands (a .kind) (a .image .now) _ (c .before .before .before .before .before .before .before .before .before .before .before .«open» .ensures) (c .before .before .before .before .before .before .before .before .before .sheet .given .1) in
     pair-stands (a .kind) (a .image .now) _ s (a .index) (omega (arith, points-are (a .kind) (a .image .now) _ s)) _ (c .before .before .before .pair-at .ensures) (c .before .r2 .given .1)
 
--- src/calls.rt:67:1
 returns-4 : tie.Need-returns-4
 returns-4 c =
     let a = c .before .before .before .before .before .before .before .before .before .before .before .before .before .args in

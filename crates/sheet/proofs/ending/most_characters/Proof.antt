@@ -9,27 +9,21 @@ use Rattle.sheet.proofs.ending.most_characters.Tie as tie
 use Rattle.sheet.proofs.ending.most_characters.Reads as reads
 use Rattle.sheet.proofs.ending.most_characters.Lts as lts
 
--- src/walk.rt:351:38
 mul-bits : tie.Need-mul-bits
 mul-bits c = search needs
 
--- src/walk.rt:351:21
 add-bits : tie.Need-add-bits
 add-bits c = search needs
 
--- src/walk.rt:351:16
 mul-bits-2 : tie.Need-mul-bits-2
 mul-bits-2 c = search needs
 
--- src/walk.rt:354:9
 returns : tie.Need-returns
 returns c = simp (ne-eqb _ _ (c .if1 .taken))
 
--- src/walk.rt:357:9
 returns-2 : tie.Need-returns-2
 returns-2 c = simp (eq-eqb _ _ (c .before .if1 .left)) (omega arith)
 
--- src/walk.rt:347:1
 returns-3 : tie.Need-returns-3
 returns-3 c = simp (eq-eqb _ _ (c .before .if1 .left))
 

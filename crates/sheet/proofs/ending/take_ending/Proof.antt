@@ -9,47 +9,37 @@ use Rattle.memory.proofs.cursor.Cursor.take.Reads as take-reads
 use Rattle.sheet.proofs.ending.most_characters.Reads as most-characters-reads
 use Rattle.sheet.proofs.ending.take_text.Reads as take-text-reads
 
--- src/walk.rt:367:11
 take-requires : tie.Need-take-requires
 take-requires c κs = search needs
 
--- src/walk.rt:368:24
 enum-known-r : tie.Need-enum-known-r
 enum-known-r c = search needs
 
--- src/walk.rt:369:22
 enum-known-bit : tie.Need-enum-known-bit
 enum-known-bit c = search needs
 
--- src/walk.rt:370:17
 most-characters-requires : tie.Need-most-characters-requires
 most-characters-requires c κs = search needs
 
--- src/walk.rt:371:19
 take-text-requires : tie.Need-take-text-requires
 take-text-requires c κs = search needs
 
--- src/walk.rt:372:36
 enum-known-r-2 : tie.Need-enum-known-r-2
 enum-known-r-2 c = search needs
 
--- src/walk.rt:373:36
 enum-known-n : tie.Need-enum-known-n
 enum-known-n c = search needs
 
--- src/walk.rt:363:1
 returns : tie.Need-returns
 returns c =
     let a = c .before .before .before .before .before .args in
     ending-past (a .sizes) (a .image .now) (a .cursor .at) _ (c .before .before .before .take .ensures) (c .before .r .given .1)
 
--- src/walk.rt:363:1
 returns-2 : tie.Need-returns-2
 returns-2 c =
     let a = c .before .before .before .before .before .before .before .before .before .before .args in
     ending-halts (a .sizes) (a .image .now) (a .cursor .at) _ (c .before .before .before .before .before .before .before .before .take .ensures) (c .before .before .before .before .before .before .bit .given .1) _ _ (c .before .before .before .before .most-characters .ensures) (c .before .before .before .take-text .ensures) (c .before .r2 .given .1)
 
--- src/walk.rt:363:1
 returns-3 : tie.Need-returns-3
 returns-3 c =
     let a = c .before .before .before .before .before .before .before .before .before .before .args in

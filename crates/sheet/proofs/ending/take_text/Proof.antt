@@ -20,51 +20,41 @@ Inv-loop sizes image most cursor₀ i₀ cursor i =
 abbrev μ-loop : tie.MeasureT-loop
 μ-loop sizes image most cursor₀ i₀ cursor i = most - i
 
--- src/walk.rt:329:5
 loop-holds : tie.Need-loop-holds Inv-loop μ-loop
 loop-holds c =
     let a = c .before .args in
     (search needs, text-start (streamIn (a .sizes) (a .image .now)) (a .most) (a .start .at))
 
--- src/walk.rt:330:15
 take-requires : tie.Need-take-requires Inv-loop μ-loop
 take-requires c κs = search needs
 
--- src/walk.rt:331:28
 enum-known-r : tie.Need-enum-known-r Inv-loop μ-loop
 enum-known-r c = search needs
 
--- src/walk.rt:332:17
 returns : tie.Need-returns Inv-loop μ-loop
 returns c =
     let a = c .before .before .before .before .before .before .before .args in
     sym (text-past (a .sizes) (a .image .now) _ _ _ (c .before .before .before .before .loop-test .taken) _ (c .before .before .before .take .ensures) (c .before .r .given .1)) ∙ c .before .before .before .before .before .loop .inv .1
 
--- src/walk.rt:334:26
 enum-known-character : tie.Need-enum-known-character Inv-loop μ-loop
 enum-known-character c = search needs
 
--- src/walk.rt:336:21
 returns-2 : tie.Need-returns-2 Inv-loop μ-loop
 returns-2 c =
     let a = c .before .before .before .before .before .before .before .before .args in
     sym (text-zero (a .sizes) (a .image .now) _ _ _ (c .before .before .before .before .before .loop-test .taken) _ (c .before .before .before .before .take .ensures) (c .before .before .character .given .1) (c .if1 .taken)) ∙ c .before .before .before .before .before .before .loop .inv .1
 
--- src/walk.rt:341:9
 add-i : tie.Need-add-i Inv-loop μ-loop
 add-i c = search needs
 
--- src/walk.rt:329:5
 loop-less : tie.Need-loop-less Inv-loop μ-loop
 loop-less c = search needs
 
--- src/walk.rt:329:5
 loop-again : tie.Need-loop-again Inv-loop μ-loop
 loop-again c =
     let a = c .before .before .before .before .before .before .before .before .args in
     (search needs, sym (text-next (a .sizes) (a .image .now) _ _ _ (c .before .before .before .before .before .loop-test .taken) _ (c .before .before .before .before .take .ensures) (c .before .before .character .given .1) (c .if1 .left)) ∙ c .before .before .before .before .before .before .loop .inv .1)
 
--- src/walk.rt:323:1
 returns-3 : tie.Need-returns-3 Inv-loop μ-loop
 returns-3 c =
     let a = c .before .before .before .args in

@@ -9,51 +9,41 @@ use Rattle.memory.proofs.image_sizes.Reads as image-sizes-reads
 use Rattle.memory.proofs.check_sums.Reads as check-sums-reads
 use Rattle.sheet.proofs.opening.walk_sheet.Reads as walk-sheet-reads
 
--- src/opening.rt:59:11
 image-sizes-requires : tie.Need-image-sizes-requires
 image-sizes-requires c κs = search needs
 
--- src/opening.rt:60:30
 enum-known-r : tie.Need-enum-known-r
 enum-known-r c = search needs
 
--- src/opening.rt:61:26
 enum-known-sizes : tie.Need-enum-known-sizes
 enum-known-sizes c = search needs
 
--- src/opening.rt:61:42
 check-sums-requires : tie.Need-check-sums-requires
 check-sums-requires c κs =
     let a = c .before .before .before .before .before .args in
     sized (a .kind) (a .image .now) _ (c .before .before .before .image-sizes .ensures) (c .before .sizes .given .1)
 
--- src/opening.rt:62:25
 enum-known-page : tie.Need-enum-known-page
 enum-known-page c = search needs
 
--- src/opening.rt:66:28
 enum-told : tie.Need-enum-told
 enum-told c = search needs
 
--- src/opening.rt:66:28
 walk-sheet-requires : tie.Need-walk-sheet-requires
 walk-sheet-requires c κs =
     let a = c .before .before .before .before .before .before .before .before .args in
     sized (a .kind) (a .image .now) _ (c .before .before .before .before .before .before .image-sizes .ensures) (c .before .before .before .before .sizes .given .1)
 
--- src/opening.rt:56:1
 returns : tie.Need-returns
 returns c =
     let a = c .before .before .before .before .before .args in
     sizes-refused (a .kind) (a .image .now) _ (c .before .before .before .image-sizes .ensures) (c .before .r .given .1)
 
--- src/opening.rt:56:1
 returns-2 : tie.Need-returns-2
 returns-2 c =
     let a = c .before .before .before .before .before .before .before .before .before .args in
     sums-wrong (a .kind) (a .image .now) _ (c .before .before .before .before .before .before .before .image-sizes .ensures) (c .before .before .before .before .before .sizes .given .1) (c .before .before .before .check-sums .ensures) (c .before .page .given .1)
 
--- src/opening.rt:56:1
 returns-3 : tie.Need-returns-3
 returns-3 c =
     let a = c .before .before .before .before .before .before .before .before .before .args in

@@ -8,61 +8,48 @@ use Rattle.sheet.proofs.ending.take_ending.Reads as take-ending-reads
 use Rattle.sheet.proofs.walk.take_fields.Reads as take-fields-reads
 use Rattle.sheet.proofs.table.take_points.Reads as take-points-reads
 
--- src/opening.rt:31:11
 take-fields-requires : tie.Need-take-fields-requires
 take-fields-requires c κs = search needs
 
--- src/opening.rt:32:28
 enum-known-r : tie.Need-enum-known-r
 enum-known-r c = search needs
 
--- src/opening.rt:33:28
 enum-known-precision : tie.Need-enum-known-precision
 enum-known-precision c = search needs
 
--- src/opening.rt:33:60
 take-points-requires : tie.Need-take-points-requires
 take-points-requires c κs = search needs
 
--- src/opening.rt:34:32
 enum-known-r-2 : tie.Need-enum-known-r-2
 enum-known-r-2 c = search needs
 
--- src/opening.rt:35:32
 enum-known-points : tie.Need-enum-known-points
 enum-known-points c = search needs
 
--- src/opening.rt:35:61
 take-ending-requires : tie.Need-take-ending-requires
 take-ending-requires c κs = search needs
 
--- src/opening.rt:36:34
 enum-known-r-3 : tie.Need-enum-known-r-3
 enum-known-r-3 c = search needs
 
--- src/opening.rt:37:32
 enum-known-end-bit : tie.Need-enum-known-end-bit
 enum-known-end-bit c = search needs
 
--- src/opening.rt:27:1
 returns : tie.Need-returns
 returns c =
     let a = c .before .before .before .before .before .args in
     fields-halt (a .sizes) (a .image .now) _ (c .before .before .before .take-fields .ensures) (c .before .r .given .1)
 
--- src/opening.rt:27:1
 returns-2 : tie.Need-returns-2
 returns-2 c =
     let a = c .before .before .before .before .before .before .before .before .before .args in
     points-halt (a .sizes) (a .image .now) _ (c .before .before .before .before .before .before .before .take-fields .ensures) (c .before .before .before .before .before .precision .given .1) _ (c .before .before .before .take-points .ensures) (c .before .r2 .given .1)
 
--- src/opening.rt:27:1
 returns-3 : tie.Need-returns-3
 returns-3 c =
     let a = c .before .before .before .before .before .before .before .before .before .before .before .before .before .args in
     ending-halt (a .sizes) (a .image .now) _ (c .before .before .before .before .before .before .before .before .before .before .before .take-fields .ensures) (c .before .before .before .before .before .before .before .before .before .precision .given .1) _ (c .before .before .before .before .before .before .before .take-points .ensures) (c .before .before .before .before .before .points .given .1) _ (c .before .before .before .take-ending .ensures) (c .before .r3 .given .1)
 
--- src/opening.rt:27:1
 returns-4 : tie.Need-returns-4
 returns-4 c =
     let a = c .before .before .before .before .before .before .before .before .before .before .before .before .before .args in

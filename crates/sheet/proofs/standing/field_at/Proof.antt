@@ -8,19 +8,15 @@ use Rattle.fields.proofs.row_of.Reads as row-of-reads
 use Rattle.sheet.proofs.standing.locate.Reads as locate-reads
 use Rattle.sheet.proofs.walk.take_field.Reads as take-field-reads
 
--- src/standing.rt:74:13
 locate-requires : tie.Need-locate-requires
 locate-requires c κs = search needs
 
--- src/standing.rt:76:44
 row-of-requires : tie.Need-row-of-requires
 row-of-requires c κs = search needs
 
--- src/standing.rt:76:5
 take-field-requires : tie.Need-take-field-requires
 take-field-requires c κs = (c .before .before .before .pre .0, rw (c .row-of .ensures) (row-sound _ _ (c .before .before .before .pre .1) (c .before .before .before .pre .2)))
 
--- src/standing.rt:68:1
 returns : tie.Need-returns
 returns c = rw (c .before .row-of .ensures, c .before .before .locate .ensures) at (c .take-field .ensures)
 

@@ -16,32 +16,25 @@ Inv-loop field precision at₀ before₀ at before = (before ≤ field) × (1 �
 abbrev μ-loop : tie.MeasureT-loop
 μ-loop field precision at₀ before₀ at before = field - before
 
--- src/standing.rt:40:5
 loop-holds : tie.Need-loop-holds Inv-loop μ-loop
 unfolding template33
 loop-holds c = (search needs, search needs, search needs, refl)
 
--- src/standing.rt:41:15
 stride-requires : tie.Need-stride-requires Inv-loop μ-loop
 stride-requires c κs = omega arith
 
--- src/standing.rt:41:9
 add-at : tie.Need-add-at Inv-loop μ-loop
 add-at c = omega (arith, c .stride .ensures)
 
--- src/standing.rt:42:9
 add-before : tie.Need-add-before Inv-loop μ-loop
 add-before c = omega arith
 
--- src/standing.rt:40:5
 loop-less : tie.Need-loop-less Inv-loop μ-loop
 loop-less c = omega arith
 
--- src/standing.rt:40:5
 loop-again : tie.Need-loop-again Inv-loop μ-loop
 loop-again c = (omega arith, omega arith, omega (arith, c .stride .ensures), ap (λ n. n + c .stride .result) (c .before .before .loop .inv .3) ∙ sym (c .stride .ensures .0))
 
--- src/standing.rt:34:1
 returns : tie.Need-returns Inv-loop μ-loop
 returns c = c .before .loop .inv .3 ∙ ap (λ n. fieldPlace n (c .before .before .args .precision)) (omega arith)
 

@@ -8,31 +8,24 @@ use Rattle.sheet.proofs.standing.locate_character.Lts as lts
 use Rattle.sheet.proofs.standing.fields_end.Reads as fields-end-reads
 use Rattle.sheet.proofs.standing.table_bits.Reads as table-bits-reads
 
--- src/standing.rt:64:5
 fields-end-requires : tie.Need-fields-end-requires
 fields-end-requires c κs = search needs
 
--- src/standing.rt:64:29
 table-bits-requires : tie.Need-table-bits-requires
 table-bits-requires c κs = search needs
 
--- src/standing.rt:64:5
 add-result : tie.Need-add-result
 add-result c = omega (arith, place-end (c .before .before .args .precision), table-most (c .before .before .args .points), c .before .fields-end .ensures, c .table-bits .ensures)
 
--- src/standing.rt:64:5
 add-result-2 : tie.Need-add-result-2
 add-result-2 c = omega (arith, place-end (c .before .before .args .precision), table-most (c .before .before .args .points), c .before .fields-end .ensures, c .table-bits .ensures)
 
--- src/standing.rt:64:54
 mul-result : tie.Need-mul-result
 mul-result c = search needs
 
--- src/standing.rt:64:5
 add-result-3 : tie.Need-add-result-3
 add-result-3 c = omega (arith, place-end (c .before .before .args .precision), table-most (c .before .before .args .points), c .before .fields-end .ensures, c .table-bits .ensures)
 
--- src/standing.rt:60:1
 returns : tie.Need-returns
 returns c = rw (c .before .fields-end .ensures, c .table-bits .ensures)
 

@@ -7,23 +7,18 @@ use Rattle.sheet.proofs.standing.locate_pair.Reads as reads
 use Rattle.sheet.proofs.standing.locate_pair.Lts as lts
 use Rattle.sheet.proofs.standing.fields_end.Reads as fields-end-reads
 
--- src/standing.rt:45:5
 fields-end-requires : tie.Need-fields-end-requires
 fields-end-requires c κs = search needs
 
--- src/standing.rt:45:5
 add-result : tie.Need-add-result
 add-result c = omega (arith, place-end (c .before .args .precision), c .fields-end .ensures)
 
--- src/standing.rt:45:34
 mul-result : tie.Need-mul-result
 mul-result c = search needs
 
--- src/standing.rt:45:5
 add-result-2 : tie.Need-add-result-2
 add-result-2 c = omega (arith, place-end (c .before .args .precision), c .fields-end .ensures)
 
--- src/standing.rt:41:1
 returns : tie.Need-returns
 returns c = rw (c .fields-end .ensures)
 

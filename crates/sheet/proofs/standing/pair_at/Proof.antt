@@ -6,15 +6,12 @@ use Rattle.sheet.proofs.standing.pair_at.Lts as lts
 use Rattle.sheet.proofs.standing.locate_pair.Reads as locate-pair-reads
 use Rattle.sheet.proofs.table.take_pair.Reads as take-pair-reads
 
--- src/standing.rt:85:13
 locate-pair-requires : tie.Need-locate-pair-requires
 locate-pair-requires c κs = search needs
 
--- src/standing.rt:87:5
 take-pair-requires : tie.Need-take-pair-requires
 take-pair-requires c κs = search needs
 
--- src/standing.rt:80:1
 returns : tie.Need-returns
 returns c = rw (c .before .locate-pair .ensures) at (c .take-pair .ensures)
 

@@ -7,23 +7,19 @@ use Rattle.sheet.proofs.standing.stride.Reads as reads
 use Rattle.sheet.proofs.standing.stride.Lts as lts
 use Rattle.fields.proofs.row_of.Reads as row-of-reads
 
--- src/standing.rt:26:17
 row-of-requires : tie.Need-row-of-requires
 row-of-requires c κs = search needs
 
--- src/standing.rt:28:16
 add-result : tie.Need-add-result
 add-result c =
     let a = c .before .before .args in
     omega (arith, stride-block (a .field) (a .precision) (c .before .before .pre .0) (c .before .before .pre .1) _ (c .before .row-of .ensures) (c .if1 .taken))
 
--- src/standing.rt:28:9
 returns : tie.Need-returns
 returns c =
     let a = c .before .before .args in
     stride-block (a .field) (a .precision) (c .before .before .pre .0) (c .before .before .pre .1) _ (c .before .row-of .ensures) (c .if1 .taken)
 
--- src/standing.rt:22:1
 returns-2 : tie.Need-returns-2
 returns-2 c =
     let a = c .before .before .args in

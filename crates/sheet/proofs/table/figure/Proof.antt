@@ -8,27 +8,21 @@ use Rattle.sheet.proofs.table.figure.Tie as tie
 use Rattle.sheet.proofs.table.figure.Reads as reads
 use Rattle.sheet.proofs.table.figure.Lts as lts
 
--- src/walk.rt:200:22
 enum-known-value : tie.Need-enum-known-value
 enum-known-value c = search needs
 
--- src/walk.rt:201:29
 enum-told : tie.Need-enum-told
 enum-told c = search needs
 
--- src/walk.rt:202:27
 enum-told-2 : tie.Need-enum-told-2
 enum-told-2 c = search needs
 
--- src/walk.rt:196:1
 returns : tie.Need-returns
 returns c = toZ-ofZ {w = w64} {z = c .before .value .given .0 .0} (search needs) ∙ ap figure (sym (c .before .value .given .1))
 
--- src/walk.rt:196:1
 returns-2 : tie.Need-returns-2
 returns-2 c = ap figure (sym (c .enum-told .given .1))
 
--- src/walk.rt:196:1
 returns-3 : tie.Need-returns-3
 returns-3 c = ap figure (sym (c .enum-told2 .given .1))
 

@@ -8,43 +8,34 @@ use Rattle.sheet.proofs.table.take_only_table.Lts as lts
 use Rattle.sheet.proofs.walk.take_selector.Reads as take-selector-reads
 use Rattle.sheet.proofs.table.take_table.Reads as take-table-reads
 
--- src/walk.rt:291:11
 take-table-requires : tie.Need-take-table-requires
 take-table-requires c κs = search needs
 
--- src/walk.rt:292:28
 enum-known-r : tie.Need-enum-known-r
 enum-known-r c = search needs
 
--- src/walk.rt:293:28
 enum-known-n : tie.Need-enum-known-n
 enum-known-n c = search needs
 
--- src/walk.rt:293:46
 take-selector-requires : tie.Need-take-selector-requires
 take-selector-requires c κs = search needs
 
--- src/walk.rt:294:27
 enum-known-r-2 : tie.Need-enum-known-r-2
 enum-known-r-2 c = search needs
 
--- src/walk.rt:295:26
 enum-known-end : tie.Need-enum-known-end
 enum-known-end c = search needs
 
--- src/walk.rt:287:1
 returns : tie.Need-returns
 returns c =
     let a = c .before .before .before .before .before .args in
     table-halts (streamIn (a .sizes) (a .image .now)) (a .at) (a .cursor .at) _ (c .before .before .before .take-table .ensures) (c .before .r .given .1)
 
--- src/walk.rt:287:1
 returns-2 : tie.Need-returns-2
 returns-2 c =
     let a = c .before .before .before .before .before .before .before .before .before .args in
     last-halts (streamIn (a .sizes) (a .image .now)) (a .at) (a .cursor .at) _ (c .before .before .before .before .before .before .before .take-table .ensures) (c .before .before .before .before .before .n .given .1) _ (c .before .before .before .take-selector .ensures) (c .before .r2 .given .1)
 
--- src/walk.rt:287:1
 returns-3 : tie.Need-returns-3
 returns-3 c =
     let a = c .before .before .before .before .before .before .before .before .before .args in

@@ -15,60 +15,47 @@ use Rattle.fields.proofs.cal_point.Reads as cal-point-reads
 use Rattle.sheet.proofs.table.figure.Reads as figure-reads
 use Rattle.sheet.proofs.walk.take_field.Reads as take-field-reads
 
--- src/walk.rt:211:44
 cal-point-requires : tie.Need-cal-point-requires
 cal-point-requires c κs = search needs
 
--- src/walk.rt:211:11
 take-field-requires : tie.Need-take-field-requires
 take-field-requires c κs = (c .before .before .pre, rw (c .cal-point .ensures) (rows-sound 0 .1 .1 .0))
 
--- src/walk.rt:212:28
 enum-known-r : tie.Need-enum-known-r
 enum-known-r c = search needs
 
--- src/walk.rt:213:26
 enum-known-code : tie.Need-enum-known-code
 enum-known-code c = search needs
 
--- src/walk.rt:213:85
 cal-deviation-requires : tie.Need-cal-deviation-requires
 cal-deviation-requires c κs = search needs
 
--- src/walk.rt:213:54
 take-field-requires-2 : tie.Need-take-field-requires-2
 take-field-requires-2 c κs = (c .before .before .before .before .before .before .before .pre, rw (c .cal-deviation .ensures) (rows-sound 0 .1 .1 .1 .0))
 
--- src/walk.rt:214:32
 enum-known-r-2 : tie.Need-enum-known-r-2
 enum-known-r-2 c = search needs
 
--- src/walk.rt:215:33
 enum-known-deviation : tie.Need-enum-known-deviation
 enum-known-deviation c = search needs
 
--- src/walk.rt:217:28
 figure-requires : tie.Need-figure-requires
 figure-requires c κs = search needs
 
--- src/walk.rt:218:32
 figure-requires-2 : tie.Need-figure-requires-2
 figure-requires-2 c κs = search needs
 
--- src/walk.rt:207:1
 returns : tie.Need-returns
 returns c =
     let a = c .before .before .before .before .before .before .args in
     point-halts (streamIn (a .sizes) (a .image .now)) (a .cursor .at) _ (of-row (streamIn (a .sizes) (a .image .now)) (a .cursor .at) (c .before .before .before .take-field .result) (c .before .before .before .before .cal-point .ensures) (c .before .before .before .take-field .ensures)) (c .before .r .given .1)
 
--- src/walk.rt:207:1
 returns-2 : tie.Need-returns-2
 returns-2 c =
     let a = c .before .before .before .before .before .before .before .before .before .before .before .args in
     deviation-halts (streamIn (a .sizes) (a .image .now)) (a .cursor .at) _ (of-row (streamIn (a .sizes) (a .image .now)) (a .cursor .at) (c .before .before .before .before .before .before .before .before .take-field .result) (c .before .before .before .before .before .before .before .before .before .cal-point .ensures) (c .before .before .before .before .before .before .before .before .take-field .ensures)) (c .before .before .before .before .before .before .code .given .1) _
     (of-row (streamIn (a .sizes) (a .image .now)) _ (c .before .before .before .take-field2 .result) (c .before .before .before .before .cal-deviation .ensures) (c .before .before .before .take-field2 .ensures)) (c .before .r2 .given .1)
 
--- src/walk.rt:207:1
 returns-3 : tie.Need-returns-3
 returns-3 c =
     let a = c .before .before .before .before .before .before .before .before .before .before .before .before .before .args in

@@ -19,45 +19,36 @@ Inv-loop sizes image count cursor₀ least₀ i₀ cursor least i =
 abbrev μ-loop : tie.MeasureT-loop
 μ-loop sizes image count cursor₀ least₀ i₀ cursor least i = count - i
 
--- src/walk.rt:254:5
 loop-holds : tie.Need-loop-holds Inv-loop μ-loop
 loop-holds c =
     let a = c .before .args in
     (search needs, pairs-start (streamIn (a .sizes) (a .image .now)) (a .count) (a .start .at))
 
--- src/walk.rt:255:15
 take-rising-requires : tie.Need-take-rising-requires Inv-loop μ-loop
 take-rising-requires c κs = search needs
 
--- src/walk.rt:256:32
 enum-known-r : tie.Need-enum-known-r Inv-loop μ-loop
 enum-known-r c = search needs
 
--- src/walk.rt:257:17
 returns : tie.Need-returns Inv-loop μ-loop
 returns c =
     let a = c .before .before .before .before .before .before .before .args in
     sym (pairs-halt (streamIn (a .sizes) (a .image .now)) _ _ _ _ (c .before .before .before .before .loop-test .taken) _ (c .before .before .before .take-rising .ensures) (c .before .r .given .1)) ∙ c .before .before .before .before .before .loop .inv .1
 
--- src/walk.rt:259:32
 enum-known-above : tie.Need-enum-known-above Inv-loop μ-loop
 enum-known-above c = search needs
 
--- src/walk.rt:264:9
 add-i : tie.Need-add-i Inv-loop μ-loop
 add-i c = search needs
 
--- src/walk.rt:254:5
 loop-less : tie.Need-loop-less Inv-loop μ-loop
 loop-less c = search needs
 
--- src/walk.rt:254:5
 loop-again : tie.Need-loop-again Inv-loop μ-loop
 loop-again c =
     let a = c .before .before .before .before .before .before .before .args in
     (search needs, sym (pairs-next (streamIn (a .sizes) (a .image .now)) _ _ _ _ (c .before .before .before .before .loop-test .taken) _ (c .before .before .before .take-rising .ensures) (c .before .above .given .1)) ∙ c .before .before .before .before .before .loop .inv .1)
 
--- src/walk.rt:247:1
 returns-2 : tie.Need-returns-2 Inv-loop μ-loop
 returns-2 c =
     let a = c .before .before .before .args in

@@ -10,45 +10,36 @@ use Rattle.memory.proofs.cursor.Cursor.take.Reads as take-reads
 use Rattle.sheet.proofs.table.take_only_table.Reads as take-only-table-reads
 use Rattle.sheet.proofs.walk.wrong_block.Reads as wrong-block-reads
 
--- src/walk.rt:306:11
 take-requires : tie.Need-take-requires
 take-requires c κs = search needs
 
--- src/walk.rt:307:24
 enum-known-r : tie.Need-enum-known-r
 enum-known-r c = search needs
 
--- src/walk.rt:308:22
 enum-known-selector : tie.Need-enum-known-selector
 enum-known-selector c = search needs
 
--- src/walk.rt:310:17
 take-only-table-requires : tie.Need-take-only-table-requires
 take-only-table-requires c κs = search needs
 
--- src/walk.rt:310:17
 returns : tie.Need-returns
 returns c =
     let a = c .before .before .before .before .before .before .before .args in
     c .take-only-table .ensures ∙ points-table (a .sizes) (a .image .now) (a .cursor .at) _ (c .before .before .before .before .before .take .ensures) (c .before .before .before .selector .given .1) (c .before .if1 .taken)
 
--- src/walk.rt:313:17
 returns-2 : tie.Need-returns-2
 returns-2 c =
     let a = c .before .before .before .before .before .before .before .args in
     points-none (a .sizes) (a .image .now) (a .cursor .at) _ (c .before .before .before .before .before .take .ensures) (c .before .before .before .selector .given .1) (c .before .if1 .left) (c .if2 .taken)
 
--- src/walk.rt:315:32
 wrong-block-requires : tie.Need-wrong-block-requires
 wrong-block-requires c κs = search needs
 
--- src/walk.rt:301:1
 returns-3 : tie.Need-returns-3
 returns-3 c =
     let a = c .before .before .before .before .before .args in
     points-past (a .sizes) (a .image .now) (a .cursor .at) _ (c .before .before .before .take .ensures) (c .before .r .given .1)
 
--- src/walk.rt:301:1
 returns-4 : tie.Need-returns-4
 returns-4 c =
     let a = c .before .before .before .before .before .before .before .before .args in

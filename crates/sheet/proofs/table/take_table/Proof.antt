@@ -14,74 +14,58 @@ use Rattle.sheet.proofs.walk.take_field.Reads as take-field-reads
 use Rattle.sheet.proofs.table.take_pairs.Reads as take-pairs-reads
 use Rattle.sheet.proofs.walk.take_template.Reads as take-template-reads
 
--- src/walk.rt:274:11
 take-template-requires : tie.Need-take-template-requires
 take-template-requires c κs = search needs
 
--- src/walk.rt:275:23
 enum-known-r : tie.Need-enum-known-r
 enum-known-r c = search needs
 
--- src/walk.rt:276:22
 enum-known-domain : tie.Need-enum-known-domain
 enum-known-domain c = search needs
 
--- src/walk.rt:276:72
 domain-requires : tie.Need-domain-requires
 domain-requires c κs = search needs
 
--- src/walk.rt:276:39
 take-field-requires : tie.Need-take-field-requires
 take-field-requires c κs = (c .before .before .before .before .before .before .pre, rw (c .domain2 .ensures) (rows-sound 0 .0))
 
--- src/walk.rt:277:32
 enum-known-r-2 : tie.Need-enum-known-r-2
 enum-known-r-2 c = search needs
 
--- src/walk.rt:278:36
 enum-known-count : tie.Need-enum-known-count
 enum-known-count c = search needs
 
--- src/walk.rt:278:84
 point-count-requires : tie.Need-point-count-requires
 point-count-requires c κs = search needs
 
--- src/walk.rt:278:52
 take-field-requires-2 : tie.Need-take-field-requires-2
 take-field-requires-2 c κs = (c .before .before .before .before .before .before .before .before .before .before .before .pre, rw (c .point-count .ensures) (rows-sound 0 .1 .0))
 
--- src/walk.rt:279:36
 enum-known-r-3 : tie.Need-enum-known-r-3
 enum-known-r-3 c = search needs
 
--- src/walk.rt:280:34
 enum-known-n : tie.Need-enum-known-n
 enum-known-n c = search needs
 
--- src/walk.rt:280:50
 take-pairs-requires : tie.Need-take-pairs-requires
 take-pairs-requires c κs = search needs
 
--- src/walk.rt:270:1
 returns : tie.Need-returns
 returns c =
     let a = c .before .before .before .before .before .args in
     template-halts (streamIn (a .sizes) (a .image .now)) (a .at) (a .cursor .at) _ (c .before .before .before .take-template .ensures) (c .before .r .given .1)
 
--- src/walk.rt:270:1
 returns-2 : tie.Need-returns-2
 returns-2 c =
     let a = c .before .before .before .before .before .before .before .before .before .before .args in
     domain-halts (streamIn (a .sizes) (a .image .now)) (a .at) (a .cursor .at) _ (c .before .before .before .before .before .before .before .before .take-template .ensures) (c .before .before .before .before .before .before .domain .given .1) _ (of-row (streamIn (a .sizes) (a .image .now)) _ (c .before .before .before .take-field .result) (c .before .before .before .before .domain2 .ensures) (c .before .before .before .take-field .ensures)) (c .before .r2 .given .1)
 
--- src/walk.rt:270:1
 returns-3 : tie.Need-returns-3
 returns-3 c =
     let a = c .before .before .before .before .before .before .before .before .before .before .before .before .before .before .before .args in
     count-halts (streamIn (a .sizes) (a .image .now)) (a .at) (a .cursor .at) _ (c .before .before .before .before .before .before .before .before .before .before .before .before .before .take-template .ensures) (c .before .before .before .before .before .before .before .before .before .before .before .domain .given .1) _ (of-row (streamIn (a .sizes) (a .image .now)) _ (c .before .before .before .before .before .before .before .before .take-field .result) (c .before .before .before .before .before .before .before .before .before .domain2 .ensures) (c .before .before .before .before .before .before .before .before .take-field .ensures)) (c .before .before .before .before .before .before .count .given .1) _
     (of-row (streamIn (a .sizes) (a .image .now)) _ (c .before .before .before .take-field2 .result) (c .before .before .before .before .point-count .ensures) (c .before .before .before .take-field2 .ensures)) (c .before .r3 .given .1)
 
--- src/walk.rt:270:1
 returns-4 : tie.Need-returns-4
 returns-4 c =
     let a = c .before .before .before .before .before .before .before .before .before .before .before .before .before .before .before .before .args in

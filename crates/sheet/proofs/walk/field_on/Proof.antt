@@ -6,15 +6,12 @@ use Rattle.sheet.proofs.walk.field_on.Tie as tie
 use Rattle.sheet.proofs.walk.field_on.Reads as reads
 use Rattle.sheet.proofs.walk.field_on.Lts as lts
 
--- src/walk.rt:141:16
 add-result : tie.Need-add-result
 add-result c = search needs
 
--- src/walk.rt:141:9
 returns : tie.Need-returns
 returns c = simp (lt-ltb _ _ (c .if1 .taken))
 
--- src/walk.rt:136:1
 returns-2 : tie.Need-returns-2
 returns-2 c = simp (le-ltb _ _ (c .if1 .left))
 

@@ -12,29 +12,23 @@ use Rattle.sheet.proofs.walk.take_block.Lts as lts
 use Rattle.sheet.proofs.walk.take_selector.Reads as take-selector-reads
 use Rattle.sheet.proofs.walk.take_template.Reads as take-template-reads
 
--- src/walk.rt:127:11
 take-selector-requires : tie.Need-take-selector-requires
 take-selector-requires c κs = search needs
 
--- src/walk.rt:128:23
 enum-known-r : tie.Need-enum-known-r
 enum-known-r c = search needs
 
--- src/walk.rt:129:22
 enum-known-next : tie.Need-enum-known-next
 enum-known-next c = search needs
 
--- src/walk.rt:129:31
 take-template-requires : tie.Need-take-template-requires
 take-template-requires c κs = search needs
 
--- src/walk.rt:122:1
 returns : tie.Need-returns
 returns c =
     let a = c .before .before .before .before .before .args in
     block-wrong (streamIn (a .sizes) (a .image .now)) (a .template) (a .cursor .at) _ (c .before .before .before .take-selector .ensures) (c .before .r .given .1)
 
--- src/walk.rt:122:1
 returns-2 : tie.Need-returns-2
 returns-2 c =
     let a = c .before .before .before .before .before .before .args in

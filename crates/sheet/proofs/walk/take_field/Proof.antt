@@ -7,45 +7,36 @@ use Rattle.sheet.proofs.walk.take_field.Lts as lts
 use Rattle.fields.proofs.decode.Reads as decode-reads
 use Rattle.memory.proofs.cursor.Cursor.take.Reads as take-reads
 
--- src/walk.rt:79:11
 take-requires : tie.Need-take-requires
 take-requires c κs = search needs
 
--- src/walk.rt:80:24
 enum-known-r : tie.Need-enum-known-r
 enum-known-r c = search needs
 
--- src/walk.rt:81:22
 enum-known-code : tie.Need-enum-known-code
 enum-known-code c = search needs
 
--- src/walk.rt:81:43
 decode-requires : tie.Need-decode-requires
 decode-requires c κs =
     let a = c .before .before .before .before .before .args in
     (c .before .before .before .before .before .pre .1, took-lt (a .sizes) (a .image .now) (a .cursor .at) (a .row .width) _ (c .before .before .before .take .ensures) (c .before .code .given .1))
 
--- src/walk.rt:82:30
 enum-known-r-2 : tie.Need-enum-known-r-2
 enum-known-r-2 c = search needs
 
--- src/walk.rt:83:28
 enum-known-value : tie.Need-enum-known-value
 enum-known-value c = search needs
 
--- src/walk.rt:74:1
 returns : tie.Need-returns
 returns c =
     let a = c .before .before .before .before .before .args in
     field-past (a .sizes) (a .image .now) (a .cursor .at) (a .row) _ (c .before .before .before .take .ensures) (c .before .r .given .1)
 
--- src/walk.rt:74:1
 returns-2 : tie.Need-returns-2
 returns-2 c =
     let a = c .before .before .before .before .before .before .before .before .before .args in
     field-refused (a .sizes) (a .image .now) (a .cursor .at) (a .row) _ (c .before .before .before .before .before .before .before .take .ensures) (c .before .before .before .before .before .code .given .1) _ (c .before .before .before .decode .ensures) (c .before .r2 .given .1)
 
--- src/walk.rt:74:1
 returns-3 : tie.Need-returns-3
 returns-3 c =
     let a = c .before .before .before .before .before .before .before .before .before .args in

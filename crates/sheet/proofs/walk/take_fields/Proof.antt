@@ -21,49 +21,39 @@ Inv-loop sizes image cursor₀ precision₀ line₀ cursor precision line =
 abbrev μ-loop : tie.MeasureT-loop
 μ-loop sizes image cursor₀ precision₀ line₀ cursor precision line = 22 - line
 
--- src/walk.rt:175:9
 start-requires : tie.Need-start-requires Inv-loop μ-loop
 start-requires c κs = search needs
 
--- src/walk.rt:178:5
 loop-holds : tie.Need-loop-holds Inv-loop μ-loop
 loop-holds c =
     let a = c .before .before .args in
     (search needs, ap (λ (n : ℕ). run (streamIn (a .sizes) (a .image .now)) (linesOf template33 0) n) (c .start .ensures))
 
--- src/walk.rt:179:15
 take-line-requires : tie.Need-take-line-requires Inv-loop μ-loop
 take-line-requires c κs = search needs
 
--- src/walk.rt:180:32
 enum-known-r : tie.Need-enum-known-r Inv-loop μ-loop
 enum-known-r c = search needs
 
--- src/walk.rt:181:17
 returns : tie.Need-returns Inv-loop μ-loop
 returns c =
     let a = c .before .before .before .before .before .before .before .before .args in
     sym (lines-halt (streamIn (a .sizes) (a .image .now)) _ _ _ (c .before .before .before .before .loop-test .taken) _ (c .before .before .before .take-line .ensures) (c .before .r .given .1)) ∙ c .before .before .before .before .before .loop .inv .1
 
--- src/walk.rt:183:32
 enum-known-chosen : tie.Need-enum-known-chosen Inv-loop μ-loop
 enum-known-chosen c = search needs
 
--- src/walk.rt:188:9
 add-line : tie.Need-add-line Inv-loop μ-loop
 add-line c = search needs
 
--- src/walk.rt:178:5
 loop-less : tie.Need-loop-less Inv-loop μ-loop
 loop-less c = search needs
 
--- src/walk.rt:178:5
 loop-again : tie.Need-loop-again Inv-loop μ-loop
 loop-again c =
     let a = c .before .before .before .before .before .before .before .before .args in
     (search needs, sym (lines-next (streamIn (a .sizes) (a .image .now)) _ _ _ (c .before .before .before .before .loop-test .taken) _ (c .before .before .before .take-line .ensures) (c .before .chosen .given .1)) ∙ c .before .before .before .before .before .loop .inv .1)
 
--- src/walk.rt:171:1
 returns-2 : tie.Need-returns-2 Inv-loop μ-loop
 returns-2 c =
     let a = c .before .before .before .before .args in

@@ -11,37 +11,30 @@ use Rattle.sheet.proofs.walk.take_selector.Lts as lts
 use Rattle.memory.proofs.cursor.Cursor.take.Reads as take-reads
 use Rattle.sheet.proofs.walk.wrong_block.Reads as wrong-block-reads
 
--- src/walk.rt:94:11
 take-requires : tie.Need-take-requires
 take-requires c κs = search needs
 
--- src/walk.rt:95:24
 enum-known-r : tie.Need-enum-known-r
 enum-known-r c = search needs
 
--- src/walk.rt:96:22
 enum-known-selector : tie.Need-enum-known-selector
 enum-known-selector c = search needs
 
--- src/walk.rt:98:17
 returns : tie.Need-returns
 unfolding selectorOf
 returns c =
     let a = c .before .before .before .before .before .before .args in
     mark-right (a .sizes) (a .image .now) (a .cursor .at) 2 (a .wanted) (wrongBlock (a .cursor .at)) _ (c .before .before .before .before .take .ensures) (c .before .before .selector .given .1) (c .if1 .taken)
 
--- src/walk.rt:100:27
 wrong-block-requires : tie.Need-wrong-block-requires
 wrong-block-requires c κs = search needs
 
--- src/walk.rt:89:1
 returns-2 : tie.Need-returns-2
 unfolding selectorOf
 returns-2 c =
     let a = c .before .before .before .before .before .args in
     mark-past (a .sizes) (a .image .now) (a .cursor .at) 2 (a .wanted) (wrongBlock (a .cursor .at)) _ (c .before .before .before .take .ensures) (c .before .r .given .1)
 
--- src/walk.rt:89:1
 returns-3 : tie.Need-returns-3
 unfolding selectorOf
 returns-3 c =

@@ -11,37 +11,30 @@ use Rattle.sheet.proofs.walk.take_template.Lts as lts
 use Rattle.memory.proofs.cursor.Cursor.take.Reads as take-reads
 use Rattle.sheet.proofs.walk.wrong_block.Reads as wrong-block-reads
 
--- src/walk.rt:110:11
 take-requires : tie.Need-take-requires
 take-requires c κs = search needs
 
--- src/walk.rt:111:24
 enum-known-r : tie.Need-enum-known-r
 enum-known-r c = search needs
 
--- src/walk.rt:112:22
 enum-known-number : tie.Need-enum-known-number
 enum-known-number c = search needs
 
--- src/walk.rt:114:17
 returns : tie.Need-returns
 unfolding templateOf
 returns c =
     let a = c .before .before .before .before .before .before .args in
     mark-right (a .sizes) (a .image .now) (a .cursor .at) 8 (a .template) (wrongBlock (a .at)) _ (c .before .before .before .before .take .ensures) (c .before .before .number .given .1) (c .if1 .taken)
 
--- src/walk.rt:116:27
 wrong-block-requires : tie.Need-wrong-block-requires
 wrong-block-requires c κs = search needs
 
--- src/walk.rt:106:1
 returns-2 : tie.Need-returns-2
 unfolding templateOf
 returns-2 c =
     let a = c .before .before .before .before .before .args in
     mark-past (a .sizes) (a .image .now) (a .cursor .at) 8 (a .template) (wrongBlock (a .at)) _ (c .before .before .before .take .ensures) (c .before .r .given .1)
 
--- src/walk.rt:106:1
 returns-3 : tie.Need-returns-3
 unfolding templateOf
 returns-3 c =
