@@ -1,11 +1,12 @@
-/* Takes a reading of a data sheet: ./reading KIND FILE INPUT
+/* Takes a reading of a data sheet: reading KIND FILE INPUT
  *
- * FILE holds a chip's image, and INPUT is in nV/V. Prints the fraction in billionths of the span and the physical figure,
- * or the refusal's number and place. Nothing is kept between calls, and no heap is needed.
+ * FILE holds a chip's image, and INPUT is in nV/V. Prints the fraction in billionths of the span and the physical figure, or the
+ * refusal's number and place.
  *
- *     rt staticlib dash
- *     cc -Iinclude examples/reading.c target/staticlib/libdash.a -o reading
+ *     rt staticlib dartelm
+ *     cc -Iinclude examples/reading.c target/staticlib/libdartelm.a -o target/reading
  */
+#include <errno.h>
 #include <inttypes.h>
 #include <stdio.h>
 #include <stdlib.h>
@@ -18,25 +19,36 @@ int main(int argc, char **argv)
         fprintf(stderr, "usage: %s KIND FILE INPUT\n", argv[0]);
         return 2;
     }
+
+    /* A kind is a byte: 256 must not be taken as 0. */
+    char *end;
+    errno = 0;
+    long kind = strtol(argv[1], &end, 10);
+    if (errno != 0 || end == argv[1] || *end != '\0' || kind < 0 || kind > UINT8_MAX) {
+        fprintf(stderr, "%s is no kind\n", argv[1]);
+        return 2;
+    }
+    errno = 0;
+    long long input = strtoll(argv[3], &end, 10);
+    if (errno != 0 || end == argv[3] || *end != '\0') {
+        fprintf(stderr, "%s is no input\n", argv[3]);
+        return 2;
+    }
+
     FILE *file = fopen(argv[2], "rb");
     if (file == NULL) {
         perror(argv[2]);
         return 2;
     }
-    uint8_t image[513]; /* One byte more than the longest image: a longer file is refused too. */
+    uint8_t image[DARTELM_LONGEST_IMAGE + 1]; /* A longer file is refused by its length too. */
     size_t length = fread(image, 1, sizeof image, file);
     fclose(file);
 
-    uint64_t out[1];
-    int64_t fraction[1];
-    double figure[1];
-    uint8_t kind = (uint8_t)strtoul(argv[1], NULL, 10);
-    int64_t input = (int64_t)strtoll(argv[3], NULL, 10);
-    uint8_t answer = dash_reading(kind, image, length, input, out, 1, fraction, 1, figure, 1);
-    if (answer != 0) {
-        printf("refused %u at %" PRIu64 "\n", answer, out[0]);
+    dartelm_reading_answer reading = dartelm_reading((uint8_t)kind, image, length, input);
+    if (reading.number != DARTELM_ACCEPTED) {
+        printf("refused %u at %" PRIu64 "\n", reading.number, reading.place);
         return 1;
     }
-    printf("fraction %" PRId64 "\nfigure %.17g\n", fraction[0], figure[0]);
+    printf("fraction %" PRId64 "\nfigure %.17g\n", reading.fraction, reading.figure);
     return 0;
 }

@@ -1,10 +1,20 @@
-/* Dartelm for firmware: the IEEE 1451.4 data sheet in a sender's memory chip.
+/* Dartelm: the IEEE 1451.4 data sheet (TEDS) in a sender's memory chip, from its image to a reading. For C99 and C++.
  *
- * Every call answers a number: 0, accepted; 1 to 16, a refusal of document 01, with its place in out[0]; DASH_NOT_CALLED
- * (255), a buffer for answers or a list of fields is shorter than the call needs, or a sort or an end bit is none: nothing is
- * written at all.
- * A refusal writes nothing but out[0]. Every buffer is lent as a pointer and the number of its elements; the lengths are
- * tested, so no call reads or writes past one. Kinds of chip: 0 (40 bytes), 1 (128), 2 (512).
+ * Every call returns one struct by value. Its number is 0 where the call is accepted; else it is a refusal's, DARTELM_WRONG_IMAGE
+ * to DARTELM_WRONG_LIST, with the refusal's place beside it, and every other member is 0. (0 as a float is +0.0. A Single that is
+ * returned is finite.) A refused call writes nothing; no call writes anything but the image of a build or a change.
+ *
+ * Nothing is kept between calls, so any number of them may run at once, in interrupts too. No heap is used; the only functions
+ * taken from outside are memcpy and memset. Every call returns, whatever it is handed.
+ *
+ * What the caller owes, since nothing can test it:
+ *   - a pointer is good for the length beside it, and is not NULL, not even where that length is 0;
+ *   - what is lent to one call does not overlap, and nothing else writes to it until the call returns.
+ * Nothing else is owed: any kind, number, length, byte and float may be handed in.
+ *
+ * A flag is a uint8_t: 0 means no, and anything else yes, so that every byte means something (a C bool with a byte other than 0 or
+ * 1 would be undefined). A flag that is returned is 0 or 1. Bytes of padding are never looked at, and may hold anything in what is
+ * returned: compare members, not whole structs.
  */
 #ifndef DARTELM_H
 #define DARTELM_H
@@ -12,60 +22,273 @@
 #include <stddef.h>
 #include <stdint.h>
 
-#define DASH_NOT_CALLED 255
+#ifdef __cplusplus
+extern "C" {
+#endif
 
-/* The sort of a field's value. */
-#define DASH_WHOLE 0
-#define DASH_SINGLE 1
-#define DASH_MISSING 2
+/* This header's number, which rises when a call or a struct changes; dartelm_version() is the archive's. */
+#define DARTELM_VERSION 1
 
-/* Checks an image. out[0..4]: bits up to the end, calibration points, end bit, characters of the text. */
-uint8_t dash_check(uint8_t kind, const uint8_t *image, size_t image_length,
-                   uint64_t *out, size_t out_length);
+/* ---- numbers ---- */
 
-/* Reads field 1 to 21. out[0]: its sort; whole[0] or single[0]: its value (the other is left as it was). */
-uint8_t dash_field(uint8_t kind, const uint8_t *image, size_t image_length, uint64_t field,
-                   uint64_t *out, size_t out_length, int64_t *whole, size_t whole_length,
-                   float *single, size_t single_length);
+/* Why a call is refused, and what its place is. */
+enum {
+    DARTELM_ACCEPTED = 0,
+    DARTELM_WRONG_IMAGE = 1,    /* Kind not 0 to 2, or a wrong image length. Place: 0. */
+    DARTELM_WRONG_SUM = 2,      /* A page does not add up. Place: the page, from 0. */
+    DARTELM_PAST_END = 3,       /* The stream ends before the sheet does. Place: the first bit of what is cut off. */
+    DARTELM_WRONG_BLOCK = 4,    /* A block that is not known here. Place: its selector's bit. */
+    DARTELM_OUTSIDE_TABLE = 5,  /* A code that the table has not. Place: its first bit. */
+    DARTELM_NOT_FINITE = 6,     /* A Single that is infinite, or a NaN. Place: its first bit. */
+    DARTELM_NOT_RISING = 7,     /* Calibration points that do not rise. Place: the later one's bit; in a build its index. */
+    DARTELM_NO_SUCH = 8,        /* No such field, calibration point or character. Place: the number given. */
+    DARTELM_WRONG_SORT = 9,     /* Wrong sort of value, missing where it may not be, text with end bit 0, text of a wrong
+                                 * length. Place: the field (22 for the closing text). */
+    DARTELM_OUT_OF_RANGE = 10,  /* A value, text or code that the field cannot hold. Place: the field, or a point's index. */
+    DARTELM_TOO_LONG = 11,      /* More than the chip holds. Place: the bits needed, 65,535 if they are more than that. */
+    DARTELM_CHANGED_ALONE = 12, /* Field 9 cannot be changed alone. Place: 9. */
+    DARTELM_NO_SPAN = 13,       /* A reading needs fields 7, 8, 10 and 11, and 10 below 11. Place: the first that is missing,
+                                 * else 11. */
+    DARTELM_OUTSIDE_SPAN = 14,  /* A reading's input is too far outside the span. Place: 0. */
+    DARTELM_SINGLE_SPAN = 15,   /* A reading at precision 2. Place: 9. */
+    DARTELM_WRONG_LIST = 16     /* A list of points that is odd or longer than 254. Place: its length. */
+};
 
-/* Reads a calibration point by index from 0. pair[0]: the point, pair[1]: its deviation, in billionths of the span;
- * out[0] is written on a refusal alone. */
-uint8_t dash_pair(uint8_t kind, const uint8_t *image, size_t image_length, uint64_t index,
-                  uint64_t *out, size_t out_length, int64_t *pair, size_t pair_length);
+/* Fields 1 to 21, and what a value counts. */
+enum {
+    DARTELM_FIELD_MANUFACTURER_ID = 1,     /* 17 to 16381 */
+    DARTELM_FIELD_MODEL_NUMBER = 2,        /* 0 to 32767 */
+    DARTELM_FIELD_VERSION_LETTER = 3,      /* 1 to 26, A to Z: see dartelm_text and dartelm_code */
+    DARTELM_FIELD_VERSION_NUMBER = 4,      /* 0 to 63 */
+    DARTELM_FIELD_SERIAL_NUMBER = 5,       /* 0 to 16777215 */
+    DARTELM_FIELD_MEASURAND = 6,           /* 0 to 45: the physical measurand, and with it the unit of 7, 8 and of a reading */
+    DARTELM_FIELD_MIN_PHYS_VAL = 7,        /* a Single, in the measurand's unit; or missing */
+    DARTELM_FIELD_MAX_PHYS_VAL = 8,        /* a Single, in the measurand's unit; or missing */
+    DARTELM_FIELD_PRECISION = 9,           /* 0, 1 or 2: how 10 and 11 are stored; cannot be changed alone */
+    DARTELM_FIELD_MIN_ELEC_VAL = 10,       /* nV/V at precision 0 and 1; a Single in V/V at precision 2; or missing */
+    DARTELM_FIELD_MAX_ELEC_VAL = 11,       /* nV/V at precision 0 and 1; a Single in V/V at precision 2; or missing */
+    DARTELM_FIELD_BRIDGE_TYPE = 12,        /* 0 quarter, 1 half, 2 full */
+    DARTELM_FIELD_IMPEDANCE = 13,          /* 0.1 ohm; or missing */
+    DARTELM_FIELD_RESPONSE_TIME = 14,      /* 10 ns; or missing */
+    DARTELM_FIELD_EXCITATION_NOMINAL = 15, /* 0.1 V; or missing */
+    DARTELM_FIELD_EXCITATION_MIN = 16,     /* 0.1 V; or missing */
+    DARTELM_FIELD_EXCITATION_MAX = 17,     /* 0.1 V; or missing */
+    DARTELM_FIELD_CAL_DATE = 18,           /* days since 1 January 1998: see dartelm_text and dartelm_code; or missing */
+    DARTELM_FIELD_CAL_INITIALS = 19,       /* three letters: see dartelm_text and dartelm_code */
+    DARTELM_FIELD_CAL_PERIOD = 20,         /* days */
+    DARTELM_FIELD_LOCATION_ID = 21,        /* 0 to 2047 */
+    DARTELM_FIELDS = 21                    /* how many there are */
+};
 
-/* Reads a character of the closing text by index from 0. out[0]: the character. */
-uint8_t dash_character(uint8_t kind, const uint8_t *image, size_t image_length, uint64_t index,
-                       uint64_t *out, size_t out_length);
+/* What dartelm_kind_of gives for a length that no kind of chip has: a kind that every call refuses, with 1. */
+#define DARTELM_NO_KIND 255
 
-/* Builds an image. sorts, wholes and singles have at least 21 elements each, for fields 1 to 21 (an element of wholes or
- * singles that its sort does not name is not looked at, nor one behind the 21st); end_bit is 0 or 1; points are calibration point and deviation by turns. On a
- * refusal the image keeps its bytes; out[0] is written on a refusal alone. */
-uint8_t dash_build(uint8_t kind, uint8_t *image, size_t image_length,
-                   const uint8_t *sorts, size_t sorts_length, const int64_t *wholes, size_t wholes_length,
-                   const float *singles, size_t singles_length, uint8_t end_bit,
-                   const uint8_t *text, size_t text_length, const int64_t *points, size_t points_length,
-                   uint64_t *out, size_t out_length);
+/* The bytes of the longest image. */
+#define DARTELM_LONGEST_IMAGE 512
 
-/* Changes one field; the value is given by its sort, with whole or single. out[0] is written on a refusal alone. */
-uint8_t dash_change(uint8_t kind, uint8_t *image, size_t image_length, uint64_t field,
-                    uint8_t sort, int64_t whole, float single, uint64_t *out, size_t out_length);
+/* ---- structs ---- */
 
-/* Takes a reading at an input in nV/V. fraction[0]: the fraction q in billionths of the span; figure[0]: the physical
- * figure; out[0] is written on a refusal alone. */
-uint8_t dash_reading(uint8_t kind, const uint8_t *image, size_t image_length, int64_t input,
-                     uint64_t *out, size_t out_length, int64_t *fraction, size_t fraction_length,
-                     double *figure, size_t figure_length);
+/* A field's value: missing where is_missing says yes, else a Single where is_single does, else a whole number. What is returned
+ * has 0 in the members that it does not need, so it may be handed in again. */
+typedef struct dartelm_value {
+    int64_t whole;      /* in the field's unit */
+    float single;       /* in the field's unit */
+    uint8_t is_single;  /* a flag */
+    uint8_t is_missing; /* a flag */
+} dartelm_value;
 
-/* The text of a code of field 3, 18 or 19. out[0]: how many characters; characters[0..10]: them, with zeros behind. */
-uint8_t dash_text(uint64_t field, uint64_t code, uint64_t *out, size_t out_length,
-                  uint8_t *characters, size_t characters_length);
+/* A sheet's fields: field f stands in values[f - 1]. */
+typedef struct dartelm_fields {
+    dartelm_value values[DARTELM_FIELDS];
+    uint8_t end_bit; /* a flag: a closing text follows */
+} dartelm_fields;
 
-/* The code of a text of field 3, 18 or 19. out[0]: the code. */
-uint8_t dash_code(uint64_t field, const uint8_t *text, size_t text_length, uint64_t *out, size_t out_length);
+/* What a check answers. */
+typedef struct dartelm_check_answer {
+    uint8_t number;
+    uint64_t place;
+    uint64_t bits;       /* bits of the stream up to the end, a zero that ends the text counted */
+    uint64_t points;     /* calibration points */
+    uint64_t characters; /* characters of the closing text */
+    uint8_t end_bit;     /* a flag: a closing text follows */
+} dartelm_check_answer;
 
-/* The 31 stream bytes of a page. out[0]: 31, and bytes[0..31] are them; or 0, and bytes is left as it was, for a wrong kind,
- * image length or page (which is no refusal: the answer is 0). */
-uint8_t dash_page(uint8_t kind, const uint8_t *image, size_t image_length, uint64_t page,
-                  uint64_t *out, size_t out_length, uint8_t *bytes, size_t bytes_length);
+/* One field. */
+typedef struct dartelm_field_answer {
+    uint8_t number;
+    uint64_t place;
+    dartelm_value value;
+} dartelm_field_answer;
+
+/* What a check answers, and all fields. */
+typedef struct dartelm_sheet_answer {
+    uint8_t number;
+    uint64_t place;
+    uint64_t bits;        /* bits of the stream up to the end, a zero that ends the text counted */
+    uint64_t points;      /* calibration points */
+    uint64_t characters;  /* characters of the closing text */
+    uint64_t field_count; /* fields that the sheet has: 21 */
+    dartelm_fields fields;
+} dartelm_sheet_answer;
+
+/* A calibration point and its deviation. */
+typedef struct dartelm_pair_answer {
+    uint8_t number;
+    uint64_t place;
+    int64_t point;     /* billionths of the span */
+    int64_t deviation; /* billionths of the span */
+} dartelm_pair_answer;
+
+/* A character of the closing text. */
+typedef struct dartelm_character_answer {
+    uint8_t number;
+    uint64_t place;
+    char character; /* 1 to 127 */
+} dartelm_character_answer;
+
+/* What a build or a change answers. */
+typedef struct dartelm_write_answer {
+    uint8_t number;
+    uint64_t place;
+} dartelm_write_answer;
+
+/* A reading. */
+typedef struct dartelm_reading_answer {
+    uint8_t number;
+    uint64_t place;
+    int64_t fraction; /* billionths of the span */
+    double figure;    /* in the measurand's unit */
+} dartelm_reading_answer;
+
+/* A text. */
+typedef struct dartelm_text_answer {
+    uint8_t number;
+    uint64_t place;
+    uint64_t length;     /* characters: 1, 3 or 10 */
+    char characters[11]; /* them, with zeros behind: a C string */
+} dartelm_text_answer;
+
+/* A code. */
+typedef struct dartelm_code_answer {
+    uint8_t number;
+    uint64_t place;
+    uint64_t code;
+} dartelm_code_answer;
+
+/* The stream bytes of a page. This is never refused, so it has no number. */
+typedef struct dartelm_page_answer {
+    uint64_t count;    /* 31; 0 for a wrong kind, image length or page */
+    uint8_t bytes[31]; /* zeros where count is 0 */
+} dartelm_page_answer;
+
+/* ---- calls ---- */
+
+/* The archive's number. */
+uint32_t dartelm_version(void);
+
+/* The kind of the chip whose image has so many bytes: 0 (40 bytes), 1 (128), 2 (512), else DARTELM_NO_KIND. */
+uint8_t dartelm_kind_of(size_t bytes);
+
+/* Checks an image. Refused with 1 to 7. */
+dartelm_check_answer dartelm_check(uint8_t kind, const uint8_t *image, size_t image_length);
+
+/* Reads field 1 to 21. Refused with 1 to 7 as a check is, and with 8 for another field. */
+dartelm_field_answer dartelm_field(uint8_t kind, const uint8_t *image, size_t image_length, uint64_t field);
+
+/* Reads all fields with one check: each is what dartelm_field gives. Refused with 1 to 7 as a check is. */
+dartelm_sheet_answer dartelm_sheet(uint8_t kind, const uint8_t *image, size_t image_length);
+
+/* Reads a calibration point, by index from 0. Refused with 1 to 7 as a check is, and with 8 past the last. */
+dartelm_pair_answer dartelm_pair(uint8_t kind, const uint8_t *image, size_t image_length, uint64_t index);
+
+/* Reads a character of the closing text, by index from 0. Refused with 1 to 7 as a check is, and with 8 past the last. */
+dartelm_character_answer dartelm_character(uint8_t kind, const uint8_t *image, size_t image_length, uint64_t index);
+
+/* Builds an image. The text's characters are 1 to 127; points are calibration point and deviation by turns, in billionths of the
+ * span. Refused with 1, 7, 9 to 11 and 16: then the image keeps every byte. */
+dartelm_write_answer dartelm_build(uint8_t kind, uint8_t *image, size_t image_length, dartelm_fields fields,
+                                   const char *text, size_t text_length, const int64_t *points, size_t points_length);
+
+/* Changes one field of an image, and the check bytes of its pages. Refused with 1 to 7 as a check is, and with 8, 9, 10 and 12:
+ * then the image keeps every byte. */
+dartelm_write_answer dartelm_change(uint8_t kind, uint8_t *image, size_t image_length, uint64_t field, dartelm_value value);
+
+/* Takes a reading at an input in nV/V. Refused with 1 to 7 as a check is, and with 13, 14 and 15. */
+dartelm_reading_answer dartelm_reading(uint8_t kind, const uint8_t *image, size_t image_length, int64_t input);
+
+/* The text of a code of field 3, 18 or 19: a letter, a date as 2018-01-02, three letters. Refused with 8 and 10. */
+dartelm_text_answer dartelm_text(uint64_t field, uint64_t code);
+
+/* The code of a text of field 3, 18 or 19. Refused with 8, 9 and 10. */
+dartelm_code_answer dartelm_code(uint64_t field, const char *text, size_t text_length);
+
+/* The 31 stream bytes of a page, from 0; none for a wrong kind, image length or page. The image is not checked. */
+dartelm_page_answer dartelm_page(uint8_t kind, const uint8_t *image, size_t image_length, uint64_t page);
+
+/* ---- the archive has the structs so ---- */
+
+#if defined(__cplusplus) && __cplusplus >= 201103L
+#define DARTELM_IS(name, fact) static_assert(fact, #name)
+#elif defined(__STDC_VERSION__) && __STDC_VERSION__ >= 201112L
+#define DARTELM_IS(name, fact) _Static_assert(fact, #name)
+#else
+#define DARTELM_IS(name, fact) typedef char dartelm_is_##name[(fact) ? 1 : -1]
+#endif
+#define DARTELM_SIZE(type, bytes) DARTELM_IS(type##_size, sizeof(type) == (bytes))
+#define DARTELM_AT(type, member, offset) DARTELM_IS(type##_##member, offsetof(type, member) == (offset))
+#define DARTELM_ANSWER(type, bytes) \
+    DARTELM_SIZE(type, bytes);      \
+    DARTELM_AT(type, number, 0);    \
+    DARTELM_AT(type, place, 8)
+
+DARTELM_IS(pointers, sizeof(size_t) == 8 && sizeof(void *) == 8);
+DARTELM_IS(floats, sizeof(float) == 4 && sizeof(double) == 8);
+DARTELM_SIZE(dartelm_value, 16);
+DARTELM_AT(dartelm_value, whole, 0);
+DARTELM_AT(dartelm_value, single, 8);
+DARTELM_AT(dartelm_value, is_single, 12);
+DARTELM_AT(dartelm_value, is_missing, 13);
+DARTELM_SIZE(dartelm_fields, 344);
+DARTELM_AT(dartelm_fields, values, 0);
+DARTELM_AT(dartelm_fields, end_bit, 336);
+DARTELM_ANSWER(dartelm_check_answer, 48);
+DARTELM_AT(dartelm_check_answer, bits, 16);
+DARTELM_AT(dartelm_check_answer, points, 24);
+DARTELM_AT(dartelm_check_answer, characters, 32);
+DARTELM_AT(dartelm_check_answer, end_bit, 40);
+DARTELM_ANSWER(dartelm_field_answer, 32);
+DARTELM_AT(dartelm_field_answer, value, 16);
+DARTELM_ANSWER(dartelm_sheet_answer, 392);
+DARTELM_AT(dartelm_sheet_answer, bits, 16);
+DARTELM_AT(dartelm_sheet_answer, points, 24);
+DARTELM_AT(dartelm_sheet_answer, characters, 32);
+DARTELM_AT(dartelm_sheet_answer, field_count, 40);
+DARTELM_AT(dartelm_sheet_answer, fields, 48);
+DARTELM_ANSWER(dartelm_pair_answer, 32);
+DARTELM_AT(dartelm_pair_answer, point, 16);
+DARTELM_AT(dartelm_pair_answer, deviation, 24);
+DARTELM_ANSWER(dartelm_character_answer, 24);
+DARTELM_AT(dartelm_character_answer, character, 16);
+DARTELM_ANSWER(dartelm_write_answer, 16);
+DARTELM_ANSWER(dartelm_reading_answer, 32);
+DARTELM_AT(dartelm_reading_answer, fraction, 16);
+DARTELM_AT(dartelm_reading_answer, figure, 24);
+DARTELM_ANSWER(dartelm_text_answer, 40);
+DARTELM_AT(dartelm_text_answer, length, 16);
+DARTELM_AT(dartelm_text_answer, characters, 24);
+DARTELM_ANSWER(dartelm_code_answer, 24);
+DARTELM_AT(dartelm_code_answer, code, 16);
+DARTELM_SIZE(dartelm_page_answer, 40);
+DARTELM_AT(dartelm_page_answer, count, 0);
+DARTELM_AT(dartelm_page_answer, bytes, 8);
+
+#undef DARTELM_ANSWER
+#undef DARTELM_AT
+#undef DARTELM_SIZE
+#undef DARTELM_IS
+
+#ifdef __cplusplus
+}
+#endif
 
 #endif

@@ -1,109 +1,49 @@
-//! The product's calls with lent slices, as `include/dartelm.h` has them: once for the product (`ffi::Product`), once for
-//! the plain implementation, so that both are handed the same and are compared in the same.
+//! The calls of `include/dartelm.h`: once for the product (`ffi::Product`), once for the plain implementation, so that both are
+//! handed the same and are compared in the same.
 
 use crate::plain::{self, Reading, Refusal, Summary, Text, Value};
-
-pub const NOT_CALLED: u8 = 255;
-
-pub const WHOLE: u8 = 0;
-pub const SINGLE: u8 = 1;
-pub const MISSING: u8 = 2;
-
-/// Values of fields 1 to 21 as a build is lent them.
-#[derive(Clone, Copy)]
-pub struct Values<'a> {
-    pub sorts: &'a [u8],
-    pub wholes: &'a [i64],
-    pub singles: &'a [f32],
-}
-
-/// What a build is lent besides the image.
-#[derive(Clone, Copy)]
-pub struct Sheet<'a> {
-    pub values: Values<'a>,
-    pub end_bit: u8,
-    pub text: &'a [u8],
-    pub points: &'a [i64],
-}
-
-/// A value as a change is handed it.
-#[derive(Clone, Copy, Debug)]
-pub struct Given {
-    pub sort: u8,
-    pub whole: i64,
-    pub single: f32,
-}
-
-impl From<Value> for Given {
-    fn from(value: Value) -> Given {
-        let (sort, whole, single) = match value {
-            Value::Whole(whole) => (WHOLE, whole, 0.0),
-            Value::Single(single) => (SINGLE, 0, single),
-            Value::Missing => (MISSING, 0, 0.0),
-        };
-        Given { sort, whole, single }
-    }
-}
-
-impl Given {
-    pub fn value(self) -> Option<Value> {
-        match self.sort {
-            WHOLE => Some(Value::Whole(self.whole)),
-            SINGLE => Some(Value::Single(self.single)),
-            MISSING => Some(Value::Missing),
-            _ => None,
-        }
-    }
-}
+use crate::structs::{
+    ByFlags, CharacterAnswer, CheckAnswer, CodeAnswer, FieldAnswer, Fields, PageAnswer, PairAnswer, ReadingAnswer,
+    SheetAnswer, TextAnswer, WriteAnswer,
+};
 
 /// The calls of the header; the provided ones give the plain implementation's types.
 pub trait Calls {
-    fn check(&self, kind: u8, image: &[u8], out: &mut [u64]) -> u8;
-    fn field(&self, kind: u8, image: &[u8], field: u64, out: &mut [u64], whole: &mut [i64], single: &mut [f32]) -> u8;
-    fn pair(&self, kind: u8, image: &[u8], index: u64, out: &mut [u64], pair: &mut [i64]) -> u8;
-    fn character(&self, kind: u8, image: &[u8], index: u64, out: &mut [u64]) -> u8;
-    fn build(&self, kind: u8, image: &mut [u8], sheet: Sheet, out: &mut [u64]) -> u8;
-    fn change(&self, kind: u8, image: &mut [u8], field: u64, given: Given, out: &mut [u64]) -> u8;
-    fn reading(
-        &self,
-        kind: u8,
-        image: &[u8],
-        input: i64,
-        out: &mut [u64],
-        fraction: &mut [i64],
-        figure: &mut [f64],
-    ) -> u8;
-    fn text(&self, field: u64, code: u64, out: &mut [u64], characters: &mut [u8]) -> u8;
-    fn code(&self, field: u64, text: &[u8], out: &mut [u64]) -> u8;
-    fn page(&self, kind: u8, image: &[u8], page: u64, out: &mut [u64], bytes: &mut [u8]) -> u8;
+    fn kind_of(&self, bytes: usize) -> u8;
+    fn check(&self, kind: u8, image: &[u8]) -> CheckAnswer;
+    fn field(&self, kind: u8, image: &[u8], field: u64) -> FieldAnswer;
+    fn sheet(&self, kind: u8, image: &[u8]) -> SheetAnswer;
+    fn pair(&self, kind: u8, image: &[u8], index: u64) -> PairAnswer;
+    fn character(&self, kind: u8, image: &[u8], index: u64) -> CharacterAnswer;
+    fn build(&self, kind: u8, image: &mut [u8], fields: Fields, text: &[u8], points: &[i64]) -> WriteAnswer;
+    fn change(&self, kind: u8, image: &mut [u8], field: u64, value: ByFlags) -> WriteAnswer;
+    fn reading(&self, kind: u8, image: &[u8], input: i64) -> ReadingAnswer;
+    fn text(&self, field: u64, code: u64) -> TextAnswer;
+    fn code(&self, field: u64, text: &[u8]) -> CodeAnswer;
+    fn page(&self, kind: u8, image: &[u8], page: u64) -> PageAnswer;
 
     fn checked(&self, kind: u8, image: &[u8]) -> Result<Summary, Refusal> {
-        let mut out = [0; 4];
-        let number = self.check(kind, image, &mut out);
-        accepted(number, out[0])?;
-        Ok(Summary { bits: out[0], points: out[1], end_bit: out[2], characters: out[3] })
+        let CheckAnswer { number, place, bits, points, characters, end_bit } = self.check(kind, image);
+        accepted(number, place)?;
+        Ok(Summary { bits, points, end_bit: u64::from(end_bit), characters })
     }
 
     fn field_read(&self, kind: u8, image: &[u8], field: u64) -> Result<Value, Refusal> {
-        let (mut out, mut whole, mut single) = ([0], [0], [0.0]);
-        let number = self.field(kind, image, field, &mut out, &mut whole, &mut single);
-        accepted(number, out[0])?;
-        let given = Given { sort: u8::try_from(out[0]).unwrap_or(u8::MAX), whole: whole[0], single: single[0] };
-        given.value().ok_or(Refusal { number: NOT_CALLED, place: out[0] })
+        let FieldAnswer { number, place, value } = self.field(kind, image, field);
+        accepted(number, place)?;
+        Ok(value.value())
     }
 
     fn pair_read(&self, kind: u8, image: &[u8], index: u64) -> Result<(i64, i64), Refusal> {
-        let (mut out, mut pair) = ([0], [0; 2]);
-        let number = self.pair(kind, image, index, &mut out, &mut pair);
-        accepted(number, out[0])?;
-        Ok((pair[0], pair[1]))
+        let PairAnswer { number, place, point, deviation } = self.pair(kind, image, index);
+        accepted(number, place)?;
+        Ok((point, deviation))
     }
 
-    fn character_read(&self, kind: u8, image: &[u8], index: u64) -> Result<u64, Refusal> {
-        let mut out = [0];
-        let number = self.character(kind, image, index, &mut out);
-        accepted(number, out[0])?;
-        Ok(out[0])
+    fn character_read(&self, kind: u8, image: &[u8], index: u64) -> Result<u8, Refusal> {
+        let CharacterAnswer { number, place, character } = self.character(kind, image, index);
+        accepted(number, place)?;
+        Ok(character)
     }
 
     fn built(
@@ -115,55 +55,34 @@ pub trait Calls {
         text: &[u8],
         points: &[i64],
     ) -> Result<(), Refusal> {
-        let given = values.map(Given::from);
-        let sheet = Sheet {
-            values: Values {
-                sorts: &given.map(|given| given.sort),
-                wholes: &given.map(|given| given.whole),
-                singles: &given.map(|given| given.single),
-            },
-            end_bit: u8::from(end_bit),
-            text,
-            points,
-        };
-        let mut out = [0];
-        let number = self.build(kind, image, sheet, &mut out);
-        accepted(number, out[0])
+        let fields = Fields { values: values.map(ByFlags::from), end_bit: u8::from(end_bit) };
+        let WriteAnswer { number, place } = self.build(kind, image, fields, text, points);
+        accepted(number, place)
     }
 
     fn changed(&self, kind: u8, image: &mut [u8], field: u64, value: Value) -> Result<(), Refusal> {
-        let mut out = [0];
-        let number = self.change(kind, image, field, value.into(), &mut out);
-        accepted(number, out[0])
+        let WriteAnswer { number, place } = self.change(kind, image, field, value.into());
+        accepted(number, place)
     }
 
     fn reading_taken(&self, kind: u8, image: &[u8], input: i64) -> Result<Reading, Refusal> {
-        let (mut out, mut fraction, mut figure) = ([0], [0], [0.0]);
-        let number = self.reading(kind, image, input, &mut out, &mut fraction, &mut figure);
-        accepted(number, out[0])?;
-        Ok(Reading { fraction: fraction[0], figure: figure[0] })
+        let ReadingAnswer { number, place, fraction, figure } = self.reading(kind, image, input);
+        accepted(number, place)?;
+        Ok(Reading { fraction, figure })
     }
 
     fn text_of(&self, field: u64, code: u64) -> Result<Text, Refusal> {
-        let (mut out, mut characters) = ([0], [0; 10]);
-        let number = self.text(field, code, &mut out, &mut characters);
-        accepted(number, out[0])?;
-        Ok(Text { length: out[0].min(10) as usize, characters })
+        let TextAnswer { number, place, length, characters } = self.text(field, code);
+        accepted(number, place)?;
+        let mut ten = [0; 10];
+        ten.copy_from_slice(&characters[..10]);
+        Ok(Text { length: length.min(10) as usize, characters: ten })
     }
 
     fn code_of(&self, field: u64, text: &[u8]) -> Result<u64, Refusal> {
-        let mut out = [0];
-        let number = self.code(field, text, &mut out);
-        accepted(number, out[0])?;
-        Ok(out[0])
-    }
-
-    /// The page's bytes, copied, and how many.
-    fn page_read(&self, kind: u8, image: &[u8], page: u64) -> Result<([u8; 31], usize), Refusal> {
-        let (mut out, mut bytes) = ([0], [0; 31]);
-        let number = self.page(kind, image, page, &mut out, &mut bytes);
-        accepted(number, out[0])?;
-        Ok((bytes, out[0].min(31) as usize))
+        let CodeAnswer { number, place, code } = self.code(field, text);
+        accepted(number, place)?;
+        Ok(code)
     }
 }
 
@@ -177,137 +96,105 @@ fn accepted(number: u8, place: u64) -> Result<(), Refusal> {
 /// The plain implementation behind the header's calls.
 pub struct Plain;
 
-fn told<T>(answer: Result<T, Refusal>, out: &mut [u64], accept: impl FnOnce(T, &mut [u64])) -> u8 {
-    match answer {
-        Ok(value) => {
-            accept(value, out);
-            0
+impl Calls for Plain {
+    fn kind_of(&self, bytes: usize) -> u8 {
+        match bytes {
+            40 => 0,
+            128 => 1,
+            512 => 2,
+            _ => 255,
         }
-        Err(refusal) => {
-            out[0] = refusal.place;
-            refusal.number
+    }
+
+    fn check(&self, kind: u8, image: &[u8]) -> CheckAnswer {
+        match plain::check(kind, image) {
+            Ok(Summary { bits, points, end_bit, characters }) => {
+                CheckAnswer { bits, points, characters, end_bit: end_bit as u8, ..CheckAnswer::default() }
+            }
+            Err(Refusal { number, place }) => CheckAnswer { number, place, ..CheckAnswer::default() },
         }
+    }
+
+    fn field(&self, kind: u8, image: &[u8], field: u64) -> FieldAnswer {
+        match plain::field(kind, image, field) {
+            Ok(value) => FieldAnswer { value: value.into(), ..FieldAnswer::default() },
+            Err(Refusal { number, place }) => FieldAnswer { number, place, ..FieldAnswer::default() },
+        }
+    }
+
+    /// A check, and then the fields one by one.
+    fn sheet(&self, kind: u8, image: &[u8]) -> SheetAnswer {
+        let check = self.check(kind, image);
+        let CheckAnswer { number, place, bits, points, characters, end_bit } = check;
+        if number != 0 {
+            return SheetAnswer { number, place, ..SheetAnswer::default() };
+        }
+        let mut fields = Fields { end_bit, ..Fields::default() };
+        for (value, field) in fields.values.iter_mut().zip(1..) {
+            *value = self.field(kind, image, field).value;
+        }
+        SheetAnswer { number, place, bits, points, characters, field_count: 21, fields }
+    }
+
+    fn pair(&self, kind: u8, image: &[u8], index: u64) -> PairAnswer {
+        match plain::pair(kind, image, index) {
+            Ok((point, deviation)) => PairAnswer { point, deviation, ..PairAnswer::default() },
+            Err(Refusal { number, place }) => PairAnswer { number, place, ..PairAnswer::default() },
+        }
+    }
+
+    fn character(&self, kind: u8, image: &[u8], index: u64) -> CharacterAnswer {
+        match plain::character(kind, image, index) {
+            Ok(character) => CharacterAnswer { character, ..CharacterAnswer::default() },
+            Err(Refusal { number, place }) => CharacterAnswer { number, place, ..CharacterAnswer::default() },
+        }
+    }
+
+    fn build(&self, kind: u8, image: &mut [u8], fields: Fields, text: &[u8], points: &[i64]) -> WriteAnswer {
+        let values = fields.values.map(ByFlags::value);
+        wrote(plain::build(kind, image, &values, fields.end_bit != 0, text, points))
+    }
+
+    fn change(&self, kind: u8, image: &mut [u8], field: u64, value: ByFlags) -> WriteAnswer {
+        wrote(plain::change(kind, image, field, value.value()))
+    }
+
+    fn reading(&self, kind: u8, image: &[u8], input: i64) -> ReadingAnswer {
+        match plain::reading(kind, image, input) {
+            Ok(Reading { fraction, figure }) => ReadingAnswer { fraction, figure, ..ReadingAnswer::default() },
+            Err(Refusal { number, place }) => ReadingAnswer { number, place, ..ReadingAnswer::default() },
+        }
+    }
+
+    fn text(&self, field: u64, code: u64) -> TextAnswer {
+        match plain::text(field, code) {
+            Ok(Text { length, characters: ten }) => {
+                let mut characters = [0; 11];
+                characters[..10].copy_from_slice(&ten);
+                TextAnswer { length: length as u64, characters, ..TextAnswer::default() }
+            }
+            Err(Refusal { number, place }) => TextAnswer { number, place, ..TextAnswer::default() },
+        }
+    }
+
+    fn code(&self, field: u64, text: &[u8]) -> CodeAnswer {
+        match plain::code(field, text) {
+            Ok(code) => CodeAnswer { code, ..CodeAnswer::default() },
+            Err(Refusal { number, place }) => CodeAnswer { number, place, ..CodeAnswer::default() },
+        }
+    }
+
+    fn page(&self, kind: u8, image: &[u8], page: u64) -> PageAnswer {
+        let part = plain::page(kind, image, page);
+        let mut bytes = [0; 31];
+        bytes[..part.len()].copy_from_slice(part);
+        PageAnswer { count: part.len() as u64, bytes }
     }
 }
 
-impl Calls for Plain {
-    fn check(&self, kind: u8, image: &[u8], out: &mut [u64]) -> u8 {
-        if out.len() < 4 {
-            return NOT_CALLED;
-        }
-        told(plain::check(kind, image), out, |summary, out| {
-            out[0] = summary.bits;
-            out[1] = summary.points;
-            out[2] = summary.end_bit;
-            out[3] = summary.characters;
-        })
-    }
-
-    fn field(&self, kind: u8, image: &[u8], field: u64, out: &mut [u64], whole: &mut [i64], single: &mut [f32]) -> u8 {
-        if out.is_empty() || whole.is_empty() || single.is_empty() {
-            return NOT_CALLED;
-        }
-        told(plain::field(kind, image, field), out, |value, out| match value {
-            Value::Whole(figure) => {
-                out[0] = u64::from(WHOLE);
-                whole[0] = figure;
-            }
-            Value::Single(figure) => {
-                out[0] = u64::from(SINGLE);
-                single[0] = figure;
-            }
-            Value::Missing => out[0] = u64::from(MISSING),
-        })
-    }
-
-    fn pair(&self, kind: u8, image: &[u8], index: u64, out: &mut [u64], pair: &mut [i64]) -> u8 {
-        if out.is_empty() || pair.len() < 2 {
-            return NOT_CALLED;
-        }
-        told(plain::pair(kind, image, index), out, |read, _| {
-            pair[0] = read.0;
-            pair[1] = read.1;
-        })
-    }
-
-    fn character(&self, kind: u8, image: &[u8], index: u64, out: &mut [u64]) -> u8 {
-        if out.is_empty() {
-            return NOT_CALLED;
-        }
-        told(plain::character(kind, image, index), out, |character, out| out[0] = u64::from(character))
-    }
-
-    fn build(&self, kind: u8, image: &mut [u8], sheet: Sheet, out: &mut [u64]) -> u8 {
-        let Values { sorts, wholes, singles } = sheet.values;
-        if out.is_empty() || sheet.end_bit > 1 {
-            return NOT_CALLED;
-        }
-        if sorts.len() < 21 || wholes.len() < 21 || singles.len() < 21 {
-            return NOT_CALLED;
-        }
-        let mut values = [Value::Missing; 21];
-        for (i, value) in values.iter_mut().enumerate() {
-            *value = match sorts[i] {
-                WHOLE => Value::Whole(wholes[i]),
-                SINGLE => Value::Single(singles[i]),
-                MISSING => Value::Missing,
-                _ => return NOT_CALLED,
-            };
-        }
-        let end_bit = sheet.end_bit == 1;
-        let answer = plain::build(kind, image, &values, end_bit, sheet.text, sheet.points);
-        told(answer, out, |(), _| ())
-    }
-
-    fn change(&self, kind: u8, image: &mut [u8], field: u64, given: Given, out: &mut [u64]) -> u8 {
-        match given.value() {
-            Some(value) if !out.is_empty() => told(plain::change(kind, image, field, value), out, |(), _| ()),
-            _ => NOT_CALLED,
-        }
-    }
-
-    fn reading(
-        &self,
-        kind: u8,
-        image: &[u8],
-        input: i64,
-        out: &mut [u64],
-        fraction: &mut [i64],
-        figure: &mut [f64],
-    ) -> u8 {
-        if out.is_empty() || fraction.is_empty() || figure.is_empty() {
-            return NOT_CALLED;
-        }
-        told(plain::reading(kind, image, input), out, |reading, _| {
-            fraction[0] = reading.fraction;
-            figure[0] = reading.figure;
-        })
-    }
-
-    fn text(&self, field: u64, code: u64, out: &mut [u64], characters: &mut [u8]) -> u8 {
-        if out.is_empty() || characters.len() < 10 {
-            return NOT_CALLED;
-        }
-        told(plain::text(field, code), out, |text, out| {
-            out[0] = text.length as u64;
-            characters[..10].copy_from_slice(&text.characters);
-        })
-    }
-
-    fn code(&self, field: u64, text: &[u8], out: &mut [u64]) -> u8 {
-        if out.is_empty() {
-            return NOT_CALLED;
-        }
-        told(plain::code(field, text), out, |code, out| out[0] = code)
-    }
-
-    fn page(&self, kind: u8, image: &[u8], page: u64, out: &mut [u64], bytes: &mut [u8]) -> u8 {
-        if out.is_empty() || bytes.len() < 31 {
-            return NOT_CALLED;
-        }
-        let part = plain::page(kind, image, page);
-        bytes[..part.len()].copy_from_slice(part);
-        out[0] = part.len() as u64;
-        0
+fn wrote(answer: Result<(), Refusal>) -> WriteAnswer {
+    match answer {
+        Ok(()) => WriteAnswer::default(),
+        Err(Refusal { number, place }) => WriteAnswer { number, place },
     }
 }

@@ -192,8 +192,8 @@ impl Command {
                 format!("ok {} {} {} {}", summary.bits, summary.points, summary.end_bit, summary.characters)
             }
             Command::Page(kind, image, page) => {
-                let (bytes, length) = calls.page_read(*kind, image, *page)?;
-                Hex(&bytes[..length]).to_string()
+                let page = calls.page(*kind, image, *page);
+                Hex(&page.bytes[..page.count.min(31) as usize]).to_string()
             }
             Command::Field(kind, image, field) => calls.field_read(*kind, image, *field)?.to_string(),
             Command::Pair(kind, image, index) => {

@@ -1,234 +1,93 @@
 //! The product's calls, as `include/dartelm.h` declares them.
 
-use crate::calls::{Calls, Given, Sheet};
+use crate::calls::Calls;
+use crate::structs::{
+    ByFlags, CharacterAnswer, CheckAnswer, CodeAnswer, FieldAnswer, Fields, PageAnswer, PairAnswer, ReadingAnswer,
+    SheetAnswer, TextAnswer, WriteAnswer,
+};
 
-mod dash {
+mod dartelm {
+    use super::*;
+
     unsafe extern "C" {
-        pub fn dash_check(kind: u8, image: *const u8, image_length: usize, out: *mut u64, out_length: usize) -> u8;
-        pub fn dash_field(
-            kind: u8,
-            image: *const u8,
-            image_length: usize,
-            field: u64,
-            out: *mut u64,
-            out_length: usize,
-            whole: *mut i64,
-            whole_length: usize,
-            single: *mut f32,
-            single_length: usize,
-        ) -> u8;
-        pub fn dash_pair(
-            kind: u8,
-            image: *const u8,
-            image_length: usize,
-            index: u64,
-            out: *mut u64,
-            out_length: usize,
-            pair: *mut i64,
-            pair_length: usize,
-        ) -> u8;
-        pub fn dash_character(
-            kind: u8,
-            image: *const u8,
-            image_length: usize,
-            index: u64,
-            out: *mut u64,
-            out_length: usize,
-        ) -> u8;
-        pub fn dash_build(
+        pub safe fn dartelm_kind_of(bytes: usize) -> u8;
+        pub fn dartelm_check(kind: u8, image: *const u8, image_length: usize) -> CheckAnswer;
+        pub fn dartelm_field(kind: u8, image: *const u8, image_length: usize, field: u64) -> FieldAnswer;
+        pub fn dartelm_sheet(kind: u8, image: *const u8, image_length: usize) -> SheetAnswer;
+        pub fn dartelm_pair(kind: u8, image: *const u8, image_length: usize, index: u64) -> PairAnswer;
+        pub fn dartelm_character(kind: u8, image: *const u8, image_length: usize, index: u64) -> CharacterAnswer;
+        pub fn dartelm_build(
             kind: u8,
             image: *mut u8,
             image_length: usize,
-            sorts: *const u8,
-            sorts_length: usize,
-            wholes: *const i64,
-            wholes_length: usize,
-            singles: *const f32,
-            singles_length: usize,
-            end_bit: u8,
+            fields: Fields,
             text: *const u8,
             text_length: usize,
             points: *const i64,
             points_length: usize,
-            out: *mut u64,
-            out_length: usize,
-        ) -> u8;
-        pub fn dash_change(
-            kind: u8,
-            image: *mut u8,
-            image_length: usize,
-            field: u64,
-            sort: u8,
-            whole: i64,
-            single: f32,
-            out: *mut u64,
-            out_length: usize,
-        ) -> u8;
-        pub fn dash_reading(
-            kind: u8,
-            image: *const u8,
-            image_length: usize,
-            input: i64,
-            out: *mut u64,
-            out_length: usize,
-            fraction: *mut i64,
-            fraction_length: usize,
-            figure: *mut f64,
-            figure_length: usize,
-        ) -> u8;
-        pub fn dash_text(
-            field: u64,
-            code: u64,
-            out: *mut u64,
-            out_length: usize,
-            characters: *mut u8,
-            characters_length: usize,
-        ) -> u8;
-        pub fn dash_code(field: u64, text: *const u8, text_length: usize, out: *mut u64, out_length: usize) -> u8;
-        pub fn dash_page(
-            kind: u8,
-            image: *const u8,
-            image_length: usize,
-            page: u64,
-            out: *mut u64,
-            out_length: usize,
-            bytes: *mut u8,
-            bytes_length: usize,
-        ) -> u8;
+        ) -> WriteAnswer;
+        pub fn dartelm_change(kind: u8, image: *mut u8, image_length: usize, field: u64, value: ByFlags)
+        -> WriteAnswer;
+        pub fn dartelm_reading(kind: u8, image: *const u8, image_length: usize, input: i64) -> ReadingAnswer;
+        pub safe fn dartelm_text(field: u64, code: u64) -> TextAnswer;
+        pub fn dartelm_code(field: u64, text: *const u8, text_length: usize) -> CodeAnswer;
+        pub fn dartelm_page(kind: u8, image: *const u8, image_length: usize, page: u64) -> PageAnswer;
     }
 }
 
 /// The product's archive.
 pub struct Product;
 
-// Every call is handed pointers to whole slices with their lengths, none of which overlap; the header promises that no call
-// reads or writes past a length.
+// Every call is lent whole slices with their lengths, none of which overlap, and that is all that the header asks.
 impl Calls for Product {
-    fn check(&self, kind: u8, image: &[u8], out: &mut [u64]) -> u8 {
-        unsafe { dash::dash_check(kind, image.as_ptr(), image.len(), out.as_mut_ptr(), out.len()) }
+    fn kind_of(&self, bytes: usize) -> u8 {
+        dartelm::dartelm_kind_of(bytes)
     }
 
-    fn field(&self, kind: u8, image: &[u8], field: u64, out: &mut [u64], whole: &mut [i64], single: &mut [f32]) -> u8 {
-        unsafe {
-            dash::dash_field(
-                kind,
-                image.as_ptr(),
-                image.len(),
-                field,
-                out.as_mut_ptr(),
-                out.len(),
-                whole.as_mut_ptr(),
-                whole.len(),
-                single.as_mut_ptr(),
-                single.len(),
-            )
-        }
+    fn check(&self, kind: u8, image: &[u8]) -> CheckAnswer {
+        unsafe { dartelm::dartelm_check(kind, image.as_ptr(), image.len()) }
     }
 
-    fn pair(&self, kind: u8, image: &[u8], index: u64, out: &mut [u64], pair: &mut [i64]) -> u8 {
-        unsafe {
-            dash::dash_pair(
-                kind,
-                image.as_ptr(),
-                image.len(),
-                index,
-                out.as_mut_ptr(),
-                out.len(),
-                pair.as_mut_ptr(),
-                pair.len(),
-            )
-        }
+    fn field(&self, kind: u8, image: &[u8], field: u64) -> FieldAnswer {
+        unsafe { dartelm::dartelm_field(kind, image.as_ptr(), image.len(), field) }
     }
 
-    fn character(&self, kind: u8, image: &[u8], index: u64, out: &mut [u64]) -> u8 {
-        unsafe { dash::dash_character(kind, image.as_ptr(), image.len(), index, out.as_mut_ptr(), out.len()) }
+    fn sheet(&self, kind: u8, image: &[u8]) -> SheetAnswer {
+        unsafe { dartelm::dartelm_sheet(kind, image.as_ptr(), image.len()) }
     }
 
-    fn build(&self, kind: u8, image: &mut [u8], sheet: Sheet, out: &mut [u64]) -> u8 {
-        let values = sheet.values;
-        unsafe {
-            dash::dash_build(
-                kind,
-                image.as_mut_ptr(),
-                image.len(),
-                values.sorts.as_ptr(),
-                values.sorts.len(),
-                values.wholes.as_ptr(),
-                values.wholes.len(),
-                values.singles.as_ptr(),
-                values.singles.len(),
-                sheet.end_bit,
-                sheet.text.as_ptr(),
-                sheet.text.len(),
-                sheet.points.as_ptr(),
-                sheet.points.len(),
-                out.as_mut_ptr(),
-                out.len(),
-            )
-        }
+    fn pair(&self, kind: u8, image: &[u8], index: u64) -> PairAnswer {
+        unsafe { dartelm::dartelm_pair(kind, image.as_ptr(), image.len(), index) }
     }
 
-    fn change(&self, kind: u8, image: &mut [u8], field: u64, given: Given, out: &mut [u64]) -> u8 {
-        unsafe {
-            dash::dash_change(
-                kind,
-                image.as_mut_ptr(),
-                image.len(),
-                field,
-                given.sort,
-                given.whole,
-                given.single,
-                out.as_mut_ptr(),
-                out.len(),
-            )
-        }
+    fn character(&self, kind: u8, image: &[u8], index: u64) -> CharacterAnswer {
+        unsafe { dartelm::dartelm_character(kind, image.as_ptr(), image.len(), index) }
     }
 
-    fn reading(
-        &self,
-        kind: u8,
-        image: &[u8],
-        input: i64,
-        out: &mut [u64],
-        fraction: &mut [i64],
-        figure: &mut [f64],
-    ) -> u8 {
-        unsafe {
-            dash::dash_reading(
-                kind,
-                image.as_ptr(),
-                image.len(),
-                input,
-                out.as_mut_ptr(),
-                out.len(),
-                fraction.as_mut_ptr(),
-                fraction.len(),
-                figure.as_mut_ptr(),
-                figure.len(),
-            )
-        }
+    fn build(&self, kind: u8, image: &mut [u8], fields: Fields, text: &[u8], points: &[i64]) -> WriteAnswer {
+        let (image, image_length) = (image.as_mut_ptr(), image.len());
+        let (text, text_length) = (text.as_ptr(), text.len());
+        let (points, points_length) = (points.as_ptr(), points.len());
+        unsafe { dartelm::dartelm_build(kind, image, image_length, fields, text, text_length, points, points_length) }
     }
 
-    fn text(&self, field: u64, code: u64, out: &mut [u64], characters: &mut [u8]) -> u8 {
-        unsafe { dash::dash_text(field, code, out.as_mut_ptr(), out.len(), characters.as_mut_ptr(), characters.len()) }
+    fn change(&self, kind: u8, image: &mut [u8], field: u64, value: ByFlags) -> WriteAnswer {
+        unsafe { dartelm::dartelm_change(kind, image.as_mut_ptr(), image.len(), field, value) }
     }
 
-    fn code(&self, field: u64, text: &[u8], out: &mut [u64]) -> u8 {
-        unsafe { dash::dash_code(field, text.as_ptr(), text.len(), out.as_mut_ptr(), out.len()) }
+    fn reading(&self, kind: u8, image: &[u8], input: i64) -> ReadingAnswer {
+        unsafe { dartelm::dartelm_reading(kind, image.as_ptr(), image.len(), input) }
     }
 
-    fn page(&self, kind: u8, image: &[u8], page: u64, out: &mut [u64], bytes: &mut [u8]) -> u8 {
-        unsafe {
-            dash::dash_page(
-                kind,
-                image.as_ptr(),
-                image.len(),
-                page,
-                out.as_mut_ptr(),
-                out.len(),
-                bytes.as_mut_ptr(),
-                bytes.len(),
-            )
-        }
+    fn text(&self, field: u64, code: u64) -> TextAnswer {
+        dartelm::dartelm_text(field, code)
+    }
+
+    fn code(&self, field: u64, text: &[u8]) -> CodeAnswer {
+        unsafe { dartelm::dartelm_code(field, text.as_ptr(), text.len()) }
+    }
+
+    fn page(&self, kind: u8, image: &[u8], page: u64) -> PageAnswer {
+        unsafe { dartelm::dartelm_page(kind, image.as_ptr(), image.len(), page) }
     }
 }

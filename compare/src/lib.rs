@@ -8,3 +8,4 @@ pub mod console;
 pub mod ffi;
 pub mod plain;
 pub mod random;
+pub mod structs;

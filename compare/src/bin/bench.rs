@@ -5,26 +5,21 @@
 use std::hint::black_box;
 use std::time::Instant;
 
-use compare::calls::{Calls, Given, Plain, Sheet, Values};
+use compare::calls::{Calls, Plain};
 use compare::ffi::Product;
 use compare::plain::Value;
+use compare::structs::{ByFlags, Fields};
 
 const ROUNDS: usize = 1_000;
 const ROUND_NANOSECONDS: f64 = 1e5;
 
-/// A sheet on a chip, with what the calls are lent.
+/// A sheet on a chip, with what the calls are handed.
 struct Case {
     kind: u8,
     image: Vec<u8>,
-    sorts: [u8; 21],
-    wholes: [i64; 21],
-    singles: [f32; 21],
+    fields: Fields,
     text: &'static [u8],
     points: Vec<i64>,
-    out: [u64; 4],
-    whole: [i64; 2],
-    single: [f32; 1],
-    figure: [f64; 1],
 }
 
 fn values() -> [Value; 21] {
@@ -56,21 +51,14 @@ fn values() -> [Value; 21] {
 
 impl Case {
     fn new(kind: u8, count: i64, text: &'static [u8]) -> Case {
-        let given = values().map(Given::from);
         let mut case = Case {
             kind,
             image: vec![0; [40, 128, 512][usize::from(kind)]],
-            sorts: given.map(|given| given.sort),
-            wholes: given.map(|given| given.whole),
-            singles: given.map(|given| given.single),
+            fields: Fields { values: values().map(ByFlags::from), end_bit: 1 },
             text,
             points: (0..count)
                 .flat_map(|i| [i * 1_000_000_000 / count.max(1), (i * 7_919 % 200 - 100) * 10_000])
                 .collect(),
-            out: [0; 4],
-            whole: [0; 2],
-            single: [0.0],
-            figure: [0.0],
         };
         let number = build(&Plain, &mut case, 0);
         assert_eq!(number, 0, "kind {kind}, {count} points");
@@ -78,23 +66,17 @@ impl Case {
     }
 }
 
-// Both sides are called through the same functions, which are not inlined, and with the same arguments.
+// Both sides are called through the same functions, which are not inlined, and with the same arguments; every member of an
+// answer is wanted.
 
 #[inline(never)]
 fn check<C: Calls>(calls: &C, case: &mut Case, _: usize) -> u8 {
-    calls.check(black_box(case.kind), black_box(&case.image), &mut case.out)
+    black_box(&calls.check(black_box(case.kind), black_box(&case.image))).number
 }
 
 #[inline(never)]
 fn field<C: Calls>(calls: &C, case: &mut Case, field: u64) -> u8 {
-    calls.field(
-        black_box(case.kind),
-        black_box(&case.image),
-        black_box(field),
-        &mut case.out,
-        &mut case.whole,
-        &mut case.single,
-    )
+    black_box(&calls.field(black_box(case.kind), black_box(&case.image), black_box(field))).number
 }
 
 fn first_field<C: Calls>(calls: &C, case: &mut Case, _: usize) -> u8 {
@@ -106,33 +88,32 @@ fn last_field<C: Calls>(calls: &C, case: &mut Case, _: usize) -> u8 {
 }
 
 #[inline(never)]
+fn sheet<C: Calls>(calls: &C, case: &mut Case, _: usize) -> u8 {
+    black_box(&calls.sheet(black_box(case.kind), black_box(&case.image))).number
+}
+
+fn each_field<C: Calls>(calls: &C, case: &mut Case, _: usize) -> u8 {
+    (1..=21).map(|number| field(calls, case, number)).max().unwrap_or(0)
+}
+
+#[inline(never)]
 fn reading<C: Calls>(calls: &C, case: &mut Case, turn: usize) -> u8 {
     let input = -250_000 + 220_000 * (turn % 16) as i64;
-    calls.reading(
-        black_box(case.kind),
-        black_box(&case.image),
-        black_box(input),
-        &mut case.out,
-        &mut case.whole,
-        &mut case.figure,
-    )
+    black_box(&calls.reading(black_box(case.kind), black_box(&case.image), black_box(input))).number
 }
 
 #[inline(never)]
 fn change<C: Calls>(calls: &C, case: &mut Case, turn: usize) -> u8 {
-    let given = Given::from(Value::Whole(7_306 + (turn % 2) as i64));
-    calls.change(black_box(case.kind), black_box(&mut case.image), black_box(18), black_box(given), &mut case.out)
+    let value = ByFlags::from(Value::Whole(7_306 + (turn % 2) as i64));
+    let answer = calls.change(black_box(case.kind), black_box(&mut case.image), black_box(18), black_box(value));
+    black_box(&answer).number
 }
 
 #[inline(never)]
 fn build<C: Calls>(calls: &C, case: &mut Case, _: usize) -> u8 {
-    let sheet = Sheet {
-        values: Values { sorts: &case.sorts, wholes: &case.wholes, singles: &case.singles },
-        end_bit: 1,
-        text: case.text,
-        points: &case.points,
-    };
-    calls.build(black_box(case.kind), black_box(&mut case.image), black_box(sheet), &mut case.out)
+    let (text, points) = (black_box(case.text), black_box(&case.points));
+    let answer = calls.build(black_box(case.kind), black_box(&mut case.image), *black_box(&case.fields), text, points);
+    black_box(&answer).number
 }
 
 type Run<'a> = &'a dyn Fn(&mut Case, usize);
@@ -161,18 +142,19 @@ fn over<C: Calls>(calls: C, call: fn(&C, &mut Case, usize) -> u8) -> impl Fn(&mu
         let mut refused = 0u64;
         for turn in 0..turns {
             refused += u64::from(call(&calls, case, turn) != 0);
-            black_box((&case.out, &case.whole, &case.single, &case.figure, &case.image));
+            black_box(&case.image);
         }
         assert_eq!(refused, 0);
     }
 }
 
+const CASES: [(u8, i64, &[u8]); 6] =
+    [(0, 0, b"Dash"), (1, 0, b"Dash"), (1, 18, b"Dash"), (2, 0, b"Dash"), (2, 20, b"Dash"), (2, 99, b"D")];
+
 fn main() {
     println!("| Kind | Points | Call | Product, ns | Plain, ns | Product / plain |");
     println!("|---|---|---|---|---|---|");
-    for (kind, points, text) in
-        [(0, 0, &b"Dash"[..]), (1, 0, b"Dash"), (1, 18, b"Dash"), (2, 0, b"Dash"), (2, 20, b"Dash"), (2, 99, b"D")]
-    {
+    for (kind, points, text) in CASES {
         let mut case = Case::new(kind, points, text);
         let rows: [(&str, Run, Run); 6] = [
             ("check", &over(Product, check), &over(Plain, check)),
@@ -186,5 +168,13 @@ fn main() {
             let (ours, theirs) = measure(product, plain, &mut case);
             println!("| {kind} | {points} | {name} | {ours:.0} | {theirs:.0} | {:.2} |", ours / theirs);
         }
+    }
+    println!();
+    println!("| Kind | Points | All fields in one call, ns | 21 field reads, ns |");
+    println!("|---|---|---|---|");
+    for (kind, points, text) in CASES {
+        let mut case = Case::new(kind, points, text);
+        let (one, each) = measure(&over(Product, sheet), &over(Product, each_field), &mut case);
+        println!("| {kind} | {points} | {one:.0} | {each:.0} |");
     }
 }

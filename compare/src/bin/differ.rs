@@ -1,15 +1,20 @@
-//! differ [CALLS] [SEED]: random calls of the product and of the plain implementation, handed the same; after each the
-//! answers and every element of every lent buffer are compared.
+//! differ [CALLS] [SEED]: random calls of the product and of the plain implementation, handed the same; after each every
+//! member of the answers and every byte of the lent buffers are compared.
 
 #![forbid(unsafe_code)]
 
+use std::fmt::Debug;
 use std::process::ExitCode;
 
-use compare::calls::{Calls, Given, NOT_CALLED, Plain, Sheet, Values};
+use compare::calls::{Calls, Plain};
 use compare::console::Command;
 use compare::ffi::Product;
 use compare::plain::{self, Value};
 use compare::random::Random;
+use compare::structs::{
+    ByFlags, CharacterAnswer, CheckAnswer, CodeAnswer, FieldAnswer, Fields, PageAnswer, PairAnswer, ReadingAnswer,
+    SheetAnswer, TextAnswer, WriteAnswer,
+};
 
 #[path = "differ/images.rs"]
 mod images;
@@ -20,7 +25,8 @@ mod values;
 
 use layout::{get, image_length, pages};
 
-const CALLS: [&str; 10] = ["check", "page", "field", "pair", "char", "build", "change", "reading", "text", "code"];
+const CALLS: [&str; 12] =
+    ["check", "page", "field", "pair", "char", "build", "change", "reading", "text", "code", "sheet", "kind"];
 const CHECK: usize = 0;
 const PAGE: usize = 1;
 const FIELD: usize = 2;
@@ -31,6 +37,8 @@ const CHANGE: usize = 6;
 const READING: usize = 7;
 const TEXT: usize = 8;
 const CODE: usize = 9;
+const SHEET: usize = 10;
+const KIND: usize = 11;
 
 const MOST_SHOWN: u64 = 10;
 
@@ -38,23 +46,13 @@ const MOST_SHOWN: u64 = 10;
 const MARGIN: usize = 16;
 const ROOM: usize = 640;
 
-// ---- what is lent ----
+// ---- what is lent and answered ----
 
-/// Every buffer that a call can write to, longer than what is lent of it.
+/// The one buffer that a call can write to, longer than what is lent of it.
 #[derive(Clone)]
 struct Lent {
     image: [u8; ROOM],
     image_length: usize,
-    out: [u64; 8],
-    out_length: usize,
-    wholes: [i64; 5],
-    wholes_length: usize,
-    singles: [f32; 4],
-    singles_length: usize,
-    figures: [f64; 4],
-    figures_length: usize,
-    bytes: [u8; 48],
-    bytes_length: usize,
 }
 
 impl Lent {
@@ -62,15 +60,43 @@ impl Lent {
         &self.image[MARGIN..MARGIN + self.image_length]
     }
 
-    fn same(&self, other: &Lent) -> bool {
-        self.image == other.image
-            && self.out == other.out
-            && self.wholes == other.wholes
-            && self.singles.map(f32::to_bits) == other.singles.map(f32::to_bits)
-            && self.figures.map(f64::to_bits) == other.figures.map(f64::to_bits)
-            && self.bytes == other.bytes
+    fn image_mut(&mut self) -> &mut [u8] {
+        &mut self.image[MARGIN..MARGIN + self.image_length]
     }
 }
+
+/// An answer with its number: 0 where it has none.
+trait Answer: PartialEq + Debug {
+    fn number(&self) -> u8 {
+        0
+    }
+}
+
+macro_rules! numbered {
+    ($($answer:ty),*) => {
+        $(impl Answer for $answer {
+            fn number(&self) -> u8 {
+                self.number
+            }
+        })*
+    };
+}
+
+numbered!(
+    CheckAnswer,
+    FieldAnswer,
+    SheetAnswer,
+    PairAnswer,
+    CharacterAnswer,
+    WriteAnswer,
+    ReadingAnswer,
+    TextAnswer,
+    CodeAnswer
+);
+
+impl Answer for PageAnswer {}
+
+impl Answer for u8 {}
 
 // ---- the run ----
 
@@ -80,71 +106,27 @@ struct Differ {
     kind: u8,
     calls: u64,
     differ: u64,
-    /// By call and number; the last is `NOT_CALLED`.
-    numbers: [[u64; 18]; 10],
+    /// By call and number.
+    numbers: [[u64; 17]; CALLS.len()],
     /// Accepted, by call and kind.
-    kinds: [[u64; 3]; 10],
+    kinds: [[u64; 3]; CALLS.len()],
 }
 
 impl Differ {
     fn new(seed: u64) -> Differ {
         Differ {
             random: Random(seed),
-            lent: Lent {
-                image: [0; ROOM],
-                image_length: 0,
-                out: [0; 8],
-                out_length: 0,
-                wholes: [0; 5],
-                wholes_length: 0,
-                singles: [0.0; 4],
-                singles_length: 0,
-                figures: [0.0; 4],
-                figures_length: 0,
-                bytes: [0; 48],
-                bytes_length: 0,
-            },
+            lent: Lent { image: [0; ROOM], image_length: 0 },
             kind: 0,
             calls: 0,
             differ: 0,
-            numbers: [[0; 18]; 10],
-            kinds: [[0; 3]; 10],
+            numbers: [[0; 17]; CALLS.len()],
+            kinds: [[0; 3]; CALLS.len()],
         }
     }
 
-    /// A length of an answer buffer: mostly what is needed, now and then more or less.
-    fn lend(&mut self, needed: usize, room: usize) -> usize {
-        match self.random.below(100) {
-            0 if needed > 0 => self.random.below(needed as u64) as usize,
-            1..=15 => self.random.within(needed as i64, room as i64) as usize,
-            _ => needed,
-        }
-    }
-
-    /// Old elements in every answer buffer, and how much of each is lent.
-    fn answers(&mut self, out: usize, wholes: usize, singles: usize, figures: usize, bytes: usize) {
-        for place in &mut self.lent.out {
-            *place = self.random.word();
-        }
-        for place in &mut self.lent.wholes {
-            *place = self.random.word() as i64;
-        }
-        for place in &mut self.lent.singles {
-            *place = f32::from_bits(self.random.word() as u32);
-        }
-        for place in &mut self.lent.figures {
-            *place = f64::from_bits(self.random.word());
-        }
-        self.random.fill(&mut self.lent.bytes);
-        self.lent.out_length = self.lend(out, 8);
-        self.lent.wholes_length = self.lend(wholes, 5);
-        self.lent.singles_length = self.lend(singles, 4);
-        self.lent.figures_length = self.lend(figures, 4);
-        self.lent.bytes_length = self.lend(bytes, 48);
-    }
-
-    /// The image's kind and length, now and then wrong ones.
-    fn chip(&mut self) -> (u8, usize) {
+    /// The image's kind and length, now and then wrong ones; so much of the image is lent.
+    fn chip(&mut self) -> u8 {
         let (mut kind, mut length) = (self.kind, image_length(self.kind));
         if self.random.percent(2) {
             if self.random.percent(50) {
@@ -154,46 +136,37 @@ impl Differ {
                 length = self.random.pick(&[0, 1, 32, 40, 128, 512, 513, near as usize]);
             }
         }
-        (kind, length)
+        self.lent.image_length = length;
+        kind
     }
 
-    /// Both sides' call on the same buffers; afterwards the buffers are the plain side's.
-    fn both(
+    /// Both sides' call on the same buffer; afterwards the buffer is the plain side's.
+    fn both<A: Answer>(
         &mut self,
         call: usize,
         kind: u8,
-        command: impl Fn(&[u8]) -> Option<Command>,
-        run: impl Fn(&dyn Calls, &mut Lent) -> u8,
-    ) -> u8 {
+        command: impl Fn(&[u8]) -> Command,
+        run: impl Fn(&dyn Calls, &mut Lent) -> A,
+    ) -> A {
         let mut product = self.lent.clone();
         let mut plain = self.lent.clone();
         let given = run(&Product, &mut product);
         let expected = run(&Plain, &mut plain);
         self.calls += 1;
-        let number = if expected == NOT_CALLED { 17 } else { expected };
-        self.numbers[call][usize::from(number)] += 1;
-        if expected == 0 {
+        self.numbers[call][usize::from(expected.number())] += 1;
+        if expected.number() == 0 {
             self.kinds[call][usize::from(kind % 3)] += 1;
         }
-        if given != expected || !product.same(&plain) {
+        let same = product.image == plain.image;
+        if given != expected || !same {
             self.differ += 1;
             if self.differ <= MOST_SHOWN {
-                println!("call {} differs:", self.calls);
-                if let Some(command) = command(self.lent.image()) {
-                    println!("  {command}");
-                    println!("  product {}", command.answer(&Product));
-                    println!("  plain   {}", command.answer(&Plain));
-                }
-                println!(
-                    "  {} with buffers of {}, {}, {}, {}, {}: product {given}, plain {expected}, buffers {}",
-                    CALLS[call],
-                    plain.out_length,
-                    plain.wholes_length,
-                    plain.singles_length,
-                    plain.figures_length,
-                    plain.bytes_length,
-                    if product.same(&plain) { "the same" } else { "differ" },
-                );
+                let command = command(self.lent.image());
+                println!("call {} differs, {}:", self.calls, CALLS[call]);
+                println!("  {command}");
+                println!("  product {given:?}");
+                println!("  plain   {expected:?}");
+                println!("  bytes of the image {}", if same { "the same" } else { "differ" });
             }
         }
         self.lent = plain;
@@ -211,23 +184,34 @@ impl Differ {
     // ---- calls ----
 
     fn check(&mut self) {
-        let (kind, length) = self.chip();
-        self.answers(4, 0, 0, 0, 0);
-        self.lent.image_length = length;
+        let kind = self.chip();
         self.both(
             CHECK,
             kind,
-            |image| Some(Command::Check(kind, image.to_vec())),
-            |calls, lent| {
-                calls.check(kind, &lent.image[MARGIN..MARGIN + lent.image_length], &mut lent.out[..lent.out_length])
-            },
+            |image| Command::Check(kind, image.to_vec()),
+            |calls, lent| calls.check(kind, lent.image()),
         );
     }
 
+    fn sheet(&mut self) {
+        let kind = self.chip();
+        self.both(
+            SHEET,
+            kind,
+            |image| Command::Check(kind, image.to_vec()),
+            |calls, lent| calls.sheet(kind, lent.image()),
+        );
+    }
+
+    fn kind_of(&mut self) {
+        let any = self.random.word() as usize;
+        let small = self.random.below(600) as usize;
+        let bytes = self.random.pick(&[0, 39, 40, 41, 127, 128, 129, 511, 512, 513, 1 << 32 | 40, small, any]);
+        self.both(KIND, 0, |_| Command::Check(0, Vec::new()), |calls, _| calls.kind_of(bytes));
+    }
+
     fn page(&mut self) {
-        let (kind, length) = self.chip();
-        self.answers(1, 0, 0, 0, 31);
-        self.lent.image_length = length;
+        let kind = self.chip();
         let page = match self.random.below(10) {
             0 => self.random.pick(&[u64::MAX, 1 << 32, 1 << 59, 1 << 63]),
             1 => self.random.word(),
@@ -239,16 +223,8 @@ impl Differ {
         self.both(
             PAGE,
             kind,
-            |image| Some(Command::Page(kind, image.to_vec(), page)),
-            |calls, lent| {
-                calls.page(
-                    kind,
-                    &lent.image[MARGIN..MARGIN + lent.image_length],
-                    page,
-                    &mut lent.out[..lent.out_length],
-                    &mut lent.bytes[..lent.bytes_length],
-                )
-            },
+            |image| Command::Page(kind, image.to_vec(), page),
+            |calls, lent| calls.page(kind, lent.image(), page),
         );
     }
 
@@ -261,24 +237,13 @@ impl Differ {
     }
 
     fn field(&mut self) {
-        let (kind, length) = self.chip();
-        self.answers(1, 1, 1, 0, 0);
-        self.lent.image_length = length;
+        let kind = self.chip();
         let field = self.field_number();
         self.both(
             FIELD,
             kind,
-            |image| Some(Command::Field(kind, image.to_vec(), field)),
-            |calls, lent| {
-                calls.field(
-                    kind,
-                    &lent.image[MARGIN..MARGIN + lent.image_length],
-                    field,
-                    &mut lent.out[..lent.out_length],
-                    &mut lent.wholes[..lent.wholes_length],
-                    &mut lent.singles[..lent.singles_length],
-                )
-            },
+            |image| Command::Field(kind, image.to_vec(), field),
+            |calls, lent| calls.field(kind, lent.image(), field),
         );
     }
 
@@ -296,43 +261,24 @@ impl Differ {
     fn pair(&mut self) {
         let count = plain::check(self.kind, self.image()).map_or(0, |summary| summary.points);
         let index = self.index(count);
-        let (kind, length) = self.chip();
-        self.answers(1, 2, 0, 0, 0);
-        self.lent.image_length = length;
+        let kind = self.chip();
         self.both(
             PAIR,
             kind,
-            |image| Some(Command::Pair(kind, image.to_vec(), index)),
-            |calls, lent| {
-                calls.pair(
-                    kind,
-                    &lent.image[MARGIN..MARGIN + lent.image_length],
-                    index,
-                    &mut lent.out[..lent.out_length],
-                    &mut lent.wholes[..lent.wholes_length],
-                )
-            },
+            |image| Command::Pair(kind, image.to_vec(), index),
+            |calls, lent| calls.pair(kind, lent.image(), index),
         );
     }
 
     fn character(&mut self) {
         let count = plain::check(self.kind, self.image()).map_or(0, |summary| summary.characters);
         let index = self.index(count);
-        let (kind, length) = self.chip();
-        self.answers(1, 0, 0, 0, 0);
-        self.lent.image_length = length;
+        let kind = self.chip();
         self.both(
             CHAR,
             kind,
-            |image| Some(Command::Char(kind, image.to_vec(), index)),
-            |calls, lent| {
-                calls.character(
-                    kind,
-                    &lent.image[MARGIN..MARGIN + lent.image_length],
-                    index,
-                    &mut lent.out[..lent.out_length],
-                )
-            },
+            |image| Command::Char(kind, image.to_vec(), index),
+            |calls, lent| calls.character(kind, lent.image(), index),
         );
     }
 
@@ -340,48 +286,24 @@ impl Differ {
         let precision = self.precision();
         let field = self.field_number();
         let known = if (1..=21).contains(&field) { field as usize } else { 1 };
-        let mut given = if self.random.percent(75) { self.good(known, precision) } else { self.bad(known, precision) };
-        if self.random.percent(1) {
-            given.sort = self.random.pick(&[3, 4, 128, 255]);
-        }
-        let (kind, length) = self.chip();
-        self.answers(1, 0, 0, 0, 0);
-        self.lent.image_length = length;
+        let value = if self.random.percent(75) { self.good(known, precision) } else { self.bad(known, precision) };
+        let kind = self.chip();
         self.both(
             CHANGE,
             kind,
-            |image| Some(Command::Change(kind, image.to_vec(), field, given.value()?)),
-            |calls, lent| {
-                calls.change(
-                    kind,
-                    &mut lent.image[MARGIN..MARGIN + lent.image_length],
-                    field,
-                    given,
-                    &mut lent.out[..lent.out_length],
-                )
-            },
+            |image| Command::Change(kind, image.to_vec(), field, value.value()),
+            |calls, lent| calls.change(kind, lent.image_mut(), field, value),
         );
     }
 
     fn reading(&mut self) {
         let input = self.input();
-        let (kind, length) = self.chip();
-        self.answers(1, 1, 0, 1, 0);
-        self.lent.image_length = length;
+        let kind = self.chip();
         self.both(
             READING,
             kind,
-            |image| Some(Command::Reading(kind, image.to_vec(), input)),
-            |calls, lent| {
-                calls.reading(
-                    kind,
-                    &lent.image[MARGIN..MARGIN + lent.image_length],
-                    input,
-                    &mut lent.out[..lent.out_length],
-                    &mut lent.wholes[..lent.wholes_length],
-                    &mut lent.figures[..lent.figures_length],
-                )
-            },
+            |image| Command::Reading(kind, image.to_vec(), input),
+            |calls, lent| calls.reading(kind, lent.image(), input),
         );
     }
 
@@ -406,15 +328,7 @@ impl Differ {
             _ if field == 19 => self.random.below(33_500),
             _ => self.random.below(66_000),
         };
-        self.answers(1, 0, 0, 0, 10);
-        self.both(
-            TEXT,
-            0,
-            |_| Some(Command::Text(field, code)),
-            |calls, lent| {
-                calls.text(field, code, &mut lent.out[..lent.out_length], &mut lent.bytes[..lent.bytes_length])
-            },
-        );
+        self.both(TEXT, 0, |_| Command::Text(field, code), |calls, _| calls.text(field, code));
     }
 
     fn code(&mut self) {
@@ -471,14 +385,8 @@ impl Differ {
             }
             _ => (),
         }
-        self.answers(1, 0, 0, 0, 0);
         let before = text.clone();
-        self.both(
-            CODE,
-            0,
-            |_| Some(Command::Code(field, text.clone())),
-            |calls, lent| calls.code(field, &text, &mut lent.out[..lent.out_length]),
-        );
+        self.both(CODE, 0, |_| Command::Code(field, text.clone()), |calls, _| calls.code(field, &text));
         self.untouched(CODE, before == text);
     }
 
@@ -492,99 +400,52 @@ impl Differ {
 
     fn build(&mut self) -> u8 {
         let precision = self.pick_precision();
-        let mut given = [Given::from(Value::Missing); 21];
-        for (i, place) in given.iter_mut().enumerate() {
+        let mut fields = Fields::default();
+        for (i, place) in fields.values.iter_mut().enumerate() {
             *place = self.good(i + 1, precision);
         }
-        given[8] = self.given(Value::Whole(precision as i64));
+        fields.values[8] = self.given(Value::Whole(precision as i64));
         if precision < 2 && self.random.percent(85) {
             let (e, f) = self.ends(precision);
-            given[9] = self.given(Value::Whole(e));
-            given[10] = self.given(Value::Whole(f));
+            fields.values[9] = self.given(Value::Whole(e));
+            fields.values[10] = self.given(Value::Whole(f));
         }
         if self.random.percent(25) {
             for _ in 0..self.random.within(1, 3) {
                 let field = self.random.within(1, 21) as usize;
-                given[field - 1] = self.bad(field, precision);
+                fields.values[field - 1] = self.bad(field, precision);
             }
-        }
-        let mut sorts = given.map(|given| given.sort).to_vec();
-        let mut wholes = given.map(|given| given.whole).to_vec();
-        let mut singles = given.map(|given| given.single).to_vec();
-        if self.random.percent(1) {
-            let field = self.random.within(0, 20) as usize;
-            sorts[field] = self.random.pick(&[3, 4, 128, 255]);
         }
         let points = self.point_list(precision);
         let text = self.closing_text(precision, points.len() / 2);
-        let mut end_bit = u8::from(!text.is_empty() || self.random.percent(30));
-        match self.random.below(100) {
-            0..=2 => end_bit = 0,
-            3 => end_bit = self.random.pick(&[2, 3, 128, 255]),
-            4 => match self.random.below(6) {
-                0 => sorts.truncate(20),
-                1 => wholes.truncate(20),
-                2 => singles.truncate(20),
-                3 => sorts.push(0),
-                4 => wholes.push(0),
-                _ => singles.push(0.0),
-            },
-            _ => (),
-        }
-        let sheet = Sheet {
-            values: Values { sorts: &sorts, wholes: &wholes, singles: &singles },
-            end_bit,
-            text: &text,
-            points: &points,
-        };
-        let before = (sorts.clone(), wholes.clone(), singles.clone(), text.clone(), points.clone());
-        let (kind, length) = self.chip();
-        self.answers(1, 0, 0, 0, 0);
-        self.lent.image_length = length;
-        let number = self.both(
+        let ended = !text.is_empty() || self.random.percent(30);
+        fields.end_bit = if ended && !self.random.percent(3) { self.yes() } else { 0 };
+        let before = (text.clone(), points.clone());
+        let kind = self.chip();
+        let answer = self.both(
             BUILD,
             kind,
-            |image| {
-                let mut values = Box::new([Value::Missing; 21]);
-                for (i, value) in values.iter_mut().enumerate() {
-                    *value =
-                        Given { sort: *sorts.get(i)?, whole: *wholes.get(i)?, single: *singles.get(i)? }.value()?;
-                }
-                Some(Command::Build {
-                    kind,
-                    length: image.len(),
-                    values,
-                    end_bit: match end_bit {
-                        0 | 1 => end_bit == 1,
-                        _ => return None,
-                    },
-                    text: text.clone(),
-                    points: points.clone(),
-                })
+            |image| Command::Build {
+                kind,
+                length: image.len(),
+                values: Box::new(fields.values.map(ByFlags::value)),
+                end_bit: fields.end_bit != 0,
+                text: text.clone(),
+                points: points.clone(),
             },
-            |calls, lent| {
-                calls.build(
-                    kind,
-                    &mut lent.image[MARGIN..MARGIN + lent.image_length],
-                    sheet,
-                    &mut lent.out[..lent.out_length],
-                )
-            },
+            |calls, lent| calls.build(kind, lent.image_mut(), fields, &text, &points),
         );
-        let bits = |singles: &[f32]| singles.iter().map(|single| single.to_bits()).collect::<Vec<_>>();
-        self.untouched(
-            BUILD,
-            (&before.0, &before.1, &before.3, &before.4) == (&sorts, &wholes, &text, &points)
-                && bits(&before.2) == bits(&singles),
-        );
-        number
+        self.untouched(BUILD, before == (text, points));
+        answer.number
     }
 
     /// A call on the image.
     fn act(&mut self) {
         match self.random.below(100) {
-            0..=13 => self.check(),
-            14..=18 => self.page(),
+            0..=9 => self.check(),
+            10..=13 => self.sheet(),
+            14..=17 => self.page(),
+            18 => self.kind_of(),
             19..=36 => self.field(),
             37..=46 => self.pair(),
             47..=56 => self.character(),
@@ -623,35 +484,28 @@ impl Differ {
     }
 
     fn report(&self, seed: u64) {
-        println!("| Call | Calls | Accepted, kind 0 | kind 1 | kind 2 | Refused, number: times | Not called |");
-        println!("|---|---|---|---|---|---|---|");
-        for (call, name) in CALLS.iter().enumerate() {
-            let numbers = &self.numbers[call];
-            let refused: Vec<String> = (1..17)
+        println!("| Call | Calls | Accepted, kind 0 | kind 1 | kind 2 | Refused, number: times |");
+        println!("|---|---|---|---|---|---|");
+        let times = |numbers: &[u64; 17]| {
+            let times: Vec<String> = (1..17)
                 .filter(|number| numbers[*number] > 0)
                 .map(|number| format!("{number}: {}", numbers[number]))
                 .collect();
+            times.join(", ")
+        };
+        let mut totals = [0; 17];
+        for (call, name) in CALLS.iter().enumerate() {
+            let numbers = &self.numbers[call];
+            for (total, number) in totals.iter_mut().zip(numbers) {
+                *total += number;
+            }
             let [zero, one, two] = self.kinds[call];
-            println!(
-                "| {name} | {} | {zero} | {one} | {two} | {} | {} |",
-                numbers.iter().sum::<u64>(),
-                refused.join(", "),
-                numbers[17]
-            );
+            println!("| {name} | {} | {zero} | {one} | {two} | {} |", numbers.iter().sum::<u64>(), times(numbers));
         }
-        let total = |number: usize| self.numbers.iter().map(|of| of[number]).sum::<u64>();
-        let calls: Vec<String> = CALLS
-            .iter()
-            .zip(&self.numbers)
-            .map(|(name, numbers)| format!("{name} {}", numbers.iter().sum::<u64>()))
-            .collect();
-        let refused: Vec<String> = (1..17).map(|number| format!("{number}: {}", total(number))).collect();
         println!(
-            "seed {seed}; {}; accepted {}; refused {}; not called {}; calls {} differ {}",
-            calls.join(", "),
-            total(0),
-            refused.join(", "),
-            total(17),
+            "seed {seed}; accepted {}; refused {}; calls {} differ {}",
+            totals[0],
+            times(&totals),
             self.calls,
             self.differ
         );

@@ -1,73 +1,112 @@
-// A command, by its first word and the number of its words.
+// A command, by the number of its words and the first of them.
+use crate::asked;
+use crate::asked::Asked;
+use crate::asked::ROOM;
 use crate::printing;
 use crate::reads;
 use crate::turned;
 use crate::writes;
-use lines::word;
 use shown::put;
 use texts::equal;
+use words::Figure;
+use words::Number;
+use words::front;
+use words::word;
 
-// Whether a line is this command, with so many words.
-fn is(line: &[u8], name: &[u8], words: u64) -> bool {
-    if lines::word_count(line) != words {
-        return false;
+const HELP: [u8; 407] = *b"check KIND IMAGE\n\
+    page KIND IMAGE PAGE\n\
+    field KIND IMAGE FIELD\n\
+    pair KIND IMAGE INDEX\n\
+    char KIND IMAGE INDEX\n\
+    reading KIND IMAGE INPUT\n\
+    show KIND IMAGE\n\
+    build KIND LENGTH V1 .. V21 ENDBIT TEXT POINTS\n\
+    change KIND IMAGE FIELD VALUE\n\
+    text FIELD CODE\n\
+    code FIELD TEXT\n\
+    help\n\
+    KIND 0, 1 or 2; IMAGE and TEXT in hexadecimal, - for none; VALUE w7, s3f800000 or m;\n\
+    POINTS point,deviation,.. or -; a refusal is: no NUMBER PLACE\n";
+
+// Answers a line.
+pub fn answer(line: &[u8]) {
+    let name = word(line, 0);
+    match words::word_count(line) {
+        1 => of_nothing(name),
+        3 => of_two(line, name),
+        4 => of_three(line, name),
+        5 => writes::change(line, name),
+        27 => writes::build(line, name),
+        _ => printing::unknown(),
     }
-    equal(word(line, 0), name)
 }
 
-pub fn answer(line: &[u8]) {
-    if is(line, b"check", 3) {
-        return reads::check(line);
-    }
-    if is(line, b"page", 4) {
-        return reads::page(line);
-    }
-    if is(line, b"field", 4) {
-        return reads::field(line);
-    }
-    if is(line, b"pair", 4) {
-        return reads::pair(line);
-    }
-    if is(line, b"char", 4) {
-        return reads::character(line);
-    }
-    if is(line, b"reading", 4) {
-        return reads::reading(line);
-    }
-    if is(line, b"build", 27) {
-        return writes::build(line);
-    }
-    if is(line, b"change", 5) {
-        return writes::change(line);
-    }
-    if is(line, b"text", 3) {
-        return turned::text(line);
-    }
-    if is(line, b"code", 3) {
-        return turned::code(line);
-    }
-    if is(line, b"show", 3) {
-        return reads::show(line);
-    }
-    if is(line, b"help", 1) {
-        return help();
+fn of_nothing(name: &[u8]) {
+    if equal(name, b"help") {
+        return put(&HELP);
     }
     printing::unknown();
 }
 
-fn help() {
-    put(b"check KIND IMAGE\n");
-    put(b"page KIND IMAGE PAGE\n");
-    put(b"field KIND IMAGE FIELD\n");
-    put(b"pair KIND IMAGE INDEX\n");
-    put(b"char KIND IMAGE INDEX\n");
-    put(b"reading KIND IMAGE INPUT\n");
-    put(b"show KIND IMAGE\n");
-    put(b"build KIND LENGTH V1 .. V21 ENDBIT TEXT POINTS\n");
-    put(b"change KIND IMAGE FIELD VALUE\n");
-    put(b"text FIELD CODE\n");
-    put(b"code FIELD TEXT\n");
-    put(b"help\n");
-    put(b"KIND 0, 1 or 2; IMAGE and TEXT in hexadecimal, - for none; VALUE w7, s3f800000 or m;\n");
-    put(b"POINTS point,deviation,.. or -; a refusal is: no NUMBER PLACE\n");
+// The commands of a field and a code or a text, and those of an image.
+fn of_two(line: &[u8], name: &[u8]) {
+    if equal(name, b"text") {
+        return turned::text(line);
+    }
+    if equal(name, b"code") {
+        return turned::code(line);
+    }
+    let mut room = [0u8; ROOM];
+    let Asked::Of(chip) = asked::lent(line, &mut room) else {
+        return printing::unknown();
+    };
+    of_image(name, chip.kind, front(&room, chip.length));
+}
+
+fn of_image(name: &[u8], kind: u8, image: &[u8]) {
+    if equal(name, b"check") {
+        return reads::check(kind, image);
+    }
+    if equal(name, b"show") {
+        return shown::show(kind, image);
+    }
+    printing::unknown();
+}
+
+// The commands of an image and an input or a number.
+fn of_three(line: &[u8], name: &[u8]) {
+    let mut room = [0u8; ROOM];
+    let Asked::Of(chip) = asked::lent(line, &mut room) else {
+        return printing::unknown();
+    };
+    of_image_and(name, chip.kind, front(&room, chip.length), word(line, 3));
+}
+
+fn of_image_and(name: &[u8], kind: u8, image: &[u8], last: &[u8]) {
+    if equal(name, b"reading") {
+        let Figure::Is(input) = words::figure_of(last) else {
+            return printing::unknown();
+        };
+        return reads::reading(kind, image, input);
+    }
+    let Number::Is(number) = words::number_of(last) else {
+        return printing::unknown();
+    };
+    of_number(name, kind, image, number);
+}
+
+fn of_number(name: &[u8], kind: u8, image: &[u8], number: u64) {
+    if equal(name, b"page") {
+        return reads::page(kind, image, number);
+    }
+    if equal(name, b"field") {
+        return reads::field(kind, image, number);
+    }
+    if equal(name, b"pair") {
+        return reads::pair(kind, image, number);
+    }
+    if equal(name, b"char") {
+        return reads::character(kind, image, number);
+    }
+    printing::unknown();
 }

@@ -1,7 +1,8 @@
 // The commands of the warranty bench: a command a line from standard input, an answer a line to standard output, as
 // docs/CONSOLE.md says. A line that is no command, or longer than 32 KiB, is answered `?`. No line causes a fault, and every
 // call ends; what is read and written goes through `io` and `libc`, whose contracts of C's read and write are assumed.
-mod commands; // commands.rt: a command, by its first word
+mod asked; // asked.rt: the kind and the image of a line
+mod commands; // commands.rt: a command, by its words
 mod printing; // printing.rt: what an answer is made of
 mod reads; // reads.rt: the commands that leave the image alone
 mod serving; // serving.rt: lines from standard input

@@ -1,11 +1,11 @@
 // What an answer is made of.
 use fields::Value;
 use libc::STDOUT_FILENO;
-use lines::Filled;
 use refusal::Refusal;
 use shown::put;
 use shown::put_figure;
 use shown::put_number;
+use words::Filled;
 
 // The most bytes that an answer spells: the largest image.
 const LARGEST: usize = 512;
@@ -13,8 +13,8 @@ const LARGEST: usize = 512;
 // Bytes in hexadecimal, `-` for none.
 pub fn bytes(bytes: &[u8]) {
     let mut digits = [0u8; 2 * LARGEST];
-    match lines::spell(bytes, &mut digits) {
-        Filled::To(count) => put(lines::front(&digits, count)),
+    match words::spell(bytes, &mut digits) {
+        Filled::To(count) => put(words::front(&digits, count)),
         Filled::Not => {}
     }
 }
@@ -28,16 +28,28 @@ pub fn unknown() {
     put(b"?\n");
 }
 
+// An answer of a number, and of two figures.
+pub fn number(n: u64) {
+    put_number(n);
+    end();
+}
+
+pub fn figures(a: i64, b: i64) {
+    put_figure(a);
+    put(b" ");
+    put_figure(b);
+    end();
+}
+
 pub fn refused(r: Refusal) {
     put(b"no ");
     put_number(r.number as u64);
     put(b" ");
-    put_number(r.place);
-    end();
+    number(r.place);
 }
 
 // The bits of a float in hexadecimal; a NaN, which no sheet holds and no reading shows, as `nan`.
-pub fn single(x: f32) {
+fn single(x: f32) {
     if x != x {
         return put(b"nan");
     }
@@ -51,6 +63,7 @@ pub fn double(x: f64) {
     io::print_hex(STDOUT_FILENO, f64::to_bits(x), 16);
 }
 
+// An answer of a field's value.
 pub fn value(v: Value) {
     match v {
         Value::Whole(z) => {
@@ -63,4 +76,5 @@ pub fn value(v: Value) {
         }
         Value::Missing => put(b"m"),
     }
+    end();
 }

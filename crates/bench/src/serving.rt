@@ -25,7 +25,7 @@ fn finish(line: &[u8], so_far: Gathered) {
     if so_far.long {
         return printing::unknown();
     }
-    commands::answer(lines::front(line, so_far.length));
+    commands::answer(words::front(line, so_far.length));
 }
 
 // One byte more: a line's end has it answered, any other byte is kept where there is room.

@@ -1,17 +1,19 @@
 // Build and change.
+use crate::asked;
+use crate::asked::Asked;
+use crate::asked::ROOM;
 use crate::printing;
-use crate::reads;
-use crate::reads::Asked;
-use crate::reads::ROOM;
-use edit::Sheet;
-use edit::Slot;
-use edit::Written;
+use build::Sheet;
+use build::Slot;
 use fields::Value;
-use lines::Filled;
-use lines::Number;
-use lines::Worth;
-use lines::word;
+use refusal::Written;
 use shown::put;
+use texts::equal;
+use words::Filled;
+use words::Number;
+use words::Worth;
+use words::front_mut;
+use words::word;
 
 fn written(answer: Written, image: &[u8]) {
     match answer {
@@ -24,25 +26,32 @@ fn written(answer: Written, image: &[u8]) {
     }
 }
 
-pub fn change(line: &[u8]) {
-    let mut room = [0u8; ROOM];
-    let Asked::Of(asked) = reads::lent(line, &mut room) else {
-        return printing::unknown();
-    };
-    let Number::Is(field) = lines::number_of(word(line, 3)) else {
-        return printing::unknown();
-    };
-    let Worth::Is(value) = lines::value_of(word(line, 4)) else {
-        return printing::unknown();
-    };
-    let image = lines::front_mut(&mut room, asked.length);
-    let answer = edit::change(asked.kind, image, field, value);
+fn change_in(image: &mut [u8], kind: u8, field: u64, value: Value) {
+    let answer = change::change(kind, image, field, value);
     written(answer, image);
+}
+
+// The image, the field and the value, words 2 to 4.
+pub fn change(line: &[u8], name: &[u8]) {
+    if !equal(name, b"change") {
+        return printing::unknown();
+    }
+    let Number::Is(field) = words::number_of(word(line, 3)) else {
+        return printing::unknown();
+    };
+    let Worth::Is(value) = words::value_of(word(line, 4)) else {
+        return printing::unknown();
+    };
+    let mut room = [0u8; ROOM];
+    let Asked::Of(chip) = asked::lent(line, &mut room) else {
+        return printing::unknown();
+    };
+    change_in(front_mut(&mut room, chip.length), chip.kind, field, value);
 }
 
 // The value of a field, word 3 on of a build.
 fn slot(line: &[u8], index: u64) -> Slot {
-    match lines::value_of(word(line, index)) {
+    match words::value_of(word(line, index)) {
         Worth::Is(value) => Slot { value },
         Worth::Not => Slot {
             value: Value::Missing,
@@ -54,7 +63,7 @@ fn slot(line: &[u8], index: u64) -> Slot {
 fn are_values(line: &[u8]) -> bool {
     let mut index = 3;
     while index < 24 {
-        match lines::value_of(word(line, index)) {
+        match words::value_of(word(line, index)) {
             Worth::Is(_) => {}
             Worth::Not => return false,
         }
@@ -90,44 +99,48 @@ fn sheet_of(line: &[u8], end_bit: bool) -> Sheet {
     Sheet { fields, end_bit }
 }
 
-// A build in a buffer lent, once its words are known to be such.
-fn build_in(image: &mut [u8], kind: u8, line: &[u8], end_bit: bool, text: &[u8], points: &[i64]) {
-    let answer = edit::build(kind, image, sheet_of(line, end_bit), text, points);
+// A build of these in a buffer lent, from the text and the points, the line's last words.
+fn build_in(image: &mut [u8], kind: u8, line: &[u8], sheet: Sheet) {
+    let mut text = [0u8; ROOM];
+    let Filled::To(characters) = words::bytes_of(word(line, 25), &mut text) else {
+        return printing::unknown();
+    };
+    let mut points = [0i64; ROOM];
+    let Filled::To(figures) = words::figures_of(word(line, 26), &mut points) else {
+        return printing::unknown();
+    };
+    let text = words::front(&text, characters);
+    let points = words::front_figures(&points, figures);
+    let answer = build::build(kind, image, sheet, text, points);
     written(answer, image);
 }
 
-pub fn build(line: &[u8]) {
-    let Number::Is(kind) = lines::number_of(word(line, 1)) else {
-        return printing::unknown();
-    };
-    let Number::Is(length) = lines::number_of(word(line, 2)) else {
-        return printing::unknown();
-    };
-    if !are_values(line) {
+// The kind and the buffer's length, words 1 and 2, the values, the end bit, the text and the points.
+pub fn build(line: &[u8], name: &[u8]) {
+    if !equal(name, b"build") {
         return printing::unknown();
     }
-    let Number::Is(end_bit) = lines::number_of(word(line, 24)) else {
+    let Number::Is(kind) = words::number_of(word(line, 1)) else {
+        return printing::unknown();
+    };
+    let Number::Is(length) = words::number_of(word(line, 2)) else {
+        return printing::unknown();
+    };
+    let Number::Is(end_bit) = words::number_of(word(line, 24)) else {
         return printing::unknown();
     };
     if end_bit > 1 {
         return printing::unknown();
     }
-    let mut text = [0u8; ROOM];
-    let Filled::To(characters) = lines::bytes_of(word(line, 25), &mut text) else {
+    if !are_values(line) {
         return printing::unknown();
-    };
-    let mut points = [0i64; ROOM];
-    let Filled::To(figures) = lines::figures_of(word(line, 26), &mut points) else {
-        return printing::unknown();
-    };
+    }
     let mut room = [0u8; ROOM];
-    let image = lines::front_mut(&mut room, length as usize);
+    let image = front_mut(&mut room, length as usize);
     build_in(
         image,
-        reads::kind_of(kind),
+        asked::kind_of(kind),
         line,
-        end_bit == 1,
-        lines::front(&text, characters),
-        lines::front_figures(&points, figures),
+        sheet_of(line, end_bit == 1),
     );
 }

@@ -51,10 +51,6 @@ pub not-finite-bits : (n : ℕ) → 0x7f80_0000 ≤ n % 2 ^ 31 → finite (ofBit
 unfolding ofBits
 not-finite-bits n h = fields-finite (leb (2 ^ 31) n) (n % 2 ^ 31 / 2 ^ 23) (n % 2 ^ 23) ∙ high-field (n % 2 ^ 31) h (omega arith)
 
-pub not-false : (t : Bool) → not t ≡ false → t ≡ true
-not-false true e = refl
-not-false false e = sym e
-
 pub pattern-no-nan : (n : ℕ) → finite (ofBits binary32 n) ≡ true → T (not (nanBits binary32 n))
 pattern-no-nan n h = rw nanBits-is (no-nan (ofBits binary32 n) h)
 

@@ -2,8 +2,11 @@ pub mod RowLaws
 pub mod CodeLaws
 pub mod StepLaws
 pub mod Table
+pub mod RuleLaws
+pub mod CalibrationLaws
 pub mod ScaleLaws
-pub mod ClosestLaws
+pub mod StoringRule
+pub mod StoringLaws
 pub mod FloatLaws
 pub mod DecodeLaws
 pub mod EncodeLaws

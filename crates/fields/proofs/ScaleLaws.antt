@@ -1,67 +1,84 @@
--- The response times. One test that antt computes says of each entry that it is the value of its code, and that values rise.
-use mathlib.Core.Path.{_≡_, sym, ap, _∙_}
+-- The values of the scales, and the tables that code holds. What goes entry by entry is a test that antt computes, where code lends the table.
+use mathlib.Core.Path.{_≡_, refl, ap}
 use mathlib.Core.Bool.{Bool, _&&_}
-use mathlib.Core.List.{List, [], _∷_}
-use Prim.Native.Nat.{ℕ, suc, _+_, _*_, _/_, _^_, _<_}
+use mathlib.Core.List.{List}
+use Prim.Native.Nat.{ℕ, suc, _+_, _*_, _-_, _/_, _^_, _≤_}
+use native.Mathlib.Nat.{le-refl, le-of-lt}
 use native.Mathlib.Omega.{arith}
-use lib.Dec.{eqb, eqb→eq, ltb, ltb→lt, lt→ltb}
-use lib.IntN.{pos}
-use lib.ListN.{getD}
+use lib.Dec.{T, eqb, eqb→eq, ltb, ltb→lt}
+use lib.IntN.{natAbs}
+use lib.ListN.{length, getD}
 use mir.Facts.{and-yes}
 use Rattle.integers.proofs.NearestLaws.{nearest-natural}
 use Rattle.fields.specs.declared.Scale.{Scale}
 use Rattle.fields.specs.declared.Scale.the-variants.{ResponseTime}
-use Rattle.fields.specs.Rules.{progression, geometricValue}
-use Rattle.fields.specs.Stored.{Rising, ResponseRises}
-use Rattle.fields.specs.Tables.{listed}
-use Rattle.fields.proofs.Table.{at}
+use Rattle.fields.specs.Rules.{Progression, progression, scaleWidth, topCode, geometricValue, storedAt}
+use Rattle.fields.specs.Stored.{Rising, ValuesRise}
+use Rattle.fields.specs.Tables.{listed, RisingList}
+use Rattle.fields.proofs.Table.{each, at}
+use Rattle.fields.proofs.StoringLaws.{stored-same}
 
--- The table that code holds.
-abbrev pub times : List ℕ
-times =
-    100 ∷ 129 ∷ 167 ∷ 216 ∷ 279 ∷ 360 ∷ 465 ∷ 601 ∷ 776 ∷ 1003 ∷ 1296 ∷ 1675 ∷ 2163 ∷ 2795 ∷ 3611 ∷ 4666 ∷ 6028 ∷ 7789 ∷ 10063 ∷ 13001 ∷ 16798 ∷
-    21703 ∷ 28040 ∷ 36227 ∷ 46806 ∷ 60473 ∷ 78131 ∷ 100946 ∷ 130422 ∷ 168505 ∷ 217709 ∷ 281279 ∷ 363413 ∷ 469530 ∷ 606632 ∷ 783769 ∷ 1012629 ∷
-    1308317 ∷ 1690346 ∷ 2183927 ∷ 2821633 ∷ 3645550 ∷ 4710051 ∷ 6085385 ∷ 7862318 ∷ 10158115 ∷ 13124284 ∷ 16956575 ∷ 21907895 ∷ 28305001 ∷
-    36570061 ∷ 47248519 ∷ 61045086 ∷ 78870251 ∷ 101900365 ∷ 131655271 ∷ 170098610 ∷ 219767404 ∷ 283939486 ∷ 366849816 ∷ 473969963 ∷
-    612369192 ∷ 791180996 ∷ []
+-- There is one scale.
+pub response : (scale : Scale) → scale ≡ ResponseTime
+response ResponseTime = refl
 
 -- The value of a code, as naturals are divided.
-abbrev size : ℕ → ℕ
-size code = (2 * (100 * 1_292 ^ code) + 1_000 ^ code) / (2 * 1_000 ^ code)
+abbrev size : Progression → ℕ → ℕ
+size g code = (2 * (g .start * (g .parts + 2 * g .tolerance) ^ code) + g .parts ^ code) / (2 * g .parts ^ code)
 
-size-is : (code : ℕ) → geometricValue (progression ResponseTime) code ≡ pos (size code)
+size-is : (g : Progression) (code : ℕ) → geometricValue g code ≡ size g code
 unfolding geometricValue
-size-is code = nearest-natural (100 * 1_292 ^ code) (1_000 ^ code)
+size-is g code = ap natAbs (nearest-natural (g .start * (g .parts + 2 * g .tolerance) ^ code) (g .parts ^ code))
 
-abbrev right : ℕ → ℕ → Bool
-right code x = eqb x (size code) && ltb x (size (suc code))
+-- ---- the values rise
 
--- An entry is the value of its code, and is less than the value of the next.
-record Entry (code : ℕ) : Type 0 where
-  value : listed times code ≡ geometricValue (progression ResponseTime) code
-  rises : getD times code 0 < size (suc code)
+abbrev steps : Progression → ℕ → Bool
+steps g k = ltb (size g k) (size g (suc k))
 
-entry : (code : ℕ) → code < 63 → Entry code
-entry code h =
-    let x = getD times code 0 in
-    let p = and-yes (eqb x (size code)) (ltb x (size (suc code))) (at right times tt code h) in
+rising : (g : Progression) (n : ℕ) → T (ltb 0 (size g 0) && each (steps g) n) → Rising (geometricValue g) n
+rising g n t =
+    let p = and-yes (ltb 0 (size g 0)) (each (steps g) n) t in
     record {
-      value = ap pos (eqb→eq x (size code) (p .0)) ∙ sym (size-is code);
-      rises = ltb→lt x (size (suc code)) (p .1);
+      positive = rw (size-is g 0) (ltb→lt 0 (size g 0) (p .0));
+      rises = λ c l. rw (size-is g c, size-is g (suc c)) (ltb→lt (size g c) (size g (suc c)) (at (steps g) n c (p .1) (le-of-lt l)));
     }
 
-pub response-rises : ResponseRises
-response-rises c h =
-    let e = entry c (omega arith) in
-    rw (← (e .value), size-is (suc c)) (record { lt = lt→ltb _ _ (e .rises) })
+pub values-rise : ValuesRise
+values-rise ResponseTime = rising (progression ResponseTime) _ tt
 
-pub scale-rises : (scale : Scale) → Rising (geometricValue (progression scale)) 62
-scale-rises ResponseTime = response-rises
+-- ---- a list of a scale's values
 
--- The table's values are those of the scale, and so rise.
-pub handed : (scale : Scale) (code : ℕ) → code < 63 → listed times code ≡ geometricValue (progression scale) code
-handed ResponseTime code h = entry code h .value
+abbrev right : Scale → List ℕ → ℕ → Bool
+right scale xs k = eqb (getD xs k 0) (size (progression scale) k)
 
-pub table-rises : (top : ℕ) → top < 63 → Rising (listed times) top
-table-rises top h c l =
-    rw (handed ResponseTime c (omega arith), handed ResponseTime (suc c) (omega arith)) (response-rises c (omega arith))
+abbrev isTable : Scale → List ℕ → Bool
+isTable scale xs = eqb (length xs) (suc (topCode (scaleWidth scale))) && each (right scale xs) (topCode (scaleWidth scale))
+
+module _ (scale : Scale) (xs : List ℕ) (test : T (isTable scale xs)) where
+  parts : T (eqb (length xs) (suc (topCode (scaleWidth scale)))) × T (each (right scale xs) (topCode (scaleWidth scale)))
+  parts = and-yes (eqb (length xs) (suc (topCode (scaleWidth scale)))) (each (right scale xs) (topCode (scaleWidth scale))) test
+
+  top : length xs - 1 ≡ topCode (scaleWidth scale)
+  top = omega (arith, eqb→eq (length xs) (suc (topCode (scaleWidth scale))) (parts .0))
+
+  pub entry : (k : ℕ) → k ≤ topCode (scaleWidth scale) → listed xs k ≡ geometricValue (progression scale) k
+  unfolding listed
+  entry k l = rw (size-is (progression scale) k) (eqb→eq (getD xs k 0) (size (progression scale) k) (at (right scale xs) (topCode (scaleWidth scale)) k (parts .1) l))
+
+  -- It rises, and a figure is stored by it as by the scale.
+  pub list-rises : RisingList xs
+  list-rises =
+      record {
+        some = omega (arith, eqb→eq (length xs) (suc (topCode (scaleWidth scale))) (parts .0));
+        rising = rw top
+            (record {
+              positive = rw (entry 0 (omega arith)) (values-rise scale .positive);
+              rises = λ c l. rw (entry c (omega arith), entry (suc c) (omega arith)) (values-rise scale .rises c (omega arith));
+            });
+      }
+
+  pub stored-by : (w : ℕ) → storedAt (listed xs) (length xs - 1) w ≡ storedAt (geometricValue (progression scale)) (topCode (scaleWidth scale)) w
+  stored-by w = rw top (stored-same (listed xs) (geometricValue (progression scale)) (topCode (scaleWidth scale)) w entry)
+
+  pub within-list : (w : ℕ) → w ≤ geometricValue (progression scale) (topCode (scaleWidth scale)) → w ≤ listed xs (length xs - 1)
+  within-list w h = rw (top, entry (topCode (scaleWidth scale)) (le-refl _)) h

@@ -2,7 +2,7 @@
 use mathlib.Core.Path.{_≡_, refl, sym, ap, _∙_}
 use mathlib.Core.Bool.{false}
 use Prim.Native.Nat.{ℕ, _+_, _*_, _-_, _/_, _^_, _≤_, _<_}
-use native.Mathlib.Nat.{div-add-mod', mod-lt, le-antisymm, lt-of-mul-lt-mul-left}
+use native.Mathlib.Nat.{div-add-mod', mod-lt, le-antisymm, mul-le-mul-left, lt-of-mul-lt-mul-left}
 use native.Mathlib.Omega.{arith}
 use lib.IntN.{ℤ, pos, negsuc, natAbs, subℕ, _+ℤ_, _-ℤ_}
 use lib.Signed.{ltZ}
@@ -84,9 +84,14 @@ code-rises start step y z some hy hz l = omega (arith, less-than)
     less-than : steppedCode start step y < steppedCode start step z + 1
     less-than = lt-of-mul-lt-mul-left step (omega (arith, code-low start step y some hy, code-high start step z some hz))
 
--- The code of a step's own value.
+-- A step's own value: it is not below the start nor above a later one, and its code is the step's.
 pub value-above : (start : ℤ) (step code : ℕ) → ltZ (steppedValue start step code) start ≡ false
 value-above start step code = le-ltZ (steppedValue start step code) start (omega (arith, add-parts start (pos (step * code))))
+
+pub value-rises : (start : ℤ) (step c d : ℕ) → c ≤ d → ltZ (steppedValue start step d) (steppedValue start step c) ≡ false
+value-rises start step c d h =
+    le-ltZ (steppedValue start step d) (steppedValue start step c)
+    (omega (arith, mul-le-mul-left step h, add-parts start (pos (step * c)), add-parts start (pos (step * d))))
 
 pub code-back : (start : ℤ) (step code : ℕ) → 0 < step → steppedCode start step (steppedValue start step code) ≡ code
 code-back start step code some = le-antisymm (omega (arith, less-than)) (omega (arith, more-than))

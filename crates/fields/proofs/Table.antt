@@ -1,24 +1,21 @@
--- A rule of a table, shown at all of its entries by one test that antt computes.
-use mathlib.Core.Path.{sym, subst, _∙_}
-use mathlib.Core.Bool.{Bool, true, _&&_}
-use mathlib.Core.List.{List, [], _∷_}
-use Prim.Native.Nat.{ℕ, zero, suc, _+_, _<_}
-use native.Mathlib.Nat.{add-zero, zero-add, add-suc, suc-add, le-of-suc-le-suc, not-suc-le-zero}
+-- A test of the numbers 0 to n that antt computes, and what it says of each.
+use mathlib.Core.Path.{_≡_}
+use mathlib.Core.Bool.{Bool, _&&_}
+use mathlib.Core.Logic.{_⊎_, inl, inr}
+use Prim.Native.Nat.{ℕ, zero, suc, _≤_, _<_}
+use native.Mathlib.Nat.{le-of-suc-le-suc, eq-or-lt-of-le}
+use native.Mathlib.Omega.{arith}
 use lib.Dec.{T}
-use lib.Ieee.Fits.{and-l, and-r}
-use lib.ListN.{length, getD}
+use mir.Facts.{and-yes}
 
--- The test passes at each entry and its place, counted from i.
-abbrev pub every : (ℕ → ℕ → Bool) → ℕ → List ℕ → Bool
-every test i [] = true
-every test i (x ∷ xs) = test i x && every test (suc i) xs
+abbrev pub each : (ℕ → Bool) → ℕ → Bool
+each test zero = test zero
+each test (suc n) = test (suc n) && each test n
 
-from : (test : ℕ → ℕ → Bool) (xs : List ℕ) (i : ℕ) → T (every test i xs) → (k : ℕ) → k < length xs → T (test (i + k) (getD xs k 0))
-from test [] i t k h = absurd (not-suc-le-zero h)
-from test (x ∷ xs) i t zero h = subst (λ (m : ℕ). T (test m x)) (sym (add-zero i)) (and-l (test i x) (every test (suc i) xs) t)
-from test (x ∷ xs) i t (suc k) h =
-    subst (λ (m : ℕ). T (test m (getD xs k 0))) (suc-add i k ∙ sym (add-suc i k))
-    (from test xs (suc i) (and-r (test i x) (every test (suc i) xs) t) k (le-of-suc-le-suc h))
-
-pub at : (test : ℕ → ℕ → Bool) (xs : List ℕ) → T (every test 0 xs) → (k : ℕ) → k < length xs → T (test k (getD xs k 0))
-at test xs t k h = subst (λ (m : ℕ). T (test m (getD xs k 0))) (zero-add k) (from test xs 0 t k h)
+pub at : (test : ℕ → Bool) (n k : ℕ) → T (each test n) → k ≤ n → T (test k)
+at test zero k t h = let e : k ≡ 0 = omega arith in rw e t
+at test (suc n) k t h = go (eq-or-lt-of-le h) (at test n k (and-yes (test (suc n)) (each test n) t .1))
+  where
+    go : (k ≡ suc n) ⊎ (k < suc n) → (k ≤ n → T (test k)) → T (test k)
+    go (inl e) before = rw e (and-yes (test (suc n)) (each test n) t .0)
+    go (inr l) before = before (le-of-suc-le-suc l)

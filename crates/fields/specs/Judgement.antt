@@ -1,4 +1,4 @@
--- Whether a code may stand in a row.
+-- Only inner contracts need these: whether a code may stand in a row.
 use Prim.Native.Nat.{ℕ}
 use Rattle.refusal.specs.Outcome.{Outcome, good, _>>_}
 use Rattle.fields.specs.declared.Row.{Row}

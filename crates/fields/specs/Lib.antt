@@ -1,5 +1,7 @@
 pub mod Rules
 pub mod Rows
+pub mod Lines
+pub mod Calibration
 pub mod Stored
 pub mod Figure
 pub mod Answers

@@ -1,9 +1,8 @@
--- Document 01, "Layout": the table of fields, in its order. Starts and steps are those of the template lines of document 000, Annex A.
-use mathlib.Core.Bool.{Bool, true, false}
-use mathlib.Core.List.{List, [], _∷_}
-use Prim.Native.Nat.{ℕ, zero, suc, _-_}
+-- Document 01, "Layout": the rows of the table of fields, one after the other. Starts and steps are those of the template lines of document 000,
+-- Annex A. `Lines` puts the rows in the order of the stream.
+use mathlib.Core.Bool.{true, false}
+use Prim.Native.Nat.{ℕ, zero, suc}
 use lib.IntN.{pos, negℤ}
-use lib.ListN.{getD}
 use Rattle.fields.specs.declared.Scale.the-variants.{ResponseTime}
 use Rattle.fields.specs.declared.Rule.{Rule}
 use Rattle.fields.specs.declared.Rule.the-variants.{Plain, Stepped, Geometric, Single as Ieee}
@@ -94,67 +93,3 @@ calPeriod = any 12
 -- 21 location: measurement location ID.
 abbrev pub locationId : Row
 locationId = any 11
-
--- ---- the order of the stream
-
--- What stands in the stream by the table: a block's selector 0 and template number, or a field. A field's row may go by the latest choice, and its code may be the next one.
-pub data Line : Type 0 where
-  block : ℕ → Line
-  line : Bool → (ℕ → Row) → Line
-
-abbrev pub field : Row → Line
-field row = line false (λ c. row)
-
-abbrev pub choice : Row → Line
-choice row = line true (λ c. row)
-
-abbrev pub chosen : (ℕ → Row) → Line
-chosen rowOf = line false rowOf
-
--- The latest choice behind a field.
-abbrev pub chose : Bool → ℕ → ℕ → ℕ
-chose true code latest = code
-chose false code latest = latest
-
--- Basic, then selector 0, template 33, and fields 6 to 21 in order.
-unfoldable pub template33 : List Line
-template33 =
-    field manufacturerId ∷ field modelNumber ∷ field versionLetter ∷ field versionNumber ∷ field serialNumber ∷
-    block 33 ∷
-    field measurand ∷ field physical ∷ field physical ∷ choice precision ∷ chosen electrical ∷ chosen electrical ∷
-    field bridgeType ∷ field impedance ∷ field responseTime ∷ field excitation ∷ field excitation ∷ field excitation ∷
-    field calDate ∷ field calInitials ∷ field calPeriod ∷ field locationId ∷ []
-
--- The rows of the fields in order, at a choice.
-abbrev pub rowsOf : List Line → ℕ → List Row
-rowsOf [] c = []
-rowsOf (block template ∷ lines) c = rowsOf lines c
-rowsOf (line chooses rowOf ∷ lines) c = rowOf c ∷ rowsOf lines c
-
--- The row of field f, counted from 1, at a precision.
-unfoldable pub rowOf : ℕ → ℕ → Row
-rowOf f c = getD (rowsOf template33 c) (f - 1) (any 0)
-
--- ---- template 40: the calibration table, in billionths of the span
-
--- The steps D of a point and R of a deviation: 0.00153 % and 0.0001 % (document 000, 7.3.4 and B.5.2.1).
-abbrev pub D : ℕ
-D = 15_300
-
-abbrev pub R : ℕ
-R = 1_000
-
--- Domain: 0, electrical.
-abbrev pub domain : Row
-domain = always 1 (Plain 0 0)
-
--- Count n: 1 to 127.
-abbrev pub pointCount : Row
-pointCount = always 7 (Plain 1 127)
-
--- A calibration point, and its deviation.
-abbrev pub calPoint : Row
-calPoint = always 16 (Stepped (pos 0) D)
-
-abbrev pub calDeviation : Row
-calDeviation = always 21 (Stepped (negℤ (pos 1_000_000_000)) R)

@@ -34,13 +34,17 @@ pub record Progression : Type 0 where
   pub tolerance : ℕ
   pub parts : ℕ
 
--- Field 14, response time: start 1E-6 s in 10 ns, tolerance 0.146 (document 000, template 33).
+-- Response time: start 1E-6 s in 10 ns, tolerance 0.146 (document 000, template 33).
 abbrev pub progression : Scale → Progression
 progression ResponseTime = record { start = 100; tolerance = 146; parts = 1_000 }
 
+-- The bits of a scale's codes.
+abbrev pub scaleWidth : Scale → ℕ
+scaleWidth ResponseTime = 6
+
 -- Geometric: start × (1 + 2 × tolerance)^code to the nearest unit, halves upward.
-unfoldable pub geometricValue : Progression → ℕ → ℤ
-geometricValue g code = nearest (pos (g .start * (g .parts + 2 * g .tolerance) ^ code) over g .parts ^ code)
+unfoldable pub geometricValue : Progression → ℕ → ℕ
+geometricValue g code = natAbs (nearest (pos (g .start * (g .parts + 2 * g .tolerance) ^ code) over g .parts ^ code))
 
 -- Neither infinite nor a NaN.
 abbrev pub finite : Float → Bool
@@ -59,7 +63,7 @@ meaning (Stepped start step) w at code = do
   good (Whole (steppedValue start step code))
 meaning (Geometric scale) w at code = do
   refuse outsideTable at if ltb (topCode w) code
-  good (Whole (geometricValue (progression scale) code))
+  good (Whole (pos (geometricValue (progression scale) code)))
 meaning Ieee w at code = do
   refuse notFinite at if not (finite (ofBits binary32 code))
   good (Single (ofBits binary32 code))
@@ -77,12 +81,16 @@ outside lowest highest figure = ltZ figure lowest || ltZ highest figure
 abbrev pub steppedCode : ℤ → ℕ → ℤ → ℕ
 steppedCode start step figure = natAbs (nearest (figure -ℤ start over step))
 
--- Of codes 0 to n, the one whose value is nearest to a figure by difference, a tie to the greater.
-unfoldable pub closest : (ℕ → ℤ) → ℕ → ℤ → ℕ
-closest value zero figure = zero
-closest value (suc n) figure =
-    let before = closest value n figure in
-    cond (leb (natAbs (value (suc n) -ℤ figure)) (natAbs (value before -ℤ figure))) (suc n) before
+-- Geometric, the storing rule: between the values a and b of neighbouring codes a figure w goes to b where it is as near to b by difference, or nearer.
+-- The code's own test and the six laws of `proofs/StoringRule.antt` look inside, the last two for `GeometricClosest` alone; nothing else does, so
+-- that another rule can stand here.
+unfoldable pub goesUp : ℕ → ℕ → ℕ → Bool
+goesUp a b w = leb (a + b) (2 * w)
+
+-- Of codes 0 to n, the last that the figure goes up to; 0 where there is none.
+unfoldable pub storedAt : (ℕ → ℕ) → ℕ → ℕ → ℕ
+storedAt value zero w = zero
+storedAt value (suc n) w = cond (goesUp (value n) (value (suc n)) w) (suc n) (storedAt value n w)
 
 -- A whole figure from the lowest to the highest value has a code; 10 outside, 9 where the rule takes no whole number.
 abbrev pub wholeCode : Rule → ℕ → ℕ → ℤ → Outcome ℕ
@@ -94,8 +102,8 @@ wholeCode (Stepped start step) w place figure = do
   good (steppedCode start step figure)
 wholeCode (Geometric scale) w place figure =
     let value = geometricValue (progression scale) in do
-      refuse outOfRange place if outside (value 0) (value (topCode w)) figure
-      good (closest value (topCode w) figure)
+      refuse outOfRange place if outside (pos (value 0)) (pos (value (topCode w))) figure
+      good (storedAt value (topCode w) (natAbs figure))
 wholeCode Ieee w place figure = refused (wrongSort place)
 
 -- A Single is stored as its bits; 10 where it is not finite, 9 where the rule takes no Single.

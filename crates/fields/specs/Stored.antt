@@ -12,19 +12,20 @@ use Rattle.refusal.specs.Rows.{outOfRange}
 use Rattle.fields.specs.declared.Value.{Value}
 use Rattle.fields.specs.declared.Value.the-variants.{Whole, Single, Missing}
 use Rattle.fields.specs.declared.Scale.{Scale}
-use Rattle.fields.specs.declared.Scale.the-variants.{ResponseTime}
 use Rattle.fields.specs.declared.Rule.{Rule}
 use Rattle.fields.specs.declared.Rule.the-variants.{Plain, Stepped, Geometric, Single as Ieee}
 use Rattle.fields.specs.declared.Row.{Row}
-use Rattle.fields.specs.Rules.{topCode, steppedValue, steppedCode, progression, geometricValue, closest, decode, encode}
-use Rattle.fields.specs.Rows.{template33, rowsOf, domain, pointCount, calPoint, calDeviation}
+use Rattle.fields.specs.Rules.{topCode, steppedValue, steppedCode, progression, scaleWidth, geometricValue, goesUp, storedAt, decode, encode}
+use Rattle.fields.specs.declared.Template.{Template}
+use Rattle.fields.specs.Lines.{linesOf, rowsOf}
+use Rattle.fields.specs.Calibration.{domain, pointCount, calPoint, calDeviation}
 
 -- A stepped or geometric figure at the step its rule gives; any other value as it is.
 abbrev pub keptBy : Rule → ℕ → Value → Value
 keptBy (Plain least greatest) w (Whole z) = Whole z
 keptBy (Stepped start step) w (Whole z) = Whole (steppedValue start step (steppedCode start step z))
 keptBy (Geometric scale) w (Whole z) =
-    let value = geometricValue (progression scale) in Whole (value (closest value (topCode w) z))
+    let value = geometricValue (progression scale) in Whole (pos (value (storedAt value (topCode w) (natAbs z))))
 keptBy Ieee w (Whole z) = Whole z
 keptBy rule w (Single x) = Single x
 keptBy rule w Missing = Missing
@@ -42,7 +43,7 @@ Real Missing = Unit {0}
 abbrev pub SoundRule : Rule → Row → Type 0
 SoundRule (Plain least greatest) row = (least ≤ greatest) × (greatest + cond (row .missing) 1 0 < 2 ^ row .width)
 SoundRule (Stepped start step) row = (0 < step) × (1 < row .width) × (natAbs start < 2 ^ 62) × (step * 2 ^ row .width < 2 ^ 62)
-SoundRule (Geometric ResponseTime) row = row .width ≡ 6
+SoundRule (Geometric scale) row = row .width ≡ scaleWidth scale
 SoundRule Ieee row = row .width ≡ 32
 
 pub record Sound (row : Row) : Type 0 where
@@ -50,13 +51,15 @@ pub record Sound (row : Row) : Type 0 where
   pub most : row .width ≤ 32
   pub rules : SoundRule (row .rule) row
 
--- So is every row of the layout, whatever the choice.
+-- So is every row of every template, whatever the choice, and of the calibration table.
 abbrev pub AllSound : List Row → Type 0
 AllSound [] = Unit {0}
 AllSound (row ∷ rows) = Sound row × AllSound rows
 
 abbrev pub RowsSound : Type 0
-RowsSound = (latest : ℕ) → AllSound (domain ∷ pointCount ∷ calPoint ∷ calDeviation ∷ rowsOf template33 latest)
+RowsSound =
+    (template : Template) (latest : ℕ) →
+    AllSound (rowsOf (linesOf template) latest) × AllSound (domain ∷ pointCount ∷ calPoint ∷ calDeviation ∷ [])
 
 -- ---- for any row
 
@@ -100,19 +103,33 @@ SteppedRange =
 
 -- ---- geometric, for any rising table
 
--- The values of codes 0 to n rise strictly.
-abbrev pub Rising : (ℕ → ℤ) → ℕ → Type 0
-Rising value n = (c : ℕ) → c < n → value c <ℤ value (suc c)
+-- The values of codes 0 to n are above 0 and rise strictly.
+pub record Rising (value : ℕ → ℕ) (n : ℕ) : Type 0 where
+  pub positive : 0 < value 0
+  pub rises : (c : ℕ) → c < n → value c < value (suc c)
+
+-- So do those of every scale.
+abbrev pub ValuesRise : Type 0
+ValuesRise = (scale : Scale) → Rising (geometricValue (progression scale)) (topCode (scaleWidth scale))
+
+-- A figure between two neighbours goes to one of them, by the rule.
+abbrev pub GeometricBetween : Type 0
+GeometricBetween =
+    (value : ℕ → ℕ) (n c w : ℕ) → Rising value n → c < n → value c ≤ w → w ≤ value (suc c) →
+    storedAt value n w ≡ cond (goesUp (value c) (value (suc c)) w) (suc c) c
+
+-- The order of codes follows the order of figures.
+abbrev pub GeometricRises : Type 0
+GeometricRises = (value : ℕ → ℕ) (n v w : ℕ) → Rising value n → v ≤ w → storedAt value n v ≤ storedAt value n w
 
 -- No code's value is nearer than the one stored, and of two as near the stored one is the greater.
-pub record Closest (value : ℕ → ℤ) (n : ℕ) (z : ℤ) (code : ℕ) : Type 0 where
+pub record Closest (value : ℕ → ℕ) (n : ℕ) (z : ℤ) (code : ℕ) : Type 0 where
   pub inside : code ≤ n
-  pub nearer : (k : ℕ) → k ≤ n → natAbs (value code -ℤ z) ≤ natAbs (value k -ℤ z)
-  pub greater : (k : ℕ) → k ≤ n → natAbs (value k -ℤ z) ≡ natAbs (value code -ℤ z) → k ≤ code
+  pub nearer : (k : ℕ) → k ≤ n → natAbs (pos (value code) -ℤ z) ≤ natAbs (pos (value k) -ℤ z)
+  pub greater : (k : ℕ) → k ≤ n → natAbs (pos (value k) -ℤ z) ≡ natAbs (pos (value code) -ℤ z) → k ≤ code
 
+-- So is a figure within the table stored.
 abbrev pub GeometricClosest : Type 0
-GeometricClosest = (value : ℕ → ℤ) (n : ℕ) (z : ℤ) → Closest value n z (closest value n z)
-
--- The response times rise strictly.
-abbrev pub ResponseRises : Type 0
-ResponseRises = Rising (geometricValue (progression ResponseTime)) 62
+GeometricClosest =
+    (value : ℕ → ℕ) (n : ℕ) (z : ℤ) → Rising value n → pos (value 0) ≤ℤ z → z ≤ℤ pos (value n) →
+    Closest value n z (storedAt value n (natAbs z))

@@ -14,7 +14,7 @@ use crate::steps::step_value;
 ghost use mathlib.Core.Path.{_≡_};
 ghost use Prim.Native.Nat.{_*_, _^_, _<_, _≤_};
 ghost use lib.IntN.{natAbs};
-ghost use Rattle.fields.specs.Rules.{meaning, decode as decodeOf};
+ghost use Rattle.fields.specs.Rules.{scaleWidth, meaning, decode as decodeOf};
 ghost use Rattle.fields.specs.Stored.{Sound};
 ghost use Rattle.fields.specs.Answers.{decodedSaid};
 
@@ -43,7 +43,8 @@ fn stepped(start: i64, step: u64, width: u64, at: u64, code: u64) -> Decoded
 
 // The scale's value, or 5 for all ones.
 fn geometric(scale: Scale, width: u64, at: u64, code: u64) -> Decoded
-    requires { ⌜ width ≡ 6 ⌝ }
+    requires { ⌜ (1 ≤ width) × (width ≤ 32) ⌝ }
+    requires { ⌜ width ≡ scaleWidth scale ⌝ }
     ensures { λ r. ⌜ decodedSaid r ≡ meaning (Rule.Geometric scale) width at code ⌝ }
 {
     if let Judged::Refused(r) = up_to_top(width, at, code) {

@@ -4,16 +4,10 @@ use crate::Row;
 use crate::Rule;
 use crate::Scale;
 use crate::Value;
-use crate::codes::all_ones;
-use crate::codes::top_code;
-use crate::rows::D;
-use crate::rows::DEVIATION_BITS;
-use crate::rows::LEAST_DEVIATION;
-use crate::rows::POINT_BITS;
-use crate::rows::R;
-use crate::scales::TOP;
-use crate::scales::closest_code;
+use crate::limits::all_ones;
+use crate::limits::top_code;
 use crate::scales::scale_value;
+use crate::scales::stored_code;
 use crate::steps::step_code;
 use crate::steps::step_value;
 use integers::plus;
@@ -23,8 +17,7 @@ ghost use Prim.Native.Nat.{_*_, _^_, _<_, _≤_};
 ghost use lib.IntN.{natAbs};
 ghost use Rattle.refusal.specs.Outcome.{refused};
 ghost use Rattle.refusal.specs.Rows.{wrongSort, outOfRange};
-ghost use Rattle.fields.specs.Rules.{outside, wholeCode, singleCode, encode as encodeOf};
-ghost use Rattle.fields.specs.Rows.{calPoint, calDeviation};
+ghost use Rattle.fields.specs.Rules.{scaleWidth, outside, wholeCode, singleCode, encode as encodeOf};
 ghost use Rattle.fields.specs.Stored.{Sound};
 ghost use Rattle.fields.specs.Answers.{encodedSaid};
 
@@ -69,7 +62,7 @@ fn plain(least: u64, greatest: u64, place: u64, figure: i64) -> Encoded
 }
 
 // The nearest step, halves upward, or 10 outside the lowest to the highest value.
-fn stepped(start: i64, step: u64, width: u64, place: u64, figure: i64) -> Encoded
+pub fn stepped(start: i64, step: u64, width: u64, place: u64, figure: i64) -> Encoded
     requires { ⌜ (1 ≤ width) × (width ≤ 32) ⌝ }
     requires { ⌜ (0 < step) × ((natAbs start < 2 ^ 62) × (step * 2 ^ width < 2 ^ 62)) ⌝ }
     ensures { λ r. ⌜ encodedSaid r ≡ wholeCode (Rule.Stepped start step) width place figure ⌝ }
@@ -81,14 +74,20 @@ fn stepped(start: i64, step: u64, width: u64, place: u64, figure: i64) -> Encode
     Encoded::Code(step_code(start, step, figure))
 }
 
-// The code whose value is nearest, or 10 outside the lowest to the highest value.
-fn geometric(scale: Scale, place: u64, figure: i64) -> Encoded
-    ensures { λ r. ⌜ encodedSaid r ≡ wholeCode (Rule.Geometric scale) 6 place figure ⌝ }
+// The code that the storing rule gives, or 10 outside the lowest to the highest value.
+fn geometric(scale: Scale, width: u64, place: u64, figure: i64) -> Encoded
+    requires { ⌜ (1 ≤ width) × (width ≤ 32) ⌝ }
+    requires { ⌜ width ≡ scaleWidth scale ⌝ }
+    ensures { λ r. ⌜ encodedSaid r ≡ wholeCode (Rule.Geometric scale) width place figure ⌝ }
 {
-    if is_outside(scale_value(scale, 0), scale_value(scale, TOP), figure) {
+    if is_outside(
+        scale_value(scale, 0),
+        scale_value(scale, top_code(width)),
+        figure,
+    ) {
         return out_of_range(place);
     }
-    Encoded::Code(closest_code(scale, TOP, figure))
+    Encoded::Code(stored_code(scale, plus(figure)))
 }
 
 // The code of a whole figure, or 9 where the rule takes no whole number.
@@ -101,7 +100,7 @@ fn whole(row: Row, place: u64, figure: i64) -> Encoded
     match rule {
         Rule::Plain(least, greatest) => plain(least, greatest, place, figure),
         Rule::Stepped(start, step) => stepped(start, step, width, place, figure),
-        Rule::Geometric(scale) => geometric(scale, place, figure),
+        Rule::Geometric(scale) => geometric(scale, width, place, figure),
         Rule::Single => wrong_sort(place),
     }
 }
@@ -150,19 +149,4 @@ pub fn encode(row: Row, place: u64, value: Value) -> Encoded
             wrong_sort(place)
         }
     }
-}
-
-// The code of a calibration point's figure: `encode` of its row, which is a constant here. That makes a build of a long table
-// nearly twice as fast.
-pub fn encode_point(place: u64, figure: i64) -> Encoded
-    ensures { λ r. ⌜ encodedSaid r ≡ encodeOf calPoint place (Value.Whole figure) ⌝ }
-{
-    stepped(0, D, POINT_BITS, place, figure)
-}
-
-// The same of its deviation.
-pub fn encode_deviation(place: u64, figure: i64) -> Encoded
-    ensures { λ r. ⌜ encodedSaid r ≡ encodeOf calDeviation place (Value.Whole figure) ⌝ }
-{
-    stepped(LEAST_DEVIATION, R, DEVIATION_BITS, place, figure)
 }

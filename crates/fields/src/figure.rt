@@ -5,17 +5,23 @@ ghost use Prim.Native.Nat.{_^_, _≤_};
 ghost use lib.Dec.{T};
 ghost use lib.IntN.{natAbs};
 ghost use lib.Ieee.{isNan};
-ghost use Rattle.fields.specs.Figure.{physicalFigure};
+ghost use Rattle.fields.specs.Figure.{floatFraction, physicalFigure};
 
-// least + (greatest − least) × (q / 1,000,000,000), in f64, each operation rounded once.
-// The caller shows that the two Singles are no NaNs, and that an f64 holds q, as it does every fraction that a reading can have.
-pub fn physical_figure(least: f32, greatest: f32, q: i64) -> f64
+// q / 1,000,000,000, in f64, rounded once. An f64 holds q, as it does every fraction that a reading can have.
+pub fn float_fraction(q: i64) -> f64
+    requires { ⌜ natAbs q ≤ 2 ^ 53 ⌝ }
+    ensures { λ r. ⌜ r ≡ floatFraction q ⌝ }
+{
+    q as f64 / 1_000_000_000.0
+}
+
+// least + (greatest − least) × the fraction, in f64, each operation rounded once. The two Singles are no NaNs.
+pub fn physical_figure(least: f32, greatest: f32, fraction: f64) -> f64
     requires { ⌜ T (not (isNan least)) ⌝ }
     requires { ⌜ T (not (isNan greatest)) ⌝ }
-    requires { ⌜ natAbs q ≤ 2 ^ 53 ⌝ }
-    ensures { λ r. ⌜ r ≡ physicalFigure least greatest q ⌝ }
+    ensures { λ r. ⌜ r ≡ physicalFigure least greatest fraction ⌝ }
 {
     let low = least as f64;
     let high = greatest as f64;
-    low + (high - low) * (q as f64 / 1_000_000_000.0)
+    low + (high - low) * fraction
 }

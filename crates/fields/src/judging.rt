@@ -2,8 +2,8 @@
 use crate::Judged;
 use crate::Row;
 use crate::Rule;
-use crate::codes::all_ones;
-use crate::codes::top_code;
+use crate::limits::all_ones;
+use crate::limits::top_code;
 use refusal::Refusal;
 ghost use mathlib.Core.Path.{_≡_};
 ghost use mathlib.Core.Bool.{not, _&&_, _||_};

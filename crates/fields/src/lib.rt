@@ -1,29 +1,40 @@
-// Document 01, "Layout": a field's value, the rows of the table of fields, and the two ways between a code and a value.
+// Document 01, "Layout": a field's value, the rows of the table of fields, the templates that put them in order, the
+// calibration table, and the two ways between a code and a value.
 // No call faults, whatever i64 or f32 it is given. `decode`, `judge` and `encode` ask that the row is sound
 // (specs/Stored.antt), which every row of the table is, and `decode` that the code has no more bits than the row.
 use refusal::Refusal;
 
-mod codes; // codes.rt: the codes of a field's bits
+mod calibration; // calibration.rt: the calibration table
 mod decoding; // decoding.rt: what a code means
 mod encoding; // encoding.rt: the code that a value is stored at
 mod figure; // figure.rt: the physical figure
 mod judging; // judging.rt: whether a code may stand
-mod rows; // rows.rt: the table of fields
+mod limits; // limits.rt: the last codes of a field's bits
+mod rows; // rows.rt: the rows of the table of fields
 mod scales; // scales.rt: geometric codes
 mod steps; // steps.rt: stepped codes
+mod templates; // templates.rt: the order of the fields
 
+pub use calibration::cal_deviation;
+pub use calibration::cal_point;
+pub use calibration::domain;
+pub use calibration::encode_deviation;
+pub use calibration::encode_point;
+pub use calibration::follows;
+pub use calibration::point_count;
 pub use decoding::decode;
 pub use encoding::encode;
-pub use encoding::encode_deviation;
-pub use encoding::encode_point;
+pub use figure::float_fraction;
 pub use figure::physical_figure;
 pub use judging::judge;
-pub use rows::cal_deviation;
-pub use rows::cal_point;
-pub use rows::domain;
-pub use rows::point_count;
-pub use rows::row_of;
 pub use scales::scale_value;
+pub use templates::basic_fields;
+pub use templates::fields_bits;
+pub use templates::is_choice;
+pub use templates::last_field;
+pub use templates::row_of;
+pub use templates::template_number;
+pub use templates::template_of;
 
 // A field's value: a whole number, a Single that carries its float, or missing.
 pub enum Value {
@@ -56,13 +67,49 @@ pub struct Row {
     pub missing: bool,
 }
 
+// The templates that the first block can name.
+pub enum Template {
+    // 33.
+    Bridge,
+}
+
+// What the rows of a sheet go by: its template, and the code of the field that sets widths.
+pub struct Layout {
+    pub template: Template,
+    pub precision: u64,
+}
+
+// A calibration point and its deviation, in billionths of the span.
+pub struct Pair {
+    pub point: i64,
+    pub deviation: i64,
+}
+
+// A pair as it is stored.
+pub struct Codes {
+    pub point: u64,
+    pub deviation: u64,
+}
+
+// The pair before another, if there is one.
+pub enum Previous {
+    Nothing,
+    Pair(Codes),
+}
+
+// The template of a number, if it is one of them.
+pub enum TemplateAnswer {
+    Is(Template),
+    Unknown,
+}
+
 // What a code means: a value, or 5 or 6.
 pub enum Decoded {
     Means(Value),
     Refused(Refusal),
 }
 
-// Whether a code may stand: it does, or 5 or 6.
+// Whether a code may stand: it does, or 5 or 6; and a pair behind another: it does, or 7.
 pub enum Judged {
     Stands,
     Refused(Refusal),

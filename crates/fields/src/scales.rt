@@ -1,19 +1,12 @@
-// Document 01, "Geometric": the values of the codes of a progression, and a figure at the code whose value is nearest.
+// Document 01, "Geometric": the values of the codes of a progression, and the code that a figure is stored at. A constant array
+// is built anew wherever it is read at an index that is not a constant, so each call lends its table once.
 use crate::Scale;
-use integers::minus;
-use integers::plus;
 ghost use mathlib.Core.Path.{_≡_};
-ghost use mathlib.Core.Bool.{cond};
-ghost use Prim.Native.Nat.{_<_};
-ghost use lib.Dec.{leb};
-ghost use lib.IntN.{pos, natAbs, _-ℤ_};
+ghost use Prim.Native.Nat.{_-_, _≤_, _<_};
+ghost use lib.IntN.{pos};
 ghost use lib.ListN.{length};
-ghost use Rattle.fields.specs.Rules.{progression, geometricValue, closest};
-ghost use Rattle.fields.specs.Stored.{Rising};
-ghost use Rattle.fields.specs.Tables.{listed};
-
-// The greatest code of a scale: its fields have 6 bits.
-pub const TOP: u64 = 62;
+ghost use Rattle.fields.specs.Rules.{topCode, progression, scaleWidth, geometricValue, goesUp, storedAt};
+ghost use Rattle.fields.specs.Tables.{listed, RisingList};
 
 // Field 14, in 10 ns: 100 × 1.292^code to the nearest, for codes 0 to 62.
 const RESPONSE_TIMES: [u32; 63] = [
@@ -82,74 +75,77 @@ const RESPONSE_TIMES: [u32; 63] = [
     791180996,
 ];
 
-// An entry as a signed number.
-fn signed(entry: u32) -> i64
-    ensures { λ r. ⌜ r ≡ pos entry ⌝ }
-{
-    entry as i64
-}
-
-// The value of a code, from 0 to 62.
-pub fn scale_value(scale: Scale, code: u64) -> i64
-    requires { ⌜ code < 63 ⌝ }
-    ensures { λ r. ⌜ r ≡ geometricValue (progression scale) code ⌝ }
+// The bits of a scale's codes.
+pub fn scale_width(scale: Scale) -> u64
+    ensures { λ r. ⌜ r ≡ scaleWidth scale ⌝ }
 {
     match scale {
-        Scale::ResponseTime => signed(RESPONSE_TIMES[code as usize]),
+        Scale::ResponseTime => 6,
     }
 }
 
-// How far a is from b.
-fn apart(a: i64, b: i64) -> u64
-    ensures { λ r. ⌜ r ≡ natAbs (a -ℤ b) ⌝ }
+// ---- over any table
+
+// An entry or a figure in 64 bits.
+fn wide(x: u32) -> u64
+    ensures { λ r. ⌜ r ≡ x ⌝ }
 {
-    let up = plus(a) + minus(b);
-    let down = plus(b) + minus(a);
-    if down <= up { up - down } else { down - up }
+    x as u64
 }
 
-// The rule of the nearest: of two codes, the later where its value is as near to the figure, by difference, or nearer.
-fn closer(values: &[u32], before: usize, next: usize, figure: i64) -> usize
-    requires { ⌜ (before < length (now values)) × (next < length (now values)) ⌝ }
-    ensures { λ r. let value = listed (now (values .entry)) in
-        ⌜ r ≡ cond (leb (natAbs (value next -ℤ figure)) (natAbs (value before -ℤ figure))) next before ⌝ }
+// The value of a code.
+fn value_in(values: &[u32], code: u64) -> i64
+    requires { ⌜ code < length (now values) ⌝ }
+    ensures { λ r. ⌜ r ≡ pos (listed (now (values .entry)) code) ⌝ }
 {
-    if apart(signed(values[next]), figure) <= apart(signed(values[before]), figure) {
-        next
-    } else {
-        before
-    }
+    values[code as usize] as i64
 }
 
-// Of codes 0 to top of a table that rises, the one whose value is nearest to the figure, a tie to the greater. Halving finds
-// the first value that is not below the figure: that one or the one before it is the nearest.
-fn closest_in(values: &[u32], top: usize, figure: i64) -> usize
-    requires { ⌜ (top < length (now values)) × Rising (listed (now values)) top ⌝ }
-    ensures { λ r. ⌜ r ≡ closest (listed (now (values .entry))) top figure ⌝ }
+// The storing rule: whether a figure between two neighbours goes up to b.
+fn goes_up(a: u32, b: u32, figure: u32) -> bool
+    ensures { λ r. ⌜ r ≡ goesUp a b figure ⌝ }
 {
+    wide(a) + wide(b) <= 2 * wide(figure)
+}
+
+// The code that a figure is stored at, of a figure that is not above the last value. A figure that does not go up to a code
+// does not go up to a later one: halving finds the last that it goes up to.
+fn stored_in(values: &[u32], figure: u64) -> u64
+    requires { ⌜ RisingList (now values) × (figure ≤ listed (now values) (length (now values) - 1)) ⌝ }
+    ensures { λ r. let table = now (values .entry) in ⌜ r ≡ storedAt (listed table) (length table - 1) figure ⌝ }
+{
+    let w = figure as u32;
     let mut low = 0;
-    let mut high = top;
+    let mut high = values.len() - 1;
     while low < high {
         let middle = (low + high) / 2;
-        if signed(values[middle]) < figure {
+        if goes_up(values[middle], values[middle + 1], w) {
             low = middle + 1;
         } else {
             high = middle;
         }
     }
-    if low == 0 {
-        return 0;
-    }
-    closer(values, low - 1, low, figure)
+    low as u64
 }
 
-// Of codes 0 to top, the one whose value is nearest to the figure, a tie to the greater. The table is lent to the search:
-// a constant array is built anew wherever it is read at an index that is not a constant.
-pub fn closest_code(scale: Scale, top: u64, figure: i64) -> u64
-    requires { ⌜ top < 63 ⌝ }
-    ensures { λ r. ⌜ r ≡ closest (geometricValue (progression scale)) top figure ⌝ }
+// ---- by scale
+
+// The value of a code.
+pub fn scale_value(scale: Scale, code: u64) -> i64
+    requires { ⌜ code ≤ topCode (scaleWidth scale) ⌝ }
+    ensures { λ r. ⌜ r ≡ pos (geometricValue (progression scale) code) ⌝ }
 {
     match scale {
-        Scale::ResponseTime => closest_in(&RESPONSE_TIMES, top as usize, figure) as u64,
+        Scale::ResponseTime => value_in(&RESPONSE_TIMES, code),
+    }
+}
+
+// The code that a figure is stored at, of a figure that is not above the greatest value.
+pub fn stored_code(scale: Scale, figure: u64) -> u64
+    requires { ⌜ figure ≤ geometricValue (progression scale) (topCode (scaleWidth scale)) ⌝ }
+    ensures { λ r. ⌜ r ≡ storedAt (geometricValue (progression scale)) (topCode (scaleWidth scale)) figure ⌝ }
+{
+    match scale {
+        Scale::ResponseTime => stored_in(&RESPONSE_TIMES, figure),
     }
 }

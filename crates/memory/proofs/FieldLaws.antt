@@ -119,11 +119,6 @@ put-same N n w =
     let h : fieldAt N n w < 2 ^ w = field-lt N n w in
     parts-ext _ N n w (put-high N n w _ h) (put-field N n w _ h) (put-below N n w _ h)
 
--- Of two puts to one field the later stays.
-pub put-again : (N n w c d : ℕ) → c < 2 ^ w → putAt (putAt N n w c) n w d ≡ putAt N n w d
-put-again N n w c d hc =
-    ap₂ (λ (x y : ℕ). x * 2 ^ (w + n) + (d * 2 ^ n + y)) (put-high N n w c hc) (put-below N n w c hc)
-
 -- Two fields side by side are one.
 pub put-put : (N n v w c d : ℕ) → c < 2 ^ w → putAt (putAt N n w c) (w + n) v d ≡ putAt N n (v + w) (d * 2 ^ w + c)
 put-put N n v w c d hc =

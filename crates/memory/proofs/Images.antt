@@ -6,13 +6,12 @@ use native.Mathlib.Nat.{zero-add, mod-eq-of-lt}
 use native.Mathlib.Omega.{arith}
 use lib.ListN.{length, take, drop, getD, length-append, length-drop, take-append-drop}
 use lib.Seq.{length-take-le, take-at, drop-at, drop-drop, take-add, getD-drop}
-use Rattle.refusal.specs.Outcome.{good}
 use Rattle.memory.specs.declared.Sizes.{Sizes}
 use Rattle.memory.specs.Bits.{Bytes, number, bytesOf}
-use Rattle.memory.specs.Image.{imageBytes, streamBytes, streamBits, pageAt, total, pageSum, sums, checkByte, pagesStream, streamOf, streamNumber, pagesOf, withRight, imageOf}
+use Rattle.memory.specs.Image.{imageBytes, streamBytes, streamBits, pageAt, total, SumsRight, checkByte, pagesStream, streamOf, streamNumber, pagesOf, withRight, imageOf}
 use Rattle.memory.proofs.Digits.{bytes-take, bytes-drop, bytes-append, bytes-of, bytes-length, number-bytes}
 use Rattle.memory.proofs.Streams.{getD-past, bytes-stream, image-ext}
-use Rattle.memory.proofs.SumLaws.{total-append, streamPart, sum-parts, check-right, check-lt, right-check, all-sums, sums-all}
+use Rattle.memory.proofs.SumLaws.{total-append, streamPart, sum-parts, check-right, check-lt, right-check}
 
 -- ---- the pages
 
@@ -136,23 +135,20 @@ module _ (z : Sizes) (N : ℕ) where
   image-check = right-byte z (bytesOf (streamBytes z) N) (bytes-length (streamBytes z) N)
 
   -- Every page of it adds up to 0.
-  pub image-sum : (q : ℕ) → q < z .pages → pageSum z (imageOf z N) q ≡ 0
-  image-sum q h =
+  pub image-sums : SumsRight z (imageOf z N)
+  image-sums q h =
       let s : ℕ = total (streamPart z (bytesOf (streamBytes z) N) q) in
       sum-parts z (imageOf z N) image-length q h
       ∙ ap₂ (λ (x : ℕ) (y : List ℕ). (x + total (streamPart z y q)) % 256) (image-check q h) image-stream
       ∙ check-right s
 
-  pub image-sums : sums z (imageOf z N) ≡ good tt
-  image-sums = sums-all z (imageOf z N) image-sum
-
   -- No other image has this stream and right sums.
-  pub image-is : (l : List ℕ) → length l ≡ imageBytes z → Bytes l → sums z l ≡ good tt → streamNumber z l ≡ N → l ≡ imageOf z N
+  pub image-is : (l : List ℕ) → length l ≡ imageBytes z → Bytes l → SumsRight z l → streamNumber z l ≡ N → l ≡ imageOf z N
   image-is l wl hb s e =
       let f : streamOf z l ≡ bytesOf (streamBytes z) N = sym (bytes-stream z l wl hb) ∙ ap (bytesOf (streamBytes z)) e in
       image-ext z l (imageOf z N) wl image-length (f ∙ sym image-stream)
-      (λ q h. right-check z l wl hb q h (all-sums z l s q h) ∙ ap (λ (x : List ℕ). checkByte (total (streamPart z x q))) f ∙ sym (image-check q h))
+      (λ q h. right-check z l wl hb q h (s q h) ∙ ap (λ (x : List ℕ). checkByte (total (streamPart z x q))) f ∙ sym (image-check q h))
 
 -- Two views of one thing: an image with right sums is the image of its stream.
-pub two-views : (z : Sizes) (image : List ℕ) → length image ≡ imageBytes z → Bytes image → sums z image ≡ good tt → imageOf z (streamNumber z image) ≡ image
+pub two-views : (z : Sizes) (image : List ℕ) → length image ≡ imageBytes z → Bytes image → SumsRight z image → imageOf z (streamNumber z image) ≡ image
 two-views z image whole hb s = sym (image-is z (streamNumber z image) image whole hb s refl)

@@ -97,15 +97,15 @@ module _ (z : Sizes) (image : List ℕ) (whole : length image ≡ imageBytes z) 
       ap₂ bytesOf (sym (p .long)) e ∙ bytes-number (laid at run image word n) (p .bytes)
 
 -- Eight bytes with a field within one run replaced are the field put.
-pub put-run : (z : Sizes) (image : List ℕ) → length image ≡ imageBytes z → Bytes image → (at width code from run old word : ℕ)
+pub put-run : (z : Sizes) (image l : List ℕ) → length image ≡ imageBytes z → Bytes image → (at width code from run old word : ℕ)
     → at + width ≤ streamBits z → 1 ≤ width → width ≤ 32 → code < 2 ^ width
     → from ≡ streamIndex z (at / 8) → run ≡ runBytes z (at / 8) → (at % 8 + width + 7) / 8 ≤ run
     → old ≡ fieldAt (number image) (8 * from) 64 → word ≡ putAt old (at % 8) width code
-    → bytesOf (length image) (putAt (number image) (8 * from) 64 word) ≡ putIn z image at width code
-put-run z image whole hb at width code from run old word inside some most hc ef er hr eo ew =
+    → l ≡ bytesOf (length image) (putAt (number image) (8 * from) 64 word) → l ≡ putIn z image at width code
+put-run z image l whole hb at width code from run old word inside some most hc ef er hr eo ew el =
     let f : ℕ = at / 8 in
     let n : ℕ = (at % 8 + width + 7) / 8 in
     let last : from + n ≤ length image = omega (arith, run-near z f (n - 1) (omega arith), index-lt z (f + (n - 1)) (omega arith)) in
-    put-code z image _ at width code old word hc (gather-near z image whole hb f n from run old (omega arith) (omega arith) ef er eo hr) ew
-    (laid-run z image whole hb f from run word ef er n (at % 8) width code old hr (omega arith) last (omega arith) hc eo ew
+    put-code z image l at width code old word hc (gather-near z image whole hb f n from run old (omega arith) (omega arith) ef er eo hr) ew
+    (el ∙ laid-run z image whole hb f from run word ef er n (at % 8) width code old hr (omega arith) last (omega arith) hc eo ew
     ∙ scattered z image whole hb f from run word ef er n (omega arith) (omega arith))

@@ -13,3 +13,4 @@ pub mod SumLaws
 pub mod Images
 pub mod Sealing
 pub mod Mending
+pub mod SealAll

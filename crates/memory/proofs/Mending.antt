@@ -1,5 +1,5 @@
 -- A field put, and the check bytes of its pages made right.
-use mathlib.Core.Path.{_≡_, sym, ap, _∙_}
+use mathlib.Core.Path.{_≡_, sym, ap, ap₂, _∙_}
 use mathlib.Core.Logic.{_⊎_, inl, inr}
 use mathlib.Core.List.{List}
 use Prim.Native.Nat.{ℕ, zero, suc, _+_, _-_, _*_, _^_, _≤_, _<_}
@@ -7,17 +7,17 @@ use native.Mathlib.Omega.{arith}
 use native.Mathlib.Decide.{decLt, ℕ-discrete}
 use lib.ListN.{length, take, drop, getD, length-drop}
 use lib.Seq.{length-take-le}
-use Rattle.refusal.specs.Outcome.{good}
 use Rattle.memory.specs.declared.Sizes.{Sizes}
 use Rattle.memory.specs.Bits.{Bytes, number, fieldAt, putAt}
-use Rattle.memory.specs.Image.{imageBytes, streamBytes, streamBits, pageAt, pageOf, pageSum, sums, streamOf, streamNumber, imageOf, sealed, putIn}
+use Rattle.memory.specs.Image.{imageBytes, streamBytes, streamBits, pageAt, pageOf, pageSum, SumsRight, streamOf, streamNumber, imageOf, sealed, putIn}
+use Rattle.memory.specs.Answers.{InStream}
 use Rattle.memory.proofs.FieldLaws.{put-after, put-before}
 use Rattle.memory.proofs.Digits.{bytes-take, bytes-drop, number-part, number-ext}
 use Rattle.memory.proofs.Streams.{stream-length, stream-bytes}
 use Rattle.memory.proofs.Written.{put-whole, put-bytes, put-stream, put-checks}
-use Rattle.memory.proofs.SumLaws.{streamPart, sum-same, all-sums, sums-all}
+use Rattle.memory.proofs.SumLaws.{streamPart, sum-same}
 use Rattle.memory.proofs.Images.{image-is}
-use Rattle.memory.proofs.Sealing.{seal-length, seal-bytes, seal-number, seal-sum, seal-other, seal-others, seal-seal}
+use Rattle.memory.proofs.Sealing.{seal-length, seal-bytes, seal-number, seal-sum, seal-other, seal-others}
 
 -- A part of two streams with the same field there is the same.
 same-part : (l k : List ℕ) (S i n : ℕ) → length l ≡ S → length k ≡ S → Bytes l → Bytes k → i + n ≤ S
@@ -79,7 +79,7 @@ module _ (z : Sizes) (image : List ℕ) (whole : length image ≡ imageBytes z) 
     first-long : length first ≡ imageBytes z
     first-long = seal-length z put put-long (pageOf z at) first-page
 
-    module _ (right : sums z image ≡ good tt) where
+    module _ (right : SumsRight z image) where
       last-sum : (q : ℕ) → q < z .pages → Dec (q ≡ pageOf z at) → Dec (q ≡ pageOf z (at + w - 1)) → pageSum z last q ≡ 0
       last-sum q h d (yes e) =
           ap (pageSum z last) e ∙ seal-sum z first first-long (pageOf z (at + w - 1)) last-page
@@ -89,21 +89,16 @@ module _ (z : Sizes) (image : List ℕ) (whole : length image ≡ imageBytes z) 
       last-sum q h (no d) (no e) =
           seal-others z first first-long (pageOf z (at + w - 1)) last-page q h e
           ∙ seal-others z put put-long (pageOf z at) first-page q h d
-          ∙ put-sum q h d e ∙ all-sums z image right q h
+          ∙ put-sum q h d e ∙ right q h
 
       -- A field put, and the pages of its first and its last bit sealed: the image of the changed stream.
       pub mended : sealed z (sealed z (putIn z image at w code) (pageOf z at)) (pageOf z (at + w - 1)) ≡ imageOf z (putAt (streamNumber z image) at w code)
       mended =
           image-is z (putAt (streamNumber z image) at w code) last (seal-length z first first-long (pageOf z (at + w - 1)) last-page)
           (seal-bytes z first first-long (pageOf z (at + w - 1)) last-page (seal-bytes z put put-long (pageOf z at) first-page (put-bytes z image at w code whole hb)))
-          (sums-all z last (λ q h. last-sum q h (ℕ-discrete q (pageOf z at)) (ℕ-discrete q (pageOf z (at + w - 1)))))
+          (λ q h. last-sum q h (ℕ-discrete q (pageOf z at)) (ℕ-discrete q (pageOf z (at + w - 1))))
           (seal-number z first first-long (pageOf z (at + w - 1)) last-page ∙ seal-number z put put-long (pageOf z at) first-page
           ∙ put-stream z image at w code whole hb inside hc)
-
-      -- The same where both bits are of one page, which is sealed once.
-      pub mended-one : pageOf z (at + w - 1) ≡ pageOf z at → sealed z (putIn z image at w code) (pageOf z at) ≡ imageOf z (putAt (streamNumber z image) at w code)
-      mended-one e =
-          sym (seal-seal z put put-long (put-bytes z image at w code whole hb) (pageOf z at) first-page) ∙ ap (sealed z first) (sym e) ∙ mended
 
       -- The check byte of any other page is as it was.
       pub mended-check : (q : ℕ) → (q ≡ pageOf z at → ⊥) → (q ≡ pageOf z (at + w - 1) → ⊥)
@@ -113,3 +108,11 @@ module _ (z : Sizes) (image : List ℕ) (whole : length image ≡ imageBytes z) 
           ∙ seal-other z first first-long (pageOf z (at + w - 1)) last-page (pageAt z q) (λ e. m (omega arith))
           ∙ seal-other z put put-long (pageOf z at) first-page (pageAt z q) (λ e. n (omega arith))
           ∙ put-checks z image at w code whole q
+
+-- A field put and its pages sealed, one call after the other.
+pub rewritten : (z : Sizes) (image a b d : List ℕ) (at w code p q : ℕ) → Bytes image → InStream z image at w → code < 2 ^ w
+    → 1 ≤ z .pages → SumsRight z image → p ≡ pageOf z at → q ≡ pageOf z (at + w - 1)
+    → a ≡ putIn z image at w code → b ≡ sealed z a p → d ≡ sealed z b q → d ≡ imageOf z (putAt (streamNumber z image) at w code)
+rewritten z image a b d at w code p q bytes here fits paged right first last ea eb ed =
+    ed ∙ ap₂ (sealed z) (eb ∙ ap₂ (sealed z) ea first) last
+    ∙ mended z image (here .whole .long) bytes at w code (here .inside) (here .some) (here .most) fits paged right

@@ -1,14 +1,14 @@
 -- Pieces of a stream: what a number holds from a place on.
-use mathlib.Core.Path.{_≡_, refl, sym, ap, ap₂, _∙_}
+use mathlib.Core.Path.{_≡_, sym, ap, ap₂, _∙_}
 use mathlib.Core.List.{List, [], _∷_, _++_}
 use Prim.Native.Nat.{ℕ, _+_, _*_, _/_, _%_, _^_, _≤_, _<_}
-use native.Mathlib.Nat.{mod-eq-of-lt, mod-one, mul-assoc}
+use native.Mathlib.Nat.{mod-eq-of-lt, mod-one, mul-assoc, le-refl}
 use native.Mathlib.Omega.{arith}
 use lib.Arith.{digits-lt}
 use lib.Pow.{pow-add}
 use Rattle.memory.specs.Bits.{fieldAt, putAt}
 use Rattle.memory.specs.Pieces.{Piece, piece, pack, needed}
-use Rattle.memory.proofs.FieldLaws.{field-add, field-lt, field-mod, digits}
+use Rattle.memory.proofs.FieldLaws.{field-add, field-lt, field-mod, digits, put-field, put-before, put-after}
 
 -- Every code fits its width.
 abbrev pub Fit : List Piece → Type 0
@@ -22,6 +22,10 @@ Holds N at ps = fieldAt N at (needed ps) ≡ pack ps
 pub fit-append : (ps qs : List Piece) → Fit ps → Fit qs → Fit (ps ++ qs)
 fit-append [] qs f g = g
 fit-append (p ∷ ps) qs f g = (f .0, fit-append ps qs (f .1) g)
+
+pub fit-split : (ps qs : List Piece) → Fit (ps ++ qs) → Fit ps × Fit qs
+fit-split [] qs f = (tt, f)
+fit-split (p ∷ ps) qs f = let s = fit-split ps qs (f .1) in ((f .0, s .0), s .1)
 
 pub pack-lt : (ps : List Piece) → Fit ps → pack ps < 2 ^ needed ps
 pack-lt [] f = omega arith
@@ -55,6 +59,42 @@ holds-nil N at = mod-one (N / 2 ^ at)
 -- What a number holds below a bit, each number with the same lower bits holds.
 pub holds-mod : (A B S : ℕ) → A % 2 ^ S ≡ B % 2 ^ S → (at : ℕ) (ps : List Piece) → at + needed ps ≤ S → Holds A at ps → Holds B at ps
 holds-mod A B S e at ps l h = sym (field-mod A B S e at (needed ps) l) ∙ h
+
+-- ---- pieces behind pieces
+
+module _ (N at : ℕ) (ps qs : List Piece) where
+  field-append : fieldAt N at (needed (ps ++ qs)) ≡ fieldAt N (at + needed ps) (needed qs) * 2 ^ needed ps + fieldAt N at (needed ps)
+  field-append = ap (fieldAt N at) (needed-append ps qs) ∙ field-add N at (needed qs) (needed ps)
+
+  pub holds-append : Holds N at ps → Holds N (at + needed ps) qs → Holds N at (ps ++ qs)
+  holds-append h k = field-append ∙ ap₂ (λ (x y : ℕ). x * 2 ^ needed ps + y) k h ∙ sym (pack-append ps qs)
+
+  holds-parts : Fit ps → Holds N at (ps ++ qs) → (Holds N (at + needed ps) qs) × Holds N at ps
+  holds-parts f h = digits _ (pack qs) (needed ps) (field-lt N at (needed ps)) (pack-lt ps f) (sym field-append ∙ h ∙ pack-append ps qs)
+
+  pub holds-front : Fit ps → Holds N at (ps ++ qs) → Holds N at ps
+  holds-front f h = holds-parts f h .1
+
+  pub holds-back : Fit ps → Holds N at (ps ++ qs) → Holds N (at + needed ps) qs
+  holds-back f h = holds-parts f h .0
+
+-- One piece among the others stands behind those before it.
+pub holds-piece : (N at : ℕ) (before : List Piece) (p : Piece) (after : List Piece) → Fit (before ++ (p ∷ after)) → Holds N at (before ++ (p ∷ after))
+    → fieldAt N (at + needed before) (p .width) ≡ p .code
+holds-piece N at before p after f h =
+    let s = fit-split before (p ∷ after) f in
+    holds-uncons N (at + needed before) p after (s .1 .0) (holds-back N at before (p ∷ after) (s .0) h) .1
+
+-- Another code put there: the other pieces stand as they were.
+pub holds-put : (N at : ℕ) (before : List Piece) (w code old : ℕ) (after : List Piece) → Fit (before ++ (piece w old ∷ after)) → code < 2 ^ w
+    → Holds N at (before ++ (piece w old ∷ after)) → Holds (putAt N (at + needed before) w code) at (before ++ (piece w code ∷ after))
+holds-put N at before w code old after f hc h =
+    let n : ℕ = at + needed before in
+    let s = fit-split before (piece w old ∷ after) f in
+    let back = holds-uncons N n (piece w old) after (s .1 .0) (holds-back N at before (piece w old ∷ after) (s .0) h) .0 in
+    holds-append (putAt N n w code) at before (piece w code ∷ after)
+    (put-before N n w code hc at (needed before) (le-refl n) ∙ holds-front N at before (piece w old ∷ after) (s .0) h)
+    (holds-cons (putAt N n w code) n (piece w code) after (put-field N n w code hc) (put-after N n w code hc (n + w) (needed after) (le-refl (n + w)) ∙ back))
 
 -- ---- pieces from bit 0 on
 

@@ -5,13 +5,13 @@ use Prim.Native.Nat.{ℕ, _+_, _%_, _<_}
 use native.Mathlib.Nat.{zero-add}
 use native.Mathlib.Omega.{arith}
 use lib.ListN.{length, getD, set, length-set}
-use lib.Seq.{getD-set-same, getD-set-other, set-getD}
+use lib.Seq.{getD-set-same, getD-set-other}
 use Rattle.memory.specs.declared.Sizes.{Sizes}
 use Rattle.memory.specs.Bits.{Bytes, number}
 use Rattle.memory.specs.Image.{imageBytes, pageAt, total, pageSum, checkByte, streamOf, streamNumber, sealed}
 use Rattle.memory.proofs.Digits.{bytes-set}
 use Rattle.memory.proofs.Streams.{stream-check}
-use Rattle.memory.proofs.SumLaws.{streamPart, covered-total, sum-parts, sum-same, check-right, check-is, check-lt, right-check}
+use Rattle.memory.proofs.SumLaws.{streamPart, covered-total, sum-parts, sum-same, check-right, check-is, check-lt}
 
 module _ (z : Sizes) (image : List ℕ) (whole : length image ≡ imageBytes z) (p : ℕ) (hp : p < z .pages) where
   -- The check byte that page p's part of the stream asks for.
@@ -58,17 +58,7 @@ module _ (z : Sizes) (image : List ℕ) (whole : length image ≡ imageBytes z) 
       sum-same z image whole q hq (sealed z image p) seal-length (seal-other (pageAt z q) (λ e. n (omega arith)))
       (ap (λ (x : List ℕ). streamPart z x q) seal-stream)
 
-  -- Where the page adds up to 0 already, nothing changes.
-  pub seal-same : Bytes image → pageSum z image p ≡ 0 → sealed z image p ≡ image
-  seal-same hb e =
-      sealed-set ∙ ap (set image (pageAt z p)) (sym (right-check z image whole hb p hp e)) ∙ set-getD image (pageAt z p) 0
-
   -- The byte that the code stores: the check byte less the page's sum, modulo 256.
   pub seal-code : Bytes image → (b : ℕ) → b < 256 → (b + pageSum z image p) % 256 ≡ getD image (pageAt z p) 0 → set image (pageAt z p) b ≡ sealed z image p
   seal-code hb b h e =
       ap (set image (pageAt z p)) (check-is b (total (streamPart z (streamOf z image) p)) h (omega (arith, sum-parts z image whole p hp, hb (pageAt z p)))) ∙ sym sealed-set
-
--- A page sealed twice is sealed.
-pub seal-seal : (z : Sizes) (image : List ℕ) → length image ≡ imageBytes z → Bytes image → (p : ℕ) → p < z .pages → sealed z (sealed z image p) p ≡ sealed z image p
-seal-seal z image whole hb p hp =
-    seal-same z (sealed z image p) (seal-length z image whole p hp) p hp (seal-bytes z image whole p hp hb) (seal-sum z image whole p hp)

@@ -16,7 +16,7 @@ use Rattle.refusal.specs.Rows.{wrongSum}
 use Rattle.refusal.specs.declared.Refusal.{Refusal}
 use Rattle.memory.specs.declared.Sizes.{Sizes}
 use Rattle.memory.specs.Bits.{Bytes}
-use Rattle.memory.specs.Image.{imageBytes, pageAt, covered, total, pageSum, sumsFrom, sums, checkByte, streamOf}
+use Rattle.memory.specs.Image.{imageBytes, pageAt, covered, total, pageSum, SumsRight, sumsFrom, sums, checkByte, streamOf}
 use Rattle.memory.proofs.Streams.{stream-length, stream-at, index-register, index-page}
 
 -- ---- what a page's sum adds up
@@ -157,15 +157,15 @@ module _ (z : Sizes) (image : List ℕ) where
           wrong p (omega arith) (omega arith) w (λ q i≤q q<p. at e i≤q (λ j. f q j q<p) (ℕ-discrete i q)) (step-right n i e ∙ s)
 
   -- The check accepts just the images whose every page adds up to 0.
-  pub all-sums : sums z image ≡ good tt → (q : ℕ) → q < z .pages → pageSum z image q ≡ 0
-  all-sums e q h = go (scanned (z .pages) 0)
+  pub sums-right : sums z image ≡ good tt → SumsRight z image
+  sums-right e q h = go (scanned (z .pages) 0)
     where
       go : Scanned (z .pages) 0 → pageSum z image q ≡ 0
       go (right f s) = f q (omega arith) (omega arith)
       go (wrong p i k w f s) = let x : _≡_ {A = ℕ} 0 1 = cc in absurd (omega arith)
 
-  pub sums-all : ((q : ℕ) → q < z .pages → pageSum z image q ≡ 0) → sums z image ≡ good tt
-  sums-all f = go (scanned (z .pages) 0)
+  pub right-sums : SumsRight z image → sums z image ≡ good tt
+  right-sums f = go (scanned (z .pages) 0)
     where
       go : Scanned (z .pages) 0 → sums z image ≡ good tt
       go (right g s) = s

@@ -1,4 +1,4 @@
--- What the calls of this crate ask and answer: the image that sizes fit, fields within its stream, and document 01's number and values for each case of an answer.
+-- What inner contracts need: the image that sizes fit, fields within its stream, and what each case of an answer says in the terms of Image.
 use mathlib.Core.Path.{_≡_}
 use mathlib.Core.Bool.{cond}
 use mathlib.Core.List.{List}

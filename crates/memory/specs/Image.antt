@@ -1,7 +1,8 @@
 -- Document 01, "Image and stream": kinds, pages, check bytes, and the stream between them.
+use mathlib.Core.Path.{_≡_}
 use mathlib.Core.Bool.{not, cond}
 use mathlib.Core.List.{List, [], _∷_, _++_}
-use Prim.Native.Nat.{ℕ, zero, suc, _+_, _-_, _*_, _/_, _%_}
+use Prim.Native.Nat.{ℕ, zero, suc, _+_, _-_, _*_, _/_, _%_, _<_}
 use lib.ListN.{length, take, drop, set}
 use lib.Dec.{eqb, ltb}
 use Rattle.refusal.specs.Outcome.{Outcome, good, refused, _>>_, _>>=_, refuse_if_}
@@ -55,6 +56,10 @@ total (b ∷ bytes) = b + total bytes
 
 abbrev pub pageSum : Sizes → List ℕ → ℕ → ℕ
 pageSum z image i = total (covered z image i) % 256
+
+-- Every page adds up to 0.
+abbrev pub SumsRight : Sizes → List ℕ → Type 0
+SumsRight z image = (i : ℕ) → i < z .pages → pageSum z image i ≡ 0
 
 -- Row 2, page by page: n pages from page i on.
 unfoldable pub sumsFrom : Sizes → List ℕ → ℕ → ℕ → Outcome (Unit {0})

@@ -31,18 +31,13 @@ impl Cursor {
         ensures { λ r. ⌜ takenSaid r ≡ takenAt sizes (now (image .entry)) (self .at) width ⌝ }
     {
         let at = self.at;
+        // `stream_bits`, from the image's length: three instructions a field fewer.
         let bits = 8 * (image.len() - sizes.pages);
         if bits < at {
-            return Taken::Refused(Refusal {
-                number: refusal::PAST_END,
-                place: at as u64,
-            });
+            return Taken::Refused(refusal::past_end(at as u64));
         }
         if bits - at < width {
-            return Taken::Refused(Refusal {
-                number: refusal::PAST_END,
-                place: at as u64,
-            });
+            return Taken::Refused(refusal::past_end(at as u64));
         }
         Taken::Field(
             bitfields::take(sizes, image, at, width),

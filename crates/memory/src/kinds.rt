@@ -1,9 +1,9 @@
-// The three kinds of chip.
+// The three kinds of chip, and their sizes.
 ghost use mathlib.Core.Path.{_≡_};
 ghost use mathlib.Core.Bool.{cond};
 ghost use Prim.Native.Nat.{_^_, _<_};
 ghost use lib.Dec.{eqb};
-ghost use Rattle.memory.specs.Image.{imageBytes, imageSizes};
+ghost use Rattle.memory.specs.Image.{imageBytes, streamBits, imageSizes};
 ghost use Rattle.refusal.specs.Outcome.{good, refused};
 ghost use Rattle.refusal.specs.Rows.{wrongImage};
 ghost use Rattle.memory.specs.Answers.{sizesSaid};
@@ -41,7 +41,7 @@ pub fn image_sizes(kind: u8, bytes: usize) -> SizesAnswer
             },
             bytes,
         ),
-        _ => wrong_image(),
+        _ => SizesAnswer::Refused(refusal::wrong_image()),
     }
 }
 
@@ -53,14 +53,13 @@ fn fitting(sizes: Sizes, bytes: usize) -> SizesAnswer
     if bytes == sizes.register + 32 * sizes.pages {
         return SizesAnswer::Are(sizes);
     }
-    wrong_image()
+    SizesAnswer::Refused(refusal::wrong_image())
 }
 
-fn wrong_image() -> SizesAnswer
-    ensures { λ r. ⌜ sizesSaid r ≡ refused wrongImage ⌝ }
+// The bits of the stream.
+pub fn stream_bits(sizes: Sizes) -> usize
+    requires { ⌜ imageBytes sizes < 2 ^ 32 ⌝ }
+    ensures { λ r. ⌜ r ≡ streamBits sizes ⌝ }
 {
-    SizesAnswer::Refused(Refusal {
-        number: refusal::WRONG_IMAGE,
-        place: 0,
-    })
+    8 * (sizes.register + 31 * sizes.pages)
 }

@@ -6,16 +6,21 @@ mod bitfields;
 mod cursor;
 mod kinds;
 mod pages;
+mod writing;
 
 pub use bitfields::put;
 pub use cursor::Cursor;
 pub use cursor::Taken;
 pub use kinds::SizesAnswer;
 pub use kinds::image_sizes;
+pub use kinds::stream_bits;
 pub use pages::Sums;
 pub use pages::check_sums;
 pub use pages::page_bytes;
 pub use pages::seal;
+pub use writing::clear;
+pub use writing::rewrite;
+pub use writing::seal_pages;
 
 // A chip's memory: the bytes of its register, and its pages of 32 bytes.
 pub struct Sizes {

@@ -10,20 +10,20 @@ use borrow.Author.Tests.{eqb-true, eqb-false, not-false}
 use Rattle.refusal.specs.declared.Refusal.{Refusal}
 use Rattle.refusal.specs.Outcome.{Outcome, good, refused, _>>_, _>>=_, refuse_if_}
 use Rattle.refusal.specs.Rows.{wrongImage}
+use Rattle.refusal.specs.Written.{afterwards}
+use Rattle.refusal.proofs.Outcomes.{good-same, passed, no-value}
 use Rattle.memory.specs.declared.Sizes.{Sizes}
 use Rattle.memory.specs.Bits.{Bytes}
 use Rattle.memory.specs.Image.{imageSizes}
 use Rattle.fields.specs.declared.Value.{Value}
 use Rattle.fields.specs.Rules.{encode}
 use Rattle.fields.specs.Stored.{Real}
-use Rattle.sheet.specs.Contents.{Found, Contents}
-use Rattle.sheet.specs.Check.{contents, field}
-use Rattle.refusal.proofs.Outcomes.{good-same, passed}
-use Rattle.sheet.proofs.Sections.{Accepted, contents-accepted}
-use Rattle.sheet.proofs.Puts.{withField}
-use Rattle.edit.specs.Build.{afterwards}
-use Rattle.edit.specs.Change.{change}
-use Rattle.edit.proofs.Changing.{fixed, recodedIn, change-unread, change-fixed, change-free, Free, free-is, change-made, recoded-contents, recoded-same, made-length, made-bytes}
+use Rattle.layout.specs.Contents.{Found, Contents}
+use Rattle.layout.specs.Image.{contents, field}
+use Rattle.layout.proofs.Accepted.{Accepted, contents-accepted}
+use Rattle.layout.proofs.Puts.{withField}
+use Rattle.change.specs.Change.{codeFor, recodedIn, change}
+use Rattle.change.proofs.Recoding.{Changeable, code-found, change-unread, change-is, change-made, made-length, made-bytes, stored-contents, same-value}
 use Rattle.promises.specs.Changes.{Change, changedBy, changed, stores, heldBy, held, AfterChanges, ChangedToTheSame}
 
 -- ---- another kind
@@ -60,11 +60,11 @@ other-kind kind other image c e n = go (contents other image) refl
 
 -- What a sheet holds after a change of its own kind.
 abbrev own : Contents → Change → Contents
-own c ch = cond (fixed c (ch .field)) c (stores c (ch .field) (ch .value) (encode (field c (ch .field) .row) (ch .field) (ch .value)))
+own c ch = stores c (ch .field) (ch .value) (codeFor c (ch .field) (ch .value))
 
 after-own : (image : List ℕ) (c : Contents) (ch : Change) → Bytes image → Real (ch .value) → contents (ch .kind) image ≡ good c →
     contents (ch .kind) (changedBy image ch) ≡ good (own c ch)
-after-own image c ch bytes real e = tested (fixed c f) refl
+after-own image c ch bytes real e = go (codeFor c f v) refl
   where
     k : ℕ
     k = ch .kind
@@ -78,23 +78,17 @@ after-own image c ch bytes real e = tested (fixed c f) refl
     a : Accepted k image c
     a = contents-accepted k image c e
 
-    z : Sizes
-    z = a .sizes
+    after : (o : Outcome ℕ) → codeFor c f v ≡ o →
+        contents k (changedBy image ch) ≡ contents k (afterwards image (o >>= λ code. good (recodedIn (a .sizes) image (field c f) code)))
+    after o h =
+        ap (λ u. contents k (afterwards image u)) (change-is k image c (a .sizes) e (a .sized) f v)
+        ∙ ap (λ u. contents k (afterwards image (u >>= λ code. good (recodedIn (a .sizes) image (field c f) code)))) h
 
-    after : (o : Outcome (List ℕ)) → change k image f v ≡ o → contents k (changedBy image ch) ≡ contents k (afterwards image o)
-    after o = ap (λ u. contents k (afterwards image u))
-
-    encoded : (o : Outcome ℕ) → encode (field c f .row) f v ≡ o → fixed c f ≡ false → contents k (changedBy image ch) ≡ good (stores c f v o)
-    encoded (refused r) h t =
-        after (refused r) (change-free k image c z e (a .sized) f v t ∙ ap (λ o. o >>= λ code. good (recodedIn z image (field c f) code)) h) ∙ e
-    encoded (good code) h t =
-        after (good (recodedIn z image (field c f) code))
-        (change-free k image c z e (a .sized) f v t ∙ ap (λ o. o >>= λ code. good (recodedIn z image (field c f) code)) h)
-        ∙ recoded-contents k image c z bytes e (a .sized) f (free-is c f t) v real code h
-
-    tested : (b : Bool) → fixed c f ≡ b → contents k (changedBy image ch) ≡ good (cond b c (stores c f v (encode (field c f .row) f v)))
-    tested true t = let g = change-fixed k image c z e (a .sized) f v t in after (refused (g .0)) (g .1) ∙ e
-    tested false t = encoded (encode (field c f .row) f v) refl t
+    go : (o : Outcome ℕ) → codeFor c f v ≡ o → contents k (changedBy image ch) ≡ good (stores c f v o)
+    go (refused r) h = after (refused r) h ∙ e
+    go (good code) h =
+        let (free, stored) = code-found c f v code h in
+        after (good code) h ∙ stored-contents k image c (a .sizes) bytes e (a .sized) f free v real code stored
 
 after-change : (kind : ℕ) (image : List ℕ) (c : Contents) (ch : Change) → Bytes image → Real (ch .value) → contents kind image ≡ good c →
     contents kind (changedBy image ch) ≡ good (heldBy kind c ch)
@@ -143,25 +137,22 @@ pub changed-to-the-same : ChangedToTheSame
 changed-to-the-same kind image after c f bytes e h =
     let m = change-made kind image f (field c f .value) after h in
     let q : m .held ≡ c = good-same (sym (m .accepted) ∙ e) in
-    m .is ∙ ap (λ d. recodedIn (m .sizes) image (field d f) (m .code)) q
-    ∙ recoded-same kind image c (m .sizes) bytes e (m .sized) f (subst (λ d. Free d f) q (m .free)) (m .code)
-    (subst (λ d. encode (field d f .row) f (field c f .value) ≡ good (m .code)) q (m .stored))
+    let (free, stored) = code-found c f (field c f .value) (m .code) (subst (λ d. codeFor d f (field c f .value) ≡ good (m .code)) q (m .coded)) in
+    m .is ∙ ap (λ d. recodedIn (m .sizes) image (field d f) (m .code)) q ∙ same-value kind image c (m .sizes) bytes e (m .sized) f free (m .code) stored
 
 -- ---- what no change alters
 
--- What does not go by the fields is as it was, and so are the points.
+-- What does not go by the fields is as it was, and so is the calibration.
 pub held-keeps : {A : Type 0} (g : Contents → A) → ((c : Contents) (i : ℕ) (x : Found) → g (withField c i x) ≡ g c) → (kind : ℕ) (c : Contents) (changes : List Change) →
     g (held kind c changes) ≡ g c
 held-keeps g same kind c [] = refl
 held-keeps g same kind c (ch ∷ changes) =
-    held-keeps g same kind (heldBy kind c ch) changes
-    ∙ go (eqb (ch .kind) kind) (fixed c (ch .field)) (encode (field c (ch .field) .row) (ch .field) (ch .value))
+    held-keeps g same kind (heldBy kind c ch) changes ∙ go (eqb (ch .kind) kind) (codeFor c (ch .field) (ch .value))
   where
-    go : (a b : Bool) (o : Outcome ℕ) → g (cond a (cond b c (stores c (ch .field) (ch .value) o)) c) ≡ g c
-    go false b o = refl
-    go true true o = refl
-    go true false (refused r) = refl
-    go true false (good code) = same c (ch .field - 1) _
+    go : (a : Bool) (o : Outcome ℕ) → g (cond a (stores c (ch .field) (ch .value) o) c) ≡ g c
+    go false o = refl
+    go true (refused r) = refl
+    go true (good code) = same c (ch .field - 1) _
 
-pub held-points : (kind : ℕ) (c : Contents) (changes : List Change) → held kind c changes .points ≡ c .points
-held-points = held-keeps (λ c. c .points) (λ c i x. refl)
+pub held-calibration : (kind : ℕ) (c : Contents) (changes : List Change) → held kind c changes .calibration ≡ c .calibration
+held-calibration = held-keeps (λ c. c .calibration) (λ c i x. refl)

@@ -4,63 +4,27 @@ use lib.Dec.{lit≤}
 use lib.Ieee.{ofInt, toBits, ofBits, nanBits, ofFields, round, units, odd, span, climb, size, neg}
 use Rattle.integers.specs.Nearest.{nearest}
 use Rattle.memory.specs.Image.{imageSizes, sumsFrom, streamOf, imageOf}
-use Rattle.fields.specs.Rules.{decode, encode, geometricValue, closest}
-use Rattle.fields.specs.Rows.{template33}
-use Rattle.sheet.specs.Contents.{fieldOf, blockOf, fieldsOf, pairsOf, tableAt, lastSelector, pointsOf, textOf, sheet}
-use Rattle.sheet.specs.Check.{contents}
-use Rattle.edit.specs.Build.{fieldPieces, endingPieces, pairPieces, plan, build}
-use Rattle.edit.specs.Change.{change}
-use Rattle.reading.specs.Line.{between, correctionAfter, correction, deviation, certificateLine}
-use Rattle.reading.specs.Reading.{position, takeReading}
+use Rattle.fields.specs.Rules.{decode, encode, geometricValue, goesUp, storedAt}
+use Rattle.fields.specs.Lines.{basic, template33, linesOf}
+use Rattle.fields.specs.Calibration.{follows}
+use Rattle.fields.specs.Figure.{floatFraction, physicalFigure}
+use Rattle.layout.specs.Contents.{fieldOf, fieldsOf, selectorOf, firstBlock, pairOf, pairsOf, tableOf, blockAt, calibrationOf, textOf, endingOf, sheetOf}
+use Rattle.layout.specs.Image.{contents}
+use Rattle.build.specs.Build.{linePieces, fieldPieces, endingPieces, pairCodes, pairPieces, tablePieces, plan, builtIn, build}
+use Rattle.change.specs.Change.{changeable, codeFor, rewritten, change}
+use Rattle.line.specs.Line.{between, correctionAfter, correction, deviation, certificateLine}
+use Rattle.reading.specs.Reading.{spanOf, position, readingAt, takeReading}
 use Rattle.texts.proofs.Calendar.{date-789, date-7306, date-37314, date-65534}
-use Rattle.promises.specs.Edges.{Edges}
+use Rattle.promises.specs.Edges.{Edges, Examples}
 use Rattle.promises.specs.Attained.{NearlyAttained}
 
 pub edges : Edges
-unfolding encode decode nearest geometricValue fieldPieces template33 position deviation correction correctionAfter between build plan endingPieces pairPieces imageSizes imageOf change contents sumsFrom streamOf fieldOf blockOf fieldsOf pairsOf tableAt lastSelector pointsOf textOf sheet takeReading ofInt toBits ofBits nanBits ofFields round units odd span climb size neg
-edges = (
-  refl,
-  (
-    refl,
-    (
-      refl,
-      (
-        refl,
-        (
-          refl,
-          (
-            date-789,
-            (
-              date-7306,
-              (
-                date-37314,
-                (
-                  date-65534,
-                  (
-                    refl,
-                    (
-                      refl,
-                      (
-                        refl,
-                        (
-                          refl,
-                          (
-                            refl,
-                            (refl, (refl, (refl, (refl, (refl, (refl, (refl, (refl, (refl, (refl, (refl, (refl, tt)))))))))))),
-                          ),
-                        ),
-                      ),
-                    ),
-                  ),
-                ),
-              ),
-            ),
-          ),
-        ),
-      ),
-    ),
-  ),
-)
+unfolding encode decode nearest linePieces basic position deviation correction correctionAfter between
+edges = (refl, (refl, (refl, (refl, (refl, (date-789, (date-7306, (date-37314, (date-65534, (refl, (refl, (refl, (refl, (refl, tt))))))))))))))
+
+pub examples : Examples
+unfolding encode decode nearest geometricValue goesUp storedAt linePieces fieldPieces basic template33 linesOf follows position deviation correction correctionAfter between build builtIn plan endingPieces pairCodes pairPieces tablePieces imageSizes imageOf changeable codeFor rewritten change contents sumsFrom streamOf fieldOf fieldsOf selectorOf firstBlock pairOf pairsOf tableOf blockAt calibrationOf textOf endingOf sheetOf spanOf readingAt takeReading ofInt toBits ofBits nanBits ofFields round units odd span climb size neg
+examples = (refl, (refl, (refl, (refl, (refl, (refl, (refl, (refl, (refl, (refl, (refl, (refl, tt))))))))))))
 
 pub nearly-attained : NearlyAttained
 unfolding certificateLine correction correctionAfter between

@@ -1,7 +1,11 @@
+pub mod AfterChanges
+pub mod Altering
+pub mod PlannedFields
+pub mod PlannedPairs
+pub mod PlannedSheet
 pub mod Written
 pub mod Rebuilt
 pub mod NeededBits
-pub mod AfterChanges
 pub mod StoredPoints
 pub mod Distance
 pub mod EdgesHold

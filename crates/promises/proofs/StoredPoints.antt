@@ -2,32 +2,34 @@
 use mathlib.Core.Path.{_≡_, refl, sym, ap, _∙_, subst}
 use mathlib.Core.Bool.{Bool, true, false, not}
 use mathlib.Core.List.{List, [], _∷_, map}
+use mathlib.Core.Option.{Option, none, some}
 use Prim.Native.Nat.{ℕ, suc, _+_, _*_, _≤_, _<_}
 use native.Mathlib.Nat.{mul-lt-mul-of-pos-left}
 use native.Mathlib.Omega.{arith}
-use lib.Dec.{T, ltb, lit<}
-use borrow.Author.Tests.{ltb-false}
+use lib.Dec.{T, lit<}
 use lib.IntN.{ℤ, pos, negℤ, natAbs, _-ℤ_}
 use lib.Signed.{ltZ, _<ℤ_, ltZ-yes}
 use Rattle.integers.proofs.PartLaws.{add-parts, parts-<ℤ, nltZ-parts}
 use Rattle.refusal.specs.Outcome.{good}
-use Rattle.refusal.specs.Rows.{outOfRange, notRising}
+use Rattle.refusal.specs.Rows.{outOfRange}
 use Rattle.memory.specs.Pieces.{Piece}
 use Rattle.fields.specs.declared.Value.the-variants.{Whole}
 use Rattle.fields.specs.declared.Rule.the-variants.{Stepped}
 use Rattle.fields.specs.declared.Row.{Row}
 use Rattle.fields.specs.Rules.{topCode, outside, steppedValue, steppedCode, encode}
-use Rattle.fields.specs.Rows.{D, R, calPoint, calDeviation}
+use Rattle.fields.specs.declared.Pair.{Pair}
+use Rattle.fields.specs.declared.Codes.{Codes}
+use Rattle.fields.specs.Calibration.{D, R, calPoint, calDeviation}
 use Rattle.fields.specs.Stored.{kept}
 use Rattle.fields.proofs.StoredLaws.{stepped-nearest}
 use Rattle.fields.proofs.StepLaws.{code-rises}
-use Rattle.fields.proofs.EncodeLaws.{not-below-lowest}
-use Rattle.sheet.specs.declared.Pair.{Pair}
-use Rattle.sheet.specs.Contents.{figure}
-use Rattle.refusal.proofs.Outcomes.{good-bind, passed}
-use Rattle.edit.specs.Build.{pairPieces}
-use Rattle.reading.specs.Certificate.{Rises, Close}
+use Rattle.fields.proofs.CalibrationLaws.{follows-rises}
+use Rattle.layout.specs.Image.{figure}
+use Rattle.refusal.proofs.Outcomes.{good-bind, passed, neither}
+use Rattle.build.specs.Build.{pairCodes, pairPieces}
+use Rattle.line.specs.Certificate.{Rises, Close}
 use Rattle.promises.specs.Again.{keptPair}
+use Rattle.promises.proofs.PlannedPairs.{PairCoded, pair-coded}
 
 -- ---- one stepped figure
 
@@ -43,7 +45,7 @@ module _ (width : ℕ) (start : ℤ) (step : ℕ) (missing : Bool) where
   stored place z code e =
       let g : (outside start top z ≡ false) × (good (steppedCode start step z) ≡ good code) = passed (outOfRange place) (outside start top z) (good (steppedCode start step z)) code e in
       let c : good (steppedCode start step z) ≡ good code = g .1 in
-      (not-below-lowest start top z (g .0), cc)
+      (neither (ltZ z start) (ltZ top z) (g .0) .0, cc)
 
   -- What is kept is the value of the code that is stored.
   stored-value : (place : ℕ) (z : ℤ) (code : ℕ) → encode row place (Whole z) ≡ good code → figure (kept row (Whole z)) ≡ steppedValue start step code
@@ -51,10 +53,10 @@ module _ (width : ℕ) (start : ℤ) (step : ℕ) (missing : Bool) where
   stored-value place z code e = ap (steppedValue start step) (stored place z code e .1)
 
   stored-near : (place : ℕ) (z : ℤ) (code : ℕ) → 0 < step → encode row place (Whole z) ≡ good code → 2 * natAbs (figure (kept row (Whole z)) -ℤ z) ≤ step
-  stored-near place z code some e = rw (stored-value place z code e) (stepped-nearest row start step place code z refl some e .near)
+  stored-near place z code above e = rw (stored-value place z code e) (stepped-nearest row start step place code z refl above e .near)
 
   -- Codes that rise come from figures that rise, and are read back as figures that rise.
-  module _ (i j : ℕ) (y z : ℤ) (c d : ℕ) (some : 0 < step) (ey : encode row i (Whole y) ≡ good c) (ez : encode row j (Whole z) ≡ good d) (h : c < d) where
+  module _ (i j : ℕ) (y z : ℤ) (c d : ℕ) (above : 0 < step) (ey : encode row i (Whole y) ≡ good c) (ez : encode row j (Whole z) ≡ good d) (h : c < d) where
     lent-rises : y <ℤ z
     lent-rises = go (ltZ y z) refl
       where
@@ -67,7 +69,7 @@ module _ (width : ℕ) (start : ℤ) (step : ℕ) (missing : Bool) where
         go : (t : Bool) → ltZ y z ≡ t → y <ℤ z
         go true t = ltZ-yes (subst T (sym t) tt)
         go false t =
-            absurd (omega (arith, p .1, q .1, code-rises start step z y some (q .0) (p .0) (nltZ-parts y z (subst (λ b. T (not b)) (sym t) tt))))
+            absurd (omega (arith, p .1, q .1, code-rises start step z y above (q .0) (p .0) (nltZ-parts y z (subst (λ b. T (not b)) (sym t) tt))))
 
     kept-rises : figure (kept row (Whole y)) <ℤ figure (kept row (Whole z))
     kept-rises =
@@ -76,45 +78,32 @@ module _ (width : ℕ) (start : ℤ) (step : ℕ) (missing : Bool) where
         (omega (arith, add-parts start (pos (step * c)), add-parts start (pos (step * d)), more)))
       where
         more : step * c < step * d
-        more = mul-lt-mul-of-pos-left h some
+        more = mul-lt-mul-of-pos-left h above
 
 -- ---- the pairs
 
 -- What an accepted pair was stored at, and the pairs behind it.
-record Pairs (i least : ℕ) (p : Pair) (pairs : List Pair) : Type 0 where
-  point : ℕ
-  deviation : ℕ
+record Pairs (before : Option Codes) (i : ℕ) (p : Pair) (pairs : List Pair) : Type 0 where
+  codes : Codes
   pieces : List Piece
-  pointCode : encode calPoint i (Whole (p .point)) ≡ good point
-  deviationCode : encode calDeviation i (Whole (p .deviation)) ≡ good deviation
-  risen : least ≤ point
-  rest : pairPieces (suc i) (suc point) pairs ≡ good pieces
+  coded : PairCoded before i p codes
+  rest : pairPieces (some codes) (suc i) pairs ≡ good pieces
 
-pairs-in : (i least : ℕ) (p : Pair) (pairs : List Pair) (ps : List Piece) → pairPieces i least (p ∷ pairs) ≡ good ps → Pairs i least p pairs
+pairs-in : (before : Option Codes) (i : ℕ) (p : Pair) (pairs : List Pair) (ps : List Piece) → pairPieces before i (p ∷ pairs) ≡ good ps → Pairs before i p pairs
 unfolding pairPieces
-pairs-in i least p pairs ps e =
-    let (point, e1, f1) = good-bind (encode calPoint i (Whole (p .point))) _ ps e in
-    let (deviation, e2, f2) = good-bind (encode calDeviation i (Whole (p .deviation))) _ ps f1 in
-    let g = passed (notRising i) (ltb point least) _ ps f2 in
-    let (rest, e3, f3) = good-bind (pairPieces (suc i) (suc point) pairs) _ ps (g .1) in
-    record {
-      point = point;
-      deviation = deviation;
-      pieces = rest;
-      pointCode = e1;
-      deviationCode = e2;
-      risen = ltb-false point least (g .0);
-      rest = e3;
-    }
+pairs-in before i p pairs ps e =
+    let (codes, e1, f1) = good-bind (pairCodes before i p) _ ps e in
+    let (rest, e2, f2) = good-bind (pairPieces (some codes) (suc i) pairs) _ ps f1 in
+    record { codes = codes; pieces = rest; coded = pair-coded before i p codes e1; rest = e2 }
 
 -- Each point and deviation is stored within half of its step.
-pub stored-close : (i least : ℕ) (pairs : List Pair) (ps : List Piece) → pairPieces i least pairs ≡ good ps → Close D R pairs (map keptPair pairs)
-stored-close i least [] ps e = tt
-stored-close i least (p ∷ pairs) ps e =
-    let g = pairs-in i least p pairs ps e in (
-      stored-near 16 (pos 0) D false i (p .point) (g .point) (lit< tt) (g .pointCode),
-      stored-near 21 (negℤ (pos 1_000_000_000)) R false i (p .deviation) (g .deviation) (lit< tt) (g .deviationCode),
-      stored-close (suc i) (suc (g .point)) pairs (g .pieces) (g .rest),
+pub stored-close : (before : Option Codes) (i : ℕ) (pairs : List Pair) (ps : List Piece) → pairPieces before i pairs ≡ good ps → Close D R pairs (map keptPair pairs)
+stored-close before i [] ps e = tt
+stored-close before i (p ∷ pairs) ps e =
+    let g = pairs-in before i p pairs ps e in (
+      stored-near 16 (pos 0) D false i (p .point) (g .codes .point) (lit< tt) (g .coded .point),
+      stored-near 21 (negℤ (pos 1_000_000_000)) R false i (p .deviation) (g .codes .deviation) (lit< tt) (g .coded .deviation),
+      stored-close (some (g .codes)) (suc i) pairs (g .pieces) (g .rest),
     )
 
 -- The points lent rise strictly, and so do those that are read back.
@@ -122,14 +111,15 @@ pub record Risen (pairs : List Pair) : Type 0 where
   pub lent : Rises pairs
   pub kept : Rises (map keptPair pairs)
 
-pub stored-rises : (i least : ℕ) (pairs : List Pair) (ps : List Piece) → pairPieces i least pairs ≡ good ps → Risen pairs
-stored-rises i least [] ps e = record { lent = tt; kept = tt }
-stored-rises i least (p ∷ []) ps e = record { lent = tt; kept = tt }
-stored-rises i least (p ∷ r ∷ pairs) ps e =
-    let g = pairs-in i least p (r ∷ pairs) ps e in
-    let h = pairs-in (suc i) (suc (g .point)) r pairs (g .pieces) (g .rest) in
-    let k = stored-rises (suc i) (suc (g .point)) (r ∷ pairs) (g .pieces) (g .rest) in
+pub stored-rises : (before : Option Codes) (i : ℕ) (pairs : List Pair) (ps : List Piece) → pairPieces before i pairs ≡ good ps → Risen pairs
+stored-rises before i [] ps e = record { lent = tt; kept = tt }
+stored-rises before i (p ∷ []) ps e = record { lent = tt; kept = tt }
+stored-rises before i (p ∷ r ∷ pairs) ps e =
+    let g = pairs-in before i p (r ∷ pairs) ps e in
+    let h = pairs-in (some (g .codes)) (suc i) r pairs (g .pieces) (g .rest) in
+    let k = stored-rises (some (g .codes)) (suc i) (r ∷ pairs) (g .pieces) (g .rest) in
+    let risen = follows-rises (g .codes) (suc i) (h .codes) (h .coded .follows) in
     record {
-      lent = (lent-rises 16 (pos 0) D false i (suc i) (p .point) (r .point) (g .point) (h .point) (lit< tt) (g .pointCode) (h .pointCode) (h .risen), k .lent);
-      kept = (kept-rises 16 (pos 0) D false i (suc i) (p .point) (r .point) (g .point) (h .point) (lit< tt) (g .pointCode) (h .pointCode) (h .risen), k .kept);
+      lent = (lent-rises 16 (pos 0) D false i (suc i) (p .point) (r .point) (g .codes .point) (h .codes .point) (lit< tt) (g .coded .point) (h .coded .point) risen, k .lent);
+      kept = (kept-rises 16 (pos 0) D false i (suc i) (p .point) (r .point) (g .codes .point) (h .codes .point) (lit< tt) (g .coded .point) (h .coded .point) risen, k .kept);
     }

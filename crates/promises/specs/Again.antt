@@ -1,26 +1,38 @@
--- Demand 2: written and read again; read and rebuilt.
+-- Demand 2: written and read again; read and rebuilt; and the bits that a build needs.
 use mathlib.Core.Path.{_≡_}
-use mathlib.Core.List.{List, [], _∷_, map}
-use Prim.Native.Nat.{ℕ, zero, suc, _+_, _*_, _^_, _<_}
-use lib.ListN.{length}
+use mathlib.Core.Bool.{_&&_, cond}
+use mathlib.Core.List.{List, [], _∷_, _++_, map}
+use Prim.Native.Nat.{ℕ, zero, suc, _+_, _-_, _*_, _^_, _<_}
+use lib.Dec.{leb}
 use lib.IntN.{ℤ, pos}
+use lib.ListN.{length, replicate}
 use Rattle.refusal.specs.Outcome.{good}
 use Rattle.memory.specs.declared.Sizes.{Sizes}
 use Rattle.memory.specs.Bits.{Bytes}
-use Rattle.memory.specs.Image.{imageSizes, streamNumber}
-use Rattle.fields.specs.declared.Value.{Value}
-use Rattle.fields.specs.declared.Value.the-variants.{Whole}
-use Rattle.fields.specs.declared.Row.{Row}
-use Rattle.fields.specs.Rows.{template33, rowsOf, calPoint, calDeviation}
-use Rattle.fields.specs.Stored.{kept}
-use Rattle.sheet.specs.declared.Pair.{Pair}
-use Rattle.sheet.specs.Contents.{Contents, figure}
-use Rattle.sheet.specs.Check.{contents, field}
-use Rattle.edit.specs.declared.Slot.{Slot}
-use Rattle.edit.specs.declared.Sheet.{Sheet}
+use Rattle.memory.specs.Image.{imageSizes, streamBits, streamNumber}
 use Rattle.memory.specs.Pieces.{Piece, needed}
-use Rattle.edit.specs.Build.{slot, lent, pairsOf, plan, build}
+use Rattle.fields.specs.declared.Value.{Value}
+use Rattle.fields.specs.declared.Value.the-variants.{Whole, Missing}
+use Rattle.fields.specs.declared.Row.{Row}
+use Rattle.fields.specs.declared.Template.{Template}
+use Rattle.fields.specs.declared.Template.the-variants.{Bridge}
+use Rattle.fields.specs.declared.Layout.{Layout}
+use Rattle.fields.specs.declared.Pair.{Pair}
+use Rattle.fields.specs.Lines.{linesOf, lastField, rowsOf}
+use Rattle.fields.specs.Calibration.{calPoint, calDeviation}
+use Rattle.fields.specs.Stored.{kept}
+use Rattle.layout.specs.Contents.{Contents}
+use Rattle.layout.specs.Image.{contents, layoutOf, figure, points}
+use Rattle.layout.specs.Places.{behindFields, tableBits}
+use Rattle.build.specs.declared.Slot.{Slot}
+use Rattle.build.specs.declared.Sheet.{Sheet}
+use Rattle.build.specs.Build.{slot, lent, templateIn, pairsLent, plan, build}
 use Rattle.promises.specs.Lent.{Lendable}
+
+abbrev pub values : Contents → List Value
+values c = map (λ x. x .value) (c .fields)
+
+-- ---- written and read again
 
 -- Each value at the step its row gives.
 abbrev pub keptAll : List Row → List Slot → List Value
@@ -31,25 +43,33 @@ keptAll (row ∷ rows) (s ∷ slots) = kept row (s .value) ∷ keptAll rows slot
 abbrev pub keptPair : Pair → Pair
 keptPair p = record { point = figure (kept calPoint (Whole (p .point))); deviation = figure (kept calDeviation (Whole (p .deviation))) }
 
-abbrev pub values : Contents → List Value
-values c = map (λ x. x .value) (c .fields)
-
--- Written and read again: the same sheet, each stepped or geometric figure at the step its rule gives.
-pub record SameSheet (sheet : Sheet) (text : List ℕ) (points : List ℤ) (c : Contents) : Type 0 where
-  pub sameFields : values c ≡ keptAll (rowsOf template33 (field c 9 .code)) (sheet .fields)
-  pub samePoints : c .points ≡ map keptPair (pairsOf points)
+-- The same sheet, each stepped or geometric figure at the step its rule gives.
+pub record SameSheet (sheet : Sheet) (text : List ℕ) (pointsLent : List ℤ) (c : Contents) : Type 0 where
+  pub sameTemplate : c .template ≡ templateIn sheet
+  pub sameFields : values c ≡ keptAll (rowsOf (linesOf (c .template)) (layoutOf c .precision)) (sheet .fields)
+  pub samePoints : points c ≡ map keptPair (pairsLent pointsLent)
   pub sameEnd : c .endBit ≡ sheet .«end_bit»
   pub sameText : c .text ≡ text
 
 abbrev pub WrittenAndReadAgain : Type 0
 WrittenAndReadAgain =
-    (kind : ℕ) (buffer : List ℕ) (sheet : Sheet) (text : List ℕ) (points : List ℤ) (image : List ℕ) → Lendable sheet →
-    build kind buffer sheet text points ≡ good image →
-    (c : Contents) × (contents kind image ≡ good c) × SameSheet sheet text points c
+    (kind : ℕ) (buffer : List ℕ) (sheet : Sheet) (text : List ℕ) (pointsLent : List ℤ) (image : List ℕ) → Lendable sheet →
+    build kind buffer sheet text pointsLent ≡ good image →
+    (c : Contents) × (contents kind image ≡ good c) × SameSheet sheet text pointsLent c
 
--- What an image reads, as a sheet and as points lent by turns.
-abbrev pub sheetOf : Contents → Sheet
-sheetOf c = record { fields = map slot (values c); «end_bit» = c .endBit }
+-- A check of it gives the bits needed; and 7 more where the end bit is 1 and 7 bits remain, since a zero character ends the text there.
+abbrev pub ZeroEndsText : Type 0
+ZeroEndsText =
+    (kind : ℕ) (buffer : List ℕ) (sheet : Sheet) (text : List ℕ) (pointsLent : List ℤ) (image : List ℕ) (z : Sizes) (pieces : List Piece) (c : Contents) →
+    Lendable sheet → imageSizes kind (length buffer) ≡ good z → plan sheet text pointsLent ≡ good pieces →
+    build kind buffer sheet text pointsLent ≡ good image → contents kind image ≡ good c →
+    c .bits ≡ needed pieces + cond (sheet .«end_bit» && leb (needed pieces + 7) (streamBits z)) 7 0
+
+-- ---- read and rebuilt
+
+-- What an image reads, as a sheet and as points lent by turns. A template with fewer fields leaves the last slots missing.
+abbrev pub sheetRead : Contents → Sheet
+sheetRead c = record { fields = map slot (values c) ++ replicate (21 - length (c .fields)) (slot Missing); «end_bit» = c .endBit }
 
 abbrev pub turns : List Pair → List ℤ
 turns [] = []
@@ -62,20 +82,22 @@ RebuiltSameBytes =
     imageSizes kind (length image) ≡ good z →
     contents kind image ≡ good c →
     streamNumber z image < 2 ^ c .bits →
-    build kind buffer (sheetOf c) (c .text) (turns (c .points)) ≡ good image
+    build kind buffer (sheetRead c) (c .text) (turns (points c)) ≡ good image
 
--- Row 11's bits: Basic, selector, template 33 with its number, block 40 if there are points, selector 3, end bit and text.
-abbrev pub templateBits : ℕ → ℕ
-templateBits zero = 209
-templateBits (suc zero) = 225
-templateBits (suc (suc precision)) = 251
+-- ---- row 11's bits
 
-abbrev pub tableBits : List Pair → ℕ
-tableBits [] = 0
-tableBits (p ∷ pairs) = 18 + 37 * length (p ∷ pairs)
-
+-- The fields with the first block's selector and number, block 40 if there are points, selector 3, end bit and text.
 abbrev pub BitsNeeded : Type 0
 BitsNeeded =
-    (sheet : Sheet) (text : List ℕ) (points : List ℤ) (precision : ℕ) (pieces : List Piece) →
-    lent sheet 9 ≡ Whole (pos precision) → plan sheet text points ≡ good pieces →
-    needed pieces ≡ 64 + 2 + templateBits precision + tableBits (pairsOf points) + 3 + 7 * length text
+    (sheet : Sheet) (text : List ℕ) (pointsLent : List ℤ) (precision : ℕ) (pieces : List Piece) →
+    lent sheet 9 ≡ Whole (pos precision) → plan sheet text pointsLent ≡ good pieces →
+    needed pieces ≡ behindFields (record { template = templateIn sheet; precision = precision }) + tableBits (length (pairsLent pointsLent)) + 3 + 7 * length text
+
+-- Template 33 with its number takes 209, 225 or 251 bits for precision 0, 1, 2, behind Basic's 64 and a selector.
+abbrev pub bridgeBits : ℕ → ℕ
+bridgeBits zero = 209
+bridgeBits (suc zero) = 225
+bridgeBits (suc (suc precision)) = 251
+
+abbrev pub BridgeBits : Type 0
+BridgeBits = (precision : ℕ) → behindFields (record { template = Bridge; precision = precision }) ≡ 64 + 2 + bridgeBits precision

@@ -6,15 +6,15 @@ use lib.IntN.{ℤ, pos, natAbs, _-ℤ_, _*ℤ_}
 use Rattle.integers.specs.Nearest.{Fraction}
 use Rattle.refusal.specs.Outcome.{Outcome, good, refused}
 use Rattle.fields.specs.declared.Value.{Value}
-use Rattle.fields.specs.Rows.{D, R}
+use Rattle.fields.specs.Calibration.{D, R}
 use Rattle.fields.specs.Figure.{billion}
-use Rattle.sheet.specs.Contents.{figure}
+use Rattle.layout.specs.Image.{figure}
 use Rattle.sheet.specs.Check.{readField}
-use Rattle.edit.specs.declared.Sheet.{Sheet}
-use Rattle.edit.specs.Build.{pairsOf, build}
+use Rattle.build.specs.declared.Sheet.{Sheet}
+use Rattle.build.specs.Build.{pairsLent, build}
 use Rattle.reading.specs.declared.Reading.{Reading}
-use Rattle.reading.specs.Certificate.{Slopes, Within}
-use Rattle.reading.specs.Line.{certificateLine}
+use Rattle.line.specs.Certificate.{Slopes, Within}
+use Rattle.line.specs.Line.{certificateLine}
 use Rattle.reading.specs.Reading.{takeReading}
 use Rattle.promises.specs.Lent.{Lendable}
 use Rattle.promises.specs.Changes.{Change, RealChanges, changed}
@@ -33,7 +33,7 @@ greatestIn kind image = whole (readField kind image 11)
 
 -- The exact certificate line through the points as lent, at x = (v − e) × 1,000,000,000 / (f − e).
 abbrev pub lineFor : List ℤ → ℤ → ℤ → ℤ → Fraction
-lineFor points v e f = certificateLine (pairsOf points) ((v -ℤ e) *ℤ pos billion) (natAbs (f -ℤ e))
+lineFor points v e f = certificateLine (pairsLent points) ((v -ℤ e) *ℤ pos billion) (natAbs (f -ℤ e))
 
 -- Whatever the points, fields, kind of chip, buffer and input: if the build is accepted and, after any list of one-field changes, accepted or
 -- refused, a reading of that image is accepted, then q lies within the distance of the certificate line.
@@ -45,5 +45,5 @@ CertificateDistance =
     build kind buffer sheet text points ≡ good built →
     let image = changed built changes in
     takeReading readingKind image v ≡ good r →
-    Slopes K (pairsOf points) →
+    Slopes K (pairsLent points) →
     Within D R K (r .fraction) (lineFor points v (leastIn readingKind image) (greatestIn readingKind image))

@@ -1,19 +1,22 @@
--- Demand 2 after each change: any list of one-field changes, accepted or refused.
+-- Demand 2 after each change: any list of one-field changes, accepted or refused. What the image holds afterwards is told on the contents, so that
+-- it can be held against what a check of the changed image finds.
 use mathlib.Core.Path.{_≡_}
-use mathlib.Core.Bool.{_||_, cond}
+use mathlib.Core.Bool.{cond}
 use mathlib.Core.List.{List, [], _∷_}
-use Prim.Native.Nat.{ℕ, _-_}
-use lib.Dec.{eqb, ltb}
-use lib.ListN.{length, set}
+use mathlib.Core.Logic.{_⊎_}
+use Prim.Native.Nat.{ℕ, _+_, _-_, _≤_, _<_}
+use lib.Dec.{eqb}
+use lib.ListN.{length, getD, set}
 use Rattle.refusal.specs.Outcome.{Outcome, good, refused}
-use Rattle.memory.specs.Bits.{Bytes}
+use Rattle.refusal.specs.Written.{afterwards}
+use Rattle.memory.specs.declared.Sizes.{Sizes}
+use Rattle.memory.specs.Bits.{Bytes, bit}
+use Rattle.memory.specs.Image.{imageSizes, pageAt, streamNumber, pageOf}
 use Rattle.fields.specs.declared.Value.{Value}
-use Rattle.fields.specs.Rules.{encode}
 use Rattle.fields.specs.Stored.{kept, Real}
-use Rattle.sheet.specs.Contents.{Contents}
-use Rattle.sheet.specs.Check.{contents, field}
-use Rattle.edit.specs.Build.{afterwards}
-use Rattle.edit.specs.Change.{change}
+use Rattle.layout.specs.Contents.{Found, Contents}
+use Rattle.layout.specs.Image.{contents, field}
+use Rattle.change.specs.Change.{codeFor, change}
 
 -- A one-field change as a caller can hand it in: its own kind, field and value.
 pub record Change : Type 0 where
@@ -40,8 +43,9 @@ abbrev pub replaced : Contents → ℕ → ℕ → Value → Contents
 replaced c f code v =
     let x = field c f in
     record {
+      template = c .template;
       fields = set (c .fields) (f - 1) (record { row = x .row; at = x .at; code = code; value = kept (x .row) v });
-      points = c .points;
+      calibration = c .calibration;
       endBit = c .endBit;
       text = c .text;
       bits = c .bits;
@@ -51,14 +55,9 @@ abbrev pub stores : Contents → ℕ → Value → Outcome ℕ → Contents
 stores c f v (good code) = replaced c f code v
 stores c f v (refused r) = c
 
--- What a sheet of a kind holds after a change: nothing else where the kind is another, the field is none or 9, or the value is refused.
+-- What a sheet of a kind holds after a change: nothing else where the kind is another, or no code is found for the value.
 abbrev pub heldBy : ℕ → Contents → Change → Contents
-heldBy kind c ch =
-    let f = ch .field in
-    let v = ch .value in
-    cond (eqb (ch .kind) kind)
-    (cond (eqb f 0 || ltb (length (c .fields)) f || eqb f 9) c (stores c f v (encode (field c f .row) f v)))
-    c
+heldBy kind c ch = cond (eqb (ch .kind) kind) (stores c (ch .field) (ch .value) (codeFor c (ch .field) (ch .value))) c
 
 abbrev pub held : ℕ → Contents → List Change → Contents
 held kind c [] = c
@@ -76,3 +75,16 @@ abbrev pub ChangedToTheSame : Type 0
 ChangedToTheSame =
     (kind : ℕ) (image after : List ℕ) (c : Contents) (f : ℕ) → Bytes image →
     contents kind image ≡ good c → change kind image f (field c f .value) ≡ good after → after ≡ image
+
+-- A change rewrites the field and the check bytes of its pages, no other bit: no bit of the stream outside the field, and the check byte of no page
+-- but those of the field's first and last bit.
+pub record AltersNoOther (z : Sizes) (x : Found) (image after : List ℕ) : Type 0 where
+  pub stream : (n : ℕ) → (n < x .at) ⊎ (x .at + x .row .width ≤ n) → bit (streamNumber z after) n ≡ bit (streamNumber z image) n
+  pub checks : (q : ℕ) → (q ≡ pageOf z (x .at) → ⊥) → (q ≡ pageOf z (x .at + x .row .width - 1) → ⊥) →
+      getD after (pageAt z q) 0 ≡ getD image (pageAt z q) 0
+
+abbrev pub ChangeAltersNoOther : Type 0
+ChangeAltersNoOther =
+    (kind : ℕ) (image after : List ℕ) (z : Sizes) (c : Contents) (f : ℕ) (v : Value) → Bytes image → Real v →
+    imageSizes kind (length image) ≡ good z → contents kind image ≡ good c → change kind image f v ≡ good after →
+    AltersNoOther z (field c f) image after

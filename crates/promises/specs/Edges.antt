@@ -1,9 +1,10 @@
--- Document 01, "Edges": the starred cases; examples that document 000 prints; and that the demands' hypotheses can be met: one table, and one statement over it.
+-- Document 01, "Edges": the small proved set, which is the starred cases, one table and one statement over it. Beside it, under their own names:
+-- examples that document 000 prints, and cases that show that demand 3's hypotheses can be met.
 use mathlib.Core.Path.{_≡_}
 use mathlib.Core.Bool.{false, true}
 use mathlib.Core.List.{List, [], _∷_, _++_, map}
 use Prim.Native.Nat.{ℕ, _+_, _*_, _≤_}
-use lib.ListN.{take, replicate}
+use lib.ListN.{replicate}
 use lib.IntN.{ℤ, pos, negℤ, natAbs, _-ℤ_, _*ℤ_}
 use lib.Ieee.{binary32, ofInt}
 use Rattle.refusal.specs.Outcome.{Outcome, good, _>>=_}
@@ -14,11 +15,12 @@ use Rattle.fields.specs.declared.Value.the-variants.{Whole, Single, Missing}
 use Rattle.fields.specs.declared.Row.{Row}
 use Rattle.fields.specs.declared.Rule.the-variants.{Stepped}
 use Rattle.fields.specs.Rules.{Progression, decode, encode, geometricValue}
-use Rattle.fields.specs.Rows.{optional, template33, electrical, excitation}
+use Rattle.fields.specs.Rows.{optional, electrical, excitation}
+use Rattle.fields.specs.Lines.{basic}
 use Rattle.texts.specs.Dates.{dateOf}
-use Rattle.edit.specs.declared.Sheet.{Sheet}
-use Rattle.edit.specs.Build.{slot, fieldPieces, pairsOf, build}
-use Rattle.reading.specs.Line.{deviation}
+use Rattle.build.specs.declared.Sheet.{Sheet}
+use Rattle.build.specs.Build.{slot, linePieces, pairsLent, build}
+use Rattle.line.specs.Line.{deviation}
 use Rattle.reading.specs.Reading.{position, takeReading}
 use Rattle.promises.specs.Changes.{Change, changed}
 
@@ -35,13 +37,13 @@ sheetAt precision e f = record {
 
 pub data Case : Type 0 where
   -- Fields 1 to 5 are these bytes.
-  basic : List ℤ → List ℕ → Case
+  basicIs : List ℤ → List ℕ → Case
   -- Under a row a figure reads back as another.
   readsBack : Row → ℤ → ℤ → Case
   -- Under a row a code means a value.
   means : Row → ℕ → Value → Case
   -- A code's value in a progression.
-  scaled : Progression → ℕ → ℤ → Case
+  scaled : Progression → ℕ → ℕ → Case
   -- A date's code, year, month and day.
   dated : ℕ → ℕ → ℕ → ℕ → Case
   -- e, f, v and p.
@@ -52,21 +54,21 @@ pub data Case : Type 0 where
   reads : ℕ → ℕ → Sheet → List ℤ → List Change → ℤ → ℤ → Case
 
 abbrev pub Holds : Case → Type 0
-Holds (basic figures bytes) =
-    (fieldPieces (record { fields = map (λ n. slot (Whole n)) figures; «end_bit» = false }) (take 5 template33) 0 1 >>= λ pieces. good (bytesOf 8 (pack pieces))) ≡ good bytes
+Holds (basicIs figures bytes) =
+    (linePieces (record { fields = map (λ n. slot (Whole n)) figures; «end_bit» = false }) basic 0 1 >>= λ pieces. good (bytesOf 8 (pack pieces))) ≡ good bytes
 Holds (readsBack row figure value) = (encode row 0 (Whole figure) >>= decode row 0) ≡ good (Whole value)
 Holds (means row code value) = decode row 0 code ≡ good value
 Holds (scaled progression code value) = geometricValue progression code ≡ value
 Holds (dated code year month day) = dateOf code ≡ record { year = year; month = month; day = day }
 Holds (placed e f v p) = position v e f ≡ p
-Holds (deviates points p d) = deviation (pairsOf points) p ≡ d
+Holds (deviates points p d) = deviation (pairsLent points) p ≡ d
 Holds (reads kind bytes sheet points changes v q) =
     (build kind (replicate bytes 0) sheet [] points >>= λ image. takeReading kind (changed image changes) v >>= λ r. good (r .fraction)) ≡ good q
 
 -- The cases that document 01 stars.
 abbrev pub starred : List Case
 starred =
-    basic (pos 17 ∷ pos 1 ∷ pos 1 ∷ pos 0 ∷ pos 1 ∷ []) (0x11 ∷ 0x40 ∷ 0x00 ∷ 0x20 ∷ 0x00 ∷ 0x01 ∷ 0x00 ∷ 0x00 ∷ []) ∷
+    basicIs (pos 17 ∷ pos 1 ∷ pos 1 ∷ pos 0 ∷ pos 1 ∷ []) (0x11 ∷ 0x40 ∷ 0x00 ∷ 0x20 ∷ 0x00 ∷ 0x01 ∷ 0x00 ∷ 0x00 ∷ []) ∷
     readsBack (electrical 0) (pos 2_499_999) (pos 2_000_000) ∷
     readsBack (electrical 0) (pos 2_500_000) (pos 3_000_000) ∷
     means excitation 510 (Whole (pos 511)) ∷
@@ -93,7 +95,7 @@ printed =
     means (stepped 8 128 1) 254 (Whole (pos 126)) ∷
     means (stepped 8 128 1) 255 Missing ∷
     means (stepped 25 10_000_000 1) 20_000_000 (Whole (pos 10_000_000)) ∷
-    scaled (record { start = 300_000_000; tolerance = 3; parts = 100 }) 126 (pos 463_084_535_408) ∷
+    scaled (record { start = 300_000_000; tolerance = 3; parts = 100 }) 126 463_084_535_408 ∷
     []
 
 -- A change of field 11, and one of field 9, which is refused.
@@ -119,6 +121,10 @@ abbrev pub AllHold : List Case → Type 0
 AllHold [] = Unit {0}
 AllHold (c ∷ cases) = Holds c × AllHold cases
 
--- The one statement.
+-- The one statement over the starred cases.
 abbrev pub Edges : Type 0
-Edges = AllHold (starred ++ printed ++ met)
+Edges = AllHold starred
+
+-- Document 000's examples, and demand 3 met.
+abbrev pub Examples : Type 0
+Examples = AllHold (printed ++ met)

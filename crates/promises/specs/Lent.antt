@@ -1,10 +1,11 @@
--- What a caller can lend: bytes, and a sheet record of 21 values whose Singles are f32.
+-- What a caller can lend: a sheet record of 21 values whose Singles are f32.
 use mathlib.Core.Path.{_≡_}
 use mathlib.Core.List.{List, [], _∷_}
+use Prim.Native.Nat.{ℕ}
 use lib.ListN.{length}
 use Rattle.fields.specs.Stored.{Real}
-use Rattle.edit.specs.declared.Slot.{Slot}
-use Rattle.edit.specs.declared.Sheet.{Sheet}
+use Rattle.build.specs.declared.Slot.{Slot}
+use Rattle.build.specs.declared.Sheet.{Sheet}
 
 abbrev pub AllReal : List Slot → Type 0
 AllReal [] = Unit {0}

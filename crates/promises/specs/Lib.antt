@@ -1,4 +1,5 @@
 pub mod Lent
+pub mod Stream
 pub mod Again
 pub mod Changes
 pub mod Certificate

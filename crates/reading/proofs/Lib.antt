@@ -1,15 +1,5 @@
-pub mod Distances
-pub mod Weights
-pub mod DeviationLaws
-pub mod Steepness
-pub mod Shadow
-pub mod Bound
-pub mod Told
 pub mod Positions
-pub mod Values
-pub mod PointLaws
 pub mod Opening
-pub mod Turns
 pub mod Spans
 pub mod Orders
 pub mod Fractions

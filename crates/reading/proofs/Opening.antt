@@ -1,85 +1,173 @@
 -- What an opened sheet holds: the sorts and sizes of the values that a reading is taken from.
-use mathlib.Core.Path.{_≡_, refl, ap, _∙_}
-use mathlib.Core.List.{List, [], _∷_}
-use Prim.Native.Nat.{ℕ, suc, _+_, _^_, _≤_, _<_}
+use mathlib.Core.Path.{_≡_, refl, sym, ap, _∙_, subst}
+use mathlib.Core.Bool.{Bool, true, false, not, _&&_, cond}
+use mathlib.Core.List.{List, [], _∷_, map}
+use mathlib.Core.Option.{Option, none, some}
+use Prim.Native.Nat.{ℕ, zero, suc, _+_, _*_, _^_, _≤_, _<_}
+use native.Mathlib.Nat.{mul-le-mul-left}
 use native.Mathlib.Omega.{arith}
-use lib.ListN.{length, getD}
+use borrow.Author.Tests.{not-false}
+use lib.Dec.{T, eqb, ltb}
+use lib.IntN.{ℤ, pos, natAbs}
+use lib.Ieee.{binary32, ofBits, isNan}
+use lib.Signed.{_<ℤ_}
+use Rattle.integers.proofs.PartLaws.{add-parts, abs-parts, parts-≤ℤ, parts-<ℤ}
 use Rattle.refusal.specs.Outcome.{good}
-use Rattle.fields.specs.Rules.{decode}
-use Rattle.fields.specs.Rows.{template33, rowOf}
-use Rattle.sheet.specs.declared.Pair.{Pair}
+use Rattle.refusal.specs.Rows.{outsideTable, notFinite}
+use Rattle.refusal.proofs.Outcomes.{good-same, passed}
+use Rattle.fields.specs.declared.Value.{Value}
+use Rattle.fields.specs.declared.Value.the-variants.{Whole, Single, Missing}
+use Rattle.fields.specs.declared.Rule.the-variants.{Stepped, Single as Ieee}
+use Rattle.fields.specs.declared.Row.{Row}
+use Rattle.fields.specs.declared.Template.{Template}
+use Rattle.fields.specs.declared.Template.the-variants.{Bridge}
+use Rattle.fields.specs.declared.Codes.{Codes}
+use Rattle.fields.specs.Rules.{allOnes, topCode, steppedValue, finite, meaning, decode}
+use Rattle.fields.specs.Rows.{physical, precision, electrical}
+use Rattle.fields.specs.Lines.{Line, line, choice, chosen, basic, template33, linesOf, lastField, lineOf}
+use Rattle.fields.specs.Calibration.{D, calPoint}
+use Rattle.fields.proofs.FloatLaws.{no-nan}
+use Rattle.fields.proofs.RuleLaws.{stepped-whole, plain-bounds}
+use Rattle.fields.proofs.CalibrationLaws.{follows-rises}
+use Rattle.layout.specs.Contents.{Found, FoundPair, Calibration, bare, table, Contents, codesIn}
+use Rattle.layout.specs.Image.{figure, field, layoutOf, pairsIn, pairIn, points}
+use Rattle.layout.specs.Places.{fieldPlace}
+use Rattle.layout.proofs.Fields.{FieldAt}
+use Rattle.layout.proofs.Calibrations.{PairAt, PairsAt, CalibrationAt}
+use Rattle.layout.proofs.Places.{field-at, choice-is-code}
+use Rattle.line.specs.Ranges.{Figures, Table}
+use Rattle.line.proofs.Distances.{near-abs}
 use Rattle.sheet.specs.declared.opening.Opened.{Opened}
-use Rattle.sheet.specs.Format.{Stream}
-use Rattle.sheet.specs.Contents.{Contents}
-use Rattle.sheet.specs.Check.{streamIn, field}
-use Rattle.sheet.specs.Places.{fieldPlace}
-use Rattle.sheet.proofs.OpenLaws.{Stands}
-use Rattle.sheet.proofs.Points.{PairsAt, MaybeTable}
-use Rattle.sheet.proofs.Sections.{Sections, sections-in}
-use Rattle.sheet.proofs.Places.{choiceOf, choice-most, points-at, contents-field}
-use Rattle.sheet.proofs.ReadSteps.{points-are}
-use Rattle.reading.specs.Certificate.{Rises}
-use Rattle.reading.specs.Steps.{Opens}
-use Rattle.reading.proofs.DeviationLaws.{Bounded}
-use Rattle.reading.proofs.Values.{Figured, Floated, floated, electrical-figured}
-use Rattle.reading.proofs.PointLaws.{Neighbours, neighbours, pairs-rise, pairs-bounded}
+use Rattle.sheet.specs.Opened.{Opens}
+use Rattle.sheet.proofs.HeldLaws.{holding}
+use Rattle.reading.specs.Reading.{float, isMissing}
 
--- A sheet that was opened.
-abbrev pub opens : (kind : ℕ) (image : List ℕ) (o : Opened) (st : Stands kind image o) → Opens o image (st .held)
-opens kind image o st = record { kind = kind; sizes = st .sizes-are; contents = st .holds; is = st .is }
+-- ---- the sorts
 
-table-pairs : (s : Stream) (at : ℕ) (points : List Pair) → MaybeTable s at points → PairsAt s 0 (at + 18) points × (length points ≤ 127)
-table-pairs s at [] h = (tt, omega arith)
-table-pairs s at (p ∷ points) h = (h .pairs, h .most)
+-- A figure from −B to B, or missing.
+abbrev pub Figured : ℕ → Value → Type 0
+Figured B (Whole z) = natAbs z ≤ B
+Figured B (Single x) = ⊥
+Figured B Missing = Unit {0}
 
-module _ (o : Opened) (image : List ℕ) (c : Contents) (h : Opens o image c) where
-  abbrev pub opened-stands : Stands (h .kind) image o
-  opened-stands = record { held = c; holds = h .contents; sizes-are = h .sizes; is = h .is }
+-- A finite float, or missing.
+abbrev pub Floated : Value → Type 0
+Floated (Whole z) = ⊥
+Floated (Single x) = finite x ≡ true
+Floated Missing = Unit {0}
 
-  pub opened-count : o .summary .points ≡ length (c .points)
-  opened-count = points-are (h .kind) image o opened-stands
+pub figured-small : {B : ℕ} (v : Value) → Figured B v → natAbs (figure v) ≤ B
+figured-small (Whole z) h = h
+figured-small (Single x) h = absurd h
+figured-small Missing h = omega arith
 
-  pub opened-precision : o .precision ≡ choiceOf c
-  opened-precision = ap (λ (x : Opened). x .precision) (h .is)
+pub floated-real : (v : Value) → Floated v → isMissing v ≡ false → T (not (isNan (float v)))
+floated-real (Whole z) h m = absurd h
+floated-real (Single x) h m = no-nan x h
+floated-real Missing h m = absurd (subst T m tt)
 
-  sections : Sections (streamIn (o .sizes) image) c
-  sections = sections-in (h .kind) image c (o .sizes) (h .contents) (h .sizes)
+-- ---- what a field holds, by its row
 
-  -- ---- the points
+module _ {row : Row} {at : ℕ} {x : Found} (h : FieldAt row at x) where
+  -- Missing, or what the rule says.
+  either : (P : Value → Type 0) → P Missing → (meaning (row .rule) (row .width) at (x .code) ≡ good (x .value) → P (x .value)) → P (x .value)
+  unfolding decode
+  either P missing means = go (row .missing && eqb (x .code) (allOnes (row .width))) (h .means)
+    where
+      go : (t : Bool) → cond t (good Missing) (meaning (row .rule) (row .width) at (x .code)) ≡ good (x .value) → P (x .value)
+      go true e = subst P (good-same e) missing
+      go false e = means e
 
-  table : PairsAt (streamIn (o .sizes) image) 0 (fieldPlace 22 (choiceOf c) + 18) (c .points) × (length (c .points) ≤ 127)
-  table = table-pairs (streamIn (o .sizes) image) (fieldPlace 22 (choiceOf c)) (c .points) (points-at (streamIn (o .sizes) image) c sections .table)
+  pub figured : {start : ℤ} {step : ℕ} (B : ℕ) → row .rule ≡ Stepped start step → natAbs start + step * 2 ^ row .width ≤ B → Figured B (x .value)
+  figured {start} {step} B r b =
+      either (Figured B) tt
+      (λ e. subst (Figured B) (good-same (passed (outsideTable at) (ltb (topCode (row .width)) (x .code)) _ (x .value) (rw r at e) .1)) small)
+    where
+      small : natAbs (steppedValue start step (x .code)) ≤ B
+      small =
+          let less : x .code ≤ 2 ^ row .width = omega (arith, h .fits) in
+          omega (arith, mul-le-mul-left step less, near-abs {b = natAbs start + step * x .code} 1 (steppedValue start step (x .code)) (omega (arith, add-parts start (pos (step * x .code)), abs-parts start)))
 
-  pub opened-neighbours : (i : ℕ) (none : Pair) → suc i < length (c .points) → Neighbours (getD (c .points) i none) (getD (c .points) (suc i) none)
-  opened-neighbours = neighbours (streamIn (o .sizes) image) 0 (fieldPlace 22 (choiceOf c) + 18) (c .points) (table .0)
+  pub floated : row .rule ≡ Ieee → Floated (x .value)
+  floated r =
+      either Floated tt
+      (λ e.
+      let p = passed (notFinite at) (not (finite (ofBits binary32 (x .code)))) _ (x .value) (rw r at e) in
+      subst Floated (good-same (p .1)) (not-false (finite (ofBits binary32 (x .code))) (p .0)))
 
-  pub opened-rises : Rises (c .points)
-  opened-rises = pairs-rise (streamIn (o .sizes) image) 0 (fieldPlace 22 (choiceOf c) + 18) (c .points) (table .0)
+-- ---- the calibration points: they rise, and they and their deviations are small
 
-  pub opened-bounded : Bounded (2 ^ 32) (c .points)
-  opened-bounded = pairs-bounded (streamIn (o .sizes) image) 0 (fieldPlace 22 (choiceOf c) + 18) (c .points) (table .0)
+point-is : {at : ℕ} {x : Found} → FieldAt calPoint at x → figure (x .value) ≡ steppedValue (pos 0) D (x .code)
+point-is {at} {x} h = ap figure (stepped-whole 16 (pos 0) D at (x .code) (x .value) (h .means))
 
-  -- ---- the fields
+figures-at : {before : Option Codes} {at : ℕ} {p : FoundPair} → PairAt before at p → Figures (pairIn p)
+figures-at {p = p} h =
+    record {
+      least = parts-≤ℤ (pos 0) (figure (p .point .value)) (rw (point-is (h .point)) (omega (arith, add-parts (pos 0) (pos (D * p .point .code)))));
+      point = figured-small (p .point .value) (figured (h .point) (2 ^ 30) refl (omega arith));
+      deviation = figured-small (p .deviation .value) (figured (h .deviation) (2 ^ 32) refl (omega arith));
+    }
 
-  means : (f : ℕ) → 1 ≤ f → f ≤ 21 → (at : ℕ) × (code : ℕ) × (decode (rowOf f (choiceOf c)) at code ≡ good (field c f .value))
-  means f lo hi = (_, _, contents-field (h .kind) image c (o .sizes) (h .contents) (h .sizes) f lo hi .means)
+pairs-table : (before : Option Codes) (at : ℕ) (pairs : List FoundPair) → PairsAt before at pairs → Table (map pairIn pairs)
+pairs-table before at [] h = record { rises = tt; figures = tt }
+pairs-table before at (p ∷ []) h = record { rises = tt; figures = (figures-at (h .0), tt) }
+pairs-table before at (p ∷ r ∷ pairs) h =
+    let t = pairs-table (some (codesIn p)) (at + 37) (r ∷ pairs) (h .1) in
+    record { rises = (rises, t .rises); figures = (figures-at (h .0), t .figures) }
+  where
+    rises : figure (p .point .value) <ℤ figure (r .point .value)
+    rises =
+        rw (point-is (h .0 .point), point-is (h .1 .0 .point))
+        (parts-<ℤ _ _ (omega (
+          arith,
+          add-parts (pos 0) (pos (D * p .point .code)),
+          add-parts (pos 0) (pos (D * r .point .code)),
+          follows-rises (codesIn p) _ (codesIn r) (h .1 .0 .follows),
+        )))
+
+calibration-table : (at : ℕ) (c : Calibration) → CalibrationAt at c → Table (map pairIn (pairsIn c))
+calibration-table at bare h = pairs-table none at [] tt
+calibration-table at (table pairs) h = pairs-table none (at + 18) pairs (h .stand)
+
+-- ---- the sheet
+
+-- Fields 10 and 11 at precision 0 and 1.
+electrical-figured : (p : ℕ) {at : ℕ} {x : Found} → p ≤ 2 → (p ≡ 2 → ⊥) → FieldAt (electrical p) at x → Figured (2 ^ 32) (x .value)
+electrical-figured zero l n h = figured h (2 ^ 32) refl (omega arith)
+electrical-figured (suc zero) l n h = figured h (2 ^ 32) refl (omega arith)
+electrical-figured (suc (suc p)) l n h = absurd (n (omega arith))
+
+-- The lines of fields 7 to 11, in every template.
+pub enough : (t : Template) {f : ℕ} → f ≤ 11 → f ≤ lastField t
+unfolding linesOf basic template33
+enough Bridge h = omega arith
+
+span-lines : (t : Template) → (lineOf t 7 ≡ line physical) × (lineOf t 8 ≡ line physical) × (lineOf t 9 ≡ choice precision) × (lineOf t 10 ≡ chosen electrical) × (lineOf t 11 ≡ chosen electrical)
+unfolding linesOf basic template33
+span-lines Bridge = (refl, refl, refl, refl, refl)
+
+module _ {kind : ℕ} {image : List ℕ} {o : Opened} {c : Contents} (h : Opens kind image o c) where
+  pub opened-table : Table (points c)
+  opened-table = calibration-table _ (c .calibration) (holding h .formed .calibrated)
+
+  stands : (f : ℕ) → 1 ≤ f → f ≤ 11 → {l : Line} → lineOf (c .template) f ≡ l → FieldAt (l .rowAt (layoutOf c .precision)) (fieldPlace (layoutOf c) f) (field c f)
+  stands f lo hi e = subst (λ (l : Line). FieldAt (l .rowAt (layoutOf c .precision)) (fieldPlace (layoutOf c) f) (field c f)) e (field-at (holding h .formed) f lo (enough (c .template) hi))
 
   pub opened-low : Floated (field c 7 .value)
-  unfolding rowOf template33
-  opened-low = let m = means 7 (omega arith) (omega arith) in floated (rowOf 7 (choiceOf c)) (m .0) (m .1) (field c 7 .value) refl (m .2)
+  opened-low = floated (stands 7 (omega arith) (omega arith) (span-lines (c .template) .0)) refl
 
   pub opened-high : Floated (field c 8 .value)
-  unfolding rowOf template33
-  opened-high = let m = means 8 (omega arith) (omega arith) in floated (rowOf 8 (choiceOf c)) (m .0) (m .1) (field c 8 .value) refl (m .2)
+  opened-high = floated (stands 8 (omega arith) (omega arith) (span-lines (c .template) .1)) refl
 
-  module _ (n : o .precision ≡ 2 → ⊥) where
-    stepped : choiceOf c ≡ 2 → ⊥
-    stepped e = n (opened-precision ∙ e)
+  precision-most : layoutOf c .precision ≤ 2
+  precision-most =
+      let l = span-lines (c .template) .2 in
+      rw (choice-is-code (holding h .formed) 9 (omega arith) (enough (c .template) (omega arith)) (ap (λ (y : Line). y .sets) l))
+      (plain-bounds 2 0 2 _ (field c 9 .code) (field c 9 .value) (stands 9 (omega arith) (omega arith) l .means) .1)
 
+  module _ (n : layoutOf c .precision ≡ 2 → ⊥) where
     pub opened-least : Figured (2 ^ 32) (field c 10 .value)
-    unfolding rowOf template33
-    opened-least = let m = means 10 (omega arith) (omega arith) in electrical-figured (choiceOf c) (m .0) (m .1) (field c 10 .value) (choice-most (streamIn (o .sizes) image) c sections) stepped (m .2)
+    opened-least = electrical-figured (layoutOf c .precision) precision-most n (stands 10 (omega arith) (omega arith) (span-lines (c .template) .3))
 
     pub opened-greatest : Figured (2 ^ 32) (field c 11 .value)
-    unfolding rowOf template33
-    opened-greatest = let m = means 11 (omega arith) (omega arith) in electrical-figured (choiceOf c) (m .0) (m .1) (field c 11 .value) (choice-most (streamIn (o .sizes) image) c sections) stepped (m .2)
+    opened-greatest = electrical-figured (layoutOf c .precision) precision-most n (stands 11 (omega arith) (omega arith) (span-lines (c .template) .4))

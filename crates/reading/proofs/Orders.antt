@@ -1,58 +1,57 @@
--- A reading in the order of its rows: check, 15, 13, 14, and what it shows.
-use mathlib.Core.Path.{_≡_, refl, sym, ap, _∙_}
+-- A reading in the order of its rows: check, 15 and 13, 14, and what it shows.
+use mathlib.Core.Path.{_≡_, sym, ap, _∙_}
 use mathlib.Core.Bool.{true, false}
-use mathlib.Core.List.{List, [], _∷_}
+use mathlib.Core.List.{List}
 use Prim.Native.Nat.{ℕ}
-use native.Mathlib.Omega.{arith}
-use borrow.Author.Tests.{eq-eqb, ne-eqb}
 use lib.IntN.{ℤ}
-use lib.Signed.{leZ}
+use lib.Signed.{_<ℤ_}
 use Rattle.refusal.specs.declared.Refusal.{Refusal}
-use Rattle.refusal.specs.Outcome.{Outcome, good, refused, _>>_, refuse_if_}
-use Rattle.refusal.specs.Rows.{noSpan, outsideSpan, singleSpan}
-use Rattle.sheet.specs.Contents.{Contents}
-use Rattle.sheet.specs.Check.{contents, field}
+use Rattle.refusal.specs.Outcome.{good, refused}
+use Rattle.refusal.specs.Rows.{outsideSpan}
+use Rattle.refusal.proofs.Outcomes.{good-same, good-bind, passed}
+use Rattle.layout.specs.Contents.{Contents}
+use Rattle.layout.specs.Image.{contents, points}
 use Rattle.reading.specs.declared.Reading.{Reading}
 use Rattle.reading.specs.declared.span.Span.{Span}
-use Rattle.reading.specs.Reading.{least, greatest, float, noneMissing, tooFar, takeReading}
-use Rattle.reading.specs.Steps.{spanOf, readingAt}
+use Rattle.reading.specs.Reading.{least, greatest, spanOf, tooFar, position, fraction, readingAt, takeReading}
+use Rattle.reading.proofs.Spans.{spanned}
 
--- Two tests, and what stands behind them.
-halted : {A B : Type 0} (m n : Outcome (Unit {0})) (a : A) (next : Outcome B) (r : Refusal) → (m >> (n >> good a)) ≡ refused r → (m >> (n >> next)) ≡ refused r
-halted (good u) (good w) a next r e = absurd (let z : _≡_ {A = ℕ} 0 1 = cc in omega arith)
-halted (good u) (refused q) a next r e = cc
-halted (refused q) n a next r e = cc
-
-went : {A B : Type 0} (m n : Outcome (Unit {0})) (a : A) (next : Outcome B) (b : A) → (m >> (n >> good a)) ≡ good b → (next ≡ (m >> (n >> next))) × (a ≡ b)
-went (good u) (good w) a next b e = (refl, cc)
-went (good u) (refused q) a next b e = absurd (let z : _≡_ {A = ℕ} 0 1 = cc in omega arith)
-went (refused q) n a next b e = absurd (let z : _≡_ {A = ℕ} 0 1 = cc in omega arith)
-
-pub takes-refused : (kind : ℕ) (image : List ℕ) (v : ℤ) (r : Refusal) → contents kind image ≡ refused r → refused r ≡ takeReading kind image v
-unfolding takeReading
-takes-refused kind image v r e = rw e
-
-module _ (kind : ℕ) (image : List ℕ) (v : ℤ) (c : Contents) (e : contents kind image ≡ good c) where
-  pub takes-single : field c 9 .code ≡ 2 → refused singleSpan ≡ takeReading kind image v
+module _ (kind : ℕ) (image : List ℕ) (v : ℤ) where
+  pub takes-refused : {r : Refusal} → contents kind image ≡ refused r → refused r ≡ takeReading kind image v
   unfolding takeReading
-  takes-single t = rw (e, eq-eqb (field c 9 .code) 2 t)
+  takes-refused e = rw e
 
-  module _ (n : field c 9 .code ≡ 2 → ⊥) where
-    pub takes-no-span : (r : Refusal) → spanOf c ≡ refused r → refused r ≡ takeReading kind image v
-    unfolding takeReading spanOf
-    takes-no-span r h = rw (e, ne-eqb (field c 9 .code) 2 n) (sym (halted (noneMissing c (7 ∷ 8 ∷ 10 ∷ 11 ∷ [])) (refuse noSpan 11 if leZ (greatest c) (least c)) _ _ r h))
+  module _ {c : Contents} (e : contents kind image ≡ good c) where
+    pub takes-no-span : {r : Refusal} → spanOf c ≡ refused r → refused r ≡ takeReading kind image v
+    unfolding takeReading
+    takes-no-span h = rw (e, h)
 
-    module _ (s : Span) (h : spanOf c ≡ good s) where
-      behind-span : takeReading kind image v ≡ (refuse outsideSpan if tooFar v (s .least) (s .greatest) >> good (readingAt (c .points) s v))
-      unfolding takeReading spanOf readingAt
-      behind-span =
-          let next : Span → Outcome Reading = λ x. refuse outsideSpan if tooFar v (x .least) (x .greatest) >> good (readingAt (c .points) x v) in
-          let ends : Span = record { low = float (field c 7 .value); high = float (field c 8 .value); least = least c; greatest = greatest c } in
-          let w = went (noneMissing c (7 ∷ 8 ∷ 10 ∷ 11 ∷ [])) (refuse noSpan 11 if leZ (greatest c) (least c)) ends (next ends) s h in
-          rw (e, ne-eqb (field c 9 .code) 2 n) (sym (w .0) ∙ ap next (w .1))
-
+    module _ {s : Span} (h : spanOf c ≡ good s) where
       pub takes-far : tooFar v (s .least) (s .greatest) ≡ true → refused outsideSpan ≡ takeReading kind image v
-      takes-far t = rw behind-span (rw t)
+      unfolding takeReading
+      takes-far t = rw (e, h, t)
 
-      pub takes-shown : tooFar v (s .least) (s .greatest) ≡ false → good (readingAt (c .points) s v) ≡ takeReading kind image v
-      takes-shown t = rw behind-span (rw t)
+      pub takes-shown : tooFar v (s .least) (s .greatest) ≡ false → good (readingAt (points c) s v) ≡ takeReading kind image v
+      unfolding takeReading
+      takes-shown t = rw (e, h, t)
+
+-- What an accepted reading shows: the fraction at the input's position in a span that rises.
+pub record Shown (kind : ℕ) (image : List ℕ) (v : ℤ) (r : Reading) : Type 0 where
+  pub holds : Contents
+  pub accepted : contents kind image ≡ good holds
+  pub rises : least holds <ℤ greatest holds
+  pub shows : r .fraction ≡ fraction (points holds) (position v (least holds) (greatest holds))
+
+pub shown : (kind : ℕ) (image : List ℕ) (v : ℤ) (r : Reading) → takeReading kind image v ≡ good r → Shown kind image v r
+unfolding takeReading readingAt
+shown kind image v r e =
+    let (c, accepted, f) = good-bind (contents kind image) _ r e in
+    let (s, found, g) = good-bind (spanOf c) _ r f in
+    let t = passed outsideSpan (tooFar v (s .least) (s .greatest)) _ r g in
+    let k = spanned c s found in
+    record {
+      holds = c;
+      accepted = accepted;
+      rises = k .rises;
+      shows = sym (ap (λ (y : Reading). y .fraction) (good-same (t .1))) ∙ ap (λ (y : Span). fraction (points c) (position v (y .least) (y .greatest))) (sym (k .is));
+    }

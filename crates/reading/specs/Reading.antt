@@ -1,4 +1,5 @@
--- Document 01: take a reading. Order: check, 15, 13, 14.
+-- Document 01, "Reading": take a reading. Order: check, 15, 13, 14. A reading is told in its steps: the span that its fields give, the position of the
+-- input in it, the fraction, and the physical figure.
 use mathlib.Core.Bool.{Bool, true, false, _||_}
 use mathlib.Core.List.{List, [], _∷_}
 use Prim.Native.Nat.{ℕ}
@@ -11,16 +12,17 @@ use Rattle.refusal.specs.Outcome.{Outcome, good, refused, _>>_, _>>=_, refuse_i
 use Rattle.refusal.specs.Rows.{noSpan, outsideSpan, singleSpan}
 use Rattle.fields.specs.declared.Value.{Value}
 use Rattle.fields.specs.declared.Value.the-variants.{Whole, Single, Missing}
-use Rattle.fields.specs.Figure.{billion, physicalFigure}
-use Rattle.sheet.specs.declared.Pair.{Pair}
-use Rattle.sheet.specs.Contents.{Contents, figure}
-use Rattle.sheet.specs.Check.{contents, field}
+use Rattle.fields.specs.declared.Pair.{Pair}
+use Rattle.fields.specs.Figure.{billion, floatFraction, physicalFigure}
+use Rattle.layout.specs.Contents.{Contents}
+use Rattle.layout.specs.Image.{contents, field, layoutOf, figure, points}
+use Rattle.line.specs.Line.{deviation}
 use Rattle.reading.specs.declared.Reading.{Reading}
 use Rattle.reading.specs.declared.ReadingAnswer.{ReadingAnswer}
 use Rattle.reading.specs.declared.ReadingAnswer.the-variants.{Shows, Refused}
-use Rattle.reading.specs.Line.{deviation}
+use Rattle.reading.specs.declared.span.Span.{Span}
 
--- ---- what a reading is taken from
+-- ---- the span
 
 -- e and f, the least and greatest electrical value, in nV/V.
 abbrev pub least : Contents → ℤ
@@ -35,8 +37,6 @@ float (Single x) = x
 float (Whole z) = nan
 float Missing = nan
 
--- ---- the refusals
-
 abbrev pub isMissing : Value → Bool
 isMissing Missing = true
 isMissing (Whole z) = false
@@ -49,13 +49,21 @@ noneMissing c (f ∷ fs) = do
   refuse noSpan f if isMissing (field c f .value)
   noneMissing c fs
 
+-- Rows 15 and 13, and the ends that a reading is taken from: fields 7 and 8, and e below f.
+unfoldable pub spanOf : Contents → Outcome Span
+spanOf c = do
+  refuse singleSpan if eqb (layoutOf c .precision) 2
+  noneMissing c (7 ∷ 8 ∷ 10 ∷ 11 ∷ [])
+  refuse noSpan 11 if leZ (greatest c) (least c)
+  good (record { low = float (field c 7 .value); high = float (field c 8 .value); least = least c; greatest = greatest c })
+
+-- ---- the figures
+
 -- Row 14: v below −2,000,000,000 or above 2,000,000,000, 10 × (v − e) < −(f − e), or 10 × (v − e) > 11 × (f − e).
 abbrev pub tooFar : ℤ → ℤ → ℤ → Bool
 tooFar v e f =
     ltZ v (negℤ (pos 2_000_000_000)) || ltZ (pos 2_000_000_000) v ||
     ltZ (pos 10 *ℤ (v -ℤ e)) (negℤ (f -ℤ e)) || ltZ (pos 11 *ℤ (f -ℤ e)) (pos 10 *ℤ (v -ℤ e))
-
--- ---- the reading
 
 -- p is (v − e) × 1,000,000,000 / (f − e) to the nearest whole, halves upward.
 unfoldable pub position : ℤ → ℤ → ℤ → ℤ
@@ -63,17 +71,22 @@ position v e f = nearest ((v -ℤ e) *ℤ pos billion over natAbs (f -ℤ e))
 
 -- Fraction q = p + deviation.
 abbrev pub fraction : List Pair → ℤ → ℤ
-fraction points p = p +ℤ deviation points p
+fraction pairs p = p +ℤ deviation pairs p
+
+-- The reading of an input by a table: q and the physical figure together.
+unfoldable pub readingAt : List Pair → Span → ℤ → Reading
+readingAt pairs s v =
+    let q = fraction pairs (position v (s .least) (s .greatest)) in
+    record { fraction = q; figure = physicalFigure (s .low) (s .high) (floatFraction q) }
+
+-- ---- the reading
 
 unfoldable pub takeReading : ℕ → List ℕ → ℤ → Outcome Reading
 takeReading kind image v = do
   c ← contents kind image
-  refuse singleSpan if eqb (field c 9 .code) 2
-  noneMissing c (7 ∷ 8 ∷ 10 ∷ 11 ∷ [])
-  refuse noSpan 11 if leZ (greatest c) (least c)
-  refuse outsideSpan if tooFar v (least c) (greatest c)
-  let q = fraction (c .points) (position v (least c) (greatest c))
-  good (record { fraction = q; figure = physicalFigure (float (field c 7 .value)) (float (field c 8 .value)) q })
+  s ← spanOf c
+  refuse outsideSpan if tooFar v (s .least) (s .greatest)
+  good (readingAt (points c) s v)
 
 -- ---- the answer: document 01's number and place, or q and the figure
 

@@ -1,16 +1,18 @@
 // The deviation at a position, from the calibration points of an opened sheet.
-use crate::held::pair_in;
-use crate::line::between;
 use sheet::Opened;
+use sheet::pair_in;
 ghost use mathlib.Core.Path.{_≡_};
-ghost use Rattle.sheet.specs.Contents.{Contents};
-ghost use Rattle.reading.specs.Line.{deviation as deviationOf};
-ghost use Rattle.reading.specs.Steps.{Opens, Held, Before};
+ghost use Prim.Native.Nat.{ℕ, _≤_};
+ghost use Rattle.layout.specs.Contents.{Contents};
+ghost use Rattle.layout.specs.Image.{points};
+ghost use Rattle.sheet.specs.Opened.{Opens, Held};
+ghost use Rattle.line.specs.Before.{pointOf, Before};
+ghost use Rattle.line.specs.Line.{deviation as deviationOf};
 
 // How many points lie before p. They rise, so it is searched by halves.
 fn points_before(sheet: Opened, image: &[u8], p: i64) -> u64
     requires { ⌜ Held sheet (now image) ⌝ }
-    ensures { λ r. ⌜ ((c : Contents) → Opens sheet (now (image .entry)) c → Before (c .points) p r) ⌝ }
+    ensures { λ r. ⌜ (r ≤ sheet .summary .points) × ((kind : ℕ) (c : Contents) → Opens kind (now (image .entry)) sheet c → Before pointOf (points c) p r) ⌝ }
 {
     let summary = sheet.summary;
     let mut low: u64 = 0;
@@ -31,7 +33,7 @@ fn points_before(sheet: Opened, image: &[u8], p: i64) -> u64
 // and after the last point, and 0 without points.
 pub fn deviation(sheet: Opened, image: &[u8], p: i64) -> i64
     requires { ⌜ Held sheet (now image) ⌝ }
-    ensures { λ r. ⌜ ((c : Contents) → Opens sheet (now (image .entry)) c → r ≡ deviationOf (c .points) p) ⌝ }
+    ensures { λ r. ⌜ ((kind : ℕ) (c : Contents) → Opens kind (now (image .entry)) sheet c → r ≡ deviationOf (points c) p) ⌝ }
 {
     let summary = sheet.summary;
     let count = summary.points;
@@ -48,5 +50,5 @@ pub fn deviation(sheet: Opened, image: &[u8], p: i64) -> i64
         return before.deviation;
     }
     let behind = pair_in(sheet, image, next);
-    between(p, before, behind)
+    line::between(p, before, behind)
 }

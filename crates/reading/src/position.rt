@@ -1,15 +1,32 @@
-// Where an input lies between the ends of the span.
-use crate::line::gap;
+// Where an input lies in the span.
+use crate::span::Span;
 ghost use mathlib.Core.Path.{_≡_};
-ghost use Prim.Native.Nat.{_≤_, _^_};
-ghost use lib.IntN.{natAbs};
+ghost use mathlib.Core.Bool.{false};
 ghost use Rattle.reading.specs.Reading.{position as positionOf, tooFar};
-ghost use Rattle.reading.specs.Ranges.{Ends};
+ghost use Rattle.reading.specs.Steps.{Ready, Lies};
 
-// Row 14: whether an input lies too far outside the span from e to f.
-pub fn is_too_far(v: i64, e: i64, f: i64) -> bool
-    requires { ⌜ Ends e f ⌝ }
-    ensures { λ r. ⌜ r ≡ tooFar v e f ⌝ }
+// How far above e an input lies, how far below e, and f − e.
+pub struct Offset {
+    pub above: u64,
+    pub below: u64,
+    pub span: u64,
+}
+
+fn offset_in(v: i64, span: Span) -> Offset
+    requires { ⌜ Ready span ⌝ }
+    ensures { λ r. ⌜ Lies v span r ⌝ }
+{
+    Offset {
+        above: integers::plus(v) + integers::minus(span.least),
+        below: integers::minus(v) + integers::plus(span.least),
+        span: line::gap(span.greatest, span.least),
+    }
+}
+
+// Row 14: whether an input lies too far outside the span.
+pub fn is_too_far(v: i64, span: Span) -> bool
+    requires { ⌜ Ready span ⌝ }
+    ensures { λ r. ⌜ r ≡ tooFar v (span .least) (span .greatest) ⌝ }
 {
     if v < -2_000_000_000 {
         return true;
@@ -17,21 +34,18 @@ pub fn is_too_far(v: i64, e: i64, f: i64) -> bool
     if 2_000_000_000 < v {
         return true;
     }
-    let above = integers::plus(v) + integers::minus(e);
-    let below = integers::minus(v) + integers::plus(e);
-    let span = gap(f, e);
-    if 10 * above + span < 10 * below {
+    let o = offset_in(v, span);
+    if 10 * o.above + o.span < 10 * o.below {
         return true;
     }
-    11 * span + 10 * below < 10 * above
+    11 * o.span + 10 * o.below < 10 * o.above
 }
 
 // (v − e) × 1,000,000,000 / (f − e) to the nearest whole, halves upward.
-pub fn position(v: i64, e: i64, f: i64) -> i64
-    requires { ⌜ Ends e f × (natAbs v ≤ 2 ^ 31) ⌝ }
-    ensures { λ r. ⌜ r ≡ positionOf v e f ⌝ }
+pub fn position(v: i64, span: Span) -> i64
+    requires { ⌜ Ready span × (tooFar v (span .least) (span .greatest) ≡ false) ⌝ }
+    ensures { λ r. ⌜ r ≡ positionOf v (span .least) (span .greatest) ⌝ }
 {
-    let above = integers::plus(v) + integers::minus(e);
-    let below = integers::minus(v) + integers::plus(e);
-    integers::nearest(1_000_000_000 * above, 1_000_000_000 * below, gap(f, e))
+    let o = offset_in(v, span);
+    integers::nearest(1_000_000_000 * o.above, 1_000_000_000 * o.below, o.span)
 }

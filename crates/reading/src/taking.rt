@@ -7,48 +7,40 @@ use crate::position::position;
 use crate::span::Span;
 use crate::span::SpanAnswer;
 use crate::span::span_in;
-use refusal::Refusal;
 use sheet::Opened;
 use sheet::OpenedAnswer;
 ghost use mathlib.Core.Path.{_≡_};
-ghost use Rattle.refusal.specs.Outcome.{refused};
-ghost use Rattle.refusal.specs.Rows.{returned};
-ghost use Rattle.sheet.specs.Contents.{Contents};
-ghost use Rattle.reading.specs.Reading.{takeReading, readingSaid};
-ghost use Rattle.reading.specs.Steps.{Opens, Held, Ready, readingAt};
+ghost use mathlib.Core.Bool.{false};
+ghost use Prim.Native.Nat.{ℕ};
+ghost use Rattle.layout.specs.Contents.{Contents};
+ghost use Rattle.layout.specs.Image.{points};
+ghost use Rattle.sheet.specs.Opened.{Opens, Held};
+ghost use Rattle.reading.specs.Reading.{tooFar, readingAt, takeReading, readingSaid};
+ghost use Rattle.reading.specs.Steps.{Ready};
 
 // The reading of an input that no row turns down: q = p + deviation, and the physical figure.
 fn shown(sheet: Opened, image: &[u8], span: Span, input: i64) -> Reading
-    requires { ⌜ Held sheet (now image) × Ready span input ⌝ }
-    ensures { λ r. ⌜ ((c : Contents) → Opens sheet (now (image .entry)) c → r ≡ readingAt (c .points) span input) ⌝ }
+    requires { ⌜ Held sheet (now image) × Ready span × (tooFar input (span .least) (span .greatest) ≡ false) ⌝ }
+    ensures { λ r. ⌜ ((kind : ℕ) (c : Contents) → Opens kind (now (image .entry)) sheet c → r ≡ readingAt (points c) span input) ⌝ }
 {
-    let p = position(input, span.least, span.greatest);
+    let p = position(input, span);
     let q = p + deviation(sheet, image, p);
     Reading {
         fraction: q,
-        figure: fields::physical_figure(span.low, span.high, q),
+        figure: fields::physical_figure(span.low, span.high, fields::float_fraction(q)),
     }
-}
-
-fn turned_down(number: u8, place: u64) -> ReadingAnswer
-    ensures { λ r. ⌜ readingSaid r ≡ refused (returned number place) ⌝ }
-{
-    ReadingAnswer::Refused(Refusal { number, place })
 }
 
 // A reading of an opened sheet: 15, then 13, then 14.
 fn reading_in(sheet: Opened, image: &[u8], input: i64) -> ReadingAnswer
     requires { ⌜ Held sheet (now image) ⌝ }
-    ensures { λ r. ⌜ ((c : Contents) (h : Opens sheet (now (image .entry)) c) → readingSaid r ≡ takeReading (h .kind) (now (image .entry)) input) ⌝ }
+    ensures { λ r. ⌜ ((kind : ℕ) (c : Contents) → Opens kind (now (image .entry)) sheet c → readingSaid r ≡ takeReading kind (now (image .entry)) input) ⌝ }
 {
-    if sheet.precision == 2 {
-        return turned_down(refusal::SINGLE_SPAN, 9);
-    }
     match span_in(sheet, image) {
         SpanAnswer::Refused(r) => ReadingAnswer::Refused(r),
         SpanAnswer::Is(span) => {
-            if is_too_far(input, span.least, span.greatest) {
-                return turned_down(refusal::OUTSIDE_SPAN, 0);
+            if is_too_far(input, span) {
+                return ReadingAnswer::Refused(refusal::outside_span());
             }
             ReadingAnswer::Shows(shown(sheet, image, span, input))
         }

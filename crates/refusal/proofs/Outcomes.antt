@@ -1,6 +1,6 @@
--- What a good outcome says of the tests and the calls on its way.
-use mathlib.Core.Path.{_≡_, refl}
-use mathlib.Core.Bool.{Bool, true, false, _||_, true≢false}
+-- Outcomes: what a good one says of the tests and the calls on its way, and what the steps of one come to.
+use mathlib.Core.Path.{_≡_, refl, sym, ap, _∙_}
+use mathlib.Core.Bool.{Bool, true, false, not, cond, _||_, true≢false}
 use Prim.Native.Nat.{ℕ}
 use native.Mathlib.Omega.{arith}
 use Rattle.refusal.specs.declared.Refusal.{Refusal}
@@ -9,25 +9,61 @@ use Rattle.refusal.specs.Outcome.{Outcome, good, refused, _>>=_, _>>_, r
 pub good-same : {A : Type 0} {a b : A} → good a ≡ good b → a ≡ b
 good-same e = cc
 
-never : {A B : Type 0} {r : Refusal} {a : A} → refused r ≡ good a → B
-never e = absurd (let z : _≡_ {A = ℕ} 0 1 = cc in omega arith)
+-- A refusal is no value.
+pub no-value : {A X : Type 0} {r : Refusal} {a : A} → refused r ≡ good a → X
+no-value e = absurd (let z : _≡_ {A = ℕ} 0 1 = cc in omega arith)
+
+-- What an answer says, its case known.
+pub told : {X O : Type 0} (said : X → O) {x y : X} {o : O} → x ≡ y → said x ≡ o → said y ≡ o
+told said h e = sym (ap said h) ∙ e
+
+-- ---- from an outcome to its steps
 
 -- A call, and one whose value is not used.
 pub good-bind : {A B : Type 0} (m : Outcome A) (k : A → Outcome B) (b : B) → (m >>= k) ≡ good b → (a : A) × (m ≡ good a) × (k a ≡ good b)
 good-bind (good a) k b e = (a, refl, e)
-good-bind (refused r) k b e = never e
+good-bind (refused r) k b e = no-value e
 
 pub good-then : {B : Type 0} (m : Outcome (Unit {0})) (next : Outcome B) (b : B) → (m >> next) ≡ good b → (m ≡ good tt) × (next ≡ good b)
 good-then (good u) next b e = (refl, e)
-good-then (refused r) next b e = never e
+good-then (refused r) next b e = no-value e
 
 -- The test of a row that was passed.
 pub passed : {B : Type 0} (r : Refusal) (t : Bool) (next : Outcome B) (b : B) → (refuse r if t >> next) ≡ good b → (t ≡ false) × (next ≡ good b)
-passed r true next b e = never e
+passed r true next b e = no-value e
 passed r false next b e = (refl, e)
 
--- ---- tests joined by or
-
+-- Neither of two tests that an or joins.
 pub neither : (s t : Bool) → (s || t) ≡ false → (s ≡ false) × (t ≡ false)
 neither true t e = absurd (true≢false e)
 neither false t e = (refl, e)
+
+-- ---- from the steps to the outcome
+
+module _ {A B : Type 0} {o : Outcome A} where
+  -- A call that gives a value, and one that is refused.
+  pub bind-good : {a : A} (f : A → Outcome B) → o ≡ good a → (o >>= f) ≡ f a
+  bind-good f e = ap (λ m. m >>= f) e
+
+  pub bind-refused : {r : Refusal} (f : A → Outcome B) → o ≡ refused r → (o >>= f) ≡ refused r
+  bind-refused f e = ap (λ m. m >>= f) e
+
+  pub then-good : {a : A} (next : Outcome B) → o ≡ good a → (o >> next) ≡ next
+  then-good next e = ap (λ m. m >> next) e
+
+  pub then-refused : {r : Refusal} (next : Outcome B) → o ≡ refused r → (o >> next) ≡ refused r
+  then-refused next e = ap (λ m. m >> next) e
+
+-- A test that refuses, as a choice.
+pub chosen : {A : Type 0} (a : A) (r : Refusal) (t : Bool) → ((refuse r if not t) >> good a) ≡ cond t (good a) (refused r)
+chosen a r true = refl
+chosen a r false = refl
+
+-- A call within a call, and calls whose next steps are the same.
+pub bind-assoc : {A B C : Type 0} (o : Outcome A) (f : A → Outcome B) (g : B → Outcome C) → (o >>= f >>= g) ≡ (o >>= λ a. f a >>= g)
+bind-assoc (good a) f g = refl
+bind-assoc (refused r) f g = refl
+
+pub bind-same : {A B : Type 0} (o : Outcome A) {f g : A → Outcome B} → ((a : A) → f a ≡ g a) → (o >>= f) ≡ (o >>= g)
+bind-same (good a) h = h a
+bind-same (refused r) h = refl

@@ -1,9 +1,35 @@
-// Document 01, "Turning down": the number that a refused call returns, and its place.
-// A refusal gives only these two.
+// Document 01, "Turning down": the number that a refused call returns, and its place; and what a call that writes answers.
+// Every function is proved, nothing is assumed, and none asks anything of its caller.
 
+mod rows;
+
+pub use rows::changed_alone;
+pub use rows::no_span;
+pub use rows::no_such;
+pub use rows::not_finite;
+pub use rows::not_rising;
+pub use rows::out_of_range;
+pub use rows::outside_span;
+pub use rows::outside_table;
+pub use rows::past_end;
+pub use rows::single_span;
+pub use rows::too_long;
+pub use rows::wrong_block;
+pub use rows::wrong_image;
+pub use rows::wrong_list;
+pub use rows::wrong_sort;
+pub use rows::wrong_sum;
+
+// A refusal gives only these two.
 pub struct Refusal {
     pub number: u8,
     pub place: u64,
+}
+
+// What a call that writes answers: its bytes are written, or nothing is.
+pub enum Written {
+    Done,
+    Refused(Refusal),
 }
 
 // The numbers of the rows; `specs/Rows.antt` has each row with its place.

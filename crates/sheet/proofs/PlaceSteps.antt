@@ -1,158 +1,74 @@
 -- Places worked out field by field.
 use mathlib.Core.Path.{_≡_, refl, sym, ap, _∙_}
-use mathlib.Core.Bool.{Bool, true, false, cond}
-use Prim.Native.Nat.{ℕ, zero, suc, _+_, _-_, _*_, _≤_, _<_}
-use native.Mathlib.Omega.{arith}
+use mathlib.Core.Bool.{Bool, cond}
 use mathlib.Core.List.{List, [], _∷_}
-use lib.Dec.{eqb}
-use lib.ListN.{length, getD}
-use borrow.Author.Tests.{eq-eqb, ne-eqb}
+use Prim.Native.Nat.{ℕ, zero, suc, _+_, _-_, _*_, _^_, _≤_, _<_}
+use native.Mathlib.Omega.{arith}
+use lib.Dec.{ltb}
+use lib.ListN.{length, getD, length-append}
+use borrow.Author.Tests.{lt-ltb, le-ltb}
 use Rattle.fields.specs.declared.Row.{Row}
-use Rattle.fields.specs.Stored.{Sound}
-use Rattle.fields.specs.Rows.{Line, block, line, template33, rowsOf, rowOf, any}
-use Rattle.fields.proofs.RowLaws.{row-sound}
-use Rattle.sheet.specs.Places.{bitsBefore, fieldPlace, tableBits}
-use Rattle.sheet.proofs.LineSteps.{Each, each}
+use Rattle.fields.specs.declared.Template.{Template}
+use Rattle.fields.specs.declared.Template.the-variants.{Bridge}
+use Rattle.fields.specs.declared.Layout.{Layout}
+use Rattle.fields.specs.Rows.{any}
+use Rattle.fields.specs.Lines.{Line, line, basic, template33, templateLines, linesOf, lastField, ending, rowOf, bitsBefore}
+use Rattle.layout.specs.Places.{blockBits, fieldPlace, behindFields, tableBits}
+use Rattle.layout.proofs.Choices.{bits-front}
 
--- The bits of the blocks before the next field, and of those between field i and the next.
-abbrev leading : List Line → ℕ
-leading [] = 0
-leading (block template ∷ lines) = 10 + leading lines
-leading (line chooses row ∷ lines) = 0
-
-abbrev between : List Line → ℕ → ℕ
-between [] i = 0
-between (block template ∷ lines) i = between lines i
-between (line chooses row ∷ lines) zero = leading lines
-between (line chooses row ∷ lines) (suc i) = between lines i
-
-bits-leading : (lines : List Line) (p : ℕ) → bitsBefore lines p 0 ≡ leading lines
-bits-leading [] p = refl
-bits-leading (block template ∷ lines) p = ap (λ (n : ℕ). 10 + n) (bits-leading lines p)
-bits-leading (line chooses row ∷ lines) p = refl
-
-bits-next : (lines : List Line) (p i : ℕ) → i < length (rowsOf lines p) →
-    bitsBefore lines p (suc i) ≡ bitsBefore lines p i + (getD (rowsOf lines p) i (any 0) .width + between lines i)
+-- The bits of one line more.
+bits-next : (lines : List Line) (p i : ℕ) → i < length lines → bitsBefore lines p (suc i) ≡ bitsBefore lines p i + getD lines i (line (any 0)) .rowAt p .width
 bits-next [] p i h = absurd (omega arith)
-bits-next (block template ∷ lines) p i h = omega (arith, bits-next lines p i h)
-bits-next (line chooses row ∷ lines) p zero h = omega (arith, bits-leading lines p)
-bits-next (line chooses row ∷ lines) p (suc i) h = omega (arith, bits-next lines p i (omega arith))
+bits-next (l ∷ lines) p zero h = omega (arith, bits-front [] lines p 0 (omega arith))
+bits-next (l ∷ lines) p (suc i) h = omega (arith, bits-next lines p i (omega arith))
 
--- Behind field 5 stand the block's selector and template number.
-abbrev gap : ℕ → ℕ
-gap i = cond (eqb i 4) 10 0
+bits-most : (lines : List Line) (p i : ℕ) → bitsBefore lines p i ≤ bitsBefore lines p (length lines)
+bits-most [] p i = omega arith
+bits-most (l ∷ lines) p zero = omega arith
+bits-most (l ∷ lines) p (suc i) = omega (arith, bits-most lines p i)
 
-template-between : (i : ℕ) → i < 21 → between template33 i ≡ gap i
-unfolding template33
-template-between = each (λ i. between template33 i ≡ gap i) 21 (
-  (
-    (
-      (
-        (
-          (
-            (
-              (
-                (
-                  (
-                    (
-                      (
-                        (
-                          (
-                            (
-                              (
-                                (
-                                  (
-                                    (
-                                      (
-                                        (
-                                          tt,
-                                          refl,
-                                        ),
-                                        refl,
-                                      ),
-                                      refl,
-                                    ),
-                                    refl,
-                                  ),
-                                  refl,
-                                ),
-                                refl,
-                              ),
-                              refl,
-                            ),
-                            refl,
-                          ),
-                          refl,
-                        ),
-                        refl,
-                      ),
-                      refl,
-                    ),
-                    refl,
-                  ),
-                  refl,
-                ),
-                refl,
-              ),
-              refl,
-            ),
-            refl,
-          ),
-          refl,
-        ),
-        refl,
-      ),
-      refl,
-    ),
-    refl,
-  ),
-  refl,
-)
+-- No template has many fields or bits.
+pub last-few : (t : Template) → lastField t < 2 ^ 16
+unfolding basic template33 linesOf
+last-few Bridge = omega arith
 
-template-rows : (p i : ℕ) → i < 21 → i < length (rowsOf template33 p)
-unfolding template33
-template-rows p i h = h
+fields-few : (t : Template) (p : ℕ) → bitsBefore (linesOf t) p (lastField t) < 2 ^ 16
+unfolding basic template33 linesOf
+fields-few Bridge zero = omega arith
+fields-few Bridge (suc zero) = omega arith
+fields-few Bridge (suc (suc p)) = omega arith
 
-module _ (f p : ℕ) (lo : 1 ≤ f) (hi : f ≤ 21) where
-  next : fieldPlace (f + 1) p ≡ fieldPlace f p + (rowOf f p .width + gap (f - 1))
-  unfolding rowOf
-  next =
+module _ (layout : Layout) where
+  abbrev lines : List Line
+  lines = linesOf (layout .template)
+
+  pub place-few : (i : ℕ) → bitsBefore lines (layout .precision) i < 2 ^ 16
+  place-few i = omega (arith, bits-most lines (layout .precision) i, fields-few (layout .template) (layout .precision))
+
+  -- The bits before the first field, and before the next one.
+  pub first-place : bitsBefore lines (layout .precision) 0 ≡ 0
+  first-place = bits-front [] lines (layout .precision) 0 (omega arith)
+
+  pub next-place : (f : ℕ) (row : Row) → 1 ≤ f → f ≤ lastField (layout .template) → row ≡ rowOf layout f →
+      bitsBefore lines (layout .precision) (f - 1) + row .width ≡ bitsBefore lines (layout .precision) (f + 1 - 1)
+  next-place f row lo hi e =
       let j : f + 1 - 1 ≡ suc (f - 1) = omega arith in
-      ap (bitsBefore template33 p) j ∙ bits-next template33 p (f - 1) (template-rows p (f - 1) (omega arith))
-      ∙ ap (λ (n : ℕ). fieldPlace f p + (rowOf f p .width + n)) (template-between (f - 1) (omega arith))
+      rw (e, j) (sym (bits-next lines (layout .precision) (f - 1) (omega arith)))
 
-  module _ (row : Row) (er : row ≡ rowOf f p) where
-    width-most : row .width ≤ 32
-    width-most = rw er (row-sound f p lo hi .most)
+  pub in-basic : (f : ℕ) → f ≤ length basic → fieldPlace layout f ≡ bitsBefore lines (layout .precision) (f - 1)
+  unfolding fieldPlace
+  in-basic f h = ap (λ (b : Bool). bitsBefore lines (layout .precision) (f - 1) + cond b blockBits 0) (le-ltb (length basic) f h) ∙ omega arith
 
-    pub stride-block : f ≡ 5 → (fieldPlace (f + 1) p ≡ fieldPlace f p + (row .width + 10)) × (row .width + 10 ≤ 42)
-    stride-block e = (
-      rw er (next ∙ ap (λ (b : Bool). fieldPlace f p + (rowOf f p .width + cond b 10 0)) (eq-eqb (f - 1) 4 (omega arith))),
-      omega (arith, width-most),
-    )
+  pub behind-basic : (f : ℕ) → length basic < f → fieldPlace layout f ≡ bitsBefore lines (layout .precision) (f - 1) + 10
+  unfolding fieldPlace
+  behind-basic f h = ap (λ (b : Bool). bitsBefore lines (layout .precision) (f - 1) + cond b blockBits 0) (lt-ltb (length basic) f h)
 
-    pub stride-field : (f ≡ 5 → ⊥) → (fieldPlace (f + 1) p ≡ fieldPlace f p + row .width) × (row .width ≤ 42)
-    stride-field n = (
-      rw er (next ∙ ap (λ (b : Bool). fieldPlace f p + (rowOf f p .width + cond b 10 0)) (ne-eqb (f - 1) 4 (λ e. n (omega arith))) ∙ omega arith),
-      omega (arith, width-most),
-    )
+  pub fields-end : behindFields layout ≡ bitsBefore lines (layout .precision) (lastField (layout .template)) + 10
+  unfolding linesOf
+  fields-end = behind-basic (ending (layout .template)) (omega (arith, length-append basic (templateLines (layout .template)))) ∙ ap (λ (n : ℕ). bitsBefore lines (layout .precision) n + 10) (omega arith)
 
--- Fields take 317 bits at most.
-pub place-end : (p : ℕ) → fieldPlace 22 p ≤ 317
-unfolding template33
-place-end zero = omega arith
-place-end (suc zero) = omega arith
-place-end (suc (suc p)) = omega arith
-
--- All fields but 10 and 11 take 253 bits, with the block's selector and template number.
-end-by-choice : (p : ℕ) → 253 + 2 * rowOf 10 p .width ≡ fieldPlace 22 p
-unfolding template33 rowOf
-end-by-choice zero = refl
-end-by-choice (suc zero) = refl
-end-by-choice (suc (suc p)) = refl
-
-pub end-by-row : (p : ℕ) (row : Row) → row ≡ rowOf 10 p → 253 + 2 * row .width ≡ fieldPlace 22 p
-end-by-row p row er = rw er (end-by-choice p)
+  pub end-few : behindFields layout < 2 ^ 17
+  end-few = omega (arith, fields-end, place-few (lastField (layout .template)))
 
 pub table-some : (n : ℕ) → (n ≡ 0 → ⊥) → 18 + 37 * n ≡ tableBits n
 table-some zero h = absurd (h refl)

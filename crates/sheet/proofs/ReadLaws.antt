@@ -1,81 +1,58 @@
 -- What is read of an accepted image, and what is refused.
-use mathlib.Core.Path.{_≡_, refl, sym, ap, _∙_}
-use mathlib.Core.Bool.{Bool, true, false, _||_}
+use mathlib.Core.Path.{_≡_, refl}
 use mathlib.Core.List.{List}
 use mathlib.Core.Logic.{_⊎_, ⊎-elim}
-use Prim.Native.Nat.{ℕ, _+_, _*_, _^_, _≤_, _<_}
+use Prim.Native.Nat.{ℕ, _≤_, _<_}
 use native.Mathlib.Omega.{arith}
-use lib.Dec.{eqb, ltb, leb}
-use lib.IntN.{pos}
 use lib.ListN.{length, getD}
 use borrow.Author.Tests.{eq-eqb, ne-eqb, lt-ltb, le-ltb, le-leb, lt-leb}
 use Rattle.refusal.specs.declared.Refusal.{Refusal}
 use Rattle.refusal.specs.Outcome.{Outcome, good, refused}
 use Rattle.refusal.specs.Rows.{noSuch}
-use Rattle.memory.specs.Image.{imageSizes}
-use Rattle.memory.proofs.Chips.{sizes-whole, sizes-chip}
-use Rattle.sheet.specs.declared.Pair.{Pair}
-use Rattle.sheet.specs.Contents.{Contents}
-use Rattle.sheet.specs.Check.{contents, summary, check, nothing, field, numbered, readField, readPair, readCharacter}
-use Rattle.sheet.proofs.Sections.{Accepted, contents-accepted}
-use Rattle.sheet.proofs.Places.{contents-count}
+use Rattle.fields.specs.Calibration.{noPair}
+use Rattle.fields.specs.Lines.{lastField}
+use Rattle.layout.specs.Contents.{Contents}
+use Rattle.layout.specs.Image.{contents, field, points}
+use Rattle.layout.proofs.Places.{fields-count}
+use Rattle.layout.proofs.Accepted.{contents-accepted}
+use Rattle.sheet.specs.Check.{summary, check, indexed, readField, readPair, readCharacter}
 
-abbrev pub noPair : Pair
-noPair = record { point = pos 0; deviation = pos 0 }
+-- The item of an index, and an index past the last.
+module _ {A : Type 0} (items : List A) (none : A) (i : ℕ) where
+  indexed-good : i < length items → indexed items none i ≡ good (getD items i none)
+  indexed-good h = rw (lt-leb (length items) i h)
+
+  indexed-none : length items ≤ i → indexed items none i ≡ refused (noSuch i)
+  indexed-none h = rw (le-leb (length items) i h)
 
 -- Of an accepted image every field, pair and character is read, and no other.
 pub record Reads (kind : ℕ) (image : List ℕ) (c : Contents) : Type 0 where
   pub checked : check kind image ≡ good (summary c)
-  pub fields : (f : ℕ) → 1 ≤ f → f ≤ 21 → readField kind image f ≡ good (field c f .value)
-  pub no-field : (f : ℕ) → (f < 1) ⊎ (21 < f) → readField kind image f ≡ refused (noSuch f)
-  pub pairs : (i : ℕ) → i < length (c .points) → readPair kind image i ≡ good (getD (c .points) i noPair)
-  pub no-pair : (i : ℕ) → length (c .points) ≤ i → readPair kind image i ≡ refused (noSuch i)
+  pub fields : (f : ℕ) → 1 ≤ f → f ≤ lastField (c .template) → readField kind image f ≡ good (field c f .value)
+  pub no-field : (f : ℕ) → (f < 1) ⊎ (lastField (c .template) < f) → readField kind image f ≡ refused (noSuch f)
+  pub pairs : (i : ℕ) → i < length (points c) → readPair kind image i ≡ good (getD (points c) i noPair)
+  pub no-pair : (i : ℕ) → length (points c) ≤ i → readPair kind image i ≡ refused (noSuch i)
   pub characters : (i : ℕ) → i < length (c .text) → readCharacter kind image i ≡ good (getD (c .text) i 0)
   pub no-character : (i : ℕ) → length (c .text) ≤ i → readCharacter kind image i ≡ refused (noSuch i)
 
 module _ (kind : ℕ) (image : List ℕ) (c : Contents) (e : contents kind image ≡ good c) where
-  count : length (c .fields) ≡ 21
-  count = let a = contents-accepted kind image c e in contents-count kind image c (a .sizes) e (a .sized)
-
-  checked : check kind image ≡ good (summary c)
-  unfolding check
-  checked = rw e
-
-  field-read : (f : ℕ) → 1 ≤ f → f ≤ 21 → readField kind image f ≡ good (field c f .value)
-  unfolding readField
-  field-read f lo hi = rw (e, count, ne-eqb f 0 (λ z. omega arith), le-ltb 21 f hi)
-
-  field-none : (f : ℕ) → (f < 1) ⊎ (21 < f) → readField kind image f ≡ refused (noSuch f)
-  unfolding readField
-  field-none f = ⊎-elim
-      (λ l. let z : f ≡ 0 = omega arith in rw (e, eq-eqb f 0 z))
-      (λ h. rw (e, count, ne-eqb f 0 (λ z. omega arith), lt-ltb 21 f h))
-
-  pair-read : (i : ℕ) → i < length (c .points) → readPair kind image i ≡ good (getD (c .points) i noPair)
-  unfolding readPair
-  pair-read i h = rw (e, lt-leb (length (c .points)) i h)
-
-  pair-none : (i : ℕ) → length (c .points) ≤ i → readPair kind image i ≡ refused (noSuch i)
-  unfolding readPair
-  pair-none i h = rw (e, le-leb (length (c .points)) i h)
-
-  character-read : (i : ℕ) → i < length (c .text) → readCharacter kind image i ≡ good (getD (c .text) i 0)
-  unfolding readCharacter
-  character-read i h = rw (e, lt-leb (length (c .text)) i h)
-
-  character-none : (i : ℕ) → length (c .text) ≤ i → readCharacter kind image i ≡ refused (noSuch i)
-  unfolding readCharacter
-  character-none i h = rw (e, le-leb (length (c .text)) i h)
+  -- An accepted image has all fields of its template.
+  pub fields-are : length (c .fields) ≡ lastField (c .template)
+  fields-are = fields-count (contents-accepted kind image c e .holding .formed)
 
   pub accepted-reads : Reads kind image c
+  unfolding check readField readPair readCharacter
   accepted-reads = record {
-    checked = checked;
-    fields = field-read;
-    no-field = field-none;
-    pairs = pair-read;
-    no-pair = pair-none;
-    characters = character-read;
-    no-character = character-none;
+    checked = rw e;
+    fields = λ f lo hi. rw (e, fields-are, ne-eqb f 0 (λ z. omega arith), le-ltb (lastField (c .template)) f hi);
+    no-field = λ f.
+        ⊎-elim
+        (λ l. let z : _≡_ {A = ℕ} f 0 = omega arith in rw (e, eq-eqb f 0 z))
+        (λ h. rw (e, fields-are, ne-eqb f 0 (λ z. omega arith), lt-ltb (lastField (c .template)) f h));
+    pairs = λ i h. rw e (indexed-good (points c) noPair i h);
+    no-pair = λ i h. rw e (indexed-none (points c) noPair i h);
+    characters = λ i h. rw e (indexed-good (c .text) 0 i h);
+    no-character = λ i h. rw e (indexed-none (c .text) 0 i h);
   }
 
 -- Of a refused image nothing is read: each read gives the check's refusal.

@@ -1,147 +1,157 @@
 -- The walk over a whole sheet.
-use mathlib.Core.Path.{_≡_, refl, sym, ap, _∙_}
-use mathlib.Core.Bool.{Bool, cond}
-use mathlib.Core.List.{List, [], _∷_}
-use Prim.Native.Nat.{ℕ, _-_, _/_}
-use lib.Dec.{eqb}
-use lib.ListN.{length}
+use mathlib.Core.Path.{_≡_, refl, sym, ap, ap₂, _∙_}
+use mathlib.Core.Bool.{Bool}
+use mathlib.Core.List.{List, _++_, map}
+use Prim.Native.Nat.{ℕ, _+_}
+use native.Mathlib.Omega.{arith}
+use lib.ListN.{length, length-map}
 use Rattle.refusal.specs.declared.Refusal.{Refusal}
 use Rattle.refusal.specs.Outcome as outcome
 use Rattle.refusal.specs.Outcome.{Outcome, good, refused}
+use Rattle.refusal.proofs.Outcomes.{told}
 use Rattle.memory.specs.declared.Sizes.{Sizes}
 use Rattle.memory.specs.declared.cursor.Cursor.{Cursor}
-use Rattle.fields.specs.Rows.{template33}
-use Rattle.sheet.specs.declared.Pair.{Pair}
+use Rattle.fields.specs.declared.Template.{Template}
+use Rattle.fields.specs.Lines.{Line, basic, templateLines, linesOf, lastField}
+use Rattle.layout.specs.Format.{Format, ends, _>>=_, place, Stream, Parsed, parse}
+use Rattle.layout.specs.Contents.{Found, Calibration, Contents, Ending, fieldsOf, firstBlock, calibrationOf, endingOf, sheetOf}
+use Rattle.layout.specs.Image.{streamIn, lastChoice, layoutOf, pairIn, pairsIn}
+use Rattle.layout.proofs.Formats.{parsed, parse-next, parse-refused, parsed-by}
+use Rattle.layout.proofs.Fields.{laid-pieces, laid-length}
+use Rattle.layout.proofs.Choices.{last-append, basic-last}
 use Rattle.sheet.specs.declared.opening.Opened.{Opened}
-use Rattle.sheet.specs.declared.walk.NumberStep.{NumberStep}
-use Rattle.sheet.specs.declared.walk.NumberStep.the-variants.{Number, Refused as NoNumber}
+use Rattle.sheet.specs.declared.walk.ChoiceStep.{ChoiceStep}
+use Rattle.sheet.specs.declared.walk.ChoiceStep.the-variants.{Chosen, Refused as NoChoice}
+use Rattle.sheet.specs.declared.walk.TemplateStep.{TemplateStep}
+use Rattle.sheet.specs.declared.walk.TemplateStep.the-variants.{Named, Refused as NoTemplate}
+use Rattle.sheet.specs.declared.table.CountStep.{CountStep}
+use Rattle.sheet.specs.declared.table.CountStep.the-variants.{Counted, Refused as NoCount}
 use Rattle.sheet.specs.declared.ending.EndStep.{EndStep}
 use Rattle.sheet.specs.declared.ending.EndStep.the-variants.{Ended, Refused as NoEnd}
-use Rattle.sheet.specs.Format.{Format, ends, looks, _>>=_, _>>_, bits, place, remaining, Stream, Ran, run}
-use Rattle.sheet.specs.Contents.{Found, Contents, fieldsOf, pointsOf, textOf, sheet}
-use Rattle.sheet.specs.Check.{streamIn}
-use Rattle.sheet.specs.Opened.{openedAs, walked}
-use Rattle.sheet.specs.Walk.{linesOf, counted, Ending, endingOf, numberSaid, endSaid}
-use Rattle.sheet.proofs.Formats.{ran, run-bind}
-use Rattle.sheet.proofs.Steps.{told, goes, halts, run-assoc, run-alike}
-use Rattle.sheet.proofs.LineSteps.{lastChoice, lines-fields, template-last}
+use Rattle.sheet.specs.Opened.{openedAs}
+use Rattle.sheet.specs.Walk.{keeping, choiceOn, pairCount, EndCount, endCount, linesFrom, walked, choiceSaid, templateStepSaid, countSaid, endSaid}
+use Rattle.sheet.proofs.Steps.{kept, keep-next, keep-refused}
+use Rattle.sheet.proofs.WalkSteps.{basic-lines, own-lines}
 
--- What the steps of the walk come to.
-abbrev pub opens : Sizes → ℕ → ℕ → Ending → ℕ → Opened
-opens z precision points ending end = record {
+abbrev made : Template → List Found → Calibration → Ending → ℕ → Contents
+made template fields calibration ending end = record {
+  template = template;
+  fields = fields;
+  calibration = calibration;
+  endBit = ending .endBit;
+  text = ending .text;
+  bits = end;
+}
+
+-- The format behind each part of a sheet.
+abbrev afterCalibration : Template → List Found → Calibration → Format Contents
+afterCalibration t xs k = endingOf >>= λ e. place >>= λ end. ends (made t xs k e end)
+
+abbrev afterOwn : Template → List Found → Format Contents
+afterOwn t xs = calibrationOf >>= afterCalibration t xs
+
+abbrev afterBlock : List Found → Template → Format Contents
+afterBlock bs t = fieldsOf (templateLines t) 0 >>= λ os. afterOwn t (bs ++ os)
+
+abbrev afterBasics : List Found → Format Contents
+afterBasics bs = firstBlock >>= afterBlock bs
+
+-- What is opened of a sheet whose parts are kept.
+abbrev pub opens : Sizes → Template → ℕ → ℕ → EndCount → ℕ → Opened
+opens z template precision points ending end = record {
   sizes = z;
-  precision = precision;
+  layout = record { template = template; precision = precision };
   summary = record { bits = end; points = points; «end_bit» = ending .endBit; characters = ending .characters };
 }
 
--- The steps one after the other.
-abbrev behindPoints : Sizes → ℕ → ℕ → Format Opened
-behindPoints z p n = endingOf >>= λ e. place >>= λ end. ends (opens z p n e end)
+-- The latest choice of a sheet is that behind its template's own fields.
+choice-is : (s : Stream) (t : Template) (bs os : List Found) (n : ℕ) → good (parsed bs n) ≡ parse s (fieldsOf basic 0) 0 →
+    lastChoice (linesOf t) (bs ++ os) 0 ≡ lastChoice (templateLines t) os 0
+unfolding linesOf
+choice-is s t bs os n e =
+    let w = parsed-by s (fieldsOf basic 0) 0 (parsed bs n) (omega arith) (sym e) in
+    last-append basic (templateLines t) bs os 0 (laid-length basic 0 0 bs (laid-pieces (s .bits) basic 0 0 (w .pieces) bs (w .parses) .1))
+    ∙ ap (lastChoice (templateLines t) os) (basic-last bs 0)
 
-abbrev behindLines : Sizes → ℕ → Format Opened
-behindLines z p = counted pointsOf >>= λ n. behindPoints z p n
-
-abbrev inSteps : Sizes → Format Opened
-inSteps z = linesOf template33 0 >>= behindLines z
-
-module _ (s : Stream) (z : Sizes) where
-  abbrev open′ : Contents → Format Opened
-  open′ c = ends (openedAs z c)
-
-  abbrev text′ : ℕ → ℕ → Format (List ℕ)
-  text′ bit left = textOf (cond (eqb bit 1) (left / 7) 0)
-
-  abbrev whole : List Found → List Pair → ℕ → List ℕ → ℕ → Contents
-  whole fs ps bit text end = record { fields = fs; points = ps; endBit = eqb bit 1; text = text; bits = end }
-
-  abbrev tail : List Found → List Pair → ℕ → Format Contents
-  tail fs ps bit = remaining >>= λ left. text′ bit left >>= λ text. place >>= λ end. ends (whole fs ps bit text end)
-
-  -- The same contents, by the choice behind the lines or by field 9.
-  same : (fs : List Found) (ps : List Pair) (bit : ℕ) (text : List ℕ) (n : ℕ) →
-      openedAs z (whole fs ps bit text n) ≡ opens z (lastChoice template33 fs 0) (length ps) (record { endBit = eqb bit 1; characters = length text }) n
-  same fs ps bit text n = ap (λ (p : ℕ). opens z p (length ps) (record { endBit = eqb bit 1; characters = length text }) n) (sym (template-last fs))
-
-  at-ending : (fs : List Found) (ps : List Pair) (n : ℕ) →
-      run s ((bits 1 >>= tail fs ps) >>= open′) n ≡ run s (behindPoints z (lastChoice template33 fs 0) (length ps)) n
-  unfolding endingOf
-  at-ending fs ps n =
-      run-assoc s (bits 1) (tail fs ps) open′ n
-      ∙ run-alike s (bits 1) (λ bit. tail fs ps bit >>= open′) (λ bit. (remaining >>= λ left. ended bit left) >>= on) n (λ bit m. texts bit (s .bits - m) m)
-      ∙ sym (run-assoc s (bits 1) (λ bit. remaining >>= λ left. ended bit left) on n)
-    where
-      on : Ending → Format Opened
-      on e = place >>= λ end. ends (opens z (lastChoice template33 fs 0) (length ps) e end)
-
-      ended : ℕ → ℕ → Format Ending
-      ended bit left = counted (text′ bit left) >>= λ k. ends (record { endBit = eqb bit 1; characters = k })
-
-      texts : (bit left m : ℕ) → run s ((text′ bit left >>= λ text. place >>= λ end. ends (whole fs ps bit text end)) >>= open′) m ≡ run s (ended bit left >>= on) m
-      texts bit left m =
-          run-assoc s (text′ bit left) (λ text. place >>= λ end. ends (whole fs ps bit text end)) open′ m
-          ∙ run-alike s (text′ bit left) (λ text. place >>= λ end. ends (openedAs z (whole fs ps bit text end)))
-          (λ text. on (record { endBit = eqb bit 1; characters = length text })) m (λ text k. ap (λ o. good (ran o k)) (same fs ps bit text k))
-          ∙ sym (run-assoc s (counted (text′ bit left)) (λ k. ends (record { endBit = eqb bit 1; characters = k })) on m
-          ∙ run-assoc s (text′ bit left) (λ l. ends (length l)) (λ k. on (record { endBit = eqb bit 1; characters = k })) m)
-
-  -- The format of a sheet, taken in these steps.
-  pub sheet-steps : run s (sheet >>= open′) 0 ≡ run s (inSteps z) 0
-  unfolding sheet
-  sheet-steps =
-      run-assoc s (fieldsOf template33 0) (λ fs. pointsOf >>= λ ps. bits 1 >>= tail fs ps) open′ 0
-      ∙ run-alike s (fieldsOf template33 0) (λ fs. (pointsOf >>= λ ps. bits 1 >>= tail fs ps) >>= open′) (λ fs. behindLines z (lastChoice template33 fs 0)) 0 points
-      ∙ sym (run-bind s (linesOf template33 0) (behindLines z) 0
-      ∙ ap (λ o. outcome._>>=_ o (λ x. run s (behindLines z (x .found)) (x .next))) (lines-fields s template33 0 0)
-      ∙ sym (run-bind s (fieldsOf template33 0 >>= λ fs. ends (lastChoice template33 fs 0)) (behindLines z) 0)
-      ∙ run-assoc s (fieldsOf template33 0) (λ fs. ends (lastChoice template33 fs 0)) (behindLines z) 0)
-    where
-      points : (fs : List Found) (n : ℕ) → run s ((pointsOf >>= λ ps. bits 1 >>= tail fs ps) >>= open′) n ≡ run s (behindLines z (lastChoice template33 fs 0)) n
-      points fs n =
-          run-assoc s pointsOf (λ ps. bits 1 >>= tail fs ps) open′ n
-          ∙ run-alike s pointsOf (λ ps. (bits 1 >>= tail fs ps) >>= open′) (λ ps. behindPoints z (lastChoice template33 fs 0) (length ps)) n (at-ending fs)
-          ∙ sym (run-assoc s pointsOf (λ ps. ends (length ps)) (λ k. behindPoints z (lastChoice template33 fs 0) k) n)
-
--- ---- what the calls say of the steps
-
-abbrev found : Outcome (Ran Opened) → Outcome Opened
-found o = outcome._>>=_ o (λ x. good (x .found))
-
-walked-steps : (z : Sizes) (image : List ℕ) → walked z image ≡ found (run (streamIn z image) (inSteps z) 0)
-unfolding walked
-walked-steps z image =
-    only (run s sheet 0) ∙ ap found (sym (run-bind s sheet (λ c. ends (openedAs z c)) 0) ∙ sheet-steps s z)
-  where
-    s : Stream
-    s = streamIn z image
-
-    only : (o : Outcome (Ran Contents)) →
-        outcome._>>=_ o (λ x. good (openedAs z (x .found))) ≡ found (outcome._>>=_ o (λ x. run s (ends (openedAs z (x .found))) (x .next)))
-    only (good x) = refl
-    only (refused r) = refl
-
-module _ (z : Sizes) (image : List ℕ) (x : NumberStep) (e : numberSaid x ≡ run (streamIn z image) (linesOf template33 0) 0) where
+module _ (z : Sizes) (image : List ℕ) where
   abbrev s : Stream
   s = streamIn z image
 
-  pub fields-halt : {r : Refusal} → x ≡ NoNumber r → refused r ≡ walked z image
-  fields-halt h = sym (walked-steps z image ∙ ap found (halts s (linesOf template33 0) (behindLines z) 0 (told numberSaid h e)))
+  -- The walk has come to a format at a place.
+  abbrev Reached : Format Contents → ℕ → Type 0
+  Reached f at = parse s sheetOf 0 ≡ parse s f at
 
-  module _ {p : ℕ} {next : Cursor} (h : x ≡ Number p next) (y : NumberStep) (f : numberSaid y ≡ run s (counted pointsOf) (next .at)) where
-    at-points : run s (inSteps z) 0 ≡ run s (behindLines z p) (next .at)
-    at-points = goes s (linesOf template33 0) (behindLines z) 0 (told numberSaid h e)
+  halted : {r : Refusal} → parse s sheetOf 0 ≡ refused r → refused r ≡ walked z image
+  halted e = sym (ap (λ o. outcome._>>=_ o (λ x. good (openedAs z (x .found)))) e)
 
-    pub points-halt : {r : Refusal} → y ≡ NoNumber r → refused r ≡ walked z image
-    points-halt g = sym (walked-steps z image ∙ ap found (at-points ∙ halts s (counted pointsOf) (behindPoints z p) (next .at) (told numberSaid g f)))
+  -- Basic's lines are the first of every template.
+  module _ (t₀ : Template) (n₀ at₀ : ℕ) (en : n₀ ≡ length basic) (ea : at₀ ≡ 0) (x : ChoiceStep)
+      (e₀ : choiceSaid x ≡ keeping (choiceOn (linesFrom t₀ 1 n₀) 0) (parse s (fieldsOf (linesFrom t₀ 1 n₀) 0) at₀)) where
+    e : choiceSaid x ≡ keeping (choiceOn basic 0) (parse s (fieldsOf basic 0) 0)
+    e = e₀ ∙ ap₂ (λ (ls : List Line) (n : ℕ). keeping (choiceOn ls 0) (parse s (fieldsOf ls 0) n)) (basic-lines t₀ en) ea
 
-    module _ {n : ℕ} {last : Cursor} (g : y ≡ Number n last) (w : EndStep) (k : endSaid w ≡ run s endingOf (last .at)) where
-      at-end : run s (inSteps z) 0 ≡ run s (behindPoints z p n) (last .at)
-      at-end = at-points ∙ goes s (counted pointsOf) (behindPoints z p) (next .at) (told numberSaid g f)
+    pub basics-halt : {r : Refusal} → x ≡ NoChoice r → refused r ≡ walked z image
+    unfolding sheetOf
+    basics-halt h = halted (keep-refused (choiceOn basic 0) s (fieldsOf basic 0) afterBasics 0 (told choiceSaid h e))
 
-      pub ending-halt : {r : Refusal} → w ≡ NoEnd r → refused r ≡ walked z image
-      ending-halt m =
-          sym (walked-steps z image ∙ ap found (at-end ∙ halts s endingOf (λ e. place >>= λ end. ends (opens z p n e end)) (last .at) (told endSaid m k)))
+    module _ {p₀ : ℕ} {block : Cursor} (h : x ≡ Chosen p₀ block) (y : TemplateStep) (f : templateStepSaid y ≡ parse s firstBlock (block .at)) where
+      basics : (bs : List Found) × (choiceOn basic 0 bs ≡ p₀) × (good (parsed bs (block .at)) ≡ parse s (fieldsOf basic 0) 0)
+      basics = kept (choiceOn basic 0) (parse s (fieldsOf basic 0) 0) (told choiceSaid h e)
 
-      pub sheet-opens : {endBit : Bool} {characters : ℕ} {end : Cursor} → w ≡ Ended endBit characters end →
-          good (opens z p n (record { endBit = endBit; characters = characters }) (end .at)) ≡ walked z image
-      sheet-opens m =
-          sym (walked-steps z image ∙ ap found (at-end ∙ goes s endingOf (λ e. place >>= λ end. ends (opens z p n e end)) (last .at) (told endSaid m k)))
+      abbrev bs : List Found
+      bs = basics .0
+
+      at-block : Reached (afterBasics bs) (block .at)
+      unfolding sheetOf
+      at-block = parse-next s (fieldsOf basic 0) afterBasics 0 (basics .2)
+
+      pub block-halts : {r : Refusal} → y ≡ NoTemplate r → refused r ≡ walked z image
+      block-halts g = halted (at-block ∙ parse-refused s firstBlock (afterBlock bs) (block .at) (told templateStepSaid g f))
+
+      module _ {t : Template} {own : Cursor} (g : y ≡ Named t own) (m₀ : ℕ) (em : m₀ ≡ lastField t) (w : ChoiceStep)
+          (k₀ : choiceSaid w ≡ keeping (choiceOn (linesFrom t (n₀ + 1) m₀) 0) (parse s (fieldsOf (linesFrom t (n₀ + 1) m₀) 0) (own .at))) where
+        k : choiceSaid w ≡ keeping (choiceOn (templateLines t) 0) (parse s (fieldsOf (templateLines t) 0) (own .at))
+        k = k₀ ∙ ap (λ (ls : List Line). keeping (choiceOn ls 0) (parse s (fieldsOf ls 0) (own .at))) (own-lines t en em)
+
+        at-own : Reached (afterBlock bs t) (own .at)
+        at-own = at-block ∙ parse-next s firstBlock (afterBlock bs) (block .at) (told templateStepSaid g f)
+
+        pub own-halts : {r : Refusal} → w ≡ NoChoice r → refused r ≡ walked z image
+        own-halts m =
+            halted (at-own ∙ keep-refused (choiceOn (templateLines t) 0) s (fieldsOf (templateLines t) 0) (λ os. afterOwn t (bs ++ os)) (own .at) (told choiceSaid m k))
+
+        module _ {p : ℕ} {behind : Cursor} (m : w ≡ Chosen p behind) (v : CountStep) (i : countSaid v ≡ keeping pairCount (parse s calibrationOf (behind .at))) where
+          owns : (os : List Found) × (choiceOn (templateLines t) 0 os ≡ p) × Reached (afterOwn t (bs ++ os)) (behind .at)
+          owns =
+              let (os, q, r) = keep-next (choiceOn (templateLines t) 0) s (fieldsOf (templateLines t) 0) (λ os. afterOwn t (bs ++ os)) (own .at) (told choiceSaid m k) in
+              (os, q, at-own ∙ r)
+
+          pub calibration-halts : {r : Refusal} → v ≡ NoCount r → refused r ≡ walked z image
+          calibration-halts j =
+              let (os, q, r) = owns in
+              halted (r ∙ keep-refused pairCount s calibrationOf (afterCalibration t (bs ++ os)) (behind .at) (told countSaid j i))
+
+          module _ {n : ℕ} {last : Cursor} (j : v ≡ Counted n last) (u : EndStep) (l : endSaid u ≡ keeping endCount (parse s endingOf (last .at))) where
+            at-end : (os : List Found) × (choiceOn (templateLines t) 0 os ≡ p) × (c : Calibration) × (pairCount c ≡ n) × Reached (afterCalibration t (bs ++ os) c) (last .at)
+            at-end =
+                let (os, q, r) = owns in
+                let (c, a, b) = keep-next pairCount s calibrationOf (afterCalibration t (bs ++ os)) (behind .at) (told countSaid j i) in
+                (os, q, c, a, r ∙ b)
+
+            abbrev finish : List Found → Calibration → Ending → Format Contents
+            finish os c e = place >>= λ end. ends (made t (bs ++ os) c e end)
+
+            pub ending-halts : {r : Refusal} → u ≡ NoEnd r → refused r ≡ walked z image
+            ending-halts o =
+                let (os, q, c, a, r) = at-end in
+                halted (r ∙ keep-refused endCount s endingOf (finish os c) (last .at) (told endSaid o l))
+
+            pub sheet-opens : {endBit : Bool} {characters : ℕ} {end : Cursor} → u ≡ Ended endBit characters end →
+                good (opens z t p n (record { endBit = endBit; characters = characters }) (end .at)) ≡ walked z image
+            sheet-opens {endBit} {characters} {end} o =
+                let (os, q, c, a, r) = at-end in
+                let (e, b, d) = keep-next endCount s endingOf (finish os c) (last .at) (told endSaid o l) in
+                let precise : p ≡ lastChoice (linesOf t) (bs ++ os) 0 = sym (choice-is s t bs os (block .at) (basics .2) ∙ q) in
+                let points : n ≡ length (map pairIn (pairsIn c)) = sym (length-map (pairsIn c) pairIn ∙ a) in
+                (λ i. good (opens z t (precise i) (points i) (sym b i) (end .at)))
+                ∙ sym (ap (λ o. outcome._>>=_ o (λ x. good (openedAs z (x .found)))) (r ∙ d))

@@ -1,20 +1,21 @@
--- The whole check, once: what a read needs besides the image.
+-- Only inner contracts need these: an accepted sheet opened once, and what holds of it.
+use mathlib.Core.Path.{_≡_}
 use mathlib.Core.List.{List}
 use Prim.Native.Nat.{ℕ}
 use lib.ListN.{length}
 use Rattle.refusal.specs.Outcome.{Outcome, good, refused, _>>=_}
 use Rattle.memory.specs.declared.Sizes.{Sizes}
 use Rattle.memory.specs.Image.{imageSizes}
+use Rattle.layout.specs.Contents.{Contents}
+use Rattle.layout.specs.Image.{contents, layoutOf}
 use Rattle.sheet.specs.declared.opening.Opened.{Opened}
 use Rattle.sheet.specs.declared.opening.OpenedAnswer.{OpenedAnswer}
 use Rattle.sheet.specs.declared.opening.OpenedAnswer.the-variants.{Sheet, Refused}
-use Rattle.sheet.specs.Format.{run}
-use Rattle.sheet.specs.Contents.{Contents, sheet}
-use Rattle.sheet.specs.Check.{streamIn, contents, field, summary}
+use Rattle.sheet.specs.Check.{summary}
 
--- The sizes of an accepted image, the code of its field 9, and what a check gives.
+-- The sizes of an accepted image, what its rows go by, and what a check gives.
 abbrev pub openedAs : Sizes → Contents → Opened
-openedAs z c = record { sizes = z; precision = field c 9 .code; summary = summary c }
+openedAs z c = record { sizes = z; layout = layoutOf c; summary = summary c }
 
 unfoldable pub opened : ℕ → List ℕ → Outcome Opened
 opened kind image = do
@@ -22,12 +23,18 @@ opened kind image = do
   c ← contents kind image
   good (openedAs z c)
 
--- The stream from its start, for an image of these sizes.
-unfoldable pub walked : Sizes → List ℕ → Outcome Opened
-walked z image = do
-  ran ← run (streamIn z image) sheet 0
-  good (openedAs z (ran .found))
-
 abbrev pub openedSaid : OpenedAnswer → Outcome Opened
 openedSaid (Sheet o) = good o
 openedSaid (Refused r) = refused r
+
+-- An image of a kind that was accepted, and was opened as o.
+pub record Opens (kind : ℕ) (image : List ℕ) (o : Opened) (c : Contents) : Type 0 where
+  pub sized : imageSizes kind (length image) ≡ good (o .sizes)
+  pub accepted : contents kind image ≡ good c
+  pub is : o ≡ openedAs (o .sizes) c
+
+-- The same, whatever its kind is and whatever it holds.
+pub record Held (o : Opened) (image : List ℕ) : Type 0 where
+  pub kind : ℕ
+  pub holds : Contents
+  pub opens : Opens kind image o holds

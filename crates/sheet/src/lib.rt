@@ -1,28 +1,29 @@
 // Document 01, "Layout" and "Turning down": check an image, and read a field, a calibration point with its deviation, or a
 // character of the closing text. No call of a dash asks anything of its caller: any kind, any slice, any number.
-mod calls;
-mod ending;
-mod opening;
-mod standing;
-mod table;
-mod walk;
+mod calls; // calls.rt: the calls of a dash
+mod ending; // ending.rt: the end bit and the text
+mod held; // held.rt: what an opened sheet holds
+mod opening; // opening.rt: the whole check, once
+mod places; // places.rt: where fields, pairs and characters stand
+mod table; // table.rt: the calibration table
+mod walk; // walk.rt: fields and blocks
 
 pub use calls::check;
 pub use calls::read_character;
 pub use calls::read_field;
 pub use calls::read_pair;
+pub use fields::Pair;
 use fields::Value;
+pub use held::character_in;
+pub use held::pair_in;
+pub use held::value_in;
 pub use opening::Opened;
 pub use opening::OpenedAnswer;
 pub use opening::open;
+pub use places::locate;
+pub use places::locate_character;
+pub use places::locate_pair;
 use refusal::Refusal;
-pub use standing::field_at;
-pub use standing::locate;
-pub use standing::locate_character;
-pub use standing::locate_pair;
-pub use standing::pair_at;
-pub use table::PairStep;
-pub use walk::FieldStep;
 
 // What an accepted check gives: the bits up to the end (a zero that ends the text counted), the calibration points, the
 // end bit and the characters of the text.
@@ -31,12 +32,6 @@ pub struct Summary {
     pub points: u64,
     pub end_bit: bool,
     pub characters: u64,
-}
-
-// A calibration point and its deviation, in billionths of the span.
-pub struct Pair {
-    pub point: i64,
-    pub deviation: i64,
 }
 
 pub enum Checked {

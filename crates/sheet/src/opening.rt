@@ -1,22 +1,28 @@
 // The whole check, once.
 ghost use mathlib.Core.Path.{_≡_};
 ghost use Rattle.memory.specs.Answers.{Whole};
-ghost use Rattle.sheet.specs.Opened.{opened, openedSaid, walked};
+ghost use Rattle.sheet.specs.Opened.{opened, openedSaid};
+ghost use Rattle.sheet.specs.Walk.{walked};
 use crate::Summary;
 use crate::ending;
 use crate::ending::EndStep;
 use crate::table;
+use crate::table::CountStep;
 use crate::walk;
-use crate::walk::NumberStep;
+use crate::walk::ChoiceStep;
+use crate::walk::TemplateStep;
+use fields::Layout;
+use fields::Template;
+use memory::Cursor;
 use memory::Sizes;
 use memory::SizesAnswer;
 use memory::Sums;
 use refusal::Refusal;
 
-// An accepted sheet: the sizes of its image, its precision (the code of field 9), and what a check gives.
+// An accepted sheet: the sizes of its image, what its rows go by, and what a check gives.
 pub struct Opened {
     pub sizes: Sizes,
-    pub precision: u64,
+    pub layout: Layout,
     pub summary: Summary,
 }
 
@@ -25,38 +31,56 @@ pub enum OpenedAnswer {
     Refused(Refusal),
 }
 
-// The stream from its start.
+// The stream from its start. Basic has the same lines in every template.
 fn walk_sheet(sizes: Sizes, image: &[u8]) -> OpenedAnswer
     requires { ⌜ Whole sizes (now image) ⌝ }
     ensures { λ r. ⌜ openedSaid r ≡ walked sizes (now (image .entry)) ⌝ }
 {
-    match walk::take_fields(sizes, image) {
-        NumberStep::Refused(r) => OpenedAnswer::Refused(r),
-        NumberStep::Number(precision, fields_end) => match table::take_points(
-            sizes,
-            image,
-            fields_end,
-        ) {
-            NumberStep::Refused(r) => OpenedAnswer::Refused(r),
-            NumberStep::Number(points, points_end) => match ending::take_ending(
+    let basics = fields::basic_fields();
+    match walk::take_fields(sizes, image, Cursor::start(), Template::Bridge, 1, basics) {
+        ChoiceStep::Refused(r) => OpenedAnswer::Refused(r),
+        ChoiceStep::Chosen(_, block) => match walk::take_template(sizes, image, block) {
+            TemplateStep::Refused(r) => OpenedAnswer::Refused(r),
+            TemplateStep::Named(template, own) => match walk::take_fields(
                 sizes,
                 image,
-                points_end,
+                own,
+                template,
+                basics + 1,
+                fields::last_field(template),
             ) {
-                EndStep::Refused(r) => OpenedAnswer::Refused(r),
-                EndStep::Ended(end_bit, characters, end) => {
-                    let summary = Summary {
-                        bits: end.at as u64,
-                        points,
-                        end_bit,
-                        characters,
-                    };
-                    OpenedAnswer::Sheet(Opened {
+                ChoiceStep::Refused(r) => OpenedAnswer::Refused(r),
+                ChoiceStep::Chosen(precision, fields_end) => match table::take_calibration(
+                    sizes,
+                    image,
+                    fields_end,
+                ) {
+                    CountStep::Refused(r) => OpenedAnswer::Refused(r),
+                    CountStep::Counted(points, last) => match ending::take_ending(
                         sizes,
-                        precision,
-                        summary,
-                    })
-                }
+                        image,
+                        last,
+                    ) {
+                        EndStep::Refused(r) => OpenedAnswer::Refused(r),
+                        EndStep::Ended(end_bit, characters, end) => {
+                            let layout = Layout {
+                                template,
+                                precision,
+                            };
+                            let summary = Summary {
+                                bits: end.at as u64,
+                                points,
+                                end_bit,
+                                characters,
+                            };
+                            OpenedAnswer::Sheet(Opened {
+                                sizes,
+                                layout,
+                                summary,
+                            })
+                        }
+                    },
+                },
             },
         },
     }
@@ -69,10 +93,7 @@ pub fn open(kind: u8, image: &[u8]) -> OpenedAnswer
     match memory::image_sizes(kind, image.len()) {
         SizesAnswer::Refused(r) => OpenedAnswer::Refused(r),
         SizesAnswer::Are(sizes) => match memory::check_sums(sizes, image) {
-            Sums::Wrong(page) => OpenedAnswer::Refused(Refusal {
-                number: refusal::WRONG_SUM,
-                place: page as u64,
-            }),
+            Sums::Wrong(page) => OpenedAnswer::Refused(refusal::wrong_sum(page as u64)),
             Sums::Right => walk_sheet(sizes, image),
         },
     }

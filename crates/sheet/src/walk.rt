@@ -1,205 +1,173 @@
-// The stream from its start: what stands at a cursor, and the cursor behind it, or the first refusal.
+// Fields and blocks: what stands at a cursor, and the cursor behind it, or the first refusal.
 ghost use mathlib.Core.Path.{_≡_};
-ghost use Prim.Native.Nat.{_<_};
-ghost use lib.ListN.{getD};
-ghost use Rattle.refusal.specs.Rows.{wrongBlock};
+ghost use Prim.Native.Nat.{_≤_};
 ghost use Rattle.memory.specs.Answers.{Whole};
+ghost use Rattle.fields.specs.Lines.{chose, lastField};
 ghost use Rattle.fields.specs.Stored.{Sound};
-ghost use Rattle.fields.specs.Rows.{block, template33};
-ghost use Rattle.sheet.specs.Format.{run};
-ghost use Rattle.sheet.specs.Contents.{fieldOf, blockOf};
-ghost use Rattle.sheet.specs.Check.{streamIn};
+ghost use Rattle.layout.specs.Format.{parse};
+ghost use Rattle.layout.specs.Contents.{fieldOf, fieldsOf, firstBlock};
+ghost use Rattle.layout.specs.Image.{streamIn};
 ghost use Rattle.sheet.specs.Walk.{
-  codeOf,
+  keeping,
+  coded,
+  choiceOn,
+  linesFrom,
+  markOf,
   judgedAt,
-  selectorOf,
-  templateOf,
-  fieldOn,
-  lineOf,
-  linesOf,
-  fieldStepSaid,
-  stepSaid,
-  numberSaid,
+  codeSaid,
+  markSaid,
+  choiceSaid,
+  templateStepSaid,
 };
-use fields::Decoded;
 use fields::Judged;
+use fields::Layout;
 use fields::Row;
-use fields::Value;
+use fields::Template;
+use fields::TemplateAnswer;
 use memory::Cursor;
 use memory::Sizes;
 use memory::Taken;
 use refusal::Refusal;
 
-// A field: its code, its value, and the cursor behind it.
-pub enum FieldStep {
-    Field(u64, Value, Cursor),
+// A field's code.
+pub enum CodeStep {
+    Code(u64, Cursor),
     Refused(Refusal),
 }
 
-// What has to stand there, and the cursor behind it.
-pub enum Step {
+// A code that had to be the one wanted, and is.
+pub enum MarkStep {
     Behind(Cursor),
     Refused(Refusal),
 }
 
-// A number that was found, and the cursor behind it.
-pub enum NumberStep {
-    Number(u64, Cursor),
+// The latest choice behind fields.
+pub enum ChoiceStep {
+    Chosen(u64, Cursor),
     Refused(Refusal),
 }
 
-// The lines of the table of fields: fields 1 to 5, the selector and number of template 33, fields 6 to 21.
-const LINES: u64 = 22;
-
-const BLOCK_LINE: u64 = 5;
-
-// The field by whose code the rows of fields 10 and 11 go.
-const PRECISION: u64 = 9;
-
-// 4, at a selector's bit.
-pub fn wrong_block(at: u64) -> Refusal
-    ensures { λ r. ⌜ r ≡ wrongBlock at ⌝ }
-{
-    Refusal {
-        number: refusal::WRONG_BLOCK,
-        place: at,
-    }
+// The template that the first block names.
+pub enum TemplateStep {
+    Named(Template, Cursor),
+    Refused(Refusal),
 }
 
-// The field of a row: 3 where it would pass the end, then 5 or 6 of its code.
-pub fn take_field(sizes: Sizes, image: &[u8], cursor: Cursor, row: Row) -> FieldStep
-    requires { ⌜ Whole sizes (now image) × Sound row ⌝ }
-    ensures { λ r. ⌜ fieldStepSaid row (cursor .at) r ≡ run (streamIn sizes (now (image .entry))) (fieldOf row) (cursor .at) ⌝ }
+// The bits of a selector and of a template number.
+pub const SELECTOR_BITS: usize = 2;
+
+pub const NUMBER_BITS: usize = 8;
+
+// The code that was taken at bit `at`: its refusal, or 5 or 6 as its row says.
+pub fn judged(row: Row, at: u64, taken: Taken) -> CodeStep
+    requires { ⌜ Sound row ⌝ }
+    ensures { λ r. ⌜ codeSaid at r ≡ judgedAt row at taken ⌝ }
 {
-    match cursor.take(sizes, image, row.width as usize) {
-        Taken::Refused(r) => FieldStep::Refused(r),
-        Taken::Field(code, next) => match fields::decode(row, cursor.at as u64, code) {
-            Decoded::Refused(r) => FieldStep::Refused(r),
-            Decoded::Means(value) => FieldStep::Field(code, value, next),
+    match taken {
+        Taken::Refused(r) => CodeStep::Refused(r),
+        Taken::Field(code, next) => match fields::judge(row, at, code) {
+            Judged::Refused(r) => CodeStep::Refused(r),
+            Judged::Stands => CodeStep::Code(code, next),
         },
     }
 }
 
-// A code that was taken at a bit, and the cursor behind it; or 5 or 6, as its row says.
-pub fn judged(row: Row, at: u64, code: u64, next: Cursor) -> NumberStep
-    requires { ⌜ Sound row ⌝ }
-    ensures { λ r. ⌜ numberSaid r ≡ judgedAt row at code next ⌝ }
-{
-    match fields::judge(row, at, code) {
-        Judged::Refused(r) => NumberStep::Refused(r),
-        Judged::Stands => NumberStep::Number(code, next),
-    }
-}
-
-// The code of the field of a row, with the refusals of `take_field`: what a check needs of it. It has one caller, so that it
-// is compiled into the walk over the lines.
-fn take_code(sizes: Sizes, image: &[u8], cursor: Cursor, row: Row) -> NumberStep
+// The code of the field of a row: 3 where it would pass the end, then 5 or 6.
+pub fn take_code(sizes: Sizes, image: &[u8], cursor: Cursor, row: Row) -> CodeStep
     requires { ⌜ Whole sizes (now image) × Sound row ⌝ }
-    ensures { λ r. ⌜ numberSaid r ≡ run (streamIn sizes (now (image .entry))) (codeOf row) (cursor .at) ⌝ }
+    ensures { λ r. ⌜ codeSaid (cursor .at) r ≡ keeping coded (parse (streamIn sizes (now (image .entry))) (fieldOf row) (cursor .at)) ⌝ }
 {
-    match cursor.take(sizes, image, row.width as usize) {
-        Taken::Refused(r) => NumberStep::Refused(r),
-        Taken::Field(code, next) => judged(row, cursor.at as u64, code, next),
-    }
+    judged(
+        row,
+        cursor.at as u64,
+        cursor.take(sizes, image, row.width as usize),
+    )
 }
 
-// A selector: 3, then 4 where it is not the one wanted.
-pub fn take_selector(sizes: Sizes, image: &[u8], cursor: Cursor, wanted: u64) -> Step
-    requires { ⌜ Whole sizes (now image) ⌝ }
-    ensures { λ r. ⌜ stepSaid r ≡ run (streamIn sizes (now (image .entry))) (selectorOf wanted) (cursor .at) ⌝ }
+// A code of so many bits: 3, then 4 at the selector's bit where the code is not the one wanted.
+pub fn take_mark(
+    sizes: Sizes,
+    image: &[u8],
+    cursor: Cursor,
+    width: usize,
+    wanted: u64,
+    at: u64,
+) -> MarkStep
+    requires { ⌜ Whole sizes (now image) × (1 ≤ width) × (width ≤ 32) ⌝ }
+    ensures { λ r. ⌜ markSaid r ≡ parse (streamIn sizes (now (image .entry))) (markOf width wanted at) (cursor .at) ⌝ }
 {
-    match cursor.take(sizes, image, 2) {
-        Taken::Refused(r) => Step::Refused(r),
-        Taken::Field(selector, next) => {
-            if selector == wanted {
-                return Step::Behind(next);
+    match cursor.take(sizes, image, width) {
+        Taken::Refused(r) => MarkStep::Refused(r),
+        Taken::Field(code, next) => {
+            if code == wanted {
+                return MarkStep::Behind(next);
             }
-            Step::Refused(wrong_block(cursor.at as u64))
+            MarkStep::Refused(refusal::wrong_block(at))
         }
     }
 }
 
-// The template number of the block whose selector stands at bit `at`: 3, then 4 where it is another.
-pub fn take_template(sizes: Sizes, image: &[u8], cursor: Cursor, template: u64, at: u64) -> Step
-    requires { ⌜ Whole sizes (now image) ⌝ }
-    ensures { λ r. ⌜ stepSaid r ≡ run (streamIn sizes (now (image .entry))) (templateOf template at) (cursor .at) ⌝ }
+// The latest choice behind a field.
+fn chosen(sets: bool, code: u64, latest: u64) -> u64
+    ensures { λ r. ⌜ r ≡ chose sets code latest ⌝ }
 {
-    match cursor.take(sizes, image, 8) {
-        Taken::Refused(r) => Step::Refused(r),
-        Taken::Field(number, next) => {
-            if number == template {
-                return Step::Behind(next);
-            }
-            Step::Refused(wrong_block(at))
-        }
-    }
+    if sets { code } else { latest }
 }
 
-// A block's selector 0 and its template number.
-fn take_block(sizes: Sizes, image: &[u8], cursor: Cursor, template: u64) -> Step
-    requires { ⌜ Whole sizes (now image) ⌝ }
-    ensures { λ r. ⌜ stepSaid r ≡ run (streamIn sizes (now (image .entry))) (blockOf template) (cursor .at) ⌝ }
+// The fields from number `first` to number `last` of a template: the latest choice behind them.
+pub fn take_fields(
+    sizes: Sizes,
+    image: &[u8],
+    start: Cursor,
+    template: Template,
+    first: u64,
+    last: u64,
+) -> ChoiceStep
+    requires { ⌜ Whole sizes (now image) × (1 ≤ first) × (last ≤ lastField template) ⌝ }
+    ensures { λ r. let lines = linesFrom template first last in
+        ⌜ choiceSaid r ≡ keeping (choiceOn lines 0) (parse (streamIn sizes (now (image .entry))) (fieldsOf lines 0) (start .at)) ⌝ }
 {
-    match take_selector(sizes, image, cursor, 0) {
-        Step::Refused(r) => Step::Refused(r),
-        Step::Behind(next) => take_template(sizes, image, next, template, cursor.at as u64),
-    }
-}
-
-// The field on a line of the table, counted from 0, other than the block's.
-fn field_on(line: u64) -> u64
-    requires { ⌜ line < 22 ⌝ }
-    ensures { λ r. ⌜ r ≡ fieldOn line ⌝ }
-{
-    if line < BLOCK_LINE {
-        return line + 1;
-    }
-    line
-}
-
-// A line of the table at a precision: the precision behind it, which field 9 sets.
-fn take_line(sizes: Sizes, image: &[u8], cursor: Cursor, line: u64, precision: u64) -> NumberStep
-    requires { ⌜ Whole sizes (now image) × (line < 22) ⌝ }
-    ensures { λ r. ⌜ numberSaid r ≡ run (streamIn sizes (now (image .entry))) (lineOf (getD template33 line (block 0)) precision) (cursor .at) ⌝ }
-{
-    if line == BLOCK_LINE {
-        match take_block(sizes, image, cursor, 33) {
-            Step::Refused(r) => NumberStep::Refused(r),
-            Step::Behind(next) => NumberStep::Number(precision, next),
-        }
-    } else {
-        let field = field_on(line);
-        match take_code(sizes, image, cursor, fields::row_of(field, precision)) {
-            NumberStep::Refused(r) => NumberStep::Refused(r),
-            NumberStep::Number(code, next) => {
-                if field == PRECISION {
-                    return NumberStep::Number(code, next);
-                }
-                NumberStep::Number(precision, next)
-            }
-        }
-    }
-}
-
-// The table of fields from the stream's start: the sheet's precision.
-pub fn take_fields(sizes: Sizes, image: &[u8]) -> NumberStep
-    requires { ⌜ Whole sizes (now image) ⌝ }
-    ensures { λ r. ⌜ numberSaid r ≡ run (streamIn sizes (now (image .entry))) (linesOf template33 0) 0 ⌝ }
-{
-    let mut cursor = Cursor::start();
+    let mut cursor = start;
     let mut precision: u64 = 0;
-    let mut line: u64 = 0;
-    while line < LINES {
-        match take_line(sizes, image, cursor, line, precision) {
-            NumberStep::Refused(r) => {
-                return NumberStep::Refused(r);
+    let mut field = first;
+    while field <= last {
+        let layout = Layout {
+            template,
+            precision,
+        };
+        let row = fields::row_of(layout, field);
+        match judged(
+            row,
+            cursor.at as u64,
+            cursor.take(sizes, image, row.width as usize),
+        ) {
+            CodeStep::Refused(r) => {
+                return ChoiceStep::Refused(r);
             }
-            NumberStep::Number(chosen, next) => {
-                precision = chosen;
+            CodeStep::Code(code, next) => {
+                precision = chosen(fields::is_choice(template, field), code, precision);
                 cursor = next;
             }
         }
-        line += 1;
+        field += 1;
     }
-    NumberStep::Number(precision, cursor)
+    ChoiceStep::Chosen(precision, cursor)
+}
+
+// The first block: selector 0, and the number of a template; 4 at the selector's bit where they are others.
+pub fn take_template(sizes: Sizes, image: &[u8], cursor: Cursor) -> TemplateStep
+    requires { ⌜ Whole sizes (now image) ⌝ }
+    ensures { λ r. ⌜ templateStepSaid r ≡ parse (streamIn sizes (now (image .entry))) firstBlock (cursor .at) ⌝ }
+{
+    let at = cursor.at as u64;
+    match take_mark(sizes, image, cursor, SELECTOR_BITS, 0, at) {
+        MarkStep::Refused(r) => TemplateStep::Refused(r),
+        MarkStep::Behind(next) => match next.take(sizes, image, NUMBER_BITS) {
+            Taken::Refused(r) => TemplateStep::Refused(r),
+            Taken::Field(number, own) => match fields::template_of(number) {
+                TemplateAnswer::Is(template) => TemplateStep::Named(template, own),
+                TemplateAnswer::Unknown => TemplateStep::Refused(refusal::wrong_block(at)),
+            },
+        },
+    }
 }

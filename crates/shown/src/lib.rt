@@ -1,6 +1,5 @@
 // A sender's sheet printed to standard output, for a person. Every function is proved safe and ending; nothing is assumed
 // here, and no call asks anything of its caller. What is written no contract can say.
-mod decimal; // decimal.rt: decimal digits, and rounding to seven
 mod listing; // listing.rt: a sheet line by line
 mod naming; // naming.rt: the fields' names and units
 mod output; // output.rt: bytes and numbers on standard output

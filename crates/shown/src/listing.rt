@@ -12,34 +12,21 @@ use sheet::FieldAnswer;
 use sheet::PairAnswer;
 use sheet::Summary;
 
-// A field's number in two columns.
-fn print_field_number(field: u64) {
-    if field < 10 {
-        put(b" ");
-    }
-    put_number(field);
-    put(b" ");
-}
-
-// A field's line, or its refusal's.
+// A field's line, or its refusal's; the numbers stand in two columns.
 fn print_field(kind: u8, image: &[u8], field: u64) {
     match sheet::read_field(kind, image, field) {
         FieldAnswer::Refused(r) => refused(r),
         FieldAnswer::Holds(value) => {
-            print_field_number(field);
+            if field < 10 {
+                put(b" ");
+            }
+            put_number(field);
+            put(b" ");
             print_name(field);
             put(b": ");
             print_value(field, value);
             put(b"\n");
         }
-    }
-}
-
-fn print_fields(kind: u8, image: &[u8]) {
-    let mut field = 1;
-    while field < 22 {
-        print_field(kind, image, field);
-        field += 1;
     }
 }
 
@@ -59,14 +46,6 @@ fn print_point(kind: u8, image: &[u8], index: u64) {
     }
 }
 
-fn print_points(kind: u8, image: &[u8], points: u64) {
-    let mut index = 0;
-    while index < points {
-        print_point(kind, image, index);
-        index += 1;
-    }
-}
-
 // A character of the closing text, or its refusal's line.
 fn print_character(kind: u8, image: &[u8], index: u64) {
     match sheet::read_character(kind, image, index) {
@@ -75,10 +54,25 @@ fn print_character(kind: u8, image: &[u8], index: u64) {
     }
 }
 
-fn print_characters(kind: u8, image: &[u8], characters: u64) {
-    let mut index = 0;
-    while index < characters {
-        print_character(kind, image, index);
+enum Part {
+    Field,
+    Point,
+    Character,
+}
+
+fn print_part(kind: u8, image: &[u8], part: Part, index: u64) {
+    match part {
+        Part::Field => print_field(kind, image, index),
+        Part::Point => print_point(kind, image, index),
+        Part::Character => print_character(kind, image, index),
+    }
+}
+
+// The parts from an index to before another.
+fn print_parts(kind: u8, image: &[u8], part: Part, from: u64, end: u64) {
+    let mut index = from;
+    while index < end {
+        print_part(kind, image, part, index);
         index += 1;
     }
 }
@@ -87,7 +81,7 @@ fn print_characters(kind: u8, image: &[u8], characters: u64) {
 fn print_ending(kind: u8, image: &[u8], summary: Summary) {
     if summary.end_bit {
         put(b"end bit: 1\ntext: \"");
-        print_characters(kind, image, summary.characters);
+        print_parts(kind, image, Part::Character, 0, summary.characters);
         put(b"\"\n");
         return;
     }
@@ -100,8 +94,8 @@ pub fn show(kind: u8, image: &[u8]) {
     match sheet::check(kind, image) {
         Checked::Refused(r) => refused(r),
         Checked::Accepted(summary) => {
-            print_fields(kind, image);
-            print_points(kind, image, summary.points);
+            print_parts(kind, image, Part::Field, 1, 22);
+            print_parts(kind, image, Part::Point, 0, summary.points);
             print_ending(kind, image, summary);
             put(b"bits: ");
             put_number(summary.bits);

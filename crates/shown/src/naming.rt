@@ -1,60 +1,47 @@
 // The fields' names, which are those of document 000: Basic TEDS, and template 33 with its table A.10; and their units.
-use crate::output::put;
+use crate::output::put_entry;
+
+// A line a field, from 0, which is none: its name, what its whole number counts, as document 01 has it, and what its Single
+// counts; nothing where it has no unit. Fields 7 and 8 go by the measurand.
+const FIELDS: [u8; 519] = *b"no field\n\
+    manufacturer ID\n\
+    model number\n\
+    version letter\n\
+    version number\n\
+    serial number\n\
+    physical measurand\n\
+    minimum physical value\n\
+    maximum physical value\n\
+    full-scale electrical value precision\n\
+    minimum electrical value; nV/V; V/V\n\
+    maximum electrical value; nV/V; V/V\n\
+    bridge type\n\
+    bridge element impedance; x 0.1 ohm\n\
+    response time; x 10 ns\n\
+    excitation level, nominal; x 0.1 V\n\
+    excitation level, minimum; x 0.1 V\n\
+    excitation level, maximum; x 0.1 V\n\
+    calibration date\n\
+    calibration initials\n\
+    calibration period; days\n\
+    measurement location ID";
 
 // The name of a field, counted from 1.
 pub fn print_name(field: u64) {
-    match field {
-        1 => put(b"manufacturer ID"),
-        2 => put(b"model number"),
-        3 => put(b"version letter"),
-        4 => put(b"version number"),
-        5 => put(b"serial number"),
-        6 => put(b"physical measurand"),
-        7 => put(b"minimum physical value"),
-        8 => put(b"maximum physical value"),
-        9 => put(b"full-scale electrical value precision"),
-        10 => put(b"minimum electrical value"),
-        11 => put(b"maximum electrical value"),
-        12 => put(b"bridge type"),
-        13 => put(b"bridge element impedance"),
-        14 => put(b"response time"),
-        15 => put(b"excitation level, nominal"),
-        16 => put(b"excitation level, minimum"),
-        17 => put(b"excitation level, maximum"),
-        18 => put(b"calibration date"),
-        19 => put(b"calibration initials"),
-        20 => put(b"calibration period"),
-        21 => put(b"measurement location ID"),
-        _ => put(b"no field"),
-    }
+    put_entry(&FIELDS, field, 0);
 }
 
-// What a field's whole number counts, as document 01 has it; nothing for a field without a unit.
+// The unit of a field's whole number.
 pub fn print_unit(field: u64) {
-    match field {
-        10 | 11 => put(b" nV/V"),
-        13 => put(b" x 0.1 ohm"),
-        14 => put(b" x 10 ns"),
-        15 | 16 | 17 => put(b" x 0.1 V"),
-        20 => put(b" days"),
-        _ => (),
-    }
+    put_entry(&FIELDS, field, 1);
 }
 
-// What a field's Single counts: 7 and 8 go by the measurand.
+// The unit of a field's Single.
 pub fn print_single_unit(field: u64) {
-    match field {
-        10 | 11 => put(b" V/V"),
-        _ => (),
-    }
+    put_entry(&FIELDS, field, 2);
 }
 
 // A bridge type's name.
 pub fn print_bridge(code: u64) {
-    match code {
-        0 => put(b" (quarter)"),
-        1 => put(b" (half)"),
-        2 => put(b" (full)"),
-        _ => (),
-    }
+    put_entry(b" (quarter)\n (half)\n (full)", code, 0);
 }

@@ -7,6 +7,12 @@ pub fn put(text: &[u8]) {
     io::write_all(STDOUT_FILENO, text);
 }
 
+// The piece of a table that stands in this column of this row, from 0: rows are lines, and a semicolon separates columns.
+// Nothing where there is none such.
+pub fn put_entry(table: &[u8], row: u64, column: u64) {
+    put(words::piece_at(words::piece_at(table, row, b'\n'), column, b';'));
+}
+
 pub fn put_number(n: u64) {
     io::print_decimal(STDOUT_FILENO, n);
 }
@@ -19,15 +25,6 @@ pub fn put_figure(z: i64) {
         return;
     }
     put_number(plus(z));
-}
-
-// The first bytes of a text, up to its end.
-pub fn put_first(text: &[u8], count: usize) {
-    if count <= text.len() {
-        put(&text[..count]);
-        return;
-    }
-    put(text);
 }
 
 // The bytes of a text from an index on, none past its end.
@@ -46,22 +43,16 @@ pub fn put_zeros(count: u64) {
     }
 }
 
-// A character of the closing text: itself if it prints, else its number.
+// A character of the closing text: itself if it prints, else \x and two hexadecimal digits.
 pub fn put_character(c: u8) {
-    if c < 32 {
-        put_escape(c);
-        return;
+    match c {
+        32..=126 => {
+            let one = [c];
+            put(&one);
+        }
+        _ => {
+            put(b"\\x");
+            io::print_hex(STDOUT_FILENO, c as u64, 2);
+        }
     }
-    if 126 < c {
-        put_escape(c);
-        return;
-    }
-    let one = [c];
-    put(&one);
-}
-
-// \x and two hexadecimal digits.
-fn put_escape(c: u8) {
-    put(b"\\x");
-    io::print_hex(STDOUT_FILENO, c as u64, 2);
 }

@@ -1,17 +1,16 @@
 // A Single in decimal, right to the last digit shown: up to seven digits, the nearest, a tie to the even one.
 ghost use Prim.Native.Nat.{_≤_, _<_};
-use crate::decimal::decimal_of;
-use crate::decimal::less;
-use crate::decimal::shortest;
 use crate::output::put;
-use crate::output::put_first;
 use crate::output::put_from;
 use crate::output::put_number;
 use crate::output::put_zeros;
+use decimal::decimal_of;
+use decimal::less;
+use decimal::shortest;
 
 // The first digit, and the others behind a point.
 fn print_first_and_rest(text: &[u8]) {
-    put_first(text, 1);
+    put(words::front(text, 1));
     if 1 < text.len() {
         put(b".");
         put_from(text, 1);
@@ -34,7 +33,7 @@ fn print_large(text: &[u8], whole: u64)
         put_zeros((end - text.len()) as u64);
         return;
     }
-    put_first(text, end);
+    put(words::front(text, end));
     put(b".");
     put_from(text, end);
 }
@@ -54,18 +53,25 @@ fn print_small(text: &[u8], noughts: u64)
     put(text);
 }
 
+// Digits with `up` noughts behind them, and the point so many places up.
+fn print_digits(text: &[u8], up: u64, point: u64)
+    requires { ⌜ (up ≤ 20_000_000) × (point < 1000) ⌝ }
+{
+    let top = up + text.len() as u64;
+    if point < top {
+        print_large(text, top - point);
+        return;
+    }
+    print_small(text, point - top);
+}
+
 // The digits of n × 10^up, with the point so many places up.
 fn print_number(n: u64, up: u64, point: u64)
-    requires { ⌜ (n ≤ 10_000_000) × (up ≤ 20_000_000) × (point < 1000) ⌝ }
+    requires { ⌜ (up ≤ 20_000_000) × (point < 1000) ⌝ }
 {
     let mut text = [0u8; 20];
     let count = io::decimal(n, &mut text);
-    let top = up + count as u64;
-    if point < top {
-        print_large(&text[..count], top - point);
-        return;
-    }
-    print_small(&text[..count], point - top);
+    print_digits(&text[..count], up, point);
 }
 
 // m × 2^p / 2^149.

@@ -4,16 +4,10 @@ use crate::naming::print_single_unit;
 use crate::naming::print_unit;
 use crate::output::put;
 use crate::output::put_figure;
-use crate::output::put_first;
 use crate::singles::print_single;
 use fields::Value;
 use integers::plus;
 use texts::TextAnswer;
-
-// The text's characters; `count` of them.
-fn print_characters(characters: &[u8; 10], count: u64) {
-    put_first(characters, count as usize);
-}
 
 // The text of a code of field 3, 18 or 19, or the code itself where it has none.
 fn print_text(field: u64, figure: i64) {
@@ -21,7 +15,7 @@ fn print_text(field: u64, figure: i64) {
     let answer = text.answer;
     let characters = text.characters;
     match answer {
-        TextAnswer::Length(count) => print_characters(&characters, count),
+        TextAnswer::Length(count) => put(words::front(&characters, count as usize)),
         TextAnswer::Refused(_) => put_figure(figure),
     }
 }

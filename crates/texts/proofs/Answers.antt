@@ -1,19 +1,24 @@
 -- What a text's answer says of it.
 -- Assumes nothing.
 use mathlib.Core.Path.{_≡_, refl, sym, ap, subst, _∙_}
-use mathlib.Core.Bool.{Bool, true, false, not, cond}
+use mathlib.Core.Bool.{Bool, cond}
 use mathlib.Core.List.{List}
 use Prim.Native.Nat.{ℕ, _≤_, _-_}
 use native.Mathlib.Omega.{arith}
 use lib.ListN.{length, take, replicate, length-append}
 use lib.Seq.{take-append-seam}
-use Rattle.refusal.specs.Outcome.{Outcome, good, refused, _>>_, refuse_if_}
+use Rattle.refusal.specs.Outcome.{Outcome, good, refused}
 use Rattle.refusal.specs.Rows.{outOfRange}
 use Rattle.refusal.specs.declared.Refusal.{Refusal}
+use Rattle.refusal.proofs.Outcomes.{chosen}
 use Rattle.texts.specs.declared.Text.{Text}
 use Rattle.texts.specs.declared.TextAnswer.the-variants.{Length, Refused}
 use Rattle.texts.specs.Text.{textOf, textSaid, same}
 use Rattle.texts.specs.Whose.{codeIfShown}
+
+-- a refusal, and zeros
+pub no-text : {t : Text} {x r : Refusal} {o : Outcome (List ℕ)} → t ≡ textSaid (refused x) → x ≡ r → o ≡ refused r → t ≡ textSaid o
+no-text e f g = e ∙ ap textSaid (ap refused f ∙ sym g)
 
 -- a text of n characters, at the front of the ten
 pub record Front (o : Outcome (List ℕ)) (n : ℕ) (characters : List ℕ) : Type 0 where
@@ -53,8 +58,4 @@ unfolding codeIfShown
 compared field code n text r b e a eb =
     let s = front-of field code n r e a in
     let q : same (s .text) text ≡ b = ap (λ (l : List ℕ). same l text) (sym (s .front)) ∙ eb in
-    rw (s .is, q) (by b)
-  where
-    by : (t : Bool) → ((refuse outOfRange field if not t) >> good code) ≡ cond t (good code) (refused (outOfRange field))
-    by true = refl
-    by false = refl
+    rw (s .is, q) (chosen code (outOfRange field) b)

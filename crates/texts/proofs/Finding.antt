@@ -5,7 +5,7 @@ use Prim.Native.Nat.{ℕ, _+_, _-_, _<_, _≤_}
 use native.Mathlib.Nat.{le-of-suc-le-suc}
 use native.Mathlib.Numerals.{add-one}
 use native.Mathlib.Omega.{arith, by-contra}
-use Rattle.texts.specs.Dates.{Date, monthLengths, monthLength, dateOf, total, daysBeforeYear, daysBeforeMonth}
+use Rattle.texts.specs.Dates.{Date, monthLength, dateOf, daysOfYear, daysBeforeYear, daysBeforeMonth}
 use Rattle.texts.proofs.Rising.{risen}
 use Rattle.texts.proofs.Months.{month-range, month-suc, months-rise, year-suc, year-range, years-range}
 use Rattle.texts.proofs.Calendar.{dated, Real, count, counted, real-date}
@@ -23,7 +23,7 @@ month-turn year month day before low high e past =
     (omega arith, omega arith, rw s (omega arith))
 
 -- What a year's first day leaves of a code is within the year.
-pub rest-of-year : (code year before : ℕ) → 1998 ≤ year → before ≡ daysBeforeYear year → before ≤ code → code < daysBeforeYear (year + 1) → code - before < total (monthLengths year)
+pub rest-of-year : (code year before : ℕ) → 1998 ≤ year → before ≡ daysBeforeYear year → before ≤ code → code < daysBeforeYear (year + 1) → code - before < daysOfYear year
 rest-of-year code year before since e from until = omega (arith, year-suc year since, rw add-one at until)
 
 -- A date that is found by year and month.

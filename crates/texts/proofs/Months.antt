@@ -2,12 +2,12 @@
 -- Assumes nothing.
 use mathlib.Core.Path.{_≡_, refl, sym, ap, subst, _∙_}
 use mathlib.Core.Bool.{Bool, true, false, _&&_, cond}
-use mathlib.Core.List.{List, [], _∷_}
+use mathlib.Core.List.{List, [], _∷_, foldr}
 use Prim.Native.Nat.{ℕ, zero, suc, _+_, _-_, _*_, _≤_, zero-le, suc-le-suc}
 use native.Mathlib.Omega.{arith}
 use lib.Dec.{T, leb, leb→le}
 use lib.ListN.{getD, take}
-use Rattle.texts.specs.Dates.{leap, monthLengths, monthLength, total, daysOfYears, daysBeforeYear, daysBeforeMonth}
+use Rattle.texts.specs.Dates.{leap, monthLengths, monthLength, daysOfYear, daysOfYears, daysBeforeYear, daysBeforeMonth}
 use Rattle.texts.proofs.Below.{below, at, first, second}
 use Rattle.texts.proofs.Rising.{risen}
 
@@ -22,17 +22,17 @@ pub like-model : (year : ℕ) (long : Bool) → leap year ≡ long → monthLeng
 like-model year true e = rw e
 like-model year false e = rw e
 
-pub year-days : (year : ℕ) → total (monthLengths year) ≡ 365 + cond (leap year) 1 0
+pub year-days : (year : ℕ) → daysOfYear year ≡ 365 + cond (leap year) 1 0
 year-days year = by (leap year) refl
   where
-    by : (long : Bool) → leap year ≡ long → total (monthLengths year) ≡ 365 + cond long 1 0
-    by true e = ap total (like-model year true e)
-    by false e = ap total (like-model year false e)
+    by : (long : Bool) → leap year ≡ long → daysOfYear year ≡ 365 + cond long 1 0
+    by true e = ap (foldr _+_ 0) (like-model year true e)
+    by false e = ap (foldr _+_ 0) (like-model year false e)
 
-pub year-range : (year : ℕ) → (365 ≤ total (monthLengths year)) × (total (monthLengths year) ≤ 366)
+pub year-range : (year : ℕ) → (365 ≤ daysOfYear year) × (daysOfYear year ≤ 366)
 year-range year = by (leap year) (year-days year)
   where
-    by : (long : Bool) → total (monthLengths year) ≡ 365 + cond long 1 0 → (365 ≤ total (monthLengths year)) × (total (monthLengths year) ≤ 366)
+    by : (long : Bool) → daysOfYear year ≡ 365 + cond long 1 0 → (365 ≤ daysOfYear year) × (daysOfYear year ≤ 366)
     by true e = omega arith
     by false e = omega arith
 
@@ -54,16 +54,16 @@ month-range year month h =
 
 -- ---- from month to month
 
-total-suc : (l : List ℕ) (k : ℕ) → total (take (suc k) l) ≡ total (take k l) + getD l k 0
-total-suc [] zero = refl
-total-suc [] (suc k) = refl
-total-suc (x ∷ l) zero = omega arith
-total-suc (x ∷ l) (suc k) = omega (arith, total-suc l k)
+months-suc : (l : List ℕ) (k : ℕ) → foldr _+_ 0 (take (suc k) l) ≡ foldr _+_ 0 (take k l) + getD l k 0
+months-suc [] zero = refl
+months-suc [] (suc k) = refl
+months-suc (x ∷ l) zero = omega arith
+months-suc (x ∷ l) (suc k) = omega (arith, months-suc l k)
 
 pub month-suc : (year month : ℕ) → 1 ≤ month → daysBeforeMonth year (suc month) ≡ daysBeforeMonth year month + monthLength year month
 month-suc year month h =
     let e : suc month - 1 ≡ suc (month - 1) = omega arith in
-    ap (λ (m : ℕ). total (take m (monthLengths year))) e ∙ total-suc (monthLengths year) (month - 1)
+    ap (λ (m : ℕ). foldr _+_ 0 (take m (monthLengths year))) e ∙ months-suc (monthLengths year) (month - 1)
 
 pub months-rise : (year month : ℕ) → daysBeforeMonth year month ≤ daysBeforeMonth year (suc month)
 months-rise year zero = zero-le
@@ -71,12 +71,12 @@ months-rise year (suc month) = omega (arith, month-suc year (suc month) (suc-le-
 
 -- ---- from year to year
 
-pub year-suc : (year : ℕ) → 1998 ≤ year → daysBeforeYear (suc year) ≡ daysBeforeYear year + total (monthLengths year)
+pub year-suc : (year : ℕ) → 1998 ≤ year → daysBeforeYear (suc year) ≡ daysBeforeYear year + daysOfYear year
 unfolding daysOfYears
 year-suc year h =
     let e : suc year - 1998 ≡ suc (year - 1998) = omega arith in
     let s : 1998 + (year - 1998) ≡ year = omega arith in
-    ap daysOfYears e ∙ ap (λ (y : ℕ). daysBeforeYear year + total (monthLengths y)) s
+    ap daysOfYears e ∙ ap (λ (y : ℕ). daysBeforeYear year + daysOfYear y) s
 
 pub years-rise : (year : ℕ) → daysBeforeYear year ≤ daysBeforeYear (suc year)
 unfolding daysOfYears

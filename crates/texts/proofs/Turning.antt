@@ -2,17 +2,18 @@
 -- Assumes nothing.
 use mathlib.Core.Path.{_≡_, refl, sym, ap, subst, _∙_}
 use mathlib.Core.Logic.{_⊎_, inl, inr, ⊎-elim}
-use mathlib.Core.Bool.{Bool, true, false, not, _&&_, _||_, cond}
+use mathlib.Core.Bool.{Bool, true, false, not, _&&_, _||_, cond, or-true}
 use mathlib.Core.List.{List}
 use Prim.Native.Nat.{ℕ, _<_, _≤_}
 use native.Mathlib.Omega.{arith}
-use lib.Dec.{T, eqb, ltb, leb}
+use lib.Dec.{eqb, ltb, leb}
 use lib.ListN.{length}
 use lib.IntN.{pos}
 use borrow.Author.Tests.{leb-false, eq-eqb, ne-eqb, eqb-true, eqb-false, ltb-false, lt-ltb, le-ltb}
 use Rattle.refusal.specs.Outcome.{Outcome, good, refused, _>>_, _>>=_, refuse_if_}
 use Rattle.refusal.specs.Rows.{noSuch, wrongSort, outOfRange}
 use Rattle.refusal.specs.declared.Refusal.{Refusal}
+use Rattle.refusal.proofs.Outcomes.{no-value, neither}
 use Rattle.fields.specs.declared.Value.the-variants.{Whole}
 use Rattle.fields.specs.declared.Rule.the-variants.{Plain}
 use Rattle.fields.specs.Rules.{allOnes, encode}
@@ -23,7 +24,7 @@ use Rattle.texts.specs.Whose.{OnlyCode, codeIfShown}
 use Rattle.texts.proofs.Same.{same-refl}
 use Rattle.texts.proofs.Alphabet.{letters-length, letters-differ}
 use Rattle.texts.proofs.Digits.{date-length, dates-differ}
-use Rattle.texts.proofs.Whose.{not-both, whose-one, whose-text}
+use Rattle.texts.proofs.Whose.{whose-one, whose-text}
 
 -- ---- a field whose codes are plain numbers
 
@@ -39,14 +40,6 @@ pub record Plainly (field : ℕ) : Type 0 where
   pub fits : greatest ≤ allOnes width
   pub lengths : (code : ℕ) → length (text code) ≡ long
   pub differ : (j k : ℕ) → j ≤ allOnes width → k ≤ allOnes width → text j ≡ text k → j ≡ k
-
-or-right : (a b : Bool) → a || b ≡ false → b ≡ false
-or-right true b e = absurd (subst T e tt)
-or-right false b e = e
-
-or-true : (a : Bool) → a || true ≡ true
-or-true true = refl
-or-true false = refl
 
 refuse-or : (r : Refusal) (b : Bool) (a : ℕ) → ((refuse r if b) >> good a) ≡ cond b (refused r) (good a)
 refuse-or r true a = refl
@@ -93,7 +86,7 @@ module _ {field : ℕ} (p : Plainly field) where
   settled t code false true true eo ea eb = rw (eo, eb)
   settled t code false true false eo ea eb = rw eb
   settled t code false false b eo ea eb =
-      absurd (omega (arith, p .fits, leb-false code (allOnes (p .width)) ea, ltb-false (p .greatest) code (or-right (ltb code (p .least)) (ltb (p .greatest) code) eo)))
+      absurd (omega (arith, p .fits, leb-false code (allOnes (p .width)) ea, ltb-false (p .greatest) code (neither (ltb code (p .least)) (ltb (p .greatest) code) eo .1)))
 
   -- the code of a text is the only one that it can be, if that one has this text
   pub code-shown : (t : List ℕ) (code : ℕ) → length t ≡ p .long → OnlyCode (p .text) t (allOnes (p .width)) code → codeOf field t ≡ codeIfShown field code t
@@ -107,8 +100,8 @@ module _ {field : ℕ} (p : Plainly field) where
   text-held code t e = by (outside-of code) refl (sym (text-is code) ∙ e)
     where
       by : (o : Bool) → outside-of code ≡ o → (cond o (refused (outOfRange field)) (good code) >>= λ k. good (p .text k)) ≡ good t → (code ≤ allOnes (p .width)) × (p .text code ≡ t)
-      by true eo q = absurd (not-both q)
-      by false eo q = (omega (arith, p .fits, ltb-false (p .greatest) code (or-right (ltb code (p .least)) (ltb (p .greatest) code) eo)), cc)
+      by true eo q = no-value q
+      by false eo q = (omega (arith, p .fits, ltb-false (p .greatest) code (neither (ltb code (p .least)) (ltb (p .greatest) code) eo .1)), cc)
 
   text-there : (code : ℕ) (t : List ℕ) → textOf field code ≡ good t → codeOf field t ≡ good code
   unfolding codeIfShown
@@ -118,14 +111,14 @@ module _ {field : ℕ} (p : Plainly field) where
       ∙ rw (e, same-refl t)
 
   held-back : (t : List ℕ) (code k : ℕ) (o : Bool) → outside-of k ≡ o → p .text k ≡ t → cond o (refused (outOfRange field)) (good k) ≡ good code → textOf field code ≡ good t
-  held-back t code k true eo q e = absurd (not-both e)
+  held-back t code k true eo q e = no-value e
   held-back t code k false eo q e =
       let z : k ≡ code = cc in
       subst (λ (j : ℕ). textOf field j ≡ good t) z (text-is k ∙ rw (eo, q))
 
   found-back : (t : List ℕ) (code : ℕ) (o : Outcome ℕ) → whoseText (p .text) t (refused (outOfRange field)) (allOnes (p .width)) ≡ o
       → (o >>= held) ≡ good code → textOf field code ≡ good t
-  found-back t code (refused r) eo e = absurd (not-both e)
+  found-back t code (refused r) eo e = no-value e
   found-back t code (good k) eo e = held-back t code k (outside-of k) refl (whose-text (p .text) t (outOfRange field) (allOnes (p .width)) k eo) e
 
   code-there : (t : List ℕ) (code : ℕ) → codeOf field t ≡ good code → textOf field code ≡ good t
@@ -133,7 +126,7 @@ module _ {field : ℕ} (p : Plainly field) where
     where
       by : (b : Bool) → eqb (length t) (p .long) ≡ b → textOf field code ≡ good t
       by true eb = found-back t code _ refl (sym (code-is t (eqb-true (length t) (p .long) eb)) ∙ e)
-      by false eb = absurd (not-both (sym (wrong-length t (eqb-false (length t) (p .long) eb)) ∙ e))
+      by false eb = no-value (sym (wrong-length t (eqb-false (length t) (p .long) eb)) ∙ e)
 
 -- ---- the fields that have a text
 
@@ -207,9 +200,9 @@ no-such-code field t e = rw e
 -- The text of a code has that code.
 pub text-back : (field code : ℕ) (t : List ℕ) → textOf field code ≡ good t → codeOf field t ≡ good code
 text-back field code t e =
-    ⊎-elim (λ p. text-there p code t e) (λ n. absurd (not-both (sym (no-such-text field code n) ∙ e))) (has-text field)
+    ⊎-elim (λ p. text-there p code t e) (λ n. no-value (sym (no-such-text field code n) ∙ e)) (has-text field)
 
 -- The code of a text has that text.
 pub code-back : (field code : ℕ) (t : List ℕ) → codeOf field t ≡ good code → textOf field code ≡ good t
 code-back field code t e =
-    ⊎-elim (λ p. code-there p t code e) (λ n. absurd (not-both (sym (no-such-code field t n) ∙ e))) (has-text field)
+    ⊎-elim (λ p. code-there p t code e) (λ n. no-value (sym (no-such-code field t n) ∙ e)) (has-text field)

@@ -11,12 +11,10 @@ use lib.Dec.{T, leb}
 use borrow.Author.Tests.{leb-true, leb-false}
 use Rattle.refusal.specs.Outcome.{Outcome, good, refused}
 use Rattle.refusal.specs.declared.Refusal.{Refusal}
+use Rattle.refusal.proofs.Outcomes.{no-value}
 use Rattle.texts.specs.Text.{same, whoseText}
 use Rattle.texts.specs.Whose.{OnlyCode}
 use Rattle.texts.proofs.Same.{same-refl, same-eq, not-same}
-
-pub not-both : {A : Type 0} {r : Refusal} {a : A} → refused r ≡ good a → ⊥
-not-both e = let z : _≡_ {A = ℕ} 0 1 = cc in omega arith
 
 module _ (f : ℕ → List ℕ) (text : List ℕ) where
   hit : (k code : ℕ) (rest : Outcome ℕ) → f code ≡ text → code ≡ k → cond (same (f k) text) (good k) rest ≡ good code
@@ -44,7 +42,7 @@ module _ (f : ℕ → List ℕ) (text : List ℕ) where
 
   pub whose-text : (r : Refusal) (n code : ℕ) → whoseText f text (refused r) n ≡ good code → f code ≡ text
   unfolding whoseText
-  whose-text r zero code e = this-or-next 0 code (refused r) _ refl e (λ q. absurd (not-both q))
+  whose-text r zero code e = this-or-next 0 code (refused r) _ refl e no-value
   whose-text r (suc n) code e = this-or-next (suc n) code (whoseText f text (refused r) n) _ refl e (whose-text r n code)
 
   -- the one code that can have the text has it, or none has

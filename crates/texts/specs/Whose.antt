@@ -1,4 +1,4 @@
--- How the code of a text is found: only one code can have the text, and that one has it or none has.
+-- What inner contracts need: how the code of a text is found. Only one code can have the text, and that one has it or none has.
 use mathlib.Core.Path.{_≡_}
 use mathlib.Core.Bool.{not}
 use mathlib.Core.List.{List}

@@ -3,7 +3,7 @@
 ghost use mathlib.Core.Path.{_≡_};
 ghost use Prim.Native.Nat.{ℕ, _+_, _-_, _*_, _%_, _<_, _≤_};
 ghost use lib.ListN.{length, getD};
-ghost use Rattle.texts.specs.Dates.{leap as leapYear, monthLengths, total, daysBeforeYear, daysBeforeMonth, dateOf, dateText};
+ghost use Rattle.texts.specs.Dates.{leap as leapYear, daysOfYear, daysBeforeYear, daysBeforeMonth, dateOf, dateText};
 ghost use Rattle.texts.specs.Whose.{OnlyCode};
 
 // A day of the calendar.
@@ -64,7 +64,7 @@ fn year_of(code: u64) -> u64
 
 // The month of a day of a year, the days counted from 0: the last one whose first day is not after it.
 fn month_of(year: u64, day: u64) -> u64
-    requires { ⌜ day < total (monthLengths year) ⌝ }
+    requires { ⌜ day < daysOfYear year ⌝ }
     ensures { λ r. ⌜ (1 ≤ r) × (r ≤ 12) × (daysBeforeMonth year r ≤ day) × (day < daysBeforeMonth year (r + 1)) ⌝ }
 {
     let long = leap(year);

@@ -2,7 +2,6 @@
 // neither call asks anything of its caller.
 ghost use mathlib.Core.Path.{_≡_};
 ghost use Rattle.refusal.specs.Outcome.{refused};
-ghost use Rattle.refusal.specs.Rows.{returned};
 ghost use Rattle.texts.specs.Text.{textOf, textSaid, same, codeOf, codeSaid};
 ghost use Rattle.texts.specs.Whose.{codeIfShown};
 
@@ -36,10 +35,10 @@ pub fn text_of(field: u64, code: u64) -> Text
 {
     if field == 3 {
         if code < 1 {
-            return no_text(refusal::OUT_OF_RANGE, field);
+            return no_text(refusal::out_of_range(field));
         }
         if 26 < code {
-            return no_text(refusal::OUT_OF_RANGE, field);
+            return no_text(refusal::out_of_range(field));
         }
         let characters = letters::one_text(code);
         return Text {
@@ -49,7 +48,7 @@ pub fn text_of(field: u64, code: u64) -> Text
     }
     if field == 18 {
         if 65_534 < code {
-            return no_text(refusal::OUT_OF_RANGE, field);
+            return no_text(refusal::out_of_range(field));
         }
         let characters = dates::text_of(code);
         return Text {
@@ -59,7 +58,7 @@ pub fn text_of(field: u64, code: u64) -> Text
     }
     if field == 19 {
         if 32_767 < code {
-            return no_text(refusal::OUT_OF_RANGE, field);
+            return no_text(refusal::out_of_range(field));
         }
         let characters = letters::three_text(code);
         return Text {
@@ -67,7 +66,7 @@ pub fn text_of(field: u64, code: u64) -> Text
             characters,
         };
     }
-    no_text(refusal::NO_SUCH, field)
+    no_text(refusal::no_such(field))
 }
 
 // The code whose text this is, if the field can hold it. Else 8, for another field than 3, 18 and 19, then 9, for a text of
@@ -77,23 +76,23 @@ pub fn code_of(field: u64, text: &[u8]) -> CodeAnswer
 {
     if field == 3 {
         if text.len() != 1 {
-            return no_code(refusal::WRONG_SORT, field);
+            return CodeAnswer::Refused(refusal::wrong_sort(field));
         }
         return code_if_shown(field, letters::one_code(text), text);
     }
     if field == 18 {
         if text.len() != 10 {
-            return no_code(refusal::WRONG_SORT, field);
+            return CodeAnswer::Refused(refusal::wrong_sort(field));
         }
         return code_if_shown(field, dates::code_of(text), text);
     }
     if field == 19 {
         if text.len() != 3 {
-            return no_code(refusal::WRONG_SORT, field);
+            return CodeAnswer::Refused(refusal::wrong_sort(field));
         }
         return code_if_shown(field, letters::three_code(text), text);
     }
-    no_code(refusal::NO_SUCH, field)
+    CodeAnswer::Refused(refusal::no_such(field))
 }
 
 // A code, if this is its text. Else 10, with the field as place: so is turned down whatever is no text of a code.
@@ -104,13 +103,13 @@ fn code_if_shown(field: u64, code: u64, text: &[u8]) -> CodeAnswer
     let answer = shown.answer;
     let characters = shown.characters;
     match answer {
-        TextAnswer::Refused(refusal) => CodeAnswer::Refused(refusal),
+        TextAnswer::Refused(r) => CodeAnswer::Refused(r),
         TextAnswer::Length(n) => {
             let end = n as usize;
             if equal(&characters[..end], text) {
                 return CodeAnswer::Code(code);
             }
-            no_code(refusal::OUT_OF_RANGE, field)
+            CodeAnswer::Refused(refusal::out_of_range(field))
         }
     }
 }
@@ -133,18 +132,11 @@ pub fn equal(a: &[u8], b: &[u8]) -> bool
 }
 
 // A refusal, and zeros.
-fn no_text(number: u8, place: u64) -> Text
-    ensures { λ r. ⌜ r ≡ textSaid (refused (returned number place)) ⌝ }
+fn no_text(r: Refusal) -> Text
+    ensures { λ t. ⌜ t ≡ textSaid (refused r) ⌝ }
 {
     Text {
-        answer: TextAnswer::Refused(Refusal { number, place }),
+        answer: TextAnswer::Refused(r),
         characters: [0; 10],
     }
-}
-
-// A refusal.
-fn no_code(number: u8, place: u64) -> CodeAnswer
-    ensures { λ r. ⌜ r ≡ CodeAnswer.Refused (returned number place) ⌝ }
-{
-    CodeAnswer::Refused(Refusal { number, place })
 }

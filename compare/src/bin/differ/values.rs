@@ -1,7 +1,7 @@
 //! What the calls are handed: values, inputs, points, texts; good ones, at the edges, and bad ones.
 
-use compare::calls::{Given, MISSING, SINGLE, WHOLE};
 use compare::plain::{self, Value};
+use compare::structs::ByFlags;
 
 use crate::Differ;
 use crate::layout::{BILLION, Row, bits_without_text, capacity, gcd, response, row, stream_bits};
@@ -20,23 +20,29 @@ impl Differ {
         }
     }
 
-    /// A value with old elements beside it.
-    pub fn given(&mut self, value: Value) -> Given {
-        let mut given = Given {
-            sort: MISSING,
+    /// A flag that says yes: any byte but 0.
+    pub fn yes(&mut self) -> u8 {
+        if self.random.percent(80) { 1 } else { self.random.within(1, 255) as u8 }
+    }
+
+    /// A value by flags, with anything in the members that it does not need.
+    pub fn given(&mut self, value: Value) -> ByFlags {
+        let mut given = ByFlags {
             whole: self.random.word() as i64,
             single: f32::from_bits(self.random.word() as u32),
+            is_single: 0,
+            is_missing: 0,
         };
         match value {
-            Value::Whole(whole) => {
-                given.sort = WHOLE;
-                given.whole = whole;
-            }
+            Value::Whole(whole) => given.whole = whole,
             Value::Single(single) => {
-                given.sort = SINGLE;
                 given.single = single;
+                given.is_single = self.yes();
             }
-            Value::Missing => (),
+            Value::Missing => {
+                given.is_single = self.random.word() as u8 & self.random.pick(&[0, 1, 255]);
+                given.is_missing = self.yes();
+            }
         }
         given
     }
@@ -79,7 +85,7 @@ impl Differ {
         }
     }
 
-    pub fn good(&mut self, field: usize, precision: usize) -> Given {
+    pub fn good(&mut self, field: usize, precision: usize) -> ByFlags {
         let row = row(field, precision);
         let value = match row {
             Row::Plain(..) => Value::Whole(self.figure(row)),
@@ -90,7 +96,7 @@ impl Differ {
         self.given(value)
     }
 
-    pub fn bad(&mut self, field: usize, precision: usize) -> Given {
+    pub fn bad(&mut self, field: usize, precision: usize) -> ByFlags {
         let row = row(field, precision);
         let value = match (self.random.below(4), row) {
             (0, _) => Value::Missing,

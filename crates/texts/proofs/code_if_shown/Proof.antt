@@ -4,7 +4,7 @@ use mathlib.Core.Path.{sym, ap, _∙_}
 use mathlib.Core.Bool.{true, false}
 use lib.Seq.{length-take-le}
 use borrow.Author.Needs.{needs}
-use Rattle.texts.specs.Text.{codeSaid}
+use Rattle.refusal.specs.Outcome.{refused}
 use Rattle.texts.proofs.Answers.{front-of, not-shown, compared}
 use Rattle.texts.proofs.code_if_shown.Statement.{statement}
 use Rattle.texts.proofs.code_if_shown.Tie as tie
@@ -30,14 +30,14 @@ equal-requires c κs = search needs
 returns : tie.Need-returns
 returns c = sym (compared _ _ _ _ _ true (c .before .before .before .before .before .before .before .text-of .ensures) (c .before .before .before .before .answer2 .given .1) (sym (c .before .equal .ensures) ∙ c .if1 .taken))
 
-no-code-requires : tie.Need-no-code-requires
-no-code-requires c κs = search needs
+out-of-range-requires : tie.Need-out-of-range-requires
+out-of-range-requires c κs = search needs
 
 returns-2 : tie.Need-returns-2
 returns-2 c = sym (not-shown _ _ _ _ _ (c .before .before .before .before .text-of .ensures) (c .before .answer .given .1))
 
 returns-3 : tie.Need-returns-3
-returns-3 c = ap codeSaid (c .no-code .ensures) ∙ sym (compared _ _ _ _ _ false (c .before .before .before .before .before .before .before .before .text-of .ensures) (c .before .before .before .before .before .answer2 .given .1) (sym (c .before .before .equal .ensures) ∙ c .before .if1 .left))
+returns-3 c = ap refused (c .out-of-range .ensures) ∙ sym (compared _ _ _ _ _ false (c .before .before .before .before .before .before .before .before .text-of .ensures) (c .before .before .before .before .before .answer2 .given .1) (sym (c .before .before .equal .ensures) ∙ c .before .if1 .left))
 
 pub code-if-shown-spec : {M : Type 1} → statement M
 code-if-shown-spec =
@@ -50,6 +50,6 @@ code-if-shown-spec =
     slice-aggregate-equal
     equal-requires
     returns
-    no-code-requires
+    out-of-range-requires
     returns-2
     returns-3)

@@ -2,16 +2,16 @@
 -- Assumes nothing.
 use mathlib.Core.Path.{sym, ap, _∙_}
 use borrow.Author.Needs.{needs}
-use Rattle.texts.specs.Text.{codeSaid}
+use Rattle.refusal.specs.Outcome.{refused}
 use Rattle.texts.proofs.Turning.{letter, date, initials, other, wrong-length, code-shown, no-such-code}
 use Rattle.texts.proofs.code_of.Statement.{statement}
 use Rattle.texts.proofs.code_of.Tie as tie
 
-no-code-requires : tie.Need-no-code-requires
-no-code-requires c κs = search needs
+wrong-sort-requires : tie.Need-wrong-sort-requires
+wrong-sort-requires c κs = search needs
 
 returns : tie.Need-returns
-returns c = ap codeSaid (c .no-code .ensures) ∙ sym (wrong-length (letter (c .before .before .if1 .taken)) _ (c .before .if2 .taken))
+returns c = ap refused (c .wrong-sort .ensures) ∙ sym (wrong-length (letter (c .before .before .if1 .taken)) _ (c .before .if2 .taken))
 
 one-code-requires : tie.Need-one-code-requires
 one-code-requires c κs = search needs
@@ -22,11 +22,11 @@ code-if-shown-requires c κs = search needs
 returns-2 : tie.Need-returns-2
 returns-2 c = c .code-if-shown .ensures ∙ sym (code-shown (letter (c .before .before .before .if1 .taken)) _ _ (c .before .before .if2 .left) (c .before .one-code .ensures))
 
-no-code-requires-2 : tie.Need-no-code-requires-2
-no-code-requires-2 c κs = search needs
+wrong-sort-requires-2 : tie.Need-wrong-sort-requires-2
+wrong-sort-requires-2 c κs = search needs
 
 returns-3 : tie.Need-returns-3
-returns-3 c = ap codeSaid (c .no-code2 .ensures) ∙ sym (wrong-length (date (c .before .before .if3 .taken)) _ (c .before .if4 .taken))
+returns-3 c = ap refused (c .wrong-sort2 .ensures) ∙ sym (wrong-length (date (c .before .before .if3 .taken)) _ (c .before .if4 .taken))
 
 code-of-requires : tie.Need-code-of-requires
 code-of-requires c κs = search needs
@@ -37,11 +37,11 @@ code-if-shown-requires-2 c κs = search needs
 returns-4 : tie.Need-returns-4
 returns-4 c = c .code-if-shown2 .ensures ∙ sym (code-shown (date (c .before .before .before .if3 .taken)) _ _ (c .before .before .if4 .left) (c .before .code-of .ensures))
 
-no-code-requires-3 : tie.Need-no-code-requires-3
-no-code-requires-3 c κs = search needs
+wrong-sort-requires-3 : tie.Need-wrong-sort-requires-3
+wrong-sort-requires-3 c κs = search needs
 
 returns-5 : tie.Need-returns-5
-returns-5 c = ap codeSaid (c .no-code3 .ensures) ∙ sym (wrong-length (initials (c .before .before .if5 .taken)) _ (c .before .if6 .taken))
+returns-5 c = ap refused (c .wrong-sort3 .ensures) ∙ sym (wrong-length (initials (c .before .before .if5 .taken)) _ (c .before .if6 .taken))
 
 three-code-requires : tie.Need-three-code-requires
 three-code-requires c κs = search needs
@@ -52,30 +52,30 @@ code-if-shown-requires-3 c κs = search needs
 returns-6 : tie.Need-returns-6
 returns-6 c = c .code-if-shown3 .ensures ∙ sym (code-shown (initials (c .before .before .before .if5 .taken)) _ _ (c .before .before .if6 .left) (c .before .three-code .ensures))
 
-no-code-requires-4 : tie.Need-no-code-requires-4
-no-code-requires-4 c κs = search needs
+no-such-requires : tie.Need-no-such-requires
+no-such-requires c κs = search needs
 
 returns-7 : tie.Need-returns-7
-returns-7 c = ap codeSaid (c .no-code4 .ensures) ∙ sym (no-such-code _ _ (other (c .before .before .before .if1 .left) (c .before .before .if3 .left) (c .before .if5 .left)))
+returns-7 c = ap refused (c .no-such .ensures) ∙ sym (no-such-code _ _ (other (c .before .before .before .if1 .left) (c .before .before .if3 .left) (c .before .if5 .left)))
 
 pub code-of-spec : {M : Type 1} → statement M
 code-of-spec =
     tie.close
     (tie.spec
-    no-code-requires
+    wrong-sort-requires
     returns
     one-code-requires
     code-if-shown-requires
     returns-2
-    no-code-requires-2
+    wrong-sort-requires-2
     returns-3
     code-of-requires
     code-if-shown-requires-2
     returns-4
-    no-code-requires-3
+    wrong-sort-requires-3
     returns-5
     three-code-requires
     code-if-shown-requires-3
     returns-6
-    no-code-requires-4
+    no-such-requires
     returns-7)

@@ -2,11 +2,9 @@ use mir.Facts.{toZ-ofZ}
 use Rattle.fields.proofs.encoding.is_outside.Statement.{statement}
 use Rattle.fields.proofs.encoding.is_outside.Tie as tie
 
-returns : tie.Need-returns
-returns c = rw ((rw (toZ-ofZ (c .before .fits .figure), toZ-ofZ (c .before .fits .lowest)) at (c .if1 .taken)))
-
-returns-2 : tie.Need-returns-2
-returns-2 c = rw (toZ-ofZ (c .before .fits .highest), toZ-ofZ (c .before .fits .figure), rw (toZ-ofZ (c .before .fits .figure), toZ-ofZ (c .before .fits .lowest)) at (c .if1 .left))
-
 pub is-outside-spec : {M : Type 1} → statement M
-is-outside-spec = tie.close (tie.spec returns returns-2)
+is-outside-spec =
+    tie.close
+    (tie.spec
+    (λ c. rw ((rw (toZ-ofZ (c .before .fits .figure), toZ-ofZ (c .before .fits .lowest)) at (c .if1 .taken))))
+    (λ c. rw (toZ-ofZ (c .before .fits .highest), toZ-ofZ (c .before .fits .figure), rw (toZ-ofZ (c .before .fits .figure), toZ-ofZ (c .before .fits .lowest)) at (c .if1 .left))))

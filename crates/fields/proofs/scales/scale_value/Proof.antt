@@ -1,21 +1,19 @@
-use mathlib.Core.Path.{_∙_}
-use Rattle.fields.proofs.EncodeLaws.{handed-on}
-use Rattle.fields.proofs.ScaleLaws.{handed}
+use mathlib.Core.Path.{ap, _∙_}
+use native.Mathlib.Omega.{arith}
 use borrow.Author.Needs.{needs}
+use lib.IntN.{pos}
+use Rattle.fields.specs.declared.Scale.the-variants.{ResponseTime}
+use Rattle.fields.proofs.EncodeLaws.{handed-on}
+use Rattle.fields.proofs.ScaleLaws.{response, entry}
 use Rattle.fields.proofs.scales.scale_value.Statement.{statement}
 use Rattle.fields.proofs.scales.scale_value.Tie as tie
 
-mul-signed : tie.Need-mul-signed
-mul-signed c = search needs
-
-array-read-signed : tie.Need-array-read-signed
-array-read-signed c = search needs
-
-signed-requires : tie.Need-signed-requires
-signed-requires c κs = search needs
-
-returns : tie.Need-returns
-returns c = handed-on (record { sfits = c .signed .ok }) (c .signed .ensures ∙ handed (c .before .args .scale) (c .before .args .code) (c .before .pre))
-
 pub scale-value-spec : {M : Type 1} → statement M
-scale-value-spec = tie.close (tie.spec mul-signed array-read-signed signed-requires returns)
+scale-value-spec =
+    tie.close
+    (tie.spec
+    (λ c. search needs)
+    (λ c κs. omega (arith, rw (response (c .before .args .scale)) at (c .before .pre)))
+    (λ c.
+    let same = response (c .before .before .args .scale) in
+    rw same (handed-on (record { sfits = c .value-in .ok }) (c .value-in .ensures ∙ ap pos (entry ResponseTime _ tt _ (rw same at (c .before .before .pre)))))))

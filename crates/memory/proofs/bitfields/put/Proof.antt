@@ -40,9 +40,8 @@ returns c =
     let s = c .before .before .before .before .before .before .before .before .before .before .before .before in
     let a = s .args in
     let r = c .before .before .before .before .before .before .before .before .before .before .run-from .ensures in
-    c .before .before .lay-eight .ensures
-    ∙ put-run (a .sizes) (a .image .now) (s .pre .0 .whole .long) (λ i. omega (arith, c .before .before .before .before .before .before .before .before .before .before .before .slice-known .given i)) (a .at) (a .width) (a .code) _ _ _ _ (s .pre .0 .inside) (s .pre .0 .some) (s .pre .0 .most) (s .pre .1)
-    (r .0) (r .1) (c .before .before .before .before .before .before .before .before .if1 .taken) (c .before .before .before .before .before .eight .ensures) (c .before .before .before .replaced .ensures)
+    put-run (a .sizes) (a .image .now) _ (s .pre .0 .whole .long) (λ i. omega (arith, c .before .before .before .before .before .before .before .before .before .before .before .slice-known .given i)) (a .at) (a .width) (a .code) _ _ _ _ (s .pre .0 .inside) (s .pre .0 .some) (s .pre .0 .most) (s .pre .1)
+    (r .0) (r .1) (c .before .before .before .before .before .before .before .before .if1 .taken) (c .before .before .before .before .before .eight .ensures) (c .before .before .before .replaced .ensures) (c .before .before .lay-eight .ensures)
 
 gather-requires : tie.Need-gather-requires
 gather-requires c κs = search needs

@@ -1,6 +1,8 @@
 -- `kinds::fitting` meets its contract.
 use borrow.Author.Needs.{needs}
+use mathlib.Core.Path.{ap}
 use borrow.Author.Tests.{eq-eqb, ne-eqb}
+use Rattle.refusal.specs.Outcome.{refused}
 use Rattle.memory.proofs.kinds.fitting.Statement.{statement}
 use Rattle.memory.proofs.kinds.fitting.Tie as tie
 
@@ -17,7 +19,7 @@ wrong-image-requires : tie.Need-wrong-image-requires
 wrong-image-requires c κs = search needs
 
 returns-2 : tie.Need-returns-2
-returns-2 c = simp (ne-eqb _ _ (c .before .if1 .left)) (c .wrong-image .ensures)
+returns-2 c = simp (ne-eqb _ _ (c .before .if1 .left)) (ap refused (c .wrong-image .ensures))
 
 pub fitting-spec : {M : Type 1} → statement M
 fitting-spec = tie.close (tie.spec mul-if1 add-if1 returns wrong-image-requires returns-2)

@@ -1,6 +1,7 @@
 -- `kinds::image_sizes` meets its contract.
 use borrow.Author.Needs.{needs}
-use mathlib.Core.Path.{refl, sym, _∙_}
+use mathlib.Core.Path.{refl, sym, ap, _∙_}
+use Rattle.refusal.specs.Outcome.{refused}
 use Rattle.memory.proofs.Chips.{sizes-kind, sizes-others}
 use Rattle.memory.proofs.kinds.image_sizes.Statement.{statement}
 use Rattle.memory.proofs.kinds.image_sizes.Tie as tie
@@ -29,7 +30,7 @@ returns-3 c = rw (c .before .match .keys3) (c .fitting3 .ensures ∙ sym (sizes-
 returns-4 : tie.Need-returns-4
 returns-4 c =
     let h = c .before .match .rest in
-    c .wrong-image .ensures ∙ sym (sizes-others _ _ (h .0 .0 .1) (h .0 .1) (h .1))
+    ap refused (c .wrong-image .ensures) ∙ sym (sizes-others _ _ (h .0 .0 .1) (h .0 .1) (h .1))
 
 pub image-sizes-spec : {M : Type 1} → statement M
 image-sizes-spec =

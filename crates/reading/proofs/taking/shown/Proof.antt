@@ -1,55 +1,49 @@
 use borrow.Author.Needs.{needs, sfits-of}
+use mathlib.Core.Path.{_≡_}
+use Prim.Native.Nat.{ℕ, _^_, _≤_}
+use native.Mathlib.Omega.{arith}
+use lib.IntN.{ℤ, natAbs, _+ℤ_}
 use mir.Syntax.{w64}
-use mir.Val.{SFits}
-use Rattle.reading.proofs.Told.{told-ends, told-position, told-small}
-use Rattle.reading.proofs.Positions.{near-small}
-use Rattle.reading.proofs.Fractions.{fraction-fits, fraction-small, fraction-shown}
+use mir.Val.{toZ, ofZ}
+use mir.Facts.{toZ-ofZ}
+use Rattle.layout.specs.Contents.{Contents}
+use Rattle.layout.specs.Image.{points}
+use Rattle.sheet.specs.Opened.{Opens}
+use Rattle.reading.specs.Reading.{position, fraction}
+use Rattle.reading.proofs.Opening.{opened-table}
+use Rattle.reading.proofs.Fractions.{small-fits, fraction-small, fraction-is, reading-made}
 use Rattle.reading.proofs.taking.shown.Statement.{statement}
 use Rattle.reading.proofs.taking.shown.Tie as tie
 
-position-requires : tie.Need-position-requires
-position-requires c κs =
+abbrev sum : tie.After-deviation → ℤ
+sum c = toZ w64 (ofZ w64 (c .before .position .result)) +ℤ toZ w64 (ofZ w64 (c .deviation .result))
+
+is : (c : tie.After-deviation) →
+    let a = c .before .before .before .args in
+    (kind : ℕ) (x : Contents) → Opens kind (a .image .now) (a .sheet) x → sum c ≡ fraction (points x) (position (a .input) (a .span .least) (a .span .greatest))
+is c kind x h =
     let s = c .before .before .before in
-    let fe : SFits w64 (s .args .span .least) = sfits-of (c .struct-told2 .given .1 .1 .0 .1) in
-    let ff : SFits w64 (s .args .span .greatest) = sfits-of (c .struct-told2 .given .1 .1 .1 .0 .1) in
-    let r = s .pre .1 in
-    (told-ends (s .fits .input) fe ff (r .ends), told-small (s .fits .input) (near-small (s .args .input) (s .args .span .least) (s .args .span .greatest) (r .ends) (r .near)))
+    fraction-is (points x) (s .args .span) (s .args .input) (s .fits .input) (sfits-of (c .before .position .ok)) (sfits-of (c .deviation .ok)) (c .before .position .ensures) (c .deviation .ensures kind x h)
 
-deviation-requires : tie.Need-deviation-requires
-deviation-requires c κs = search needs
-
-add-q : tie.Need-add-q
-add-q c =
-    let s = c .before .before .before .before .before in
-    let told = c .before .before .struct-told2 .given in
-    let fe : SFits w64 (s .args .span .least) = sfits-of (told .1 .1 .0 .1) in
-    let ff : SFits w64 (s .args .span .greatest) = sfits-of (told .1 .1 .1 .0 .1) in
-    fraction-fits (s .args .sheet) (s .args .image .now) (s .args .span) (s .args .input) (s .pre .0) (s .pre .1) (sfits-of (c .before .position .ok)) (sfits-of (c .deviation .ok))
-    (told-position (s .fits .input) fe ff (c .before .position .ensures)) (c .deviation .ensures)
-
-physical-figure-requires : tie.Need-physical-figure-requires
-physical-figure-requires c κs =
-    let s = c .before .before .before .before .before in
-    let told = c .before .before .struct-told2 .given in
-    let fe : SFits w64 (s .args .span .least) = sfits-of (told .1 .1 .0 .1) in
-    let ff : SFits w64 (s .args .span .greatest) = sfits-of (told .1 .1 .1 .0 .1) in (
-      search needs,
-      (
-        search needs,
-        fraction-small (s .args .sheet) (s .args .image .now) (s .args .span) (s .args .input) (s .pre .0) (s .pre .1) (sfits-of (c .before .position .ok)) (sfits-of (c .deviation .ok))
-            (told-position (s .fits .input) fe ff (c .before .position .ensures)) (c .deviation .ensures),
-      ),
-    )
+small : (c : tie.After-deviation) → natAbs (sum c) ≤ 2 ^ 33
+small c =
+    let s = c .before .before .before in
+    let (k, r, near) = s .pre in
+    rw (is c _ _ (k .opens)) (fraction-small (points (k .holds)) (s .args .span) (s .args .input) (opened-table (k .opens)) r near)
 
 returns : tie.Need-returns
 returns c =
-    let s = c .before .before .before .before .before .before in
-    let told = c .before .before .before .struct-told2 .given in
-    let fe : SFits w64 (s .args .span .least) = sfits-of (told .1 .1 .0 .1) in
-    let ff : SFits w64 (s .args .span .greatest) = sfits-of (told .1 .1 .1 .0 .1) in
-    fraction-shown (s .args .sheet) (s .args .image .now) (s .args .span) (s .args .input) (s .pre .0) (s .pre .1) (sfits-of (c .before .before .position .ok)) (sfits-of (c .before .deviation .ok))
-    (told-position (s .fits .input) fe ff (c .before .before .position .ensures)) (c .before .deviation .ensures) (c .physical-figure .ensures)
+    let d = c .before .before in
+    let a = d .before .before .before .args in
+    λ kind x h. reading-made (points x) (a .span) (a .input) (small-fits (sum d) (small d)) (is d kind x h) (c .before .float-fraction .ensures) (c .physical-figure .ensures)
 
 pub shown-spec : {M : Type 1} → statement M
 shown-spec =
-    tie.close (tie.spec position-requires deviation-requires add-q physical-figure-requires returns)
+    tie.close
+    (tie.spec
+    (λ c κs. let s = c .before in (s .pre .1, rw (toZ-ofZ (s .fits .input)) (s .pre .2)))
+    (λ c κs. search needs)
+    (λ c. small-fits (sum c) (small c))
+    (λ c κs. rw (toZ-ofZ (small-fits (sum c) (small c))) (omega (arith, small c)))
+    (λ c κs. search needs)
+    returns)

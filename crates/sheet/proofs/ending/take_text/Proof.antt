@@ -1,64 +1,52 @@
 use borrow.Author.Needs.{needs}
-use Rattle.sheet.proofs.TextSteps.{text-start, text-past, text-zero, text-next, text-done}
-use Rattle.sheet.proofs.PairSteps.{countFrom}
-use Rattle.sheet.specs.Walk.{counted}
-use Rattle.sheet.specs.Check.{streamIn}
-use Rattle.sheet.specs.Contents.{textOf}
-use Rattle.sheet.specs.Format.{run}
-use Prim.Native.Nat.{_-_, _≤_}
-use mathlib.Core.Path.{_≡_, sym, _∙_}
+use mathlib.Core.Path.{_≡_, refl, sym, _∙_}
+use Prim.Native.Nat.{_≤_}
+use lib.ListN.{length}
+use Rattle.layout.specs.Format.{parse}
+use Rattle.layout.specs.Contents.{textOf}
+use Rattle.layout.specs.Image.{streamIn}
+use Rattle.sheet.specs.Walk.{keeping}
+use Rattle.sheet.proofs.Steps.{countLeft, count-start, count-done, got, past}
+use Rattle.sheet.proofs.TextSteps.{text-past, text-zero, text-next}
 use Rattle.sheet.proofs.ending.take_text.Statement.{statement}
 use Rattle.sheet.proofs.ending.take_text.Tie as tie
-use Rattle.sheet.proofs.ending.take_text.Reads as reads
-use Rattle.sheet.proofs.ending.take_text.Lts as lts
-use Rattle.memory.proofs.cursor.Cursor.take.Reads as take-reads
 
 abbrev Inv-loop : tie.InvT-loop
-Inv-loop sizes image most cursor₀ i₀ cursor i =
-    (i ≤ most) × (run (streamIn sizes image) (countFrom i (textOf (most - i))) (cursor .at) ≡ run (streamIn sizes image) (counted (textOf most)) (cursor₀ .at))
+Inv-loop sizes image most cursor₀ left₀ cursor left =
+    (left ≤ most) × (countLeft (streamIn sizes image) textOf most left (cursor .at) ≡ keeping length (parse (streamIn sizes image) (textOf most) (cursor₀ .at)))
 
 abbrev μ-loop : tie.MeasureT-loop
-μ-loop sizes image most cursor₀ i₀ cursor i = most - i
+μ-loop sizes image most cursor₀ left₀ cursor left = left
 
 loop-holds : tie.Need-loop-holds Inv-loop μ-loop
-loop-holds c =
-    let a = c .before .args in
-    (search needs, text-start (streamIn (a .sizes) (a .image .now)) (a .most) (a .start .at))
-
-take-requires : tie.Need-take-requires Inv-loop μ-loop
-take-requires c κs = search needs
-
-enum-known-r : tie.Need-enum-known-r Inv-loop μ-loop
-enum-known-r c = search needs
+loop-holds c = let a = c .before .args in (search needs, count-start (streamIn (a .sizes) (a .image .now)) textOf (a .most) (a .start .at))
 
 returns : tie.Need-returns Inv-loop μ-loop
 returns c =
-    let a = c .before .before .before .before .before .before .before .args in
-    sym (text-past (a .sizes) (a .image .now) _ _ _ (c .before .before .before .before .loop-test .taken) _ (c .before .before .before .take .ensures) (c .before .r .given .1)) ∙ c .before .before .before .before .before .loop .inv .1
-
-enum-known-character : tie.Need-enum-known-character Inv-loop μ-loop
-enum-known-character c = search needs
+    let t = c .before .before .before in
+    let a = t .before .before .before .before .args in
+    let e = past (a .sizes) (a .image .now) _ 7 _ (t .take .ensures) (c .before .r .given .1) in
+    sym (text-past (streamIn (a .sizes) (a .image .now)) _ _ _ (t .before .loop-test .taken) (t .before .before .loop .inv .0) e) ∙ t .before .before .loop .inv .1
 
 returns-2 : tie.Need-returns-2 Inv-loop μ-loop
 returns-2 c =
-    let a = c .before .before .before .before .before .before .before .before .args in
-    sym (text-zero (a .sizes) (a .image .now) _ _ _ (c .before .before .before .before .before .loop-test .taken) _ (c .before .before .before .before .take .ensures) (c .before .before .character .given .1) (c .if1 .taken)) ∙ c .before .before .before .before .before .before .loop .inv .1
-
-add-i : tie.Need-add-i Inv-loop μ-loop
-add-i c = search needs
-
-loop-less : tie.Need-loop-less Inv-loop μ-loop
-loop-less c = search needs
+    let t = c .before .before .before .before in
+    let a = t .before .before .before .before .args in
+    let e = got (a .sizes) (a .image .now) _ 7 _ (t .take .ensures) (c .before .before .character .given .1) in
+    sym (text-zero (streamIn (a .sizes) (a .image .now)) _ _ _ (t .before .loop-test .taken) (t .before .before .loop .inv .0) e (c .if1 .taken)) ∙ t .before .before .loop .inv .1
 
 loop-again : tie.Need-loop-again Inv-loop μ-loop
 loop-again c =
-    let a = c .before .before .before .before .before .before .before .before .args in
-    (search needs, sym (text-next (a .sizes) (a .image .now) _ _ _ (c .before .before .before .before .before .loop-test .taken) _ (c .before .before .before .before .take .ensures) (c .before .before .character .given .1) (c .if1 .left)) ∙ c .before .before .before .before .before .before .loop .inv .1)
+    let t = c .before .before .before .before in
+    let a = t .before .before .before .before .args in
+    let e = got (a .sizes) (a .image .now) _ 7 _ (t .take .ensures) (c .before .before .character .given .1) in
+    (search needs, sym (text-next (streamIn (a .sizes) (a .image .now)) _ _ _ (t .before .loop-test .taken) (t .before .before .loop .inv .0) e (c .if1 .left)) ∙ t .before .before .loop .inv .1)
 
 returns-3 : tie.Need-returns-3 Inv-loop μ-loop
+unfolding textOf
 returns-3 c =
     let a = c .before .before .before .args in
-    sym (text-done (streamIn (a .sizes) (a .image .now)) _ _ _ (c .before .loop .inv .0) (c .loop-test .left)) ∙ c .before .loop .inv .1
+    sym (count-done (streamIn (a .sizes) (a .image .now)) textOf (a .most) _ _ refl (c .loop-test .left)) ∙ c .before .loop .inv .1
 
 pub take-text-spec : {M : Type 1} → statement M
 take-text-spec =
@@ -67,12 +55,13 @@ take-text-spec =
     Inv-loop
     μ-loop
     loop-holds
-    take-requires
-    enum-known-r
+    (λ c κs. search needs)
+    (λ c. search needs)
     returns
-    enum-known-character
+    (λ c. search needs)
+    (λ c. search needs)
     returns-2
-    add-i
-    loop-less
+    (λ c. search needs)
+    (λ c. search needs)
     loop-again
     returns-3)

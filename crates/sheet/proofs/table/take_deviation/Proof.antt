@@ -1,48 +1,22 @@
 use borrow.Author.Needs.{needs}
-use mathlib.Core.Path.{ap, _∙_}
+use mathlib.Core.Path.{ap}
 use native.Mathlib.Omega.{arith}
 use Rattle.fields.specs.declared.Row.{Row}
-use Rattle.fields.proofs.RowLaws.{rows-sound}
-use Rattle.sheet.specs.Check.{streamIn}
-use Rattle.sheet.specs.Format.{run}
-use Rattle.sheet.specs.Walk.{codeOf}
-use Rattle.sheet.proofs.Steps.{code-past, code-judged}
+use Rattle.fields.proofs.RowLaws.{deviation-sound}
+use Rattle.sheet.proofs.Steps.{code-judged}
 use Rattle.sheet.proofs.table.take_deviation.Statement.{statement}
 use Rattle.sheet.proofs.table.take_deviation.Tie as tie
-use Rattle.sheet.proofs.table.take_deviation.Reads as reads
-use Rattle.sheet.proofs.table.take_deviation.Lts as lts
-use Rattle.fields.proofs.cal_deviation.Reads as cal-deviation-reads
-use Rattle.memory.proofs.cursor.Cursor.take.Reads as take-reads
-use Rattle.sheet.proofs.walk.judged.Reads as judged-reads
-
-cal-deviation-requires : tie.Need-cal-deviation-requires
-cal-deviation-requires c κs = search needs
 
 take-requires : tie.Need-take-requires
 take-requires c κs =
-    let e = ap (λ (q : Row). q .width) (c .cal-deviation .ensures) in
+    let e = ap (λ (r : Row). r .width) (c .cal-deviation .ensures) in
     (c .before .before .pre, omega (arith, e), omega (arith, e))
-
-enum-known-r : tie.Need-enum-known-r
-enum-known-r c = search needs
-
-enum-known-code : tie.Need-enum-known-code
-enum-known-code c = search needs
-
-judged-requires : tie.Need-judged-requires
-judged-requires c κs = rw (c .before .before .before .before .cal-deviation .ensures) (rows-sound 0 .1 .1 .1 .0)
 
 returns : tie.Need-returns
 returns c =
-    let a = c .before .before .before .before .before .before .args in
-    code-past (a .sizes) (a .image .now) (a .cursor .at) _ _ (c .before .before .before .take .ensures) (c .before .r .given .1)
-    ∙ ap (λ q. run (streamIn (a .sizes) (a .image .now)) (codeOf q) (a .cursor .at)) (c .before .before .before .before .cal-deviation .ensures)
-
-returns-2 : tie.Need-returns-2
-returns-2 c =
-    let a = c .before .before .before .before .before .before .before .args in
-    c .judged .ensures ∙ code-judged (a .sizes) (a .image .now) (a .cursor .at) _ _ (c .before .before .before .before .take .ensures) (c .before .before .code .given .1)
-    ∙ ap (λ q. run (streamIn (a .sizes) (a .image .now)) (codeOf q) (a .cursor .at)) (c .before .before .before .before .before .cal-deviation .ensures)
+    let p = c .before .before in
+    let a = p .before .before .args in
+    code-judged (a .sizes) (a .image .now) (a .cursor .at) (c .before .take .result) (c .judged .result) (p .cal-deviation .ensures) (c .before .take .ensures) (c .judged .ensures)
 
 pub take-deviation-spec : {M : Type 1} → statement M
-take-deviation-spec = tie.close (tie.spec cal-deviation-requires take-requires enum-known-r enum-known-code judged-requires returns returns-2)
+take-deviation-spec = tie.close (tie.spec (λ c κs. search needs) take-requires (λ c κs. rw (c .before .cal-deviation .ensures) deviation-sound) returns)

@@ -1,33 +1,24 @@
 use borrow.Author.Needs.{needs}
-use mathlib.Core.Path.{ap}
-use Rattle.refusal.specs.Outcome.{_>>_}
-use Rattle.fields.specs.Answers.{judgedSaid}
-use Rattle.sheet.specs.Walk.{behind}
-use Rattle.sheet.proofs.Steps.{told}
+use mathlib.Core.Path.{sym, ap, _∙_}
+use Rattle.fields.proofs.DecodeLaws.{turned, stood}
+use Rattle.sheet.specs.Walk.{judgedAt}
 use Rattle.sheet.proofs.walk.judged.Statement.{statement}
 use Rattle.sheet.proofs.walk.judged.Tie as tie
-use Rattle.sheet.proofs.walk.judged.Reads as reads
-use Rattle.sheet.proofs.walk.judged.Lts as lts
-use Rattle.fields.proofs.judge.Reads as judge-reads
-
-judge-requires : tie.Need-judge-requires
-judge-requires c κs = search needs
-
-enum-known-r : tie.Need-enum-known-r
-enum-known-r c = search needs
-
-enum-told : tie.Need-enum-told
-enum-told c = search needs
 
 returns : tie.Need-returns
-returns c =
-    let a = c .before .before .before .before .args in
-    ap (λ o. o >> behind (a .code) (a .next)) (told judgedSaid (c .before .r .given .1) (c .before .before .before .judge .ensures))
+returns c = let a = c .before .before .before .args in ap (judgedAt (a .row) (a .at)) (sym (c .before .taken .given .1))
 
 returns-2 : tie.Need-returns-2
 returns-2 c =
-    let a = c .before .before .before .args in
-    ap (λ o. o >> behind (a .code) (a .next)) (told judgedSaid (c .enum-told .given .1) (c .before .before .judge .ensures))
+    let d = c .before .before .before in
+    let a = d .before .before .before .before .args in
+    turned _ (d .judge .ensures) (c .before .r .given .1) ∙ ap (judgedAt (a .row) (a .at)) (sym (d .before .before .taken2 .given .1))
+
+returns-3 : tie.Need-returns-3
+returns-3 c =
+    let d = c .before .before in
+    let a = d .before .before .before .before .args in
+    stood _ (d .judge .ensures) (c .enum-told .given .1) ∙ ap (judgedAt (a .row) (a .at)) (sym (d .before .before .taken2 .given .1))
 
 pub judged-spec : {M : Type 1} → statement M
-judged-spec = tie.close (tie.spec judge-requires enum-known-r enum-told returns returns-2)
+judged-spec = tie.close (tie.spec (λ c. search needs) (λ c. search needs) (λ c κs. search needs) (λ c. search needs) (λ c. search needs) returns returns-2 returns-3)

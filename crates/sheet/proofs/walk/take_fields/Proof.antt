@@ -1,63 +1,62 @@
 use borrow.Author.Needs.{needs}
-use Rattle.sheet.proofs.LineSteps.{linesFrom, lines-next, lines-halt, lines-done}
-use Rattle.sheet.specs.Walk.{linesOf}
-use Rattle.sheet.specs.Check.{streamIn}
-use Rattle.sheet.specs.Format.{run}
-use Rattle.fields.specs.Rows.{template33}
+use mathlib.Core.Path.{_≡_, refl, sym, _∙_}
+use Prim.Native.Nat.{suc, _-_, _≤_}
 use native.Mathlib.Omega.{arith}
-use Prim.Native.Nat.{ℕ, _-_, _≤_}
-use mathlib.Core.Path.{_≡_, sym, ap, _∙_}
+use Rattle.fields.proofs.RowLaws.{row-sound}
+use Rattle.layout.specs.Image.{streamIn}
+use Rattle.sheet.proofs.Steps.{code-judged}
+use Rattle.sheet.proofs.PlaceSteps.{last-few}
+use Rattle.sheet.proofs.WalkSteps.{fieldsLeft, fields-done, fields-halt, fields-next}
 use Rattle.sheet.proofs.walk.take_fields.Statement.{statement}
 use Rattle.sheet.proofs.walk.take_fields.Tie as tie
-use Rattle.sheet.proofs.walk.take_fields.Reads as reads
-use Rattle.sheet.proofs.walk.take_fields.Lts as lts
-use Rattle.memory.proofs.cursor.Cursor.start.Reads as start-reads
-use Rattle.sheet.proofs.walk.take_line.Reads as take-line-reads
 
 abbrev Inv-loop : tie.InvT-loop
-Inv-loop sizes image cursor₀ precision₀ line₀ cursor precision line =
-    (line ≤ 22) × (run (streamIn sizes image) (linesFrom line precision) (cursor .at) ≡ run (streamIn sizes image) (linesOf template33 0) 0)
+Inv-loop sizes image template first last cursor₀ precision₀ field₀ cursor precision field =
+    (1 ≤ field) × (fieldsLeft (streamIn sizes image) template field last precision (cursor .at) ≡ fieldsLeft (streamIn sizes image) template first last 0 (cursor₀ .at))
 
 abbrev μ-loop : tie.MeasureT-loop
-μ-loop sizes image cursor₀ precision₀ line₀ cursor precision line = 22 - line
-
-start-requires : tie.Need-start-requires Inv-loop μ-loop
-start-requires c κs = search needs
+μ-loop sizes image template first last cursor₀ precision₀ field₀ cursor precision field = suc last - field
 
 loop-holds : tie.Need-loop-holds Inv-loop μ-loop
-loop-holds c =
-    let a = c .before .before .args in
-    (search needs, ap (λ (n : ℕ). run (streamIn (a .sizes) (a .image .now)) (linesOf template33 0) n) (c .start .ensures))
+loop-holds c = (search needs, refl)
 
-take-line-requires : tie.Need-take-line-requires Inv-loop μ-loop
-take-line-requires c κs = search needs
+take-requires : tie.Need-take-requires Inv-loop μ-loop
+take-requires c κs =
+    let l = c .before .before in
+    let s = row-sound (record { template = l .before .before .args .template; precision = l .loop .precision }) (l .loop .field) (l .loop .inv .0) (omega arith) in
+    (l .before .before .pre .0, rw (c .row-of .ensures) (s .some), rw (c .row-of .ensures) (s .most))
 
-enum-known-r : tie.Need-enum-known-r Inv-loop μ-loop
-enum-known-r c = search needs
+judged-requires : tie.Need-judged-requires Inv-loop μ-loop
+judged-requires c κs = rw (c .before .row-of .ensures) (row-sound _ _ (c .before .before .before .loop .inv .0) (omega arith))
 
 returns : tie.Need-returns Inv-loop μ-loop
 returns c =
-    let a = c .before .before .before .before .before .before .before .before .args in
-    sym (lines-halt (streamIn (a .sizes) (a .image .now)) _ _ _ (c .before .before .before .before .loop-test .taken) _ (c .before .before .before .take-line .ensures) (c .before .r .given .1)) ∙ c .before .before .before .before .before .loop .inv .1
-
-enum-known-chosen : tie.Need-enum-known-chosen Inv-loop μ-loop
-enum-known-chosen c = search needs
-
-add-line : tie.Need-add-line Inv-loop μ-loop
-add-line c = search needs
-
-loop-less : tie.Need-loop-less Inv-loop μ-loop
-loop-less c = search needs
+    let j = c .before .before .before in
+    let r = j .before .before in
+    let l = r .before .before in
+    let b = l .before .before in
+    let a = b .args in
+    let e = code-judged (a .sizes) (a .image .now) _ (j .before .take .result) (j .judged .result) (r .row-of .ensures) (j .before .take .ensures) (j .judged .ensures) in
+    sym (fields-halt (streamIn (a .sizes) (a .image .now)) (a .template) _ (a .last) _ _ (l .loop .inv .0) (r .before .loop-test .taken) (b .pre .2) _ e (c .before .r .given .1))
+    ∙ l .loop .inv .1
 
 loop-again : tie.Need-loop-again Inv-loop μ-loop
 loop-again c =
-    let a = c .before .before .before .before .before .before .before .before .args in
-    (search needs, sym (lines-next (streamIn (a .sizes) (a .image .now)) _ _ _ (c .before .before .before .before .loop-test .taken) _ (c .before .before .before .take-line .ensures) (c .before .chosen .given .1)) ∙ c .before .before .before .before .before .loop .inv .1)
+    let j = c .before .before .before .before .before in
+    let r = j .before .before in
+    let l = r .before .before in
+    let b = l .before .before in
+    let a = b .args in
+    let e = code-judged (a .sizes) (a .image .now) _ (j .before .take .result) (j .judged .result) (r .row-of .ensures) (j .before .take .ensures) (j .judged .ensures) in (
+      omega arith,
+      sym (fields-next (streamIn (a .sizes) (a .image .now)) (a .template) _ (a .last) _ _ (l .loop .inv .0) (r .before .loop-test .taken) (b .pre .2) _ e _ (c .before .before .before .code .given .1) (rw (c .before .is-choice .ensures) at (c .chosen .ensures)))
+          ∙ l .loop .inv .1,
+    )
 
 returns-2 : tie.Need-returns-2 Inv-loop μ-loop
 returns-2 c =
-    let a = c .before .before .before .before .args in
-    sym (lines-done (streamIn (a .sizes) (a .image .now)) _ _ _ (c .loop-test .left)) ∙ c .before .loop .inv .1
+    let a = c .before .before .before .args in
+    sym (fields-done (streamIn (a .sizes) (a .image .now)) (a .template) _ (a .last) _ _ (c .loop-test .left)) ∙ c .before .loop .inv .1
 
 pub take-fields-spec : {M : Type 1} → statement M
 take-fields-spec =
@@ -65,13 +64,16 @@ take-fields-spec =
     (tie.spec
     Inv-loop
     μ-loop
-    start-requires
     loop-holds
-    take-line-requires
-    enum-known-r
+    (λ c κs. omega arith)
+    take-requires
+    judged-requires
+    (λ c. search needs)
     returns
-    enum-known-chosen
-    add-line
-    loop-less
+    (λ c. search needs)
+    (λ c κs. omega arith)
+    (λ c κs. search needs)
+    (λ c. omega (arith, last-few (c .before .before .before .before .before .before .before .before .before .before .before .args .template)))
+    (λ c. omega arith)
     loop-again
     returns-2)

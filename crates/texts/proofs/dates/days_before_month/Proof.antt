@@ -2,14 +2,14 @@
 -- Assumes nothing.
 use mathlib.Core.Path.{_≡_, sym, subst, _∙_}
 use mathlib.Core.Bool.{Bool, true, false, cond}
-use mathlib.Core.List.{List}
+use mathlib.Core.List.{List, foldr}
 use Prim.Native.Nat.{ℕ, _+_, _-_, _*_, _/_, _≤_, suc-le-suc}
 use native.Mathlib.Omega.{arith}
 use lib.Dec.{T, eqb, ltb, eqb→eq}
 use lib.ListN.{take}
 use borrow.Author.Needs.{needs}
 use borrow.Author.Tests.{lt-ltb, le-ltb}
-use Rattle.texts.specs.Dates.{leap, total, daysBeforeMonth}
+use Rattle.texts.specs.Dates.{leap, daysBeforeMonth}
 use Rattle.texts.proofs.Below.{below, at}
 use Rattle.texts.proofs.Months.{model, like-model}
 use Rattle.texts.proofs.dates.days_before_month.Statement.{statement}
@@ -25,7 +25,7 @@ all-right false = tt
 
 formula : (year month : ℕ) (long : Bool) → leap year ≡ long → month ≤ 12 → (367 * month - 362) / 12 ≡ daysBeforeMonth year month + cond (ltb month 3) 0 (cond long 1 2)
 formula year month long e h =
-    subst (λ (l : List ℕ). (367 * month - 362) / 12 ≡ total (take (month - 1) l) + cond (ltb month 3) 0 (cond long 1 2)) (sym (like-model year long e))
+    subst (λ (l : List ℕ). (367 * month - 362) / 12 ≡ foldr _+_ 0 (take (month - 1) l) + cond (ltb month 3) 0 (cond long 1 2)) (sym (like-model year long e))
     (eqb→eq _ _ (at (right long) 13 (all-right long) month (suc-le-suc h)))
 
 mul-days : tie.Need-mul-days

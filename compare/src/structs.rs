@@ -1,0 +1,145 @@
+//! The structs of `include/dartelm.h`. Floats are compared by their bits.
+
+use crate::plain::Value;
+
+/// A field's value by two flags.
+#[derive(Clone, Copy, Debug, Default)]
+#[repr(C)]
+pub struct ByFlags {
+    pub whole: i64,
+    pub single: f32,
+    pub is_single: u8,
+    pub is_missing: u8,
+}
+
+impl PartialEq for ByFlags {
+    fn eq(&self, other: &ByFlags) -> bool {
+        let members = |of: &ByFlags| (of.whole, of.single.to_bits(), of.is_single, of.is_missing);
+        members(self) == members(other)
+    }
+}
+
+impl From<Value> for ByFlags {
+    fn from(value: Value) -> ByFlags {
+        match value {
+            Value::Whole(whole) => ByFlags { whole, ..ByFlags::default() },
+            Value::Single(single) => ByFlags { single, is_single: 1, ..ByFlags::default() },
+            Value::Missing => ByFlags { is_missing: 1, ..ByFlags::default() },
+        }
+    }
+}
+
+impl ByFlags {
+    pub fn value(self) -> Value {
+        if self.is_missing != 0 {
+            Value::Missing
+        } else if self.is_single != 0 {
+            Value::Single(self.single)
+        } else {
+            Value::Whole(self.whole)
+        }
+    }
+}
+
+/// The values of fields 1 to 21, and the end bit.
+#[derive(Clone, Copy, Debug, Default, PartialEq)]
+#[repr(C)]
+pub struct Fields {
+    pub values: [ByFlags; 21],
+    pub end_bit: u8,
+}
+
+#[derive(Clone, Copy, Debug, Default, PartialEq)]
+#[repr(C)]
+pub struct CheckAnswer {
+    pub number: u8,
+    pub place: u64,
+    pub bits: u64,
+    pub points: u64,
+    pub characters: u64,
+    pub end_bit: u8,
+}
+
+#[derive(Clone, Copy, Debug, Default, PartialEq)]
+#[repr(C)]
+pub struct FieldAnswer {
+    pub number: u8,
+    pub place: u64,
+    pub value: ByFlags,
+}
+
+#[derive(Clone, Copy, Debug, Default, PartialEq)]
+#[repr(C)]
+pub struct SheetAnswer {
+    pub number: u8,
+    pub place: u64,
+    pub bits: u64,
+    pub points: u64,
+    pub characters: u64,
+    pub field_count: u64,
+    pub fields: Fields,
+}
+
+#[derive(Clone, Copy, Debug, Default, PartialEq)]
+#[repr(C)]
+pub struct PairAnswer {
+    pub number: u8,
+    pub place: u64,
+    pub point: i64,
+    pub deviation: i64,
+}
+
+#[derive(Clone, Copy, Debug, Default, PartialEq)]
+#[repr(C)]
+pub struct CharacterAnswer {
+    pub number: u8,
+    pub place: u64,
+    pub character: u8,
+}
+
+#[derive(Clone, Copy, Debug, Default, PartialEq)]
+#[repr(C)]
+pub struct WriteAnswer {
+    pub number: u8,
+    pub place: u64,
+}
+
+#[derive(Clone, Copy, Debug, Default)]
+#[repr(C)]
+pub struct ReadingAnswer {
+    pub number: u8,
+    pub place: u64,
+    pub fraction: i64,
+    pub figure: f64,
+}
+
+impl PartialEq for ReadingAnswer {
+    fn eq(&self, other: &ReadingAnswer) -> bool {
+        let members = |of: &ReadingAnswer| (of.number, of.place, of.fraction, of.figure.to_bits());
+        members(self) == members(other)
+    }
+}
+
+#[derive(Clone, Copy, Debug, Default, PartialEq)]
+#[repr(C)]
+pub struct TextAnswer {
+    pub number: u8,
+    pub place: u64,
+    pub length: u64,
+    pub characters: [u8; 11],
+}
+
+#[derive(Clone, Copy, Debug, Default, PartialEq)]
+#[repr(C)]
+pub struct CodeAnswer {
+    pub number: u8,
+    pub place: u64,
+    pub code: u64,
+}
+
+#[derive(Clone, Copy, Debug, Default, PartialEq)]
+#[repr(C)]
+pub struct PageAnswer {
+    pub count: u64,
+    pub bytes: [u8; 31],
+}

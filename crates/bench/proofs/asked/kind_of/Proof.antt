@@ -1,0 +1,12 @@
+use borrow.Author.Tests.{lt-ltb, le-ltb}
+use borrow.Author.Needs.{needs}
+use Rattle.bench.proofs.asked.kind_of.Statement.{statement}
+use Rattle.bench.proofs.asked.kind_of.Tie as tie
+
+pub kind-of-spec : {M : Type 1} → statement M
+kind-of-spec =
+    tie.close
+    (tie.spec
+    (λ c. rw (lt-ltb 255 (c .before .args .n) (c .if1 .taken)))
+    (λ c. search needs)
+    (λ c. rw (le-ltb 255 (c .before .args .n) (c .if1 .left))))

@@ -1,0 +1,213 @@
+-- The codes of fields, one after the other.
+use mathlib.Core.Path.{_≡_, refl, sym, ap, ap₂, _∙_}
+use mathlib.Core.List.{List, [], _∷_, _++_, map, append-assoc, append-nil}
+use Prim.Native.Nat.{ℕ, zero, suc, _+_, _-_, _*_, _≤_, _<_}
+use native.Mathlib.Numerals.{add-one}
+use native.Mathlib.Omega.{arith}
+use native.Mathlib.Decide.{ℕ-discrete}
+use lib.IntN.{ℤ}
+use mir.Syntax.{w64}
+use mir.Val.{SFits, toZ, ofZ}
+use mir.Facts.{toZ-ofZ}
+use lib.ListN.{length, take, drop, getD, set, replicate, getD-replicate, length-append, length-set, length-map, List·getD-map, drop-of-length-le}
+use lib.Seq.{slice, slice-cons, slice-empty, drop-cons, getD-set-same, getD-set-other, take-take}
+use Rattle.refusal.specs.declared.Refusal.{Refusal}
+use Rattle.refusal.specs.Outcome.{Outcome, good, refused, _>>=_}
+use Rattle.refusal.proofs.Outcomes.{bind-good, bind-refused, bind-assoc, bind-same}
+use Rattle.memory.specs.Pieces.{Piece, piece, needed}
+use Rattle.memory.proofs.PieceLaws.{needed-append}
+use Rattle.fields.specs.declared.Value.{Value}
+use Rattle.fields.specs.declared.Value.the-variants.{Whole, Missing}
+use Rattle.fields.specs.declared.Row.{Row}
+use Rattle.fields.specs.declared.Encoded.{Encoded}
+use Rattle.fields.specs.declared.Encoded.the-variants.{Code, Refused as NoCode}
+use Rattle.fields.specs.declared.Judged.the-variants.{Stands, Refused}
+use Rattle.fields.specs.declared.Template.{Template}
+use Rattle.fields.specs.declared.Template.the-variants.{Bridge}
+use Rattle.fields.specs.Rules.{encode}
+use Rattle.fields.specs.Rows.{any}
+use Rattle.fields.specs.Lines.{Line, line, chose, basic, template33, templateLines, linesOf, numberOf, lastField, lineOf, rowOf}
+use Rattle.fields.specs.Stored.{Sound, Real}
+use Rattle.fields.specs.Answers.{encodedSaid}
+use Rattle.fields.proofs.StoredLaws.{reads-back}
+use Rattle.layout.specs.Pieces.{blockPieces}
+use Rattle.build.specs.declared.Slot.{Slot}
+use Rattle.build.specs.declared.Sheet.{Sheet}
+use Rattle.build.specs.declared.plan.CodedField.{CodedField}
+use Rattle.build.specs.Build.{slot, lent, templateIn, linePieces}
+use Rattle.build.specs.Tested.{Encodes, Fitting, FieldsFit, fieldPiece, codedFields, FieldsPlanned}
+use Rattle.build.proofs.LinePlans.{bind-good-last}
+use Rattle.build.proofs.FieldPlans.{withBlock, block-needed, fields-listed}
+
+-- ---- one value
+
+-- The answer for a value that a caller can lend.
+pub encodes : (row : Row) (place : ℕ) {value : Value} (v : Value) (e : Encoded) → Sound row → value ≡ v → Real v → encodedSaid e ≡ encode row place v → Encodes row place value e
+encodes row place v e s same real said =
+    rw same (record { said = said; fits = λ code h. reads-back row place 0 code v s real (sym said ∙ ap encodedSaid h) .0 })
+
+-- A figure that is handed to a callee.
+pub seen : (row : Row) (place : ℕ) {figure : ℤ} → SFits w64 figure → encode row place (Whole (toZ w64 (ofZ w64 figure))) ≡ encode row place (Whole figure)
+seen row place f = ap (λ (z : ℤ). encode row place (Whole z)) (toZ-ofZ f)
+
+-- ---- the fields that have their codes
+
+pub room : (template : Template) → lastField template ≤ 21
+unfolding linesOf basic template33
+room Bridge = omega arith
+
+pub basic-fewer : (template : Template) → length basic ≤ lastField template
+unfolding linesOf
+basic-fewer template = omega (arith, length-append basic (templateLines template))
+
+-- One more.
+taken : (fields : List CodedField) (i : ℕ) (x : CodedField) → i < length fields →
+    take (suc i) (map fieldPiece (set fields i x)) ≡ take i (map fieldPiece fields) ++ (fieldPiece x ∷ [])
+taken [] i x h = absurd (omega arith)
+taken (y ∷ fields) zero x h = refl
+taken (y ∷ fields) (suc i) x h = ap (λ l. fieldPiece y ∷ l) (taken fields i x (omega arith))
+
+-- A field that is not coded yet.
+abbrev pub blank : CodedField
+blank = record { width = 1; code = 0 }
+
+fit-none : FieldsFit (replicate 21 blank)
+fit-none = record { long = refl; each = λ i none h. rw (getD-replicate 21 i blank none h) (record { some = omega arith; most = omega arith; fits = omega arith }) }
+
+fit-more : (fields : List CodedField) (i : ℕ) (x : CodedField) → FieldsFit fields → Fitting (x .width) (x .code) → FieldsFit (set fields i x)
+fit-more fields i x fit f = record { long = length-set fields i x ∙ fit .long; each = λ k none h. go k none h (ℕ-discrete k i) }
+  where
+    go : (k : ℕ) (none : CodedField) → k < 21 → Dec (k ≡ i) → Fitting (getD (set fields i x) k none .width) (getD (set fields i x) k none .code)
+    go k none h (yes e) = rw (e, getD-set-same fields i x none (omega (arith, fit .long))) f
+    go k none h (no e) = rw (getD-set-other fields i k x none e) (fit .each k none h)
+
+-- The fields from index i up to `end`.
+module _ (fields : List CodedField) (i end : ℕ) where
+  pub fields-left : (none : CodedField) → i < end → end ≤ length fields → slice i end (map fieldPiece fields) ≡ fieldPiece (getD fields i none) ∷ slice (i + 1) end (map fieldPiece fields)
+  fields-left none h k =
+      rw (add-one i) (slice-cons i end (map fieldPiece fields) (fieldPiece none) h (omega (arith, length-map fields fieldPiece))
+      ∙ ap (λ p. p ∷ slice (suc i) end (map fieldPiece fields)) (List·getD-map fieldPiece fields i none))
+
+  pub fields-end : i ≤ end → end ≤ i → slice i end (map fieldPiece fields) ≡ []
+  fields-end h k = let e : i ≡ end = omega arith in ap (λ (n : ℕ). slice n end (map fieldPiece fields)) e ∙ slice-empty end (map fieldPiece fields)
+
+inside-same : {X : Type 0} (l : List X) (i : ℕ) (d d' : X) → i < length l → getD l i d ≡ getD l i d'
+inside-same [] i d d' h = absurd (omega arith)
+inside-same (x ∷ l) zero d d' h = refl
+inside-same (x ∷ l) (suc i) d d' h = inside-same l i d d' (omega arith)
+
+-- ---- one line after the other
+
+module _ (sheet : Sheet) where
+  abbrev t : Template
+  t = templateIn sheet
+
+  abbrev lines : List Line
+  lines = linesOf t
+
+  -- What the lines come to, with the first i of them done.
+  abbrev pub fromHere : List CodedField → ℕ → ℕ → Outcome (List Piece)
+  fromHere fields latest i = linePieces sheet (drop i lines) latest (suc i) >>= λ rest. good (take i (map fieldPiece fields) ++ rest)
+
+  pub from-start : (fields : List CodedField) → fromHere fields 0 0 ≡ linePieces sheet lines 0 1
+  from-start fields = bind-good-last (linePieces sheet lines 0 1)
+
+  pub from-end : (fields : List CodedField) (latest i : ℕ) → lastField t ≤ i → fromHere fields latest i ≡ good (take i (map fieldPiece fields))
+  unfolding linePieces
+  from-end fields latest i h =
+      ap (λ l. linePieces sheet l latest (suc i) >>= λ rest. good (take i (map fieldPiece fields) ++ rest)) (drop-of-length-le lines h)
+      ∙ ap good (append-nil (take i (map fieldPiece fields)))
+
+  module _ (fields : List CodedField) (latest i : ℕ) (h : i < lastField t) where
+    abbrev here : Line
+    here = getD lines i (line (any 0))
+
+    step : linePieces sheet (drop i lines) latest (suc i) ≡ (encode (here .rowAt latest) (suc i) (lent sheet (suc i)) >>= λ code.
+        linePieces sheet (drop (suc i) lines) (chose (here .sets) code latest) (suc (suc i)) >>= λ rest. good (piece (here .rowAt latest .width) code ∷ rest))
+    unfolding linePieces
+    step = ap (λ l. linePieces sheet l latest (suc i)) (drop-cons lines i (line (any 0)) h)
+
+    pub field-refused : {r : Refusal} → encode (here .rowAt latest) (suc i) (lent sheet (suc i)) ≡ refused r → fromHere fields latest i ≡ refused r
+    field-refused e = ap (λ o. o >>= λ rest. good (take i (map fieldPiece fields) ++ rest)) (step ∙ bind-refused _ e)
+
+    pub field-coded : {code : ℕ} → i < length fields → encode (here .rowAt latest) (suc i) (lent sheet (suc i)) ≡ good code →
+        fromHere fields latest i ≡ fromHere (set fields i (record { width = here .rowAt latest .width; code = code })) (chose (here .sets) code latest) (suc i)
+    field-coded {code} k e =
+        let x : CodedField = record { width = here .rowAt latest .width; code = code } in
+        let others = linePieces sheet (drop (suc i) lines) (chose (here .sets) code latest) (suc (suc i)) in
+        ap (λ o. o >>= λ rest. good (take i (map fieldPiece fields) ++ rest)) (step ∙ bind-good _ e)
+        ∙ bind-assoc others (λ rest. good (fieldPiece x ∷ rest)) (λ rest. good (take i (map fieldPiece fields) ++ rest))
+        ∙ bind-same others (λ rest. ap good (sym (ap (λ l. l ++ rest) (taken fields i x k) ∙ append-assoc (take i (map fieldPiece fields)) (fieldPiece x ∷ []) rest)))
+
+  -- ---- the loop over the fields
+
+  pub record FieldsDone (fields : List CodedField) (latest bits i : ℕ) : Type 0 where
+    pub inside : i ≤ lastField t
+    pub fit : FieldsFit fields
+    pub rest : fromHere fields latest i ≡ linePieces sheet lines 0 1
+    pub count : bits ≡ needed (take i (map fieldPiece fields)) + 10
+    pub few : bits ≤ 10 + 32 * i
+
+  pub done-none : FieldsDone (replicate 21 blank) 0 10 0
+  done-none = record {
+    inside = omega arith;
+    fit = fit-none;
+    rest = from-start (replicate 21 blank);
+    count = refl;
+    few = omega arith;
+  }
+
+  pub done-all : {fields : List CodedField} {latest bits i : ℕ} → FieldsDone fields latest bits i → lastField t ≤ i →
+      FieldsPlanned sheet (record { answer = Stands; fields = fields; bits = bits })
+  done-all {fields} {latest} {bits} {i} d h =
+      let last : i ≡ lastField t = omega (arith, d .inside) in
+      let all : List Piece = take (lastField t) (map fieldPiece fields) in
+      let planned : linePieces sheet lines 0 1 ≡ good all = sym (d .rest) ∙ from-end fields latest i h ∙ ap (λ (n : ℕ). good (take n (map fieldPiece fields))) last in
+      let are : withBlock t all ≡ codedFields t fields =
+      ap (λ q. q ++ (blockPieces (numberOf t) ++ drop (length basic) all)) (take-take (length basic) (lastField t) (map fieldPiece fields) (basic-fewer t)) in
+      record {
+        said = sym (fields-listed sheet ∙ bind-good _ planned ∙ ap good are);
+        fit = d .fit;
+        count = λ a. d .count ∙ omega (arith, block-needed t all, ap needed are, ap (λ (n : ℕ). needed (take n (map fieldPiece fields))) last);
+        small = omega (arith, d .few, d .inside, room t);
+      }
+
+  -- A turn, in the words of the code.
+  module _ {fields : List CodedField} {latest bits i : ℕ} (d : FieldsDone fields latest bits i) (h : i < lastField t) (none : Slot) (row : Row) (e : Encoded) (full : length (sheet .fields) ≡ 21)
+      (er : row ≡ rowOf (record { template = t; precision = latest }) (i + 1)) (c : Encodes row (i + 1) (getD (sheet .fields) i none .value) e) where
+    is-here : lineOf t (i + 1) ≡ getD lines i (line (any 0))
+    is-here = let k : i + 1 - 1 ≡ i = omega arith in ap (λ (n : ℕ). getD lines n (line (any 0))) k
+
+    row-here : row ≡ getD lines i (line (any 0)) .rowAt latest
+    row-here = er ∙ ap (λ l. l .rowAt latest) is-here
+
+    heard : encodedSaid e ≡ encode (getD lines i (line (any 0)) .rowAt latest) (suc i) (lent sheet (suc i))
+    heard =
+        let k : i ≡ suc i - 1 = omega arith in
+        c .said
+        ∙ ap₂ (λ (v : Slot) (n : ℕ). encode row n (v .value)) (inside-same (sheet .fields) i none (slot Missing) (omega (arith, room t)) ∙ ap (λ (n : ℕ). getD (sheet .fields) n (slot Missing)) k) (add-one i)
+        ∙ ap (λ r. encode r (suc i) (lent sheet (suc i))) row-here
+
+    pub turn-refused : {r : Refusal} → e ≡ NoCode r → FieldsPlanned sheet (record { answer = Refused r; fields = fields; bits = bits })
+    turn-refused {r} a = record {
+      said = sym (fields-listed sheet ∙ bind-refused _ (sym (d .rest) ∙ field-refused fields latest i h (sym heard ∙ ap encodedSaid a)));
+      fit = d .fit;
+      count = λ s. absurd (let z : _≡_ {A = ℕ} 0 1 = cc in omega arith);
+      small = omega (arith, d .few, d .inside, room t);
+    }
+
+    pub turn-coded : {code next : ℕ} → e ≡ Code code → next ≡ chose (lineOf t (i + 1) .sets) code latest → Sound row →
+        FieldsDone (set fields i (record { width = row .width; code = code })) next (bits + row .width) (i + 1)
+    turn-coded {code} {next} a n s =
+        let x : CodedField = record { width = row .width; code = code } in
+        let k : i < length fields = omega (arith, d .fit .long, room t) in
+        let more : needed (take (i + 1) (map fieldPiece (set fields i x))) ≡ row .width + needed (take i (map fieldPiece fields)) =
+        rw (add-one i) (omega (arith, ap needed (taken fields i x k), needed-append (take i (map fieldPiece fields)) (fieldPiece x ∷ []))) in
+        record {
+          inside = omega arith;
+          fit = fit-more fields i x (d .fit) (record { some = s .some; most = s .most; fits = c .fits code a });
+          rest =
+              rw (add-one i, n, is-here, row-here) (sym (field-coded fields latest i h k (sym heard ∙ ap encodedSaid a)) ∙ d .rest);
+          count = omega (arith, d .count, more);
+          few = omega (arith, d .few, s .most);
+        }

@@ -1,0 +1,11 @@
+pub mod Tests
+pub mod LinePlans
+pub mod FieldPlans
+pub mod PairPlans
+pub mod EndingPlans
+pub mod SheetPlans
+pub mod Filling
+pub mod TextTurns
+pub mod Coding
+pub mod PairTurns
+pub mod BuiltIn

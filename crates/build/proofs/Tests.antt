@@ -1,0 +1,31 @@
+-- Tests: what is left of an outcome where its value is not asked for.
+use mathlib.Core.Path.{_≡_, refl, sym, ap, _∙_}
+use mathlib.Core.List.{List}
+use Rattle.refusal.specs.declared.Refusal.{Refusal}
+use Rattle.refusal.specs.Outcome.{Outcome, good, refused, _>>=_}
+use Rattle.refusal.proofs.Outcomes.{no-value}
+use Rattle.memory.specs.Pieces.{Piece}
+use Rattle.fields.specs.declared.Judged.{Judged}
+use Rattle.fields.specs.declared.Judged.the-variants.{Stands, Refused}
+use Rattle.fields.specs.Answers.{judgedSaid}
+use Rattle.build.specs.Tested.{tested, Accepted}
+
+-- A step that makes something of the value tests nothing.
+pub tested-made : {A B : Type 0} (o : Outcome A) (make : A → B) → tested (o >>= λ a. good (make a)) ≡ tested o
+tested-made (good a) make = refl
+tested-made (refused r) make = refl
+
+tested-refused : {A : Type 0} (o : Outcome A) {r : Refusal} → refused r ≡ tested o → o ≡ refused r
+tested-refused (good a) e = no-value e
+tested-refused (refused s) {r} e = let same : s ≡ r = cc in ap refused same
+
+tested-good : (o : Outcome (List Piece)) → good tt ≡ tested o → Accepted o
+tested-good (good ps) e = refl
+tested-good (refused r) e = no-value (sym e)
+
+module _ (o : Outcome (List Piece)) {j : Judged} (said : judgedSaid j ≡ tested o) where
+  pub turned-down : {r : Refusal} → j ≡ Refused r → o ≡ refused r
+  turned-down e = tested-refused o (sym (ap judgedSaid e) ∙ said)
+
+  pub accepted : j ≡ Stands → Accepted o
+  accepted e = tested-good o (sym (ap judgedSaid e) ∙ said)

@@ -1,0 +1,62 @@
+-- Only inner contracts need this: a build lays pieces into a cleared image, one behind the other. Which pieces they are, and what then stands in the
+-- stream.
+use mathlib.Core.Path.{_≡_}
+use mathlib.Core.Bool.{Bool}
+use mathlib.Core.List.{List, [], _∷_, _++_, map}
+use Prim.Native.Nat.{ℕ, _+_, _*_, _^_, _≤_, _<_}
+use lib.Dec.{ltb}
+use lib.IntN.{ℤ}
+use Rattle.refusal.specs.Outcome.{Outcome, good, refused, _>>_, refuse_if_}
+use Rattle.refusal.specs.Rows.{tooLong}
+use Rattle.memory.specs.declared.Sizes.{Sizes}
+use Rattle.memory.specs.Bits.{Bytes}
+use Rattle.memory.specs.Image.{streamBits, streamNumber, imageOf}
+use Rattle.memory.specs.Answers.{Whole}
+use Rattle.memory.specs.Pieces.{Piece, piece, pack, needed}
+use Rattle.fields.specs.declared.Codes.{Codes}
+use Rattle.fields.specs.declared.Template.{Template}
+use Rattle.fields.specs.Calibration.{calPoint, calDeviation}
+use Rattle.layout.specs.Pieces.{endCode}
+use Rattle.build.specs.declared.plan.CodedField.{CodedField}
+use Rattle.build.specs.Build.{pairsLent, tablePieces}
+use Rattle.build.specs.Tested.{piecesOf, codedFields}
+
+-- ---- what stands in the stream
+
+-- An image whose stream has nothing from a bit on.
+pub record Free (z : Sizes) (image : List ℕ) (at : ℕ) : Type 0 where
+  pub whole : Whole z image
+  pub bytes : Bytes image
+  pub below : streamNumber z image < 2 ^ at
+
+-- From that bit on there is room for pieces.
+pub record Room (z : Sizes) (image : List ℕ) (at : ℕ) (pieces : List Piece) : Type 0 where
+  pub free : Free z image at
+  pub inside : at + needed pieces ≤ streamBits z
+
+-- Pieces laid there; `next` is the bit behind them.
+pub record Filled (z : Sizes) (before : List ℕ) (at : ℕ) (pieces : List Piece) (after : List ℕ) (next : ℕ) : Type 0 where
+  pub free : Free z after next
+  pub stream : streamNumber z after ≡ pack pieces * 2 ^ at + streamNumber z before
+  pub moved : next ≡ at + needed pieces
+
+-- ---- which pieces
+
+-- A pair that has its codes.
+abbrev pub codedPair : Outcome Codes → List Piece
+codedPair (good codes) = piece (calPoint .width) (codes .point) ∷ piece (calDeviation .width) (codes .deviation) ∷ []
+codedPair (refused r) = []
+
+abbrev pub codedEnding : Bool → List ℕ → List Piece
+codedEnding endBit text = piece 2 3 ∷ piece 1 (endCode endBit) ∷ map (piece 7) text
+
+-- All of a sheet.
+abbrev pub codedSheet : Template → List CodedField → Bool → List ℕ → List ℤ → List Piece
+codedSheet template fields endBit text points =
+    codedFields template fields ++ (piecesOf (tablePieces (pairsLent points)) ++ codedEnding endBit text)
+
+-- Their image, where the stream has the bits that they need.
+unfoldable pub fitted : Sizes → List Piece → Outcome (List ℕ)
+fitted z pieces = do
+  refuse tooLong (needed pieces) if ltb (streamBits z) (needed pieces)
+  good (imageOf z (pack pieces))

@@ -1,0 +1,20 @@
+// Document 01: build an image from a sheet, a text and calibration points. `build` asks nothing of its caller, and a refusal
+// writes to no buffer.
+mod building; // building.rt: an image from a sheet
+mod plan; // plan.rt: what a build tests before it writes
+mod write; // write.rt: what a build writes
+
+pub use building::build;
+use fields::Value;
+
+// A field's value in the sheet record: a struct's array holds no enum, but it holds structs that do.
+pub struct Slot {
+    pub value: Value,
+}
+
+// The sheet record: the values of the fields, with room for as many as any template has, and the end bit. The text of the
+// ending is lent beside it.
+pub struct Sheet {
+    pub fields: [Slot; 21],
+    pub end_bit: bool,
+}

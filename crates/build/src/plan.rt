@@ -1,0 +1,211 @@
+// What a build tests before it writes: the fields, the ending, and the points.
+use crate::Sheet;
+use fields::Codes;
+use fields::Encoded;
+use fields::Judged;
+use fields::Layout;
+use fields::Previous;
+use fields::Row;
+use fields::Template;
+use fields::Value;
+use refusal::Refusal;
+ghost use mathlib.Core.Path.{_≡_};
+ghost use mathlib.Core.Bool.{_||_};
+ghost use mathlib.Core.Option.{none};
+ghost use Prim.Native.Nat.{_*_, _+_, _%_, _<_, _≤_};
+ghost use lib.Dec.{eqb, ltb};
+ghost use lib.ListN.{length};
+ghost use Rattle.refusal.specs.Outcome.{refuse_if_};
+ghost use Rattle.refusal.specs.Rows.{outOfRange};
+ghost use Rattle.fields.specs.Lines.{chose, lineOf, lastField, ending};
+ghost use Rattle.fields.specs.Answers.{judgedSaid, previousSaid};
+ghost use Rattle.fields.specs.Stored.{Sound};
+ghost use Rattle.build.specs.Build.{templateIn, unfit, endingPieces, pairsLent, pairCodes, tablePieces};
+ghost use Rattle.build.specs.Tested.{tested, pairAt, codesSaid, Encodes, FieldsPlanned};
+
+// A field that is to be written: its bits and its code.
+pub struct CodedField {
+    pub width: u64,
+    pub code: u64,
+}
+
+// The fields of a sheet, and the bits that they need with their block, where nothing is refused.
+pub struct Plan {
+    pub answer: Judged,
+    pub fields: [CodedField; 21],
+    pub bits: u64,
+}
+
+// The codes of a pair, or 10.
+pub enum PairAnswer {
+    Are(Codes),
+    Refused(Refusal),
+}
+
+// The template of the first block.
+pub fn template_in(sheet: Sheet) -> Template
+    ensures { λ r. ⌜ r ≡ templateIn sheet ⌝ }
+{
+    Template::Bridge
+}
+
+// The code of a value, which fits the row's bits: a Single that is lent has 32.
+fn code_of(row: Row, place: u64, value: Value) -> Encoded
+    requires { ⌜ Sound row ⌝ }
+    ensures { λ r. ⌜ Encodes row place value r ⌝ }
+{
+    match value {
+        Value::Whole(figure) => fields::encode(row, place, Value::Whole(figure)),
+        Value::Single(x) => fields::encode(row, place, Value::Single(x)),
+        Value::Missing => fields::encode(row, place, Value::Missing),
+    }
+}
+
+// The latest choice behind a field.
+fn choice_behind(template: Template, field: u64, code: u64, latest: u64) -> u64
+    requires { ⌜ (1 ≤ field) × (field ≤ lastField template) ⌝ }
+    ensures { λ r. ⌜ r ≡ chose (lineOf template field .sets) code latest ⌝ }
+{
+    if fields::is_choice(template, field) {
+        return code;
+    }
+    latest
+}
+
+// 9 or 10, field by field, each by the latest choice before it.
+pub fn plan_fields(sheet: Sheet) -> Plan
+    ensures { λ r. ⌜ FieldsPlanned sheet r ⌝ }
+{
+    let template = template_in(sheet);
+    let last = fields::last_field(template) as usize;
+    let mut fields = [CodedField { width: 1, code: 0 }; 21];
+    let mut precision: u64 = 0;
+    let mut bits: u64 = 10;
+    let mut i: usize = 0;
+    while i < last {
+        let field = i as u64 + 1;
+        let slot = sheet.fields[i];
+        let value = slot.value;
+        let layout = Layout {
+            template,
+            precision,
+        };
+        let row = fields::row_of(layout, field);
+        match code_of(row, field, value) {
+            Encoded::Refused(r) => {
+                return Plan {
+                    answer: Judged::Refused(r),
+                    fields,
+                    bits,
+                };
+            }
+            Encoded::Code(code) => {
+                fields[i] = CodedField {
+                    width: row.width,
+                    code,
+                };
+                precision = choice_behind(template, field, code, precision);
+            }
+        }
+        bits += row.width;
+        i += 1;
+    }
+    Plan {
+        answer: Judged::Stands,
+        fields,
+        bits,
+    }
+}
+
+// 10 for a character 0 or above 127.
+fn check_characters(field: u64, text: &[u8]) -> Judged
+    ensures { λ r. ⌜ judgedSaid r ≡ (refuse (outOfRange field) if unfit (now (text .entry))) ⌝ }
+{
+    let mut i: usize = 0;
+    while i < text.len() {
+        let c = text[i];
+        if c == 0 {
+            return Judged::Refused(refusal::out_of_range(field));
+        }
+        if 127 < c {
+            return Judged::Refused(refusal::out_of_range(field));
+        }
+        i += 1;
+    }
+    Judged::Stands
+}
+
+// The ending: 9 for text with end bit 0, then 10 for a character.
+pub fn check_ending(template: Template, end_bit: bool, text: &[u8]) -> Judged
+    ensures { λ r. ⌜ judgedSaid r ≡ tested (endingPieces (ending template) «end_bit» (now (text .entry))) ⌝ }
+{
+    let field = fields::last_field(template) + 1;
+    if end_bit {
+        return check_characters(field, text);
+    }
+    if 0 < text.len() {
+        return Judged::Refused(refusal::wrong_sort(field));
+    }
+    Judged::Stands
+}
+
+// The codes of pair i: 10 for the point, 10 for its deviation.
+pub fn code_pair(points: &[i64], i: usize) -> PairAnswer
+    requires { ⌜ 2 * i + 1 < length (now points) ⌝ }
+    ensures { λ r. ⌜ codesSaid r ≡ pairCodes none i (pairAt (now (points .entry)) i) ⌝ }
+{
+    let at = 2 * i;
+    let place = i as u64;
+    match fields::encode_point(place, points[at]) {
+        Encoded::Refused(r) => PairAnswer::Refused(r),
+        Encoded::Code(point) => match fields::encode_deviation(place, points[at + 1]) {
+            Encoded::Refused(r) => PairAnswer::Refused(r),
+            Encoded::Code(deviation) => PairAnswer::Are(Codes { point, deviation }),
+        },
+    }
+}
+
+// The same, then 7 where it does not rise behind the pair before it.
+fn check_pair(before: Previous, points: &[i64], i: usize) -> PairAnswer
+    requires { ⌜ 2 * i + 1 < length (now points) ⌝ }
+    ensures { λ r. ⌜ codesSaid r ≡ pairCodes (previousSaid before) i (pairAt (now (points .entry)) i) ⌝ }
+{
+    match code_pair(points, i) {
+        PairAnswer::Refused(r) => PairAnswer::Refused(r),
+        PairAnswer::Are(codes) => match fields::follows(before, i as u64, codes) {
+            Judged::Refused(r) => PairAnswer::Refused(r),
+            Judged::Stands => PairAnswer::Are(codes),
+        },
+    }
+}
+
+// 10 and 7, pair by pair.
+pub fn check_points(points: &[i64]) -> Judged
+    ensures { λ r. ⌜ judgedSaid r ≡ tested (tablePieces (pairsLent (now (points .entry)))) ⌝ }
+{
+    let n = points.len() / 2;
+    let mut before = Previous::Nothing;
+    let mut i: usize = 0;
+    while i < n {
+        match check_pair(before, points, i) {
+            PairAnswer::Refused(r) => {
+                return Judged::Refused(r);
+            }
+            PairAnswer::Are(codes) => {
+                before = Previous::Pair(codes);
+            }
+        }
+        i += 1;
+    }
+    Judged::Stands
+}
+
+// Whether a points list is odd or over 254 long.
+pub fn is_wrong_list(n: usize) -> bool
+    ensures { λ r. ⌜ r ≡ (eqb (n % 2) 1 || ltb 254 n) ⌝ }
+{
+    if n % 2 == 1 {
+        return true;
+    }
+    254 < n
+}

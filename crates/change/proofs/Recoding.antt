@@ -1,0 +1,168 @@
+-- A change by its parts, and what the changed image holds.
+use mathlib.Core.Path.{_≡_, refl, sym, ap, ap₂, _∙_, subst, subst₂}
+use mathlib.Core.Bool.{Bool, true, false, _||_}
+use mathlib.Core.List.{List}
+use Prim.Native.Nat.{ℕ, _+_, _-_, _^_, _≤_, _<_}
+use native.Mathlib.Omega.{arith}
+use lib.Dec.{eqb, ltb}
+use lib.ListN.{length, getD}
+use borrow.Author.Tests.{eqb-false, ltb-false, ne-eqb, le-ltb}
+use Rattle.refusal.specs.declared.Refusal.{Refusal}
+use Rattle.refusal.specs.Outcome.{Outcome, good, refused, _>>_, _>>=_, refuse_if_}
+use Rattle.refusal.specs.Rows.{noSuch, changedAlone}
+use Rattle.refusal.proofs.Outcomes.{good-same, good-bind, passed, neither}
+use Rattle.memory.specs.declared.Sizes.{Sizes}
+use Rattle.memory.specs.Bits.{Bytes, fieldAt, putAt}
+use Rattle.memory.specs.Image.{imageBytes, streamBits, imageSizes, streamNumber, imageOf}
+use Rattle.memory.proofs.FieldLaws.{put-lt, put-same}
+use Rattle.memory.proofs.Chips.{sizes-chip}
+use Rattle.memory.proofs.Streams.{stream-lt}
+use Rattle.memory.proofs.SumLaws.{sums-right, right-sums}
+use Rattle.memory.proofs.Images.{image-length, image-bytes, image-number-lt, image-sums, two-views}
+use Rattle.fields.specs.declared.Value.{Value}
+use Rattle.fields.specs.Rules.{decode, encode}
+use Rattle.fields.specs.Stored.{kept, Real, Sound}
+use Rattle.fields.specs.Lines.{chose, lineOf, rowOf}
+use Rattle.fields.proofs.RowLaws.{row-sound}
+use Rattle.fields.proofs.StoredLaws.{reads-back, stored-again}
+use Rattle.layout.specs.Contents.{Found, Contents}
+use Rattle.layout.specs.Image.{streamIn, contents, field, layoutOf}
+use Rattle.layout.specs.Places.{fieldPlace}
+use Rattle.layout.proofs.Fields.{recoded, row-is, at-is, width-is, Keeps}
+use Rattle.layout.proofs.Places.{fields-count}
+use Rattle.layout.proofs.Accepted.{Holding, Accepted, contents-accepted, accepted-contents, accepted-at}
+use Rattle.layout.proofs.Puts.{withField, holding-put}
+use Rattle.layout.proofs.Standing.{Stands, field-stands}
+use Rattle.change.specs.Change.{changeable, codeFor, recodedIn, rewritten, change}
+
+-- ---- by its parts
+
+-- A field that may be changed.
+pub record Changeable (c : Contents) (f : ℕ) : Type 0 where
+  pub least : 1 ≤ f
+  pub most : f ≤ length (c .fields)
+  pub free : lineOf (c .template) f .sets ≡ false
+
+pub changeable-is : (c : Contents) (f : ℕ) (x : Found) → changeable c f ≡ good x → Changeable c f × (field c f ≡ x)
+unfolding changeable
+changeable-is c f x e =
+    let (y, n, g) = good-bind _ (λ y. (refuse changedAlone f if lineOf (c .template) f .sets) >> good y) x e in
+    let (t, k) = passed (noSuch f) (eqb f 0 || ltb (length (c .fields)) f) (good (field c f)) y n in
+    let (s, m) = passed (changedAlone f) (lineOf (c .template) f .sets) (good y) x g in
+    let (a, b) = neither (eqb f 0) (ltb (length (c .fields)) f) t in
+    let z : f ≡ 0 → ⊥ = eqb-false f 0 a in
+    (record { least = omega arith; most = ltb-false (length (c .fields)) f b; free = s }, good-same k ∙ good-same m)
+
+pub changeable-good : (c : Contents) (f : ℕ) → Changeable c f → changeable c f ≡ good (field c f)
+unfolding changeable
+changeable-good c f h = rw (ne-eqb f 0 (λ z. omega (arith, h .least)), le-ltb (length (c .fields)) f (h .most), h .free)
+
+-- A code that was found for a value.
+pub code-found : (c : Contents) (f : ℕ) (v : Value) (code : ℕ) → codeFor c f v ≡ good code → Changeable c f × (encode (field c f .row) f v ≡ good code)
+unfolding codeFor
+code-found c f v code e =
+    let (x, a, b) = good-bind (changeable c f) (λ x. encode (x .row) f v) code e in
+    let (h, same) = changeable-is c f x a in
+    (h, ap (λ y. encode (y .row) f v) same ∙ b)
+
+-- A change of what a check does not accept, and of what it does.
+pub change-unread : (kind : ℕ) (image : List ℕ) (f : ℕ) (v : Value) (r : Refusal) → contents kind image ≡ refused r → change kind image f v ≡ refused r
+unfolding change
+change-unread kind image f v r e = rw e
+
+pub change-is : (kind : ℕ) (image : List ℕ) (c : Contents) (z : Sizes) → contents kind image ≡ good c → imageSizes kind (length image) ≡ good z → (f : ℕ) (v : Value) →
+    change kind image f v ≡ (codeFor c f v >>= λ code. good (recodedIn z image (field c f) code))
+unfolding change rewritten
+change-is kind image c z e hz f v = simp (e, hz)
+
+-- ---- an accepted change
+
+-- What it was made of: the sheet that the image held, and the code that the value is stored at.
+pub record Made (kind : ℕ) (image : List ℕ) (f : ℕ) (v : Value) (after : List ℕ) : Type 0 where
+  pub held : Contents
+  pub sizes : Sizes
+  pub accepted : contents kind image ≡ good held
+  pub sized : imageSizes kind (length image) ≡ good sizes
+  pub code : ℕ
+  pub coded : codeFor held f v ≡ good code
+  pub is : after ≡ recodedIn sizes image (field held f) code
+
+module _ (kind : ℕ) (image : List ℕ) (f : ℕ) (v : Value) (after : List ℕ) (made : change kind image f v ≡ good after) where
+  pub change-made : Made kind image f v after
+  unfolding change
+  change-made =
+      let (c, e, g) = good-bind (contents kind image) _ after made in
+      let a = contents-accepted kind image c e in
+      let (code, coded, k) = good-bind (codeFor c f v) (λ code. good (recodedIn (a .sizes) image (field c f) code)) after
+      (sym (change-is kind image c (a .sizes) e (a .sized) f v) ∙ made) in
+      record { held = c; sizes = a .sizes; accepted = e; sized = a .sized; code = code; coded = coded; is = sym (good-same k) }
+
+  -- It has the bytes of an image, as many as before.
+  pub made-length : length after ≡ length image
+  made-length =
+      let m = change-made in
+      ap length (m .is) ∙ image-length (m .sizes) _ ∙ sym (sizes-chip kind (length image) (m .sizes) (m .sized) .long)
+
+  pub made-bytes : Bytes after
+  made-bytes = let m = change-made in subst Bytes (sym (m .is)) (image-bytes (m .sizes) _)
+
+-- ---- what the changed image holds
+
+module _ (kind : ℕ) (image : List ℕ) (c : Contents) (z : Sizes) (bytes : Bytes image) (e : contents kind image ≡ good c)
+    (hz : imageSizes kind (length image) ≡ good z) (f : ℕ) (h : Changeable c f) where
+  abbrev x : Found
+  x = field c f
+
+  holding : Holding (streamIn z image) c
+  holding = accepted-at kind image c z e hz .1
+
+  stands : Stands (streamIn z image) (rowOf (layoutOf c) f) (fieldPlace (layoutOf c) f) x
+  stands = field-stands holding f (h .least) (omega (arith, h .most, fields-count (holding .formed)))
+
+  pub field-sound : Sound (x .row)
+  field-sound = subst Sound (sym (row-is (stands .field))) (row-sound (layoutOf c) f (h .least) (omega (arith, h .most, fields-count (holding .formed))))
+
+  pub field-inside : x .at + x .row .width ≤ streamBits z
+  field-inside = omega (arith, stands .inside, at-is (stands .field), width-is (stands .field))
+
+  whole : length image ≡ imageBytes z
+  whole = sizes-chip kind (length image) z hz .long
+
+  -- The field at a code that may stand there, all else as it was.
+  pub recoded-contents : (code : ℕ) (v : Value) → code < 2 ^ x .row .width → decode (x .row) (x .at) code ≡ good v →
+      contents kind (recodedIn z image x code) ≡ good (withField c (f - 1) (recoded x code v))
+  recoded-contents code v fits means =
+      let N : ℕ = streamNumber z image in
+      let M : ℕ = putAt N (x .at) (x .row .width) code in
+      let keeps : Keeps (lineOf (c .template) f) code (x .code) = λ latest.
+      ap (λ (t : Bool). chose t code latest) (h .free) ∙ sym (ap (λ (t : Bool). chose t (x .code) latest) (h .free)) in
+      let p = holding-put (streamIn z image) c holding (f - 1) (omega (arith, h .least, h .most)) code v keeps fits means in
+      let lt : M < 2 ^ streamBits z = put-lt N (x .at) (x .row .width) code fits (streamBits z) (stream-lt z image whole bytes) field-inside in
+      accepted-contents kind (imageOf z M) _ (record {
+        sizes = z;
+        sized = ap (imageSizes kind) (image-length z M ∙ sym whole) ∙ hz;
+        summed = right-sums z (imageOf z M) (image-sums z M);
+        holding = subst (λ (n : ℕ). Holding (record { bits = streamBits z; number = n }) (withField c (f - 1) (recoded x code v))) (sym (image-number-lt z M lt)) p;
+      })
+
+  -- So is a value that was stored, at what its rule keeps of it.
+  pub stored-contents : (v : Value) → Real v → (code : ℕ) → encode (x .row) f v ≡ good code →
+      contents kind (recodedIn z image x code) ≡ good (withField c (f - 1) (recoded x code (kept (x .row) v)))
+  stored-contents v real code stored =
+      let back = reads-back (x .row) f (x .at) code v field-sound real stored in
+      recoded-contents code (kept (x .row) v) (back .0) (back .1)
+
+  -- A field at the code that it has is the image as it was, and so is one at the value that it has.
+  pub same-code : recodedIn z image x (x .code) ≡ image
+  same-code =
+      let N : ℕ = streamNumber z image in
+      let code : fieldAt N (x .at) (x .row .width) ≡ x .code = ap₂ (λ (n w : ℕ). fieldAt N n w) (at-is (stands .field)) (width-is (stands .field)) ∙ stands .code in
+      ap (λ (k : ℕ). imageOf z (putAt N (x .at) (x .row .width) k)) (sym code) ∙ ap (imageOf z) (put-same N (x .at) (x .row .width))
+      ∙ two-views z image whole bytes (sums-right z image (accepted-at kind image c z e hz .0))
+
+  pub same-value : (code : ℕ) → encode (x .row) f (x .value) ≡ good code → recodedIn z image x code ≡ image
+  same-value code stored =
+      let a = stands .field in
+      let again = stored-again (x .row) f (x .at) (x .code) (x .value) field-sound (subst (λ (n : ℕ). x .code < 2 ^ n) (sym (width-is a)) (a .fits))
+      (ap₂ (λ r (n : ℕ). decode r n (x .code)) (row-is a) (at-is a) ∙ a .means) in
+      ap (recodedIn z image x) (good-same (sym stored ∙ again)) ∙ same-code

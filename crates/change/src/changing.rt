@@ -1,0 +1,77 @@
+// Document 01: change one field. Order: check, 8, 12, 9, 10.
+ghost use mathlib.Core.Path.{_≡_};
+ghost use Rattle.refusal.specs.Written.{writtenSaid, afterwards};
+ghost use Rattle.fields.specs.Answers.{encodedSaid};
+ghost use Rattle.change.specs.Change.{change as changeOf};
+ghost use Rattle.change.specs.Parts.{allowedIn, codeIn, allowedSaid};
+use fields::Encoded;
+use fields::Layout;
+use fields::Template;
+use fields::Value;
+use refusal::Refusal;
+use refusal::Written;
+use sheet::OpenedAnswer;
+
+// Whether a field may be changed alone.
+enum Allowed {
+    Free,
+    Refused(Refusal),
+}
+
+// 8 where the template has no such field, 12 for a field that sets the widths of others.
+fn may_change(template: Template, field: u64) -> Allowed
+    ensures { λ r. ⌜ allowedSaid r ≡ allowedIn template field ⌝ }
+{
+    if field < 1 {
+        return Allowed::Refused(refusal::no_such(field));
+    }
+    if fields::last_field(template) < field {
+        return Allowed::Refused(refusal::no_such(field));
+    }
+    if fields::is_choice(template, field) {
+        return Allowed::Refused(refusal::changed_alone(field));
+    }
+    Allowed::Free
+}
+
+// The code that a value is to be stored at in a field; or 8, 12, 9 where the field takes no value of this sort, 10 where it has
+// no code for it.
+fn code_for(layout: Layout, field: u64, value: Value) -> Encoded
+    ensures { λ r. ⌜ encodedSaid r ≡ codeIn layout field value ⌝ }
+{
+    let template = layout.template;
+    match may_change(template, field) {
+        Allowed::Refused(r) => Encoded::Refused(r),
+        Allowed::Free => fields::encode(fields::row_of(layout, field), field, value),
+    }
+}
+
+// Stores a value in a field, counted from 1, of an image: the field's bits and the check bytes of its pages are
+// rewritten, and no other bit. Or the check's refusal; 8 where the template has no such field; 12 for a field that sets the
+// widths of others; 9 where the field takes no value of this sort; 10 where it has no code for it. A refusal writes nothing.
+pub fn change(kind: u8, image: &mut [u8], field: u64, value: Value) -> Written
+    ensures { λ r. ⌜ (writtenSaid r (now (image .exit)) ≡ changeOf kind (now (image .entry)) field value)
+        × (now (image .exit) ≡ afterwards (now (image .entry)) (changeOf kind (now (image .entry)) field value)) ⌝ }
+{
+    match sheet::open(kind, image) {
+        OpenedAnswer::Refused(r) => Written::Refused(r),
+        OpenedAnswer::Sheet(opened) => {
+            let layout = opened.layout;
+            match code_for(layout, field, value) {
+                Encoded::Refused(r) => Written::Refused(r),
+                Encoded::Code(code) => {
+                    let sizes = opened.sizes;
+                    let row = fields::row_of(layout, field);
+                    memory::rewrite(
+                        sizes,
+                        image,
+                        sheet::locate(layout, field),
+                        row.width as usize,
+                        code,
+                    );
+                    Written::Done
+                }
+            }
+        }
+    }
+}

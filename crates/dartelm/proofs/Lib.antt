@@ -1,0 +1,5 @@
+pub mod Filling
+pub mod Telling
+pub mod Padding
+pub mod SheetReads
+pub mod Handing

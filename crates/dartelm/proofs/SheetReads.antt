@@ -1,0 +1,68 @@
+-- The field reads of an accepted image give what its check found.
+-- Assumes nothing.
+use mathlib.Core.Path.{_≡_, refl, sym, ap, _∙_}
+use mathlib.Core.List.{List, map}
+use Prim.Native.Nat.{ℕ, zero, suc, _+_, _-_, _≤_, _<_}
+use native.Mathlib.Omega.{arith}
+use lib.ListN.{length, getD, take, drop, set, length-map, List·getD-map}
+use lib.Seq.{drop-cons, take-length}
+use borrow.Author.Tests.{ne-eqb, le-ltb}
+use Rattle.refusal.specs.Outcome.{Outcome, good, refused}
+use Rattle.refusal.specs.declared.Refusal.{Refusal}
+use Rattle.layout.specs.Contents.{Contents}
+use Rattle.fields.specs.declared.Value.{Value}
+use Rattle.fields.specs.declared.Template.{Template}
+use Rattle.fields.specs.declared.Template.the-variants.{Bridge}
+use Rattle.fields.specs.Lines.{basic, template33, linesOf, lastField}
+use Rattle.sheet.specs.declared.Summary.{Summary}
+use Rattle.layout.specs.Image.{contents, nothing, field}
+use Rattle.sheet.specs.Check.{summary, readField}
+use Rattle.layout.specs.Pieces.{endCode}
+use Rattle.dartelm.specs.declared.values.DartelmValue.{DartelmValue}
+use Rattle.dartelm.specs.Values.{byFlags, noValue}
+use Rattle.dartelm.specs.Answers.{told}
+use Rattle.dartelm.specs.Sheets.{fieldReads, readFields, sheetAnswer, noFields}
+use Rattle.dartelm.specs.Found.{valueIn, foundFields}
+use Rattle.dartelm.proofs.Filling.{filled, filled-more, filled-whole}
+
+module _ (kind : ℕ) (image : List ℕ) (c : Contents) (e : contents kind image ≡ good c) where
+  field-read : (f : ℕ) → suc f ≤ length (c .fields) → readField kind image (suc f) ≡ good (field c (suc f) .value)
+  unfolding readField
+  field-read f h = rw (e, ne-eqb (suc f) 0 (λ z. omega arith), le-ltb (length (c .fields)) (suc f) h)
+
+  field-reads : (n f : ℕ) → f + n ≤ length (c .fields) → fieldReads kind image n (suc f) ≡ good (map valueIn (take n (drop f (c .fields))))
+  unfolding fieldReads
+  field-reads zero f h = refl
+  field-reads (suc n) f h =
+      let first : suc f - 1 ≡ f = omega arith in
+      rw (field-read f (omega arith), field-reads n (suc f) (omega arith), drop-cons (c .fields) f nothing (omega arith), first)
+
+  pub sheet-read : readFields kind image ≡ good (foundFields c)
+  unfolding readFields
+  sheet-read = rw (e, field-reads (length (c .fields)) 0 (omega arith), take-length (c .fields))
+
+pub sheet-refused : (kind : ℕ) (image : List ℕ) (r : Refusal) → contents kind image ≡ refused r → readFields kind image ≡ refused r
+unfolding readFields
+sheet-refused kind image r e = rw e
+
+-- ---- the fields of an opened sheet, one after the other
+
+-- The struct has room for the fields of every template.
+pub fields-listed : (t : Template) → lastField t ≡ 21
+unfolding linesOf basic template33
+fields-listed Bridge = refl
+
+module _ (c : Contents) (many : length (c .fields) ≡ 21) where
+  pub one-more : (i : ℕ) (array : List DartelmValue) (b : DartelmValue) (v : Value) → i < 21 → array ≡ filled byFlags 21 noValue (foundFields c .values) i
+      → v ≡ field c (i + 1) .value → b ≡ byFlags v → set array i b ≡ filled byFlags 21 noValue (foundFields c .values) (i + 1)
+  one-more i array b v h e f g =
+      let this : i + 1 - 1 ≡ i = omega arith in
+      let held : v ≡ getD (map valueIn (c .fields)) i (valueIn nothing) = rw this at f ∙ sym (List·getD-map valueIn (c .fields) i nothing) in
+      filled-more byFlags 21 noValue (map valueIn (c .fields)) i b (valueIn nothing) array h (rw length-map (omega arith)) e (g ∙ ap byFlags held)
+
+  pub all-told : (i : ℕ) (array : List DartelmValue) (s : Summary) → 21 ≤ i → array ≡ filled byFlags 21 noValue (foundFields c .values) i → s ≡ summary c
+      → record { number = 0; place = 0; bits = s .bits; points = s .points; characters = s .characters; «field_count» = 21; fields = record { values = array; «end_bit» = endCode (s .«end_bit») } }
+      ≡ told sheetAnswer noFields (good (foundFields c))
+  all-told i array s h e f =
+      let count : length (map valueIn (c .fields)) ≡ 21 = length-map (c .fields) valueIn ∙ many in
+      rw (f, filled-whole byFlags 21 noValue (map valueIn (c .fields)) i array (omega arith) e, count)

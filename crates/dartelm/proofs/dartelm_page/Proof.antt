@@ -1,0 +1,29 @@
+-- `dartelm_page` meets its contract.
+-- Assumes nothing.
+use borrow.Author.Needs.{needs}
+use mathlib.Core.Path.{ap}
+use native.Mathlib.Omega.{arith}
+use lib.ListN.{length}
+use Rattle.dartelm.proofs.Padding.{page-short, page-told}
+use Rattle.dartelm.proofs.dartelm_page.Statement.{statement}
+use Rattle.dartelm.proofs.dartelm_page.Tie as tie
+
+page-bytes-requires : tie.Need-page-bytes-requires
+page-bytes-requires c κs = search needs
+
+slice-aggregate-copy : tie.Need-slice-aggregate-copy
+slice-aggregate-copy c = search needs
+
+copy-requires : tie.Need-copy-requires
+copy-requires c κs =
+    let a = c .before .before .before .args in
+    omega (arith, ap length (c .before .page-bytes .ensures), page-short (a .kind) (a .image .now) (a .page))
+
+returns : tie.Need-returns
+returns c =
+    let a = c .before .before .before .before .before .args in
+    page-told (a .kind) (a .image .now) (a .page) _ _ _ (c .before .before .before .page-bytes .ensures) (c .before .copy .ensures .0) (c .before .copy .ensures .1)
+
+pub dartelm-page-spec : {M : Type 1} → statement M
+dartelm-page-spec =
+    tie.close (tie.spec page-bytes-requires slice-aggregate-copy copy-requires returns)

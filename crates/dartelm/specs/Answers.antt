@@ -1,0 +1,76 @@
+-- include/dartelm.h: the struct that a call answers, from its outcome. Each struct is made of a number, a place and the call's values.
+use mathlib.Core.Bool.{false}
+use mathlib.Core.List.{List, [], _++_, map}
+use Prim.Native.Nat.{ℕ, _-_}
+use lib.IntN.{pos}
+use lib.Ieee.{binary64}
+use lib.ListN.{length, replicate}
+use Rattle.refusal.specs.Outcome.{Outcome, good, refused}
+use Rattle.fields.specs.declared.Value.{Value}
+use Rattle.fields.specs.declared.Value.the-variants.{Whole}
+use Rattle.sheet.specs.declared.Summary.{Summary}
+use Rattle.fields.specs.declared.Pair.{Pair}
+use Rattle.layout.specs.Pieces.{endCode}
+use Rattle.reading.specs.declared.Reading.{Reading}
+use Rattle.dartelm.specs.declared.answers.DartelmCheckAnswer.{DartelmCheckAnswer}
+use Rattle.dartelm.specs.declared.answers.DartelmFieldAnswer.{DartelmFieldAnswer}
+use Rattle.dartelm.specs.declared.answers.DartelmSheetAnswer.{DartelmSheetAnswer}
+use Rattle.dartelm.specs.declared.answers.DartelmPairAnswer.{DartelmPairAnswer}
+use Rattle.dartelm.specs.declared.answers.DartelmCharacterAnswer.{DartelmCharacterAnswer}
+use Rattle.dartelm.specs.declared.answers.DartelmWriteAnswer.{DartelmWriteAnswer}
+use Rattle.dartelm.specs.declared.answers.DartelmReadingAnswer.{DartelmReadingAnswer}
+use Rattle.dartelm.specs.declared.answers.DartelmTextAnswer.{DartelmTextAnswer}
+use Rattle.dartelm.specs.declared.answers.DartelmCodeAnswer.{DartelmCodeAnswer}
+use Rattle.dartelm.specs.declared.answers.DartelmPageAnswer.{DartelmPageAnswer}
+use Rattle.dartelm.specs.Values.{plusZero, byFlags}
+
+-- What is accepted is told with number 0 and place 0; a refusal with its number and place, and with zeros for values.
+abbrev pub told : {A S : Type 0} → (ℕ → ℕ → A → S) → A → Outcome A → S
+told answer zeros (good a) = answer 0 0 a
+told answer zeros (refused r) = answer (r .number) (r .place) zeros
+
+-- A list at the start of an array of n elements, with its zero in those behind.
+abbrev pub padded : {A : Type 0} → ℕ → A → List A → List A
+padded n zero list = list ++ replicate (n - length list) zero
+
+-- ---- the structs, and their zeros
+
+abbrev pub checkAnswer : ℕ → ℕ → Summary → DartelmCheckAnswer
+checkAnswer n p s =
+    record { number = n; place = p; bits = s .bits; points = s .points; characters = s .characters; «end_bit» = endCode (s .«end_bit») }
+
+abbrev pub noSummary : Summary
+noSummary = record { bits = 0; points = 0; «end_bit» = false; characters = 0 }
+
+abbrev pub fieldAnswer : ℕ → ℕ → Value → DartelmFieldAnswer
+fieldAnswer n p v = record { number = n; place = p; value = byFlags v }
+
+abbrev pub pairAnswer : ℕ → ℕ → Pair → DartelmPairAnswer
+pairAnswer n p pair = record { number = n; place = p; point = pair .point; deviation = pair .deviation }
+
+abbrev pub noPair : Pair
+noPair = record { point = pos 0; deviation = pos 0 }
+
+abbrev pub characterAnswer : ℕ → ℕ → ℕ → DartelmCharacterAnswer
+characterAnswer n p c = record { number = n; place = p; character = c }
+
+-- The bytes of an image that was written stand in the image.
+abbrev pub writeAnswer : ℕ → ℕ → List ℕ → DartelmWriteAnswer
+writeAnswer n p image = record { number = n; place = p }
+
+abbrev pub readingAnswer : ℕ → ℕ → Reading → DartelmReadingAnswer
+readingAnswer n p r = record { number = n; place = p; fraction = r .fraction; figure = r .figure }
+
+abbrev pub noReading : Reading
+noReading = record { fraction = pos 0; figure = plusZero binary64 }
+
+-- A text ends with a zero, as C's strings do: it has ten characters at most.
+abbrev pub textAnswer : ℕ → ℕ → List ℕ → DartelmTextAnswer
+textAnswer n p text = record { number = n; place = p; length = length text; characters = padded 11 0 text }
+
+abbrev pub codeAnswer : ℕ → ℕ → ℕ → DartelmCodeAnswer
+codeAnswer n p code = record { number = n; place = p; code = code }
+
+-- A page is never refused.
+abbrev pub pageAnswer : List ℕ → DartelmPageAnswer
+pageAnswer bytes = record { count = length bytes; bytes = padded 31 0 bytes }

@@ -1,0 +1,81 @@
+-- include/dartelm.h, call by call: which call of document 01 it is, and the struct that tells its outcome.
+use mathlib.Core.Bool.{Bool, true, false, cond}
+use mathlib.Core.List.{List, []}
+use Prim.Native.Nat.{ℕ}
+use lib.IntN.{ℤ, pos}
+use Rattle.refusal.specs.Outcome.{Outcome, good, refused}
+use Rattle.memory.specs.declared.Sizes.{Sizes}
+use Rattle.memory.specs.Image.{imageSizes, pageBytes}
+use Rattle.fields.specs.declared.Value.the-variants.{Whole}
+use Rattle.texts.specs.Text.{textOf, codeOf}
+use Rattle.sheet.specs.Check.{check, readField, readPair, readCharacter}
+use Rattle.build.specs.Build.{build}
+use Rattle.change.specs.Change.{change}
+use Rattle.reading.specs.Reading.{takeReading}
+use Rattle.dartelm.specs.declared.values.DartelmValue.{DartelmValue}
+use Rattle.dartelm.specs.declared.values.DartelmFields.{DartelmFields}
+use Rattle.dartelm.specs.declared.answers.DartelmCheckAnswer.{DartelmCheckAnswer}
+use Rattle.dartelm.specs.declared.answers.DartelmFieldAnswer.{DartelmFieldAnswer}
+use Rattle.dartelm.specs.declared.answers.DartelmPairAnswer.{DartelmPairAnswer}
+use Rattle.dartelm.specs.declared.answers.DartelmCharacterAnswer.{DartelmCharacterAnswer}
+use Rattle.dartelm.specs.declared.answers.DartelmReadingAnswer.{DartelmReadingAnswer}
+use Rattle.dartelm.specs.declared.answers.DartelmTextAnswer.{DartelmTextAnswer}
+use Rattle.dartelm.specs.declared.answers.DartelmCodeAnswer.{DartelmCodeAnswer}
+use Rattle.dartelm.specs.declared.answers.DartelmPageAnswer.{DartelmPageAnswer}
+use Rattle.dartelm.specs.Values.{valueOf, sheetOf}
+use Rattle.dartelm.specs.Answers.{told, checkAnswer, noSummary, fieldAnswer, pairAnswer, noPair, characterAnswer, readingAnswer, noReading, textAnswer, codeAnswer, pageAnswer}
+
+-- The number of this archive and its header.
+abbrev pub version : ℕ
+version = 1
+
+-- ---- kinds
+
+-- What stands for no kind: every call turns it down, as any other that is not 0 to 2.
+abbrev pub noKind : ℕ
+noKind = 255
+
+abbrev pub areSizes : Outcome Sizes → Bool
+areSizes (good z) = true
+areSizes (refused r) = false
+
+-- The kind of the images that have so many bytes.
+unfoldable pub kindOf : ℕ → ℕ
+kindOf bytes =
+    cond (areSizes (imageSizes 0 bytes)) 0 (cond (areSizes (imageSizes 1 bytes)) 1 (cond (areSizes (imageSizes 2 bytes)) 2 noKind))
+
+-- ---- check and read
+
+abbrev pub checkCall : ℕ → List ℕ → DartelmCheckAnswer
+checkCall kind image = told checkAnswer noSummary (check kind image)
+
+abbrev pub fieldCall : ℕ → List ℕ → ℕ → DartelmFieldAnswer
+fieldCall kind image field = told fieldAnswer (Whole (pos 0)) (readField kind image field)
+
+abbrev pub pairCall : ℕ → List ℕ → ℕ → DartelmPairAnswer
+pairCall kind image index = told pairAnswer noPair (readPair kind image index)
+
+abbrev pub characterCall : ℕ → List ℕ → ℕ → DartelmCharacterAnswer
+characterCall kind image index = told characterAnswer 0 (readCharacter kind image index)
+
+-- ---- build and change: the outcome, of which the answer and every byte of the image afterwards are told
+
+abbrev pub buildCall : ℕ → List ℕ → DartelmFields → List ℕ → List ℤ → Outcome (List ℕ)
+buildCall kind image fields text points = build kind image (sheetOf fields) text points
+
+abbrev pub changeCall : ℕ → List ℕ → ℕ → DartelmValue → Outcome (List ℕ)
+changeCall kind image field value = change kind image field (valueOf value)
+
+-- ---- a reading, texts, a page
+
+abbrev pub readingCall : ℕ → List ℕ → ℤ → DartelmReadingAnswer
+readingCall kind image input = told readingAnswer noReading (takeReading kind image input)
+
+abbrev pub textCall : ℕ → ℕ → DartelmTextAnswer
+textCall field code = told textAnswer [] (textOf field code)
+
+abbrev pub codeCall : ℕ → List ℕ → DartelmCodeAnswer
+codeCall field text = told codeAnswer 0 (codeOf field text)
+
+abbrev pub pageCall : ℕ → List ℕ → ℕ → DartelmPageAnswer
+pageCall kind image page = pageAnswer (pageBytes kind image page)

@@ -1,0 +1,58 @@
+-- include/dartelm.h, dartelm_sheet: all fields of an image. It is what a check gives, and the reads of its fields one by one, though the image is checked once.
+use mathlib.Core.List.{List, [], _∷_, map}
+use Prim.Native.Nat.{ℕ, zero, suc}
+use lib.ListN.{length}
+use Rattle.refusal.specs.Outcome.{Outcome, good, _>>=_}
+use Rattle.fields.specs.declared.Value.{Value}
+use Rattle.sheet.specs.declared.Summary.{Summary}
+use Rattle.layout.specs.Image.{contents}
+use Rattle.sheet.specs.Check.{summary, readField}
+use Rattle.layout.specs.Pieces.{endCode}
+use Rattle.dartelm.specs.declared.values.DartelmFields.{DartelmFields}
+use Rattle.dartelm.specs.declared.answers.DartelmSheetAnswer.{DartelmSheetAnswer}
+use Rattle.dartelm.specs.Values.{byFlags, noValue}
+use Rattle.dartelm.specs.Answers.{told, padded, noSummary}
+
+-- What a check gives, and the values of all fields.
+pub record AllFields : Type 0 where
+  pub summary : Summary
+  pub values : List Value
+
+-- The reads of n fields from field f on.
+unfoldable pub fieldReads : ℕ → List ℕ → ℕ → ℕ → Outcome (List Value)
+fieldReads kind image zero f = good []
+fieldReads kind image (suc n) f = do
+  value ← readField kind image f
+  rest ← fieldReads kind image n (suc f)
+  good (value ∷ rest)
+
+-- The reads of all fields: the template says how many there are.
+unfoldable pub readFields : ℕ → List ℕ → Outcome AllFields
+readFields kind image = do
+  c ← contents kind image
+  values ← fieldReads kind image (length (c .fields)) 1
+  good (record { summary = summary c; values = values })
+
+-- ---- the struct
+
+-- Field f stands at index f − 1.
+abbrev pub fieldsTold : AllFields → DartelmFields
+fieldsTold s = record { values = padded 21 noValue (map byFlags (s .values)); «end_bit» = endCode (s .summary .«end_bit») }
+
+abbrev pub sheetAnswer : ℕ → ℕ → AllFields → DartelmSheetAnswer
+sheetAnswer n p s =
+    record {
+      number = n;
+      place = p;
+      bits = s .summary .bits;
+      points = s .summary .points;
+      characters = s .summary .characters;
+      «field_count» = length (s .values);
+      fields = fieldsTold s;
+    }
+
+abbrev pub noFields : AllFields
+noFields = record { summary = noSummary; values = [] }
+
+abbrev pub sheetCall : ℕ → List ℕ → DartelmSheetAnswer
+sheetCall kind image = told sheetAnswer noFields (readFields kind image)

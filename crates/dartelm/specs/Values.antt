@@ -1,0 +1,42 @@
+-- include/dartelm.h: a field's value by two flags, and the sheet record that a build is handed. A flag is yes where it is not 0, so every byte handed in means something.
+use mathlib.Core.Bool.{Bool, not, cond}
+use mathlib.Core.List.{map}
+use Prim.Native.Nat.{ℕ}
+use lib.Dec.{eqb}
+use lib.IntN.{pos}
+use lib.Ieee.{Float, Format, binary32, ofBits}
+use Rattle.fields.specs.declared.Value.{Value}
+use Rattle.fields.specs.declared.Value.the-variants.{Whole, Single, Missing}
+use Rattle.build.specs.declared.Slot.{Slot}
+use Rattle.build.specs.declared.Sheet.{Sheet}
+use Rattle.build.specs.Build.{slot}
+use Rattle.dartelm.specs.declared.values.DartelmValue.{DartelmValue}
+use Rattle.dartelm.specs.declared.values.DartelmFields.{DartelmFields}
+
+abbrev pub yes : ℕ → Bool
+yes flag = not (eqb flag 0)
+
+-- The value handed in: missing where that flag is yes, else a Single where that one is, else a whole number.
+abbrev pub valueOf : DartelmValue → Value
+valueOf v = cond (yes (v .«is_missing»)) Missing (cond (yes (v .«is_single»)) (Single (v .single)) (Whole (v .whole)))
+
+-- The float of a format whose bits are 0: +0.0.
+abbrev pub plusZero : Format → Float
+plusZero format = ofBits format 0
+
+-- The value told, with 0 in what it does not say.
+abbrev pub byFlags : Value → DartelmValue
+byFlags (Whole z) = record { whole = z; single = plusZero binary32; «is_single» = 0; «is_missing» = 0 }
+byFlags (Single x) = record { whole = pos 0; single = x; «is_single» = 1; «is_missing» = 0 }
+byFlags Missing = record { whole = pos 0; single = plusZero binary32; «is_single» = 0; «is_missing» = 1 }
+
+-- Zeros, where no value is told: as the whole number 0.
+abbrev pub noValue : DartelmValue
+noValue = byFlags (Whole (pos 0))
+
+-- The sheet record handed in.
+abbrev pub slotOf : DartelmValue → Slot
+slotOf v = slot (valueOf v)
+
+abbrev pub sheetOf : DartelmFields → Sheet
+sheetOf f = record { fields = map slotOf (f .values); «end_bit» = yes (f .«end_bit») }

@@ -1,0 +1,93 @@
+// What a call answers: its number, 0 where it is accepted, its place, and its values. Where it is refused the values are 0;
+// where it is accepted the place is.
+use crate::values::DartelmFields;
+use crate::values::DartelmValue;
+
+// An image that was checked: the bits up to the end (a zero that ends the text counted), the calibration points, the end
+// bit and the characters of the closing text.
+#[repr(C)]
+pub struct DartelmCheckAnswer {
+    pub number: u8,
+    pub place: u64,
+    pub bits: u64,
+    pub points: u64,
+    pub characters: u64,
+    pub end_bit: u8,
+}
+
+// A field's value.
+#[repr(C)]
+pub struct DartelmFieldAnswer {
+    pub number: u8,
+    pub place: u64,
+    pub value: DartelmValue,
+}
+
+// All that a check gives, and the values of all fields.
+#[repr(C)]
+pub struct DartelmSheetAnswer {
+    pub number: u8,
+    pub place: u64,
+    pub bits: u64,
+    pub points: u64,
+    pub characters: u64,
+    pub field_count: u64,
+    pub fields: DartelmFields,
+}
+
+// A calibration point and its deviation, in billionths of the span.
+#[repr(C)]
+pub struct DartelmPairAnswer {
+    pub number: u8,
+    pub place: u64,
+    pub point: i64,
+    pub deviation: i64,
+}
+
+// A character of the closing text.
+#[repr(C)]
+pub struct DartelmCharacterAnswer {
+    pub number: u8,
+    pub place: u64,
+    pub character: u8,
+}
+
+// An image that was built or changed.
+#[repr(C)]
+pub struct DartelmWriteAnswer {
+    pub number: u8,
+    pub place: u64,
+}
+
+// A reading: the fraction q in billionths of the span, and the physical figure.
+#[repr(C)]
+pub struct DartelmReadingAnswer {
+    pub number: u8,
+    pub place: u64,
+    pub fraction: i64,
+    pub figure: f64,
+}
+
+// The text of a code: how many characters, and them, with zeros behind.
+#[repr(C)]
+pub struct DartelmTextAnswer {
+    pub number: u8,
+    pub place: u64,
+    pub length: u64,
+    pub characters: [u8; 11],
+}
+
+// The code of a text.
+#[repr(C)]
+pub struct DartelmCodeAnswer {
+    pub number: u8,
+    pub place: u64,
+    pub code: u64,
+}
+
+// A page's stream bytes, 31 of them or none, with zeros behind. This is never refused.
+#[repr(C)]
+pub struct DartelmPageAnswer {
+    pub count: u64,
+    pub bytes: [u8; 31],
+}

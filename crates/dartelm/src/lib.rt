@@ -1,0 +1,288 @@
+// Dartelm for firmware: the calls of `include/dartelm.h`. Every function is proved, nothing is assumed, and no call asks
+// anything of its caller. A call answers one struct by value; the only slices are what is lent: an image, a text, points.
+ghost use mathlib.Core.Path.{_≡_};
+ghost use mathlib.Core.List.{List, []};
+ghost use Prim.Native.Nat.{ℕ};
+ghost use Rattle.refusal.specs.Written.{writtenSaid, afterwards};
+ghost use Rattle.dartelm.specs.Answers.{told, writeAnswer};
+ghost use Rattle.dartelm.specs.Calls.{
+  version,
+  kindOf,
+  checkCall,
+  fieldCall,
+  pairCall,
+  characterCall,
+  buildCall,
+  changeCall,
+  readingCall,
+  textCall,
+  codeCall,
+  pageCall,
+};
+ghost use Rattle.dartelm.specs.Sheets.{sheetCall};
+
+mod answers; // answers.rt: the structs that calls answer
+mod sheets; // sheets.rt: all fields of an opened sheet
+mod values; // values.rt: a field's value by flags, and the values of a sheet
+
+use answers::DartelmCharacterAnswer;
+use answers::DartelmCheckAnswer;
+use answers::DartelmCodeAnswer;
+use answers::DartelmFieldAnswer;
+use answers::DartelmPageAnswer;
+use answers::DartelmPairAnswer;
+use answers::DartelmReadingAnswer;
+use answers::DartelmSheetAnswer;
+use answers::DartelmTextAnswer;
+use answers::DartelmWriteAnswer;
+use reading::ReadingAnswer;
+use refusal::Written;
+use sheet::CharacterAnswer;
+use sheet::Checked;
+use sheet::FieldAnswer;
+use sheet::OpenedAnswer;
+use sheet::PairAnswer;
+use texts::CodeAnswer;
+use texts::TextAnswer;
+use values::DartelmFields;
+use values::DartelmValue;
+
+// The number of this archive, which its header has too.
+#[no_mangle]
+pub extern "C" fn dartelm_version() -> u32
+    ensures { λ r. ⌜ r ≡ version ⌝ }
+{
+    1
+}
+
+// The kind of the images that have so many bytes: 0, 1 or 2; 255 where no kind has.
+#[no_mangle]
+pub extern "C" fn dartelm_kind_of(bytes: usize) -> u8
+    ensures { λ r. ⌜ r ≡ kindOf bytes ⌝ }
+{
+    match bytes {
+        40 => 0,
+        128 => 1,
+        512 => 2,
+        _ => 255,
+    }
+}
+
+// Checks an image.
+#[no_mangle]
+pub extern "C" fn dartelm_check(kind: u8, image: &[u8]) -> DartelmCheckAnswer
+    ensures { λ r. ⌜ r ≡ checkCall kind (now (image .entry)) ⌝ }
+{
+    match sheet::check(kind, image) {
+        Checked::Refused(r) => DartelmCheckAnswer {
+            number: r.number,
+            place: r.place,
+            bits: 0,
+            points: 0,
+            characters: 0,
+            end_bit: 0,
+        },
+        Checked::Accepted(summary) => DartelmCheckAnswer {
+            number: 0,
+            place: 0,
+            bits: summary.bits,
+            points: summary.points,
+            characters: summary.characters,
+            end_bit: summary.end_bit as u8,
+        },
+    }
+}
+
+// Reads field 1 to 21.
+#[no_mangle]
+pub extern "C" fn dartelm_field(kind: u8, image: &[u8], field: u64) -> DartelmFieldAnswer
+    ensures { λ r. ⌜ r ≡ fieldCall kind (now (image .entry)) field ⌝ }
+{
+    match sheet::read_field(kind, image, field) {
+        FieldAnswer::Refused(r) => DartelmFieldAnswer {
+            number: r.number,
+            place: r.place,
+            value: values::no_value(),
+        },
+        FieldAnswer::Holds(value) => DartelmFieldAnswer {
+            number: 0,
+            place: 0,
+            value: values::by_flags(value),
+        },
+    }
+}
+
+// Reads all fields, with one check.
+#[no_mangle]
+pub extern "C" fn dartelm_sheet(kind: u8, image: &[u8]) -> DartelmSheetAnswer
+    ensures { λ r. ⌜ r ≡ sheetCall kind (now (image .entry)) ⌝ }
+{
+    match sheet::open(kind, image) {
+        OpenedAnswer::Refused(r) => sheets::no_sheet(r),
+        OpenedAnswer::Sheet(opened) => sheets::sheet_in(opened, image),
+    }
+}
+
+// Reads a calibration point with its deviation, by index from 0.
+#[no_mangle]
+pub extern "C" fn dartelm_pair(kind: u8, image: &[u8], index: u64) -> DartelmPairAnswer
+    ensures { λ r. ⌜ r ≡ pairCall kind (now (image .entry)) index ⌝ }
+{
+    match sheet::read_pair(kind, image, index) {
+        PairAnswer::Refused(r) => DartelmPairAnswer {
+            number: r.number,
+            place: r.place,
+            point: 0,
+            deviation: 0,
+        },
+        PairAnswer::Holds(pair) => DartelmPairAnswer {
+            number: 0,
+            place: 0,
+            point: pair.point,
+            deviation: pair.deviation,
+        },
+    }
+}
+
+// Reads a character of the closing text, by index from 0.
+#[no_mangle]
+pub extern "C" fn dartelm_character(kind: u8, image: &[u8], index: u64) -> DartelmCharacterAnswer
+    ensures { λ r. ⌜ r ≡ characterCall kind (now (image .entry)) index ⌝ }
+{
+    match sheet::read_character(kind, image, index) {
+        CharacterAnswer::Refused(r) => DartelmCharacterAnswer {
+            number: r.number,
+            place: r.place,
+            character: 0,
+        },
+        CharacterAnswer::Holds(character) => DartelmCharacterAnswer {
+            number: 0,
+            place: 0,
+            character,
+        },
+    }
+}
+
+// What a build or a change answers.
+fn wrote(written: Written) -> DartelmWriteAnswer
+    ensures { λ r. ⌜ ((image : List ℕ) → r ≡ told writeAnswer [] (writtenSaid written image)) ⌝ }
+{
+    match written {
+        Written::Refused(r) => DartelmWriteAnswer {
+            number: r.number,
+            place: r.place,
+        },
+        Written::Done => DartelmWriteAnswer {
+            number: 0,
+            place: 0,
+        },
+    }
+}
+
+// Builds an image from a sheet, the closing text, and calibration points and deviations by turns.
+#[no_mangle]
+pub extern "C" fn dartelm_build(
+    kind: u8,
+    image: &mut [u8],
+    fields: DartelmFields,
+    text: &[u8],
+    points: &[i64],
+) -> DartelmWriteAnswer
+    ensures { λ r. ⌜ (let outcome = buildCall kind (now (image .entry)) fields (now (text .entry)) (now (points .entry)) in
+        (r ≡ told writeAnswer [] outcome) × (now (image .exit) ≡ afterwards (now (image .entry)) outcome)) ⌝ }
+{
+    wrote(build::build(kind, image, values::sheet_of(fields), text, points))
+}
+
+// Changes one field.
+#[no_mangle]
+pub extern "C" fn dartelm_change(
+    kind: u8,
+    image: &mut [u8],
+    field: u64,
+    value: DartelmValue,
+) -> DartelmWriteAnswer
+    ensures { λ r. ⌜ (let outcome = changeCall kind (now (image .entry)) field value in
+        (r ≡ told writeAnswer [] outcome) × (now (image .exit) ≡ afterwards (now (image .entry)) outcome)) ⌝ }
+{
+    wrote(change::change(kind, image, field, values::value_of(value)))
+}
+
+// Takes a reading at an input in nV/V.
+#[no_mangle]
+pub extern "C" fn dartelm_reading(kind: u8, image: &[u8], input: i64) -> DartelmReadingAnswer
+    ensures { λ r. ⌜ r ≡ readingCall kind (now (image .entry)) input ⌝ }
+{
+    match reading::take_reading(kind, image, input) {
+        ReadingAnswer::Refused(r) => DartelmReadingAnswer {
+            number: r.number,
+            place: r.place,
+            fraction: 0,
+            figure: 0.0,
+        },
+        ReadingAnswer::Shows(shown) => DartelmReadingAnswer {
+            number: 0,
+            place: 0,
+            fraction: shown.fraction,
+            figure: shown.figure,
+        },
+    }
+}
+
+// The text of a code of field 3, 18 or 19.
+#[no_mangle]
+pub extern "C" fn dartelm_text(field: u64, code: u64) -> DartelmTextAnswer
+    ensures { λ r. ⌜ r ≡ textCall field code ⌝ }
+{
+    let text = texts::text_of(field, code);
+    let answer = text.answer;
+    let shown = text.characters;
+    match answer {
+        TextAnswer::Refused(r) => DartelmTextAnswer {
+            number: r.number,
+            place: r.place,
+            length: 0,
+            characters: [0; 11],
+        },
+        TextAnswer::Length(length) => {
+            let mut characters = [0; 11];
+            bytes::copy(&shown, &mut characters);
+            DartelmTextAnswer {
+                number: 0,
+                place: 0,
+                length,
+                characters,
+            }
+        }
+    }
+}
+
+// The code of a text of field 3, 18 or 19.
+#[no_mangle]
+pub extern "C" fn dartelm_code(field: u64, text: &[u8]) -> DartelmCodeAnswer
+    ensures { λ r. ⌜ r ≡ codeCall field (now (text .entry)) ⌝ }
+{
+    match texts::code_of(field, text) {
+        CodeAnswer::Refused(r) => DartelmCodeAnswer {
+            number: r.number,
+            place: r.place,
+            code: 0,
+        },
+        CodeAnswer::Code(code) => DartelmCodeAnswer {
+            number: 0,
+            place: 0,
+            code,
+        },
+    }
+}
+
+// The 31 stream bytes of a page; none for a wrong kind, image length or page.
+#[no_mangle]
+pub extern "C" fn dartelm_page(kind: u8, image: &[u8], page: u64) -> DartelmPageAnswer
+    ensures { λ r. ⌜ r ≡ pageCall kind (now (image .entry)) page ⌝ }
+{
+    let part = memory::page_bytes(kind, image, page);
+    let mut bytes = [0; 31];
+    let count = bytes::copy(part, &mut bytes) as u64;
+    DartelmPageAnswer { count, bytes }
+}

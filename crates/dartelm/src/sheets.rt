@@ -1,0 +1,62 @@
+// All fields of an opened sheet.
+use crate::answers::DartelmSheetAnswer;
+use crate::values::DartelmFields;
+use crate::values::by_flags;
+use crate::values::no_value;
+use refusal::Refusal;
+use sheet::Opened;
+use sheet::value_in;
+ghost use mathlib.Core.Path.{_≡_};
+ghost use Prim.Native.Nat.{ℕ};
+ghost use Rattle.refusal.specs.Outcome.{good, refused};
+ghost use Rattle.layout.specs.Contents.{Contents};
+ghost use Rattle.sheet.specs.Opened.{Opens, Held};
+ghost use Rattle.dartelm.specs.Answers.{told};
+ghost use Rattle.dartelm.specs.Sheets.{sheetAnswer, noFields};
+ghost use Rattle.dartelm.specs.Found.{foundFields};
+
+// What a check gives, and the values of all fields, one after the other.
+pub fn sheet_in(sheet: Opened, image: &[u8]) -> DartelmSheetAnswer
+    requires { ⌜ Held sheet (now image) ⌝ }
+    ensures { λ r. ⌜ ((kind : ℕ) (c : Contents) → Opens kind (now (image .entry)) sheet c → r ≡ told sheetAnswer noFields (good (foundFields c))) ⌝ }
+{
+    let mut values = [no_value(); 21];
+    let mut at: usize = 0;
+    while at < 21 {
+        values[at] = by_flags(value_in(sheet, image, at as u64 + 1));
+        at += 1;
+    }
+    let summary = sheet.summary;
+    let fields = DartelmFields {
+        values,
+        end_bit: summary.end_bit as u8,
+    };
+    DartelmSheetAnswer {
+        number: 0,
+        place: 0,
+        bits: summary.bits,
+        points: summary.points,
+        characters: summary.characters,
+        field_count: 21,
+        fields,
+    }
+}
+
+// A refusal, and zeros.
+pub fn no_sheet(r: Refusal) -> DartelmSheetAnswer
+    ensures { λ s. ⌜ s ≡ told sheetAnswer noFields (refused r) ⌝ }
+{
+    let fields = DartelmFields {
+        values: [no_value(); 21],
+        end_bit: 0,
+    };
+    DartelmSheetAnswer {
+        number: r.number,
+        place: r.place,
+        bits: 0,
+        points: 0,
+        characters: 0,
+        field_count: 0,
+        fields,
+    }
+}

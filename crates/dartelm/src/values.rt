@@ -1,0 +1,96 @@
+// A field's value by two flags, and the values of a sheet: what C hands in and is handed. A flag is yes where it is not 0.
+ghost use mathlib.Core.Path.{_≡_};
+ghost use Rattle.dartelm.specs.Values.{valueOf, byFlags, noValue, sheetOf};
+use build::Sheet;
+use build::Slot;
+use fields::Value;
+
+// Missing where `is_missing` is yes, else a Single where `is_single` is, else a whole number. What is told has 0 in every
+// other member.
+#[repr(C)]
+pub struct DartelmValue {
+    pub whole: i64,
+    pub single: f32,
+    pub is_single: u8,
+    pub is_missing: u8,
+}
+
+// The values of fields 1 to 21, and field 22's end bit, a flag.
+#[repr(C)]
+pub struct DartelmFields {
+    pub values: [DartelmValue; 21],
+    pub end_bit: u8,
+}
+
+// The value that C hands in.
+pub fn value_of(given: DartelmValue) -> Value
+    ensures { λ r. ⌜ r ≡ valueOf given ⌝ }
+{
+    if given.is_missing != 0 {
+        return Value::Missing;
+    }
+    if given.is_single != 0 {
+        return Value::Single(given.single);
+    }
+    Value::Whole(given.whole)
+}
+
+// The value that C is handed.
+pub fn by_flags(value: Value) -> DartelmValue
+    ensures { λ r. ⌜ r ≡ byFlags value ⌝ }
+{
+    match value {
+        Value::Whole(whole) => DartelmValue {
+            whole,
+            single: 0.0,
+            is_single: 0,
+            is_missing: 0,
+        },
+        Value::Single(single) => DartelmValue {
+            whole: 0,
+            single,
+            is_single: 1,
+            is_missing: 0,
+        },
+        Value::Missing => DartelmValue {
+            whole: 0,
+            single: 0.0,
+            is_single: 0,
+            is_missing: 1,
+        },
+    }
+}
+
+// Zeros, where no value is told.
+pub fn no_value() -> DartelmValue
+    ensures { λ r. ⌜ r ≡ noValue ⌝ }
+{
+    DartelmValue {
+        whole: 0,
+        single: 0.0,
+        is_single: 0,
+        is_missing: 0,
+    }
+}
+
+// The sheet record that C hands in.
+pub fn sheet_of(given: DartelmFields) -> Sheet
+    ensures { λ r. ⌜ r ≡ sheetOf given ⌝ }
+{
+    let values = given.values;
+    let mut fields = [Slot {
+        value: Value::Missing,
+    }; 21];
+    let mut at: usize = 0;
+    while at < 21 {
+        let value = values[at];
+        fields[at] = Slot {
+            value: value_of(value),
+        };
+        at += 1;
+    }
+    Sheet {
+        fields,
+        end_bit: given.end_bit != 0,
+    }
+}

@@ -1,4 +1,0 @@
-pub mod PageLaws
-pub mod ToldLaws
-pub mod LentLaws
-pub mod TextLaws

@@ -1,0 +1,32 @@
+-- What rules let through, for any width, start and step.
+use mathlib.Core.Path.{_≡_, sym}
+use mathlib.Core.Bool.{_||_}
+use Prim.Native.Nat.{ℕ, _≤_}
+use borrow.Author.Tests.{ltb-false, le-ltb}
+use lib.Dec.{ltb}
+use lib.IntN.{ℤ, pos}
+use Rattle.refusal.specs.Outcome.{good}
+use Rattle.refusal.specs.Rows.{outsideTable}
+use Rattle.refusal.proofs.Outcomes.{good-same, passed, neither}
+use Rattle.fields.specs.declared.Value.{Value}
+use Rattle.fields.specs.declared.Value.the-variants.{Whole}
+use Rattle.fields.specs.declared.Rule.the-variants.{Plain, Stepped}
+use Rattle.fields.specs.Rules.{topCode, steppedValue, decode}
+use Rattle.fields.specs.Rows.{always}
+
+-- A stepped value is the code's.
+pub stepped-whole : (w : ℕ) (start : ℤ) (step at code : ℕ) (v : Value) → decode (always w (Stepped start step)) at code ≡ good v → v ≡ Whole (steppedValue start step code)
+unfolding decode
+stepped-whole w start step at code v e = sym (good-same (passed (outsideTable at) (ltb (topCode w) code) _ v e .1))
+
+-- A plain code lies between its bounds, and one between them stands.
+module _ (w least greatest at code : ℕ) where
+  pub plain-bounds : (v : Value) → decode (always w (Plain least greatest)) at code ≡ good v → (least ≤ code) × (code ≤ greatest)
+  unfolding decode
+  plain-bounds v e =
+      let n = neither (ltb code least) (ltb greatest code) (passed (outsideTable at) (ltb code least || ltb greatest code) _ v e .0) in
+      (ltb-false code least (n .0), ltb-false greatest code (n .1))
+
+  pub plain-good : least ≤ code → code ≤ greatest → decode (always w (Plain least greatest)) at code ≡ good (Whole (pos code))
+  unfolding decode
+  plain-good l g = rw (le-ltb code least l, le-ltb greatest code g)

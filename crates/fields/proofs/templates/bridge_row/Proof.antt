@@ -1,0 +1,48 @@
+-- `templates::bridge_row` meets its contract: at each number the row computes, and the last is what is left.
+use mathlib.Core.Path.{_≡_}
+use native.Mathlib.Omega.{arith}
+use borrow.Author.Needs.{needs}
+use Rattle.fields.specs.Lines.{basic, template33, linesOf}
+use Rattle.fields.proofs.RowLaws.{past}
+use Rattle.fields.proofs.templates.bridge_row.Statement.{statement}
+use Rattle.fields.proofs.templates.bridge_row.Tie as tie
+
+pub bridge-row-spec : {M : Type 1} → statement M
+unfolding basic template33 linesOf
+bridge-row-spec =
+    tie.close
+    (tie.spec
+    (λ c κs. search needs)
+    (λ c κs. search needs)
+    (λ c κs. search needs)
+    (λ c κs. search needs)
+    (λ c κs. search needs)
+    (λ c κs. search needs)
+    (λ c κs. search needs)
+    (λ c κs. search needs)
+    (λ c κs. search needs)
+    (λ c κs. search needs)
+    (λ c κs. search needs)
+    (λ c κs. search needs)
+    (λ c κs. search needs)
+    (λ c κs. search needs)
+    (λ c κs. search needs)
+    (λ c κs. search needs)
+    (λ c. rw (c .before .match .keys1) (c .always .ensures))
+    (λ c. rw (c .before .match .keys2) (c .optional .ensures))
+    (λ c. rw (c .before .match .keys3) (c .optional2 .ensures))
+    (λ c. rw (c .before .match .keys4) (c .always2 .ensures))
+    (λ c. rw (c .before .match .keys5) (c .electrical .ensures))
+    (λ c. rw (c .before .match .keys6) (c .electrical2 .ensures))
+    (λ c. rw (c .before .match .keys7) (c .always3 .ensures))
+    (λ c. rw (c .before .match .keys8) (c .optional3 .ensures))
+    (λ c. rw (c .before .match .keys9) (c .scaled .ensures))
+    (λ c. rw (c .before .match .keys10) (c .optional4 .ensures))
+    (λ c. rw (c .before .match .keys11) (c .optional5 .ensures))
+    (λ c. rw (c .before .match .keys12) (c .optional6 .ensures))
+    (λ c. rw (c .before .match .keys13) (c .optional7 .ensures))
+    (λ c. rw (c .before .match .keys14) (c .any .ensures))
+    (λ c. rw (c .before .match .keys15) (c .any2 .ensures))
+    (λ c.
+    let last : c .before .before .args .field ≡ 21 = omega (arith, past 6 15 (c .before .before .pre .0) (c .before .match .rest)) in
+    rw last (c .any3 .ensures)))

@@ -1,0 +1,105 @@
+-- Document 01, "Layout": the order of the table of fields. Basic comes first, then the lines of the template that the first block names. How many
+-- fields there are, which one sets the widths of others and what number it has all come from these lists.
+use mathlib.Core.Bool.{Bool, true, false, cond}
+use mathlib.Core.List.{List, [], _∷_, _++_, map}
+use mathlib.Core.Option.{Option, none, some}
+use Prim.Native.Nat.{ℕ, zero, suc, _+_, _-_}
+use lib.Dec.{eqb}
+use lib.ListN.{length, getD}
+use Rattle.fields.specs.declared.Row.{Row}
+use Rattle.fields.specs.declared.Template.{Template}
+use Rattle.fields.specs.declared.Template.the-variants.{Bridge}
+use Rattle.fields.specs.declared.Layout.{Layout}
+use Rattle.fields.specs.Rows.{
+  any,
+  manufacturerId,
+  modelNumber,
+  versionLetter,
+  versionNumber,
+  serialNumber,
+  measurand,
+  physical,
+  precision,
+  electrical,
+  bridgeType,
+  impedance,
+  responseTime,
+  excitation,
+  calDate,
+  calInitials,
+  calPeriod,
+  locationId,
+}
+
+-- ---- a line
+
+-- Whether the field's code sets the widths of later ones, and its row, which may go by the latest code that does.
+pub record Line : Type 0 where
+  pub sets : Bool
+  pub rowAt : ℕ → Row
+
+abbrev pub line : Row → Line
+line row = record { sets = false; rowAt = λ latest. row }
+
+abbrev pub choice : Row → Line
+choice row = record { sets = true; rowAt = λ latest. row }
+
+abbrev pub chosen : (ℕ → Row) → Line
+chosen rowAt = record { sets = false; rowAt = rowAt }
+
+-- The latest choice behind a field.
+abbrev pub chose : Bool → ℕ → ℕ → ℕ
+chose true code latest = code
+chose false code latest = latest
+
+-- ---- the templates
+
+-- Basic: fields 1 to 5.
+unfoldable pub basic : List Line
+basic = map line (manufacturerId ∷ modelNumber ∷ versionLetter ∷ versionNumber ∷ serialNumber ∷ [])
+
+-- Template 33: fields 6 to 21.
+unfoldable pub template33 : List Line
+template33 =
+    line measurand ∷ line physical ∷ line physical ∷ choice precision ∷ chosen electrical ∷ chosen electrical ∷
+    line bridgeType ∷ line impedance ∷ line responseTime ∷ line excitation ∷ line excitation ∷ line excitation ∷
+    line calDate ∷ line calInitials ∷ line calPeriod ∷ line locationId ∷ []
+
+abbrev pub templateLines : Template → List Line
+templateLines Bridge = template33
+
+abbrev pub numberOf : Template → ℕ
+numberOf Bridge = 33
+
+-- The template of a number, if it is one of them.
+abbrev pub templateOf : ℕ → Option Template
+templateOf number = cond (eqb number (numberOf Bridge)) (some Bridge) none
+
+-- ---- all fields, counted from 1
+
+unfoldable pub linesOf : Template → List Line
+linesOf template = basic ++ templateLines template
+
+-- The template's own last number; the ending is the next.
+abbrev pub lastField : Template → ℕ
+lastField template = length (linesOf template)
+
+abbrev pub ending : Template → ℕ
+ending template = suc (lastField template)
+
+abbrev pub lineOf : Template → ℕ → Line
+lineOf template f = getD (linesOf template) (f - 1) (line (any 0))
+
+-- The row of field f.
+abbrev pub rowOf : Layout → ℕ → Row
+rowOf layout f = lineOf (layout .template) f .rowAt (layout .precision)
+
+-- The rows of lines in order, at a choice.
+abbrev pub rowsOf : List Line → ℕ → List Row
+rowsOf lines latest = map (λ line. line .rowAt latest) lines
+
+-- The bits of the first i lines, at a choice.
+abbrev pub bitsBefore : List Line → ℕ → ℕ → ℕ
+bitsBefore [] latest i = 0
+bitsBefore (l ∷ lines) latest zero = 0
+bitsBefore (l ∷ lines) latest (suc i) = l .rowAt latest .width + bitsBefore lines latest i

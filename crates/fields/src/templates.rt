@@ -1,0 +1,124 @@
+// Document 01, "Layout": the order of the table of fields. Basic comes first, then the lines of the template that the first
+// block names. The numbers of fields and templates stand here and nowhere else.
+use crate::Layout;
+use crate::Row;
+use crate::Rule;
+use crate::Scale;
+use crate::Template;
+use crate::TemplateAnswer;
+use crate::rows::always;
+use crate::rows::any;
+use crate::rows::electrical;
+use crate::rows::optional;
+use crate::rows::scaled;
+ghost use mathlib.Core.Path.{_≡_};
+ghost use Prim.Native.Nat.{_≤_, _<_};
+ghost use lib.ListN.{length};
+ghost use Rattle.fields.specs.Lines.{basic, linesOf, lineOf, lastField, numberOf, templateOf, rowOf, bitsBefore};
+ghost use Rattle.fields.specs.Answers.{templateSaid};
+
+// The fields of Basic.
+pub fn basic_fields() -> u64
+    ensures { λ r. ⌜ r ≡ length basic ⌝ }
+{
+    5
+}
+
+pub fn template_number(template: Template) -> u64
+    ensures { λ r. ⌜ r ≡ numberOf template ⌝ }
+{
+    match template {
+        Template::Bridge => 33,
+    }
+}
+
+pub fn template_of(number: u64) -> TemplateAnswer
+    ensures { λ r. ⌜ templateSaid r ≡ templateOf number ⌝ }
+{
+    if number == template_number(Template::Bridge) {
+        return TemplateAnswer::Is(Template::Bridge);
+    }
+    TemplateAnswer::Unknown
+}
+
+// The number of the last field.
+pub fn last_field(template: Template) -> u64
+    ensures { λ r. ⌜ r ≡ lastField template ⌝ }
+{
+    match template {
+        Template::Bridge => 21,
+    }
+}
+
+// Whether the field's code sets the widths of later ones.
+pub fn is_choice(template: Template, field: u64) -> bool
+    requires { ⌜ (1 ≤ field) × (field ≤ lastField template) ⌝ }
+    ensures { λ r. ⌜ r ≡ lineOf template field .sets ⌝ }
+{
+    match template {
+        Template::Bridge => field == 9,
+    }
+}
+
+// The bits of all fields.
+pub fn fields_bits(layout: Layout) -> u64
+    ensures { λ r. ⌜ r ≡ bitsBefore (linesOf (layout .template)) (layout .precision) (lastField (layout .template)) ⌝ }
+{
+    let template = layout.template;
+    match template {
+        Template::Bridge => 243 + 2 * electrical(layout.precision).width,
+    }
+}
+
+// The rows of Basic, the same in every layout.
+fn basic_row(field: u64) -> Row
+    requires { ⌜ (1 ≤ field) × (field ≤ 5) ⌝ }
+    ensures { λ r. ⌜ ((layout : Layout) → r ≡ rowOf layout field) ⌝ }
+{
+    match field {
+        1 => always(14, Rule::Plain(17, 16_381)), // maker
+        2 => any(15), // model
+        3 => always(5, Rule::Plain(1, 26)), // letter
+        4 => any(6), // version
+        _ => any(24), // serial
+    }
+}
+
+// The rows of template 33.
+fn bridge_row(precision: u64, field: u64) -> Row
+    requires { ⌜ (5 < field) × (field ≤ 21) ⌝ }
+    ensures { λ r. ⌜ r ≡ lineOf Template.Bridge field .rowAt precision ⌝ }
+{
+    match field {
+        6 => always(6, Rule::Plain(0, 45)), // measurand
+        7 => optional(32, Rule::Single), // least physical
+        8 => optional(32, Rule::Single), // greatest physical
+        9 => always(2, Rule::Plain(0, 2)), // precision
+        10 => electrical(precision), // least electrical
+        11 => electrical(precision), // greatest electrical
+        12 => always(2, Rule::Plain(0, 2)), // bridge
+        13 => optional(18, Rule::Stepped(10, 1)), // impedance
+        14 => scaled(Scale::ResponseTime), // response
+        15 => optional(9, Rule::Stepped(1, 1)), // excitation nominal
+        16 => optional(9, Rule::Stepped(1, 1)), // excitation least
+        17 => optional(9, Rule::Stepped(1, 1)), // excitation greatest
+        18 => optional(16, Rule::Plain(0, 65_534)), // date
+        19 => any(15), // initials
+        20 => any(12), // period
+        _ => any(11), // location
+    }
+}
+
+// The row of a field, counted from 1.
+pub fn row_of(layout: Layout, field: u64) -> Row
+    requires { ⌜ (1 ≤ field) × (field ≤ lastField (layout .template)) ⌝ }
+    ensures { λ r. ⌜ r ≡ rowOf layout field ⌝ }
+{
+    if field <= basic_fields() {
+        return basic_row(field);
+    }
+    let template = layout.template;
+    match template {
+        Template::Bridge => bridge_row(layout.precision, field),
+    }
+}

@@ -1,0 +1,86 @@
+-- What an accepted check says: the image's sizes and sums, the sheet that may stand there, and that its stream holds it.
+use mathlib.Core.Path.{_≡_, refl, sym, ap, _∙_, subst}
+use mathlib.Core.List.{List}
+use Prim.Native.Nat.{ℕ, _+_, _^_, _≤_, _%_}
+use native.Mathlib.Omega.{arith}
+use lib.ListN.{length}
+use Rattle.refusal.specs.Outcome.{Outcome, good, _>>=_, _>>_}
+use Rattle.refusal.proofs.Outcomes.{good-same, good-bind, good-then}
+use Rattle.memory.specs.declared.Sizes.{Sizes}
+use Rattle.memory.specs.Image.{imageSizes, sums, streamBits, streamNumber}
+use Rattle.memory.specs.Pieces.{needed}
+use Rattle.memory.proofs.PieceLaws.{Fit, Holds}
+use Rattle.layout.specs.Format.{Stream, Parsed, parse}
+use Rattle.layout.specs.Contents.{Contents, sheetOf}
+use Rattle.layout.specs.Image.{streamIn, contents}
+use Rattle.layout.proofs.Formats.{parsed, parses-fit, parse-held, parsed-by, parse-agrees}
+use Rattle.layout.proofs.Sheets.{Formed, sheetPieces, sheet-needed, sheet-parses, sheet-formed}
+
+-- ---- the stream
+
+pub record Holding (s : Stream) (c : Contents) : Type 0 where
+  pub formed : Formed (s .bits) c
+  pub holds : Holds (s .number) 0 (sheetPieces formed)
+  pub inside : c .bits ≤ s .bits
+
+pub holding-fit : {s : Stream} {c : Contents} (h : Holding s c) → Fit (sheetPieces (h .formed))
+holding-fit {s} {c} h = parses-fit (s .bits) sheetOf 0 (sheetPieces (h .formed)) c (sheet-parses (h .formed))
+
+pub parsed-holding : (s : Stream) (x : Parsed Contents) → parse s sheetOf 0 ≡ good x → Holding s (x .found)
+parsed-holding s x e =
+    let w = parsed-by s sheetOf 0 x (omega arith) e in
+    let (f, p) = sheet-formed (s .bits) (w .pieces) (x .found) (w .parses) in
+    record {
+      formed = f;
+      holds = subst (Holds (s .number) 0) (sym p) (w .holds);
+      inside = omega (arith, sheet-needed f, ap needed p, w .behind, w .inside);
+    }
+
+pub holding-parsed : (s : Stream) (c : Contents) → Holding s c → parse s sheetOf 0 ≡ good (parsed c (c .bits))
+holding-parsed s c h =
+    parse-held s sheetOf 0 (sheetPieces (h .formed)) c (sheet-parses (h .formed)) (h .holds) (omega (arith, sheet-needed (h .formed), h .inside))
+    ∙ ap (λ (n : ℕ). good (parsed c n)) (omega (arith, sheet-needed (h .formed)))
+
+-- ---- the image
+
+pub record Accepted (kind : ℕ) (image : List ℕ) (c : Contents) : Type 0 where
+  pub sizes : Sizes
+  pub sized : imageSizes kind (length image) ≡ good sizes
+  pub summed : sums sizes image ≡ good tt
+  pub holding : Holding (streamIn sizes image) c
+
+pub contents-accepted : (kind : ℕ) (image : List ℕ) (c : Contents) → contents kind image ≡ good c → Accepted kind image c
+unfolding contents
+contents-accepted kind image c e =
+    let read : Sizes → Outcome Contents = λ z. parse (streamIn z image) sheetOf 0 >>= λ x. good (x .found) in
+    let a = good-bind (imageSizes kind (length image)) (λ z. sums z image >> read z) c e in
+    let z : Sizes = a .0 in
+    let b = good-then (sums z image) (read z) c (a .2) in
+    let r = good-bind (parse (streamIn z image) sheetOf 0) (λ x. good (x .found)) c (b .1) in
+    record {
+      sizes = z;
+      sized = a .1;
+      summed = b .0;
+      holding = subst (Holding (streamIn z image)) (good-same (r .2)) (parsed-holding (streamIn z image) (r .0) (r .1));
+    }
+
+pub accepted-contents : (kind : ℕ) (image : List ℕ) (c : Contents) → Accepted kind image c → contents kind image ≡ good c
+unfolding contents
+accepted-contents kind image c h = rw (h .sized, h .summed, holding-parsed (streamIn (h .sizes) image) c (h .holding))
+
+-- The same at sizes that are known.
+pub accepted-at : (kind : ℕ) (image : List ℕ) (c : Contents) (z : Sizes) → contents kind image ≡ good c → imageSizes kind (length image) ≡ good z →
+    (sums z image ≡ good tt) × Holding (streamIn z image) c
+accepted-at kind image c z e hz =
+    let a = contents-accepted kind image c e in
+    subst (λ u. (sums u image ≡ good tt) × Holding (streamIn u image) c) (good-same (sym (a .sized) ∙ hz)) (a .summed, a .holding)
+
+-- Bits after the end are not judged: an image of the same kind that passes the page test, whose stream agrees with that of an accepted one up to its
+-- end, holds the same.
+pub agree : (kind : ℕ) (image other : List ℕ) (z : Sizes) (c : Contents) → imageSizes kind (length image) ≡ good z → contents kind image ≡ good c →
+    imageSizes kind (length other) ≡ good z → sums z other ≡ good tt →
+    streamNumber z image % 2 ^ (c .bits) ≡ streamNumber z other % 2 ^ (c .bits) → contents kind other ≡ good c
+unfolding contents
+agree kind image other z c hz e ho hs same =
+    let accepted = holding-parsed (streamIn z image) c (accepted-at kind image c z e hz .1) in
+    rw (ho, hs, parse-agrees (streamIn z image) (streamNumber z other) sheetOf 0 (parsed c (c .bits)) (omega arith) accepted same)

@@ -1,0 +1,243 @@
+-- Behind the fields: what may stand as a calibration table, and the pieces that it is.
+use mathlib.Core.Path.{_≡_, refl, sym, ap, ap₂, _∙_, subst, subst₂}
+use mathlib.Core.Bool.{Bool, true, false, not, cond}
+use mathlib.Core.List.{List, [], _∷_, _++_}
+use mathlib.Core.Option.{Option, none, some}
+use Prim.Native.Nat.{ℕ, zero, suc, _+_, _*_, _^_, _≤_, _<_}
+use native.Mathlib.Omega.{arith}
+use lib.Dec.{eqb}
+use lib.ListN.{length}
+use lib.IntN.{pos}
+use borrow.Author.Tests.{eqb-true, eq-eqb, not-false}
+use Rattle.refusal.specs.Outcome.{Outcome, good, refused}
+use Rattle.refusal.specs.Rows.{wrongBlock}
+use Rattle.memory.specs.Pieces.{Piece, piece, needed}
+use Rattle.memory.proofs.PieceLaws.{needed-append}
+use Rattle.fields.specs.declared.Codes.{Codes}
+use Rattle.fields.specs.Calibration.{domain, pointCount, calPoint, calDeviation, follows}
+use Rattle.fields.specs.declared.Value.the-variants.{Whole}
+use Rattle.fields.specs.declared.Rule.the-variants.{Plain}
+use Rattle.fields.specs.Rows.{always}
+use Rattle.fields.proofs.RuleLaws.{plain-good, plain-bounds}
+use Rattle.layout.specs.Format.{Format, ends, _>>=_, _>>_, bits, given, refuse_if_}
+use Rattle.layout.specs.Contents.{Found, FoundPair, Calibration, bare, table, paired, codesIn, fieldOf, selectorOf, pairOf, pairsOf, tableOf, blockAt, calibrationOf}
+use Rattle.layout.specs.Image.{pairsIn}
+use Rattle.layout.specs.Places.{tableBits}
+use Rattle.layout.specs.Pieces.{blockPieces}
+use Rattle.layout.proofs.Formats.{Parses, parses-bind, parses-halves, ends-pieces, refuse-pieces, parses-made, made-pieces, fixed-pieces}
+use Rattle.layout.proofs.Fields.{pieceOf, found, FieldAt, width-is, at-is, field-parses, field-pieces}
+
+-- ---- pairs
+
+abbrev pub foundPairPieces : FoundPair → List Piece
+foundPairPieces p = pieceOf (p .point) ∷ pieceOf (p .deviation) ∷ []
+
+-- A pair at a place, behind the one before it.
+pub record PairAt (before : Option Codes) (at : ℕ) (p : FoundPair) : Type 0 where
+  pub point : FieldAt calPoint at (p .point)
+  pub deviation : FieldAt calDeviation (at + 16) (p .deviation)
+  pub follows : follows before at (codesIn p) ≡ good tt
+
+given-pieces : {A B : Type 0} (S : ℕ) (o : Outcome A) (k : A → Format B) (at : ℕ) (ps : List Piece) (b : B) →
+    Parses S (given o >>= k) at ps b → (a : A) × (o ≡ good a) × Parses S (k a) at ps b
+given-pieces S (good a) k at ps b l = (a, refl, l)
+given-pieces S (refused r) k at ps b l = absurd l
+
+module _ (S : ℕ) (before : Option Codes) (at : ℕ) where
+  abbrev behind : Found → Found → Format FoundPair
+  behind point deviation = given (follows before (point .at) (codesIn (paired point deviation))) >> ends (paired point deviation)
+
+  pub pair-parses : (p : FoundPair) → PairAt before at p → Parses S (pairOf before) at (foundPairPieces p) p
+  unfolding pairOf
+  pair-parses p h =
+      let f : follows before (p .point .at) (codesIn p) ≡ good tt = ap (λ (n : ℕ). follows before n (codesIn p)) (at-is (h .point)) ∙ h .follows in
+      field-parses S calPoint (λ x. fieldOf calDeviation >>= behind x) at (p .point) _ p (h .point)
+      (field-parses S calDeviation (behind (p .point)) (at + 16) (p .deviation) [] p (h .deviation) (rw f refl))
+
+  pub pair-pieces : (ps : List Piece) (p : FoundPair) → Parses S (pairOf before) at ps p → (ps ≡ foundPairPieces p) × PairAt before at p
+  unfolding pairOf
+  pair-pieces ps p l =
+      let a = field-pieces S calPoint (λ x. fieldOf calDeviation >>= behind x) at ps p l in
+      let b = field-pieces S calDeviation (behind (a .first)) (at + 16) (a .behind) p (a .parses) in
+      let (u, f, m) = given-pieces S (follows before (a .first .at) _) _ _ (b .behind) p (b .parses) in
+      let (z, e) = ends-pieces S (paired (a .first) (b .first)) _ (b .behind) p m in
+      subst (λ (q : FoundPair). (ps ≡ foundPairPieces q) × PairAt before at q) e (
+        a .split ∙ ap (λ q. pieceOf (a .first) ∷ q) (b .split ∙ ap (λ q. pieceOf (b .first) ∷ q) z),
+        record {
+          point = a .field;
+          deviation = b .field;
+          follows = ap (λ (n : ℕ). follows before n (codesIn (paired (a .first) (b .first)))) (sym (at-is (a .field))) ∙ f;
+        },
+      )
+
+-- Pairs one after the other, 37 bits each.
+abbrev pub foundPairsPieces : List FoundPair → List Piece
+foundPairsPieces [] = []
+foundPairsPieces (p ∷ pairs) = foundPairPieces p ++ foundPairsPieces pairs
+
+abbrev pub PairsAt : Option Codes → ℕ → List FoundPair → Type 0
+PairsAt before at [] = Unit {0}
+PairsAt before at (p ∷ pairs) = PairAt before at p × PairsAt (some (codesIn p)) (at + 37) pairs
+
+pair-needed : (before : Option Codes) (at : ℕ) (p : FoundPair) → PairAt before at p → needed (foundPairPieces p) ≡ 37
+pair-needed before at p h = omega (arith, width-is (h .point), width-is (h .deviation))
+
+pub pairs-needed : (before : Option Codes) (at : ℕ) (pairs : List FoundPair) → PairsAt before at pairs → needed (foundPairsPieces pairs) ≡ 37 * length pairs
+pairs-needed before at [] h = refl
+pairs-needed before at (p ∷ pairs) h =
+    omega (arith, pair-needed before at p (h .0), needed-append (foundPairPieces p) (foundPairsPieces pairs), pairs-needed (some (codesIn p)) (at + 37) pairs (h .1))
+
+pub pairs-parses : (S : ℕ) (before : Option Codes) (at : ℕ) (pairs : List FoundPair) → PairsAt before at pairs →
+    Parses S (pairsOf (length pairs) before) at (foundPairsPieces pairs) pairs
+unfolding pairsOf
+pairs-parses S before at [] h = refl
+pairs-parses S before at (p ∷ pairs) h =
+    let e : at + 37 ≡ at + needed (foundPairPieces p) = omega (arith, pair-needed before at p (h .0)) in
+    parses-bind S (pairOf before) _ at (foundPairPieces p) (foundPairsPieces pairs) p (p ∷ pairs) (pair-parses S before at p (h .0))
+    (parses-made S (pairsOf (length pairs) (some (codesIn p))) (λ rest. p ∷ rest) _ (foundPairsPieces pairs) pairs
+    (subst (λ (n : ℕ). Parses S (pairsOf (length pairs) (some (codesIn p))) n (foundPairsPieces pairs) pairs) e (pairs-parses S (some (codesIn p)) (at + 37) pairs (h .1))))
+
+pub record PairsPieces (n : ℕ) (before : Option Codes) (at : ℕ) (ps : List Piece) (pairs : List FoundPair) : Type 0 where
+  pub count : length pairs ≡ n
+  pub split : ps ≡ foundPairsPieces pairs
+  pub stand : PairsAt before at pairs
+
+pub pairs-pieces : (S n : ℕ) (before : Option Codes) (at : ℕ) (ps : List Piece) (pairs : List FoundPair) →
+    Parses S (pairsOf n before) at ps pairs → PairsPieces n before at ps pairs
+unfolding pairsOf
+pairs-pieces S zero before at ps pairs l =
+    let (e, f) = ends-pieces S [] at ps pairs l in
+    subst (PairsPieces 0 before at ps) f (record { count = refl; split = e; stand = tt })
+pairs-pieces S (suc n) before at ps pairs l =
+    let h = parses-halves S (pairOf before) (λ p. pairsOf n (some (codesIn p)) >>= λ rest. ends (p ∷ rest)) at ps pairs l in
+    let p : FoundPair = h .middle in
+    let (e, f) = pair-pieces S before at (h .first) p (h .front) in
+    let k : at + needed (h .first) ≡ at + 37 = omega (arith, ap needed e, pair-needed before at p f) in
+    let (others, g, m) = made-pieces S (pairsOf n (some (codesIn p))) (λ rest. p ∷ rest) _ (h .second) pairs (h .back) in
+    let r = pairs-pieces S n (some (codesIn p)) (at + 37) (h .second) others
+    (subst (λ (i : ℕ). Parses S (pairsOf n (some (codesIn p))) i (h .second) others) k m) in
+    subst (PairsPieces (suc n) before at ps) g (record {
+      count = ap suc (r .count);
+      split = sym (h .joined) ∙ ap₂ (λ q s. q ++ s) e (r .split);
+      stand = (f, r .stand);
+    })
+
+-- ---- the block, and what stands in its place
+
+-- Selector 0, template 40, domain 0, the count and the pairs; nothing where there is no table.
+abbrev pub calibrationPieces : Calibration → List Piece
+calibrationPieces bare = []
+calibrationPieces (table pairs) = blockPieces 40 ++ (piece 1 0 ∷ piece 7 (length pairs) ∷ foundPairsPieces pairs)
+
+pub record TableAt (at : ℕ) (pairs : List FoundPair) : Type 0 where
+  pub some : 1 ≤ length pairs
+  pub most : length pairs ≤ 127
+  pub stand : PairsAt none (at + 18) pairs
+
+abbrev pub CalibrationAt : ℕ → Calibration → Type 0
+CalibrationAt at bare = Unit {0}
+CalibrationAt at (table pairs) = TableAt at pairs
+
+pub table-needed : (at : ℕ) (c : Calibration) → CalibrationAt at c → needed (calibrationPieces c) ≡ tableBits (length (pairsIn c))
+table-needed at bare h = refl
+table-needed at (table pairs) h = go (length pairs) refl (h .some)
+  where
+    go : (n : ℕ) → length pairs ≡ n → 1 ≤ n → needed (calibrationPieces (table pairs)) ≡ tableBits n
+    go zero f l = absurd (omega arith)
+    go (suc n) f l = omega (arith, pairs-needed none (at + 18) pairs (h .stand))
+
+-- A plain code that stands in its row.
+plain-field : (w least greatest at code : ℕ) → least ≤ code → code ≤ greatest → code < 2 ^ w →
+    FieldAt (always w (Plain least greatest)) at (found (always w (Plain least greatest)) at code (Whole (pos code)))
+plain-field w least greatest at code l g fits = record { is = refl; fits = fits; means = plain-good w least greatest at code l g }
+
+module _ (S at : ℕ) where
+  -- Behind the block's template number.
+  abbrev countedPieces : List FoundPair → List Piece
+  countedPieces pairs = piece 1 0 ∷ piece 7 (length pairs) ∷ foundPairsPieces pairs
+
+  abbrev listed : Found → Format Calibration
+  listed count = pairsOf (count .code) none >>= λ pairs. ends (table pairs)
+
+  table-parses : (pairs : List FoundPair) → 1 ≤ length pairs → length pairs ≤ 127 → PairsAt none (at + 1 + 7) pairs →
+      Parses S tableOf at (countedPieces pairs) (table pairs)
+  unfolding tableOf
+  table-parses pairs l g h =
+      field-parses S domain (λ x. fieldOf pointCount >>= listed) at _ _ (table pairs) (plain-field 1 0 0 at 0 (omega arith) (omega arith) (omega arith))
+      (field-parses S pointCount listed (at + 1) _ _ (table pairs) (plain-field 7 1 127 (at + 1) (length pairs) l g (omega arith))
+      (parses-made S (pairsOf (length pairs) none) table _ (foundPairsPieces pairs) pairs (pairs-parses S none (at + 1 + 7) pairs h)))
+
+  record TablePieces (ps : List Piece) (c : Calibration) : Type 0 where
+    pairs : List FoundPair
+    is : table pairs ≡ c
+    split : ps ≡ countedPieces pairs
+    some : 1 ≤ length pairs
+    most : length pairs ≤ 127
+    stand : PairsAt none (at + 1 + 7) pairs
+
+  table-pieces : (ps : List Piece) (c : Calibration) → Parses S tableOf at ps c → TablePieces ps c
+  unfolding tableOf
+  table-pieces ps c l =
+      let a = field-pieces S domain (λ x. fieldOf pointCount >>= listed) at ps c l in
+      let b = field-pieces S pointCount listed (at + 1) (a .behind) c (a .parses) in
+      let n : ℕ = b .first .code in
+      let da = plain-bounds 1 0 0 at (a .first .code) _ (a .field .means) in
+      let db = plain-bounds 7 1 127 (at + 1) n _ (b .field .means) in
+      let z : a .first .code ≡ 0 = omega (arith, da .1) in
+      let (pairs, e, m) = made-pieces S (pairsOf n none) table _ (b .behind) c (b .parses) in
+      let r = pairs-pieces S n none (at + 1 + 7) (b .behind) pairs m in
+      record {
+        pairs = pairs;
+        is = e;
+        split =
+            a .split ∙ ap₂ (λ (w k : ℕ). piece w k ∷ a .behind) (width-is (a .field)) z
+            ∙ ap (λ q. piece 1 0 ∷ q) (b .split ∙ ap₂ (λ (w k : ℕ). piece w k ∷ b .behind) (width-is (b .field)) (sym (r .count)) ∙ ap (λ q. piece 7 (length pairs) ∷ q) (r .split));
+        some = omega (arith, r .count, db .0);
+        most = omega (arith, r .count, db .1);
+        stand = r .stand;
+      }
+
+module _ (S at : ℕ) where
+  abbrev afterBlock : Calibration → Format Calibration
+  afterBlock c = selectorOf 3 >> ends c
+
+  pub calibration-parses : (c : Calibration) → CalibrationAt at c → Parses S calibrationOf at (calibrationPieces c ++ (piece 2 3 ∷ [])) c
+  unfolding calibrationOf blockAt selectorOf
+  calibration-parses bare h = (refl, omega arith, refl)
+  calibration-parses (table pairs) h =
+      let e : at + 18 ≡ at + 2 + 8 + 1 + 7 = omega arith in
+      let l = table-parses S (at + 2 + 8) pairs (h .some) (h .most) (subst (λ (n : ℕ). PairsAt none n pairs) e (h .stand)) in (
+        refl,
+        omega arith,
+        parses-bind S (blockAt at) afterBlock (at + 2) (piece 8 40 ∷ countedPieces S at pairs) (piece 2 3 ∷ []) (table pairs) (table pairs) (refl, omega arith, l) (refl, omega arith, refl),
+      )
+
+  pub calibration-pieces : (ps : List Piece) (c : Calibration) → Parses S calibrationOf at ps c →
+      (ps ≡ calibrationPieces c ++ (piece 2 3 ∷ [])) × CalibrationAt at c
+  unfolding calibrationOf blockAt selectorOf
+  calibration-pieces [] c l = absurd l
+  calibration-pieces (p ∷ ps) c l = go (eqb (p .code) 0) refl (l .2)
+    where
+      selector : (n : ℕ) → p .code ≡ n → p ≡ piece 2 n
+      selector n e = λ i. record { width = l .0 i; code = e i }
+
+      go : (t : Bool) → eqb (p .code) 0 ≡ t →
+          Parses S (cond t (blockAt at >>= afterBlock) (refuse wrongBlock at if not (eqb (p .code) 3) >> ends bare)) (at + 2) ps c →
+          (p ∷ ps ≡ calibrationPieces c ++ (piece 2 3 ∷ [])) × CalibrationAt at c
+      go true e m =
+          let h = parses-halves S (blockAt at) afterBlock (at + 2) ps c m in
+          let (qs, f, k) = fixed-pieces S 8 40 (wrongBlock at) tableOf (at + 2) (h .first) (h .middle) (h .front) in
+          let t = table-pieces S (at + 2 + 8) qs (h .middle) k in
+          let (rs, g, j) = fixed-pieces S 2 3 (wrongBlock _) (ends (h .middle)) _ (h .second) c (h .back) in
+          let (z, i) = ends-pieces S (h .middle) _ rs c j in
+          let n : at + 2 + 8 + 1 + 7 ≡ at + 18 = omega arith in
+          subst (λ (d : Calibration). (p ∷ ps ≡ calibrationPieces d ++ (piece 2 3 ∷ [])) × CalibrationAt at d) (t .is ∙ i) (
+            ap₂ (λ q r. q ∷ r) (selector 0 (eqb-true (p .code) 0 e))
+                (sym (h .joined) ∙ ap₂ (λ q r. q ++ r) (f ∙ ap (λ q. piece 8 40 ∷ q) (t .split)) (g ∙ ap (λ q. piece 2 3 ∷ q) z)),
+            record { some = t .some; most = t .most; stand = subst (λ (k : ℕ). PairsAt none k (t .pairs)) n (t .stand) },
+          )
+      go false e m =
+          let (t, k) = refuse-pieces S (wrongBlock at) (not (eqb (p .code) 3)) (ends bare) (at + 2) ps c m in
+          let (z, i) = ends-pieces S bare (at + 2) ps c k in
+          subst (λ (d : Calibration). (p ∷ ps ≡ calibrationPieces d ++ (piece 2 3 ∷ [])) × CalibrationAt at d) i
+          (ap₂ (λ q r. q ∷ r) (selector 3 (eqb-true (p .code) 3 (not-false _ t))) z, tt)

@@ -1,0 +1,10 @@
+pub mod Formats
+pub mod Fields
+pub mod Choices
+pub mod Calibrations
+pub mod Endings
+pub mod Sheets
+pub mod Places
+pub mod Accepted
+pub mod Puts
+pub mod Standing

@@ -1,0 +1,174 @@
+-- Document 01, "Layout" and "Turning down": the stream from its start. One format says all that a sheet may hold, in the order of the stream, with
+-- the refusals on the way; a check parses an image's stream by it.
+use mathlib.Core.Bool.{Bool, not, cond}
+use mathlib.Core.List.{List, [], _∷_, _++_}
+use mathlib.Core.Option.{Option, none, some}
+use Prim.Native.Nat.{ℕ, zero, suc, _/_}
+use lib.Dec.{eqb}
+use Rattle.refusal.specs.Rows.{wrongBlock}
+use Rattle.fields.specs.declared.Value.{Value}
+use Rattle.fields.specs.declared.Row.{Row}
+use Rattle.fields.specs.declared.Template.{Template}
+use Rattle.fields.specs.declared.Codes.{Codes}
+use Rattle.fields.specs.Rules.{decode}
+use Rattle.fields.specs.Lines.{Line, chose, basic, templateLines, templateOf}
+use Rattle.fields.specs.Calibration.{domain, pointCount, calPoint, calDeviation, codesOf, follows}
+use Rattle.layout.specs.Format.{Format, ends, stops, _>>=_, _>>_, bits, place, remaining, given, refuse_if_}
+
+-- ---- what a sheet holds
+
+-- A field as it stands in the stream: its row, its first bit, its code and what that means.
+pub record Found : Type 0 where
+  pub row : Row
+  pub at : ℕ
+  pub code : ℕ
+  pub value : Value
+
+-- A calibration point with its deviation.
+pub record FoundPair : Type 0 where
+  pub point : Found
+  pub deviation : Found
+
+-- Behind the fields: nothing, or a calibration table.
+pub data Calibration : Type 0 where
+  bare : Calibration
+  table : List FoundPair → Calibration
+
+-- Its template, its fields from 1 on, its calibration, the end bit, the text, and the bits up to the end.
+pub record Contents : Type 0 where
+  pub template : Template
+  pub fields : List Found
+  pub calibration : Calibration
+  pub endBit : Bool
+  pub text : List ℕ
+  pub bits : ℕ
+
+-- ---- the fields
+
+-- Rows 3, then 5 or 6: the field of a row.
+unfoldable pub fieldOf : Row → Format Found
+fieldOf row = do
+  at ← place
+  code ← bits (row .width)
+  value ← given (decode row at code)
+  ends (record { row = row; at = at; code = code; value = value })
+
+-- Fields line by line, with the latest choice.
+unfoldable pub fieldsOf : List Line → ℕ → Format (List Found)
+fieldsOf [] latest = ends []
+fieldsOf (line ∷ lines) latest = do
+  x ← fieldOf (line .rowAt latest)
+  rest ← fieldsOf lines (chose (line .sets) (x .code) latest)
+  ends (x ∷ rest)
+
+-- ---- the first block
+
+-- Row 4: a selector that has to be the one wanted.
+unfoldable pub selectorOf : ℕ → Format (Unit {0})
+selectorOf wanted = do
+  at ← place
+  selector ← bits 2
+  refuse wrongBlock at if not (eqb selector wanted)
+
+-- Row 4: a template that is known, of the block whose selector stands at a place.
+abbrev pub named : ℕ → Option Template → Format Template
+named at (some template) = ends template
+named at none = stops (wrongBlock at)
+
+-- Selector 0 and the template's number.
+unfoldable pub firstBlock : Format Template
+firstBlock = do
+  at ← place
+  selectorOf 0
+  number ← bits 8
+  named at (templateOf number)
+
+-- ---- block 40
+
+abbrev pub paired : Found → Found → FoundPair
+paired point deviation = record { point = point; deviation = deviation }
+
+abbrev pub codesIn : FoundPair → Codes
+codesIn p = codesOf (p .point .code) (p .deviation .code)
+
+-- A pair: 3 and 5 of the point, 3 and 5 of its deviation, then 7.
+unfoldable pub pairOf : Option Codes → Format FoundPair
+pairOf before = do
+  point ← fieldOf calPoint
+  deviation ← fieldOf calDeviation
+  given (follows before (point .at) (codesIn (paired point deviation)))
+  ends (paired point deviation)
+
+-- n pairs, one after the other.
+unfoldable pub pairsOf : ℕ → Option Codes → Format (List FoundPair)
+pairsOf zero before = ends []
+pairsOf (suc n) before = do
+  pair ← pairOf before
+  rest ← pairsOf n (some (codesIn pair))
+  ends (pair ∷ rest)
+
+-- The domain, the count and the pairs.
+unfoldable pub tableOf : Format Calibration
+tableOf = do
+  fieldOf domain
+  count ← fieldOf pointCount
+  pairs ← pairsOf (count .code) none
+  ends (table pairs)
+
+-- The block whose selector 0 was taken at a place: template 40.
+unfoldable pub blockAt : ℕ → Format Calibration
+blockAt at = do
+  number ← bits 8
+  refuse wrongBlock at if not (eqb number 40)
+  tableOf
+
+-- Behind the fields: one block and selector 3, or selector 3 alone.
+unfoldable pub calibrationOf : Format Calibration
+calibrationOf = do
+  at ← place
+  selector ← bits 2
+  cond (eqb selector 0)
+      (blockAt at >>= λ calibration. selectorOf 3 >> ends calibration)
+      (refuse wrongBlock at if not (eqb selector 3) >> ends bare)
+
+-- ---- the ending
+
+-- At most n characters of 7 bits, up to a zero character.
+unfoldable pub textOf : ℕ → Format (List ℕ)
+textOf zero = ends []
+textOf (suc n) = do
+  c ← bits 7
+  cond (eqb c 0) (ends []) (textOf n >>= λ text. ends (c ∷ text))
+
+-- The end bit, and the text behind it.
+pub record Ending : Type 0 where
+  pub endBit : Bool
+  pub text : List ℕ
+
+-- The end bit: 0, nothing more; 1, text up to a zero character or until fewer than 7 bits remain.
+unfoldable pub endingOf : Format Ending
+endingOf = do
+  endBit ← bits 1
+  left ← remaining
+  text ← textOf (cond (eqb endBit 1) (left / 7) 0)
+  ends (record { endBit = eqb endBit 1; text = text })
+
+-- ---- the sheet
+
+-- Basic, the first block, its template's fields, a calibration and the ending.
+unfoldable pub sheetOf : Format Contents
+sheetOf = do
+  basics ← fieldsOf basic 0
+  template ← firstBlock
+  own ← fieldsOf (templateLines template) 0
+  calibration ← calibrationOf
+  ending ← endingOf
+  end ← place
+  ends (record {
+    template = template;
+    fields = basics ++ own;
+    calibration = calibration;
+    endBit = ending .endBit;
+    text = ending .text;
+    bits = end;
+  })

@@ -1,0 +1,72 @@
+-- Document 01: what an image holds, or why it is turned down. Every call that checks an image starts here.
+use mathlib.Core.Bool.{_||_}
+use mathlib.Core.List.{List, [], _∷_, map}
+use Prim.Native.Nat.{ℕ, _-_}
+use lib.Dec.{eqb, ltb}
+use lib.ListN.{length, getD}
+use lib.IntN.{ℤ, pos}
+use Rattle.refusal.specs.Outcome.{Outcome, good, _>>_, _>>=_, refuse_if_}
+use Rattle.refusal.specs.Rows.{noSuch}
+use Rattle.memory.specs.declared.Sizes.{Sizes}
+use Rattle.memory.specs.Image.{imageSizes, sums, streamBits, streamNumber}
+use Rattle.fields.specs.declared.Value.{Value}
+use Rattle.fields.specs.declared.Value.the-variants.{Whole, Single, Missing}
+use Rattle.fields.specs.declared.Layout.{Layout}
+use Rattle.fields.specs.declared.Pair.{Pair}
+use Rattle.fields.specs.Rows.{any}
+use Rattle.fields.specs.Lines.{Line, chose, linesOf}
+use Rattle.layout.specs.Format.{Stream, parse}
+use Rattle.layout.specs.Contents.{Found, FoundPair, Calibration, bare, table, Contents, sheetOf}
+
+abbrev pub streamIn : Sizes → List ℕ → Stream
+streamIn z image = record { bits = streamBits z; number = streamNumber z image }
+
+-- Order of a check: 1, 2 by page, then the stream from its start.
+unfoldable pub contents : ℕ → List ℕ → Outcome Contents
+contents kind image = do
+  z ← imageSizes kind (length image)
+  sums z image
+  parsed ← parse (streamIn z image) sheetOf 0
+  good (parsed .found)
+
+-- ---- what is found in it
+
+-- What is not there.
+abbrev pub nothing : Found
+nothing = record { row = any 0; at = 0; code = 0; value = Missing }
+
+-- Field f, counted from 1.
+abbrev pub field : Contents → ℕ → Found
+field c f = getD (c .fields) (f - 1) nothing
+
+-- Row 8: its number is one of the template's.
+abbrev pub numbered : Contents → ℕ → Outcome Found
+numbered c f = do
+  refuse noSuch f if eqb f 0 || ltb (length (c .fields)) f
+  good (field c f)
+
+-- The latest choice behind fields that were found.
+abbrev pub lastChoice : List Line → List Found → ℕ → ℕ
+lastChoice [] xs latest = latest
+lastChoice (line ∷ lines) [] latest = latest
+lastChoice (line ∷ lines) (x ∷ xs) latest = lastChoice lines xs (chose (line .sets) (x .code) latest)
+
+-- What its rows go by.
+abbrev pub layoutOf : Contents → Layout
+layoutOf c = record { template = c .template; precision = lastChoice (linesOf (c .template)) (c .fields) 0 }
+
+-- The points of its table: none where there is no table.
+abbrev pub pairsIn : Calibration → List FoundPair
+pairsIn bare = []
+pairsIn (table pairs) = pairs
+
+abbrev pub figure : Value → ℤ
+figure (Whole z) = z
+figure (Single x) = pos 0
+figure Missing = pos 0
+
+abbrev pub pairIn : FoundPair → Pair
+pairIn p = record { point = figure (p .point .value); deviation = figure (p .deviation .value) }
+
+abbrev pub points : Contents → List Pair
+points c = map pairIn (pairsIn (c .calibration))

@@ -1,0 +1,5 @@
+pub mod Format
+pub mod Contents
+pub mod Image
+pub mod Places
+pub mod Pieces

@@ -1,0 +1,39 @@
+-- Document 01, "Layout": where fields, pairs and characters stand in an accepted sheet, as the widths of what stands before them add up.
+use mathlib.Core.Bool.{cond}
+use Prim.Native.Nat.{ℕ, zero, suc, _+_, _-_, _*_}
+use lib.Dec.{ltb}
+use lib.ListN.{length}
+use Rattle.fields.specs.declared.Layout.{Layout}
+use Rattle.fields.specs.Lines.{basic, linesOf, ending, bitsBefore}
+
+-- A block's selector and template number.
+abbrev pub blockBits : ℕ
+blockBits = 10
+
+-- The first bit of field f, counted from 1: the first block stands behind Basic.
+unfoldable pub fieldPlace : Layout → ℕ → ℕ
+fieldPlace layout f = bitsBefore (linesOf (layout .template)) (layout .precision) (f - 1) + cond (ltb (length basic) f) blockBits 0
+
+-- The first bit behind the fields.
+abbrev pub behindFields : Layout → ℕ
+behindFields layout = fieldPlace layout (ending (layout .template))
+
+-- A table's block, domain and count stand before its pairs, of 37 bits each.
+abbrev pub tableStart : ℕ
+tableStart = 18
+
+abbrev pub pairBits : ℕ
+pairBits = 37
+
+-- The bits of a table of n pairs: none without one.
+abbrev pub tableBits : ℕ → ℕ
+tableBits zero = 0
+tableBits (suc n) = tableStart + pairBits * suc n
+
+-- The first bit of pair i.
+abbrev pub pairPlace : Layout → ℕ → ℕ
+pairPlace layout i = behindFields layout + tableStart + pairBits * i
+
+-- The first bit of character i behind n pairs: selector 3 and the end bit stand before the first.
+abbrev pub characterPlace : Layout → ℕ → ℕ → ℕ
+characterPlace layout n i = behindFields layout + tableBits n + 3 + 7 * i

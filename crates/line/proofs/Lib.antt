@@ -1,0 +1,10 @@
+pub mod Distances
+pub mod Order
+pub mod Weights
+pub mod Bends
+pub mod Steepness
+pub mod Shadow
+pub mod Bound
+pub mod Sizes
+pub mod Places
+pub mod Told

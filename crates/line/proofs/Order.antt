@@ -1,0 +1,59 @@
+-- The order of fractions, and what goes by the test of a position against a point.
+use mathlib.Core.Path.{_≡_, refl}
+use mathlib.Core.Bool.{Bool, true, false, cond}
+use mathlib.Core.Logic.{_⊎_, inl, inr}
+use Prim.Native.Nat.{ℕ, _+_, _*_, _-_, _≤_, _<_}
+use native.Mathlib.Decide.{decLe}
+use native.Mathlib.Omega.{arith}
+use lib.IntN.{ℤ, pos, _*ℤ_}
+use lib.Signed.{leZ, _≤ℤ_, _<ℤ_}
+use Rattle.integers.specs.Parts.{up, dn}
+use Rattle.integers.specs.Nearest.{Fraction, _over_}
+use Rattle.integers.proofs.PartLaws.{leZ-parts, nleZ-parts, ltZ-parts, le-leZ, lt-leZ, is-true, is-false}
+use Rattle.line.proofs.Distances.{scaled}
+
+-- y is d / (x .den × y .den) above x.
+pub record Ahead (x y : Fraction) (d : ℕ) : Type 0 where
+  pub is : up (y .num) * x .den + dn (x .num) * y .den ≡ dn (y .num) * x .den + up (x .num) * y .den + d
+
+abbrev pub AtMost : Fraction → Fraction → Type 0
+AtMost x y = (d : ℕ) × Ahead x y d
+
+abbrev pub Below : Fraction → Fraction → Type 0
+Below x y = (h : AtMost x y) × (0 < h .0)
+
+module _ (x y : Fraction) where
+  pub at-most : up (x .num) * y .den + dn (y .num) * x .den ≤ dn (x .num) * y .den + up (y .num) * x .den → AtMost x y
+  at-most h = (dn (x .num) * y .den + up (y .num) * x .den - (up (x .num) * y .den + dn (y .num) * x .den), omega arith)
+
+  pub below : up (x .num) * y .den + dn (y .num) * x .den < dn (x .num) * y .den + up (y .num) * x .den → Below x y
+  below h = let m = at-most (omega arith) in (m, omega (arith, m .1 .is))
+
+pub order : (x y : Fraction) → AtMost x y ⊎ AtMost y x
+order x y = go (decLe (up (x .num) * y .den + dn (y .num) * x .den) (dn (x .num) * y .den + up (y .num) * x .den))
+  where
+    go : Dec (up (x .num) * y .den + dn (y .num) * x .den ≤ dn (x .num) * y .den + up (y .num) * x .den) → AtMost x y ⊎ AtMost y x
+    go (yes h) = inl (at-most x y h)
+    go (no h) = inr (at-most y x (omega arith))
+
+module _ (y z : ℤ) where
+  pub whole-at-most : y ≤ℤ z → AtMost (y over 1) (z over 1)
+  whole-at-most h = at-most (y over 1) (z over 1) (omega (arith, leZ-parts y z (h .le)))
+
+  pub whole-below : y <ℤ z → Below (y over 1) (z over 1)
+  whole-below h = below (y over 1) (z over 1) (omega (arith, ltZ-parts y z (h .lt)))
+
+-- What goes by the test of a position against b, and what settles the test.
+module _ (x : Fraction) (b : ℤ) where
+  pub by-test : {A : Type 0} (Q : A → Type 0) {c e : A} → (AtMost x (b over 1) → Q c) → (Below (b over 1) x → Q e) → Q (cond (leZ (x .num) (b *ℤ pos (x .den))) c e)
+  by-test {A} Q {c} {e} before past = go (leZ (x .num) (b *ℤ pos (x .den))) refl
+    where
+      go : (t : Bool) → leZ (x .num) (b *ℤ pos (x .den)) ≡ t → Q (cond t c e)
+      go true t = before (at-most x (b over 1) (omega (arith, leZ-parts (x .num) (b *ℤ pos (x .den)) (is-true t), scaled b (x .den))))
+      go false t = past (below (b over 1) x (omega (arith, nleZ-parts (x .num) (b *ℤ pos (x .den)) (is-false t), scaled b (x .den))))
+
+  pub is-up-to : AtMost x (b over 1) → leZ (x .num) (b *ℤ pos (x .den)) ≡ true
+  is-up-to h = le-leZ (x .num) (b *ℤ pos (x .den)) (omega (arith, scaled b (x .den)))
+
+  pub is-behind : Below (b over 1) x → leZ (x .num) (b *ℤ pos (x .den)) ≡ false
+  is-behind h = lt-leZ (x .num) (b *ℤ pos (x .den)) (omega (arith, scaled b (x .den)))

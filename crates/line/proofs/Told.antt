@@ -1,0 +1,79 @@
+-- What calls say of signed numbers, and what their answers come to.
+use mathlib.Core.Path.{_≡_, ap₂, _∙_}
+use Prim.Native.Nat.{ℕ, _+_, _*_, _-_, _^_, _≤_, _<_}
+use native.Mathlib.Nat.{mul-le-mul-right}
+use native.Mathlib.Omega.{arith}
+use lib.IntN.{ℤ, pos, subℕ, _-ℤ_}
+use lib.Signed.{_≤ℤ_, _<ℤ_}
+use mir.Syntax.{w64}
+use mir.Val.{SFits, toZ, ofZ}
+use mir.Facts.{toZ-ofZ}
+use Rattle.integers.specs.Parts.{up, dn}
+use Rattle.integers.specs.Nearest.{_over_, nearest}
+use Rattle.integers.proofs.PartLaws.{same, sub-is, sub-parts-ℤ, abs-parts, leZ-parts, ltZ-parts, parts-<ℤ}
+use Rattle.integers.proofs.Bridge.{seen}
+use Rattle.fields.specs.declared.Pair.{Pair}
+use Rattle.line.specs.Line.{between}
+use Rattle.line.specs.Ranges.{Weights, Between}
+use Rattle.line.proofs.Order.{Ahead}
+use Rattle.line.proofs.Weights.{at, weights-run, weights-num}
+
+-- ---- a number that is handed to a call
+
+module _ {z : ℤ} {r : ℕ} (f : SFits w64 z) where
+  pub told-up : (r ≡ up (toZ w64 (ofZ w64 z))) × (r < 2 ^ 63) → r ≡ up z
+  told-up e = e .0 ∙ seen f .0
+
+  pub told-dn : (r ≡ dn (toZ w64 (ofZ w64 z))) × (r ≤ 2 ^ 63) → r ≡ dn z
+  told-dn e = e .0 ∙ seen f .1
+
+module _ {a b : ℤ} (f : SFits w64 a) (g : SFits w64 b) where
+  pub told-≤ : a ≤ℤ b → toZ w64 (ofZ w64 a) ≤ℤ toZ w64 (ofZ w64 b)
+  told-≤ h = rw (toZ-ofZ f, toZ-ofZ g) h
+
+  pub told-gap : {r : ℕ} → pos r ≡ toZ w64 (ofZ w64 a) -ℤ toZ w64 (ofZ w64 b) → pos r ≡ a -ℤ b
+  told-gap e = rw (toZ-ofZ f, toZ-ofZ g) at e
+
+-- ---- a gap
+
+pub gap-parts : (a b : ℤ) {r : ℕ} → pos r ≡ a -ℤ b → up a + dn b ≡ dn a + up b + r
+gap-parts a b {r} e =
+    let eu : r ≡ up (a -ℤ b) = cc in
+    let ed : 0 ≡ dn (a -ℤ b) = cc in
+    omega (arith, sub-parts-ℤ a b)
+
+pub gap-made : (a b : ℤ) {u d x y : ℕ} → b ≤ℤ a → u ≡ up a → d ≡ dn b → x ≡ dn a → y ≡ up b → (x + y ≤ u + d) × (pos (u + d - (x + y)) ≡ a -ℤ b)
+gap-made a b {u} {d} {x} {y} h eu ed ex ey =
+    let some : x + y ≤ u + d = omega (arith, leZ-parts b a (h .le)) in
+    (some, same (pos (u + d - (x + y))) (a -ℤ b) (omega (arith, sub-parts-ℤ a b)))
+
+-- ---- the line between neighbours
+
+pub weighed-fits : (s t past left : ℕ) → Weights s t past left → s * left + t * past ≤ 2 ^ 62
+weighed-fits s t past left h = omega (arith, mul-le-mul-right left (h .first), mul-le-mul-right past (h .second))
+
+-- What the distances from the two points are good for.
+pub record Gaps (p : ℤ) (before behind : Pair) (past left : ℕ) : Type 0 where
+  pub run : (0 < past + left) × (past + left ≤ 2 ^ 30)
+  pub weights : (s t : ℕ) → s ≤ up (before .deviation) + dn (before .deviation) → t ≤ up (behind .deviation) + dn (behind .deviation) → Weights s t past left
+  pub made : nearest (subℕ (up (before .deviation) * left + up (behind .deviation) * past) (dn (before .deviation) * left + dn (behind .deviation) * past) over past + left) ≡ nearest (between p 1 before behind .num over between p 1 before behind .run)
+
+pub gaps : (p : ℤ) (before behind : Pair) {past left : ℕ} → Between p before behind → pos past ≡ p -ℤ before .point → pos left ≡ behind .point -ℤ p → Gaps p before behind past left
+unfolding between
+gaps p before behind {past} {left} h hp hl = record {
+  run = omega (arith, run);
+  weights = λ s t ls lt. omega (arith, run, h .first .deviation, h .second .deviation, abs-parts (before .deviation), abs-parts (behind .deviation));
+  made = ap₂ (λ (z : ℤ) (n : ℕ). nearest (z over n)) (sub-is _ _ (between p 1 before behind .num) (weights-num before behind rises l r)) (omega (arith, weights-run before behind rises l r));
+}
+  where
+    l : Ahead (at before) (p over 1) past
+    l = omega (arith, gap-parts p (before .point) hp)
+
+    r : Ahead (p over 1) (at behind) left
+    r = omega (arith, gap-parts (behind .point) p hl)
+
+    run : (0 < past + left) × (past + left ≤ 2 ^ 30)
+    run = omega (arith, l .is, r .is, ltZ-parts (before .point) p (h .past .lt), leZ-parts (pos 0) (before .point) (h .first .least .le), abs-parts (behind .point), h .second .point)
+
+    rises : before .point <ℤ behind .point
+    rises = parts-<ℤ (before .point) (behind .point) (omega (arith, l .is, r .is, run))

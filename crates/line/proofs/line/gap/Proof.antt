@@ -1,0 +1,53 @@
+use borrow.Author.Needs.{needs}
+use mathlib.Core.Path.{_≡_}
+use Prim.Native.Nat.{_+_, _-_, _≤_}
+use lib.IntN.{pos, _-ℤ_}
+use Rattle.line.proofs.Told.{told-up, told-dn, gap-made}
+use Rattle.line.proofs.line.gap.Statement.{statement}
+use Rattle.line.proofs.line.gap.Tie as tie
+
+made : (c : tie.After-plus2) → let r = c .before .before .before .plus .result + c .before .before .minus .result in let l = c .before .minus2 .result + c .plus2 .result in let a = c .before .before .before .before .args in (l ≤ r) × (pos (r - l) ≡ a .a -ℤ a .b)
+made c =
+    let s = c .before .before .before .before in
+    gap-made (s .args .a) (s .args .b) (s .pre)
+    (told-up (s .fits .a) (c .before .before .before .plus .ensures))
+    (told-dn (s .fits .b) (c .before .before .minus .ensures))
+    (told-dn (s .fits .a) (c .before .minus2 .ensures))
+    (told-up (s .fits .b) (c .plus2 .ensures))
+
+plus-requires : tie.Need-plus-requires
+plus-requires c κs = search needs
+
+minus-requires : tie.Need-minus-requires
+minus-requires c κs = search needs
+
+add-result : tie.Need-add-result
+add-result c = search needs
+
+minus-requires-2 : tie.Need-minus-requires-2
+minus-requires-2 c κs = search needs
+
+plus-requires-2 : tie.Need-plus-requires-2
+plus-requires-2 c κs = search needs
+
+add-result-2 : tie.Need-add-result-2
+add-result-2 c = search needs
+
+sub-result : tie.Need-sub-result
+sub-result c = made c .0
+
+returns : tie.Need-returns
+returns c = made c .1
+
+pub gap-spec : {M : Type 1} → statement M
+gap-spec =
+    tie.close
+    (tie.spec
+    plus-requires
+    minus-requires
+    add-result
+    minus-requires-2
+    plus-requires-2
+    add-result-2
+    sub-result
+    returns)

@@ -1,0 +1,35 @@
+-- Only inner contracts need this file: how large the figures of a stored table are, so that nothing overflows.
+use mathlib.Core.List.{List, [], _∷_}
+use Prim.Native.Nat.{ℕ, _+_, _≤_, _^_}
+use lib.IntN.{ℤ, pos, natAbs}
+use lib.Signed.{_≤ℤ_, _<ℤ_}
+use Rattle.fields.specs.declared.Pair.{Pair}
+use Rattle.line.specs.Certificate.{Rises}
+
+-- A stored pair: the point is from 0 to 2^30, the deviation from −2^32 to 2^32.
+pub record Figures (q : Pair) : Type 0 where
+  pub least : pos 0 ≤ℤ q .point
+  pub point : natAbs (q .point) ≤ 2 ^ 30
+  pub deviation : natAbs (q .deviation) ≤ 2 ^ 32
+
+abbrev pub AllFigures : List Pair → Type 0
+AllFigures [] = Unit {0}
+AllFigures (q ∷ points) = Figures q × AllFigures points
+
+-- A stored table.
+pub record Table (points : List Pair) : Type 0 where
+  pub rises : Rises points
+  pub figures : AllFigures points
+
+-- A position behind a calibration point, up to the next.
+pub record Between (p : ℤ) (before behind : Pair) : Type 0 where
+  pub past : before .point <ℤ p
+  pub left : p ≤ℤ behind .point
+  pub first : Figures before
+  pub second : Figures behind
+
+-- What two deviations have above 0, or below, and how far a position is from the point before it and from the point behind.
+pub record Weights (s t past left : ℕ) : Type 0 where
+  pub first : s ≤ 2 ^ 32
+  pub second : t ≤ 2 ^ 32
+  pub run : past + left ≤ 2 ^ 30

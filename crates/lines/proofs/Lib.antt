@@ -1,7 +1,0 @@
-pub mod WordLaws
-pub mod FigureLaws
-pub mod FilledLaws
-pub mod ListLaws
-pub mod HexLaws
-pub mod SpellLaws
-pub mod ValueLaws

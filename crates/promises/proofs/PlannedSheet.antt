@@ -1,0 +1,271 @@
+-- A whole plan: what it writes may stand in a stream, with the zero that may end the text, and what stands there is planned again.
+use mathlib.Core.Path.{_≡_, refl, sym, ap, ap₂, _∙_, subst}
+use mathlib.Core.Bool.{Bool, true, false, not, _&&_, _||_}
+use mathlib.Core.List.{List, [], _∷_, _++_, map, append-assoc}
+use Prim.Native.Nat.{ℕ, zero, suc, _+_, _-_, _*_, _/_, _%_, _≤_}
+use native.Mathlib.Omega.{arith}
+use lib.Dec.{eqb, ltb, leb}
+use lib.IntN.{ℤ}
+use lib.ListN.{length, length-map}
+use borrow.Author.Tests.{ltb-false, le-ltb, lt-ltb, leb-true, leb-false, eqb-false, ne-eqb}
+use Rattle.refusal.specs.Outcome.{good}
+use Rattle.refusal.specs.Rows.{wrongSort, outOfRange, wrongList}
+use Rattle.refusal.proofs.Outcomes.{good-same, good-bind, passed, neither, bind-good}
+use Rattle.memory.specs.Pieces.{Piece, piece, needed}
+use Rattle.memory.proofs.PieceLaws.{needed-append}
+use Rattle.fields.specs.declared.Template.{Template}
+use Rattle.fields.specs.Lines.{basic, templateLines, numberOf, ending}
+use Rattle.fields.specs.Stored.{Real}
+use Rattle.fields.specs.declared.Pair.{Pair}
+use Rattle.fields.proofs.RowLaws.{basic-sound, lines-sound}
+use Rattle.layout.specs.Contents.{Found, Calibration, bare, table, Contents}
+use Rattle.layout.specs.Image.{pairIn, pairsIn, points}
+use Rattle.layout.specs.Pieces.{blockPieces, endCode}
+use Rattle.layout.proofs.Fields.{pieceOf, laid-length}
+use Rattle.layout.proofs.Calibrations.{calibrationPieces, CalibrationAt}
+use Rattle.layout.proofs.Endings.{Characters, zeroIf, text-needed, charactersFrom, endPieces, EndingAt}
+use Rattle.layout.proofs.Sheets.{Formed, sheetPieces}
+use Rattle.build.specs.declared.Sheet.{Sheet}
+use Rattle.build.specs.Build.{lent, templateIn, linePieces, fieldPieces, unfit, endingPieces, pairsLent, tablePieces, plan}
+use Rattle.promises.specs.Again.{keptPair}
+use Rattle.promises.proofs.PlannedFields.{KeptFrom, LentFrom, lines-stand, lines-again, kept-append, lent-split}
+use Rattle.promises.proofs.PlannedPairs.{table-stands, table-again}
+
+-- ---- the ending
+
+fit-characters : (text : List ℕ) → unfit text ≡ false → Characters text
+fit-characters [] e = tt
+fit-characters (c ∷ text) e =
+    let (a, e1) = neither (eqb c 0 || ltb 127 c) (unfit text) e in
+    let (a0, a1) = neither (eqb c 0) (ltb 127 c) a in
+    (omega (arith, eqb-false c 0 a0), ltb-false 127 c a1, fit-characters text e1)
+
+characters-fit : (text : List ℕ) → Characters text → unfit text ≡ false
+characters-fit [] h = refl
+characters-fit (c ∷ text) h = rw (ne-eqb c 0 (λ e. omega arith), le-ltb 127 c (h .1)) (characters-fit text (h .2))
+
+-- Text with end bit 0: row 9.
+abbrev strayText : Bool → List ℕ → Bool
+strayText endBit text = not endBit && ltb 0 (length text)
+
+text-room : (S : ℕ) (endBit : Bool) (at : ℕ) (text : List ℕ) → strayText endBit text ≡ false → at + 7 * length text ≤ S →
+    length text ≤ charactersFrom S endBit at
+text-room S true at text e h = omega arith
+text-room S false at text e h = ltb-false 0 (length text) e
+
+room-text : (S : ℕ) (endBit : Bool) (at : ℕ) (text : List ℕ) → length text ≤ charactersFrom S endBit at → strayText endBit text ≡ false
+room-text S true at text h = refl
+room-text S false at text h = le-ltb 0 (length text) h
+
+-- A zero stands behind the text where the end bit is 1 and 7 bits remain.
+zero-room : (S : ℕ) (endBit : Bool) (at n : ℕ) → ltb n (charactersFrom S endBit at) ≡ (endBit && leb (at + 7 * n + 7) S)
+zero-room S true at n = go (leb (at + 7 * n + 7) S) refl
+  where
+    go : (t : Bool) → leb (at + 7 * n + 7) S ≡ t → ltb n ((S - at) / 7) ≡ t
+    go true e = lt-ltb n ((S - at) / 7) (omega (arith, leb-true (at + 7 * n + 7) S e))
+    go false e = le-ltb n ((S - at) / 7) (omega (arith, leb-false (at + 7 * n + 7) S e))
+zero-room S false at n = le-ltb n 0 (omega arith)
+
+abbrev endLaid : Bool → List ℕ → List Piece
+endLaid endBit text = piece 2 3 ∷ piece 1 (endCode endBit) ∷ map (piece 7) text
+
+laid-ending : (f : ℕ) (endBit : Bool) (text : List ℕ) → strayText endBit text ≡ false → Characters text → endingPieces f endBit text ≡ good (endLaid endBit text)
+unfolding endingPieces
+laid-ending f endBit text stray h = rw (stray, characters-fit text h)
+
+-- ---- a plan in its parts
+
+pub record PlanParts (sheet : Sheet) (text : List ℕ) (lentPoints : List ℤ) (pieces : List Piece) : Type 0 where
+  pub basics : List Piece
+  pub own : List Piece
+  pub table : List Piece
+  pub few : length lentPoints ≤ 254
+  pub basicsPlanned : linePieces sheet basic 0 1 ≡ good basics
+  pub ownPlanned : linePieces sheet (templateLines (templateIn sheet)) 0 (suc (length basic)) ≡ good own
+  pub stray : strayText (sheet .«end_bit») text ≡ false
+  pub characters : Characters text
+  pub tablePlanned : tablePieces (pairsLent lentPoints) ≡ good table
+  pub joined : (basics ++ (blockPieces (numberOf (templateIn sheet)) ++ own)) ++ (table ++ endLaid (sheet .«end_bit») text) ≡ pieces
+
+pub plan-parts : (sheet : Sheet) (text : List ℕ) (lentPoints : List ℤ) (pieces : List Piece) → plan sheet text lentPoints ≡ good pieces →
+    PlanParts sheet text lentPoints pieces
+unfolding plan fieldPieces endingPieces
+plan-parts sheet text lentPoints pieces e =
+    let f : ℕ = ending (templateIn sheet) in
+    let b : Bool = sheet .«end_bit» in
+    let (t, e0) = passed (wrongList (length lentPoints)) (eqb (length lentPoints % 2) 1 || ltb 254 (length lentPoints)) _ pieces e in
+    let (fs, e1, e2) = good-bind (fieldPieces sheet) _ pieces e0 in
+    let (es, e3, e4) = good-bind (endingPieces f b text) _ pieces e2 in
+    let (ts, e5, e6) = good-bind (tablePieces (pairsLent lentPoints)) _ pieces e4 in
+    let (bs, f1, f2) = good-bind (linePieces sheet basic 0 1) _ fs e1 in
+    let (os, f3, f4) = good-bind (linePieces sheet (templateLines (templateIn sheet)) 0 (suc (length basic))) _ fs f2 in
+    let (s, g1) = passed (wrongSort f) (strayText b text) _ es e3 in
+    let (u, g2) = passed (outOfRange f) (unfit text) _ es g1 in
+    record {
+      basics = bs;
+      own = os;
+      table = ts;
+      few = ltb-false 254 (length lentPoints) (neither (eqb (length lentPoints % 2) 1) (ltb 254 (length lentPoints)) t .1);
+      basicsPlanned = f1;
+      ownPlanned = f3;
+      stray = s;
+      characters = fit-characters text u;
+      tablePlanned = e5;
+      joined = ap₂ (λ p q. p ++ (ts ++ q)) (good-same f4) (good-same g2) ∙ good-same e6;
+    }
+
+pub half : (lentPoints : List ℤ) → 2 * length (pairsLent lentPoints) ≤ length lentPoints
+half [] = omega arith
+half (a ∷ []) = omega arith
+half (a ∷ s ∷ lentPoints) = omega (arith, half lentPoints)
+
+-- ---- the pieces of a plan, in the order of a sheet's
+
+regroup : (bs block os ts cs zs : List Piece) (n : ℕ) →
+    bs ++ (block ++ (os ++ (ts ++ (piece 2 3 ∷ []) ++ (piece 1 n ∷ (cs ++ zs))))) ≡ (bs ++ (block ++ os)) ++ (ts ++ (piece 2 3 ∷ piece 1 n ∷ cs)) ++ zs
+regroup bs block os ts cs zs n = simp append-assoc
+
+module _ (S number : ℕ) (endBit : Bool) (text : List ℕ) (bs os ts : List Piece) where
+  abbrev laidDown : List Piece
+  laidDown = (bs ++ (blockPieces number ++ os)) ++ (ts ++ endLaid endBit text)
+
+  abbrev endPlace : ℕ
+  endPlace = needed bs + 10 + needed os + needed ts + 2
+
+  laid-needed : endPlace + 1 + 7 * length text ≡ needed laidDown
+  laid-needed =
+      omega (
+        arith,
+        needed-append (bs ++ (blockPieces number ++ os)) (ts ++ endLaid endBit text),
+        needed-append bs (blockPieces number ++ os),
+        needed-append ts (endLaid endBit text),
+        text-needed text,
+      )
+
+  -- With the zero that may follow.
+  reordered : bs ++ (blockPieces number ++ (os ++ (ts ++ (piece 2 3 ∷ []) ++ endPieces S endPlace endBit text))) ≡ laidDown ++ zeroIf (endBit && leb (needed laidDown + 7) S)
+  reordered =
+      let z : ltb (length text) (charactersFrom S endBit (endPlace + 1)) ≡ (endBit && leb (needed laidDown + 7) S) =
+      zero-room S endBit (endPlace + 1) (length text) ∙ ap (λ (n : ℕ). endBit && leb (n + 7) S) laid-needed in
+      ap (λ t. bs ++ (blockPieces number ++ (os ++ (ts ++ (piece 2 3 ∷ []) ++ (piece 1 (endCode endBit) ∷ (map (piece 7) text ++ zeroIf t)))))) z
+      ∙ regroup bs (blockPieces number) os ts (map (piece 7) text) (zeroIf (endBit && leb (needed laidDown + 7) S)) (endCode endBit)
+
+-- ---- planned, and standing
+
+pub record PlanStands (S : ℕ) (sheet : Sheet) (text : List ℕ) (lentPoints : List ℤ) (pieces : List Piece) : Type 0 where
+  pub contents : Contents
+  pub formed : Formed S contents
+  pub pieces-are : sheetPieces formed ≡ pieces ++ zeroIf (sheet .«end_bit» && leb (needed pieces + 7) S)
+  pub sameTemplate : contents .template ≡ templateIn sheet
+  pub keepsFields : KeptFrom sheet 1 (contents .fields)
+  pub keepsPoints : points contents ≡ map keptPair (pairsLent lentPoints)
+  pub sameEnd : contents .endBit ≡ sheet .«end_bit»
+  pub sameText : contents .text ≡ text
+
+pub plan-stands : (S : ℕ) (sheet : Sheet) (text : List ℕ) (lentPoints : List ℤ) (pieces : List Piece) → ((f : ℕ) → Real (lent sheet f)) →
+    plan sheet text lentPoints ≡ good pieces → needed pieces ≤ S → PlanStands S sheet text lentPoints pieces
+plan-stands S sheet text lentPoints pieces real e inside =
+    let d = plan-parts sheet text lentPoints pieces e in
+    let t : Template = templateIn sheet in
+    let b : Bool = sheet .«end_bit» in
+    let a = lines-stand sheet real basic 0 1 0 (d .basics) basic-sound (d .basicsPlanned) in
+    let ownAt : ℕ = needed (map pieceOf (a .fields)) + 10 in
+    let o = lines-stand sheet real (templateLines t) 0 (suc (length basic)) ownAt (d .own) (lines-sound t) (d .ownPlanned) in
+    let behind : ℕ = ownAt + needed (map pieceOf (o .fields)) in
+    let k = table-stands behind (pairsLent lentPoints) (d .table) (omega (arith, half lentPoints, d .few)) (d .tablePlanned) in
+    let ts : List Piece = calibrationPieces (k .calibration) in
+    let endAt : ℕ = behind + needed ts + 2 in
+    let p : laidDown S (numberOf t) b text (map pieceOf (a .fields)) (map pieceOf (o .fields)) ts ≡ pieces =
+    ap₂ (λ q r. (q ++ (blockPieces (numberOf t) ++ map pieceOf (o .fields))) ++ (r ++ endLaid b text)) (sym (a .pieces)) (sym (k .pieces))
+    ∙ ap (λ q. (d .basics ++ (blockPieces (numberOf t) ++ q)) ++ (d .table ++ endLaid b text)) (sym (o .pieces)) ∙ d .joined in
+    let n : endAt + 1 + 7 * length text ≡ needed pieces =
+    laid-needed S (numberOf t) b text (map pieceOf (a .fields)) (map pieceOf (o .fields)) ts ∙ ap needed p in
+    let first : suc (length basic) ≡ 1 + length (a .fields) = omega (arith, laid-length basic 0 0 (a .fields) (a .laid)) in
+    record {
+      contents = record {
+        template = t;
+        fields = a .fields ++ o .fields;
+        calibration = k .calibration;
+        endBit = b;
+        text = text;
+        bits = endAt + needed (endPieces S endAt b text);
+      };
+      formed = record {
+        basics = a .fields;
+        own = o .fields;
+        ownAt = ownAt;
+        behind = behind;
+        endAt = endAt;
+        fields = refl;
+        own-at = refl;
+        behind-at = refl;
+        end-at = refl;
+        basicsLaid = a .laid;
+        ownLaid = o .laid;
+        calibrated = k .stands;
+        ending = record { characters = d .characters; room = text-room S b (endAt + 1) text (d .stray) (omega arith) };
+        bits-are = refl;
+      };
+      pieces-are =
+          reordered S (numberOf t) b text (map pieceOf (a .fields)) (map pieceOf (o .fields)) ts
+          ∙ ap (λ q. q ++ zeroIf (b && leb (needed q + 7) S)) p;
+      sameTemplate = refl;
+      keepsFields = kept-append sheet 1 (a .fields) (o .fields) (a .keeps) (subst (λ (f : ℕ). KeptFrom sheet f (o .fields)) first (o .keeps));
+      keepsPoints = k .keeps;
+      sameEnd = refl;
+      sameText = refl;
+    }
+
+-- ---- standing, and planned again
+
+right-length : (lentPoints : List ℤ) (n : ℕ) → length lentPoints ≡ 2 * n → n ≤ 127 → (eqb (length lentPoints % 2) 1 || ltb 254 (length lentPoints)) ≡ false
+right-length lentPoints n e few =
+    rw (ne-eqb (length lentPoints % 2) 1 (λ h. omega arith)) (le-ltb 254 (length lentPoints) (omega arith))
+
+few-pairs : (at : ℕ) (c : Contents) → CalibrationAt at (c .calibration) → length (points c) ≤ 127
+few-pairs at c h = omega (arith, length-map (pairsIn (c .calibration)) pairIn, go (c .calibration) h)
+  where
+    go : (k : Calibration) → CalibrationAt at k → length (pairsIn k) ≤ 127
+    go bare h = omega arith
+    go (table pairs) h = h .most
+
+module _ {S : ℕ} {c : Contents} (h : Formed S c) (sheet : Sheet) (lentPoints : List ℤ) (lents : LentFrom sheet 1 (c .fields)) (sameTemplate : templateIn sheet ≡ c .template)
+    (sameEnd : sheet .«end_bit» ≡ c .endBit) (samePoints : pairsLent lentPoints ≡ points c) (two : length lentPoints ≡ 2 * length (points c)) where
+  abbrev bs : List Piece
+  bs = map pieceOf (h .basics)
+
+  abbrev os : List Piece
+  os = map pieceOf (h .own)
+
+  abbrev ts : List Piece
+  ts = calibrationPieces (c .calibration)
+
+  abbrev pub again : List Piece
+  again = (bs ++ (blockPieces (numberOf (c .template)) ++ os)) ++ (ts ++ endLaid (c .endBit) (c .text))
+
+  fields-again : fieldPieces sheet ≡ good (bs ++ (blockPieces (numberOf (c .template)) ++ os))
+  unfolding fieldPieces
+  fields-again =
+      let (first, others) = lent-split sheet 1 (h .basics) (h .own) (subst (LentFrom sheet 1) (h .fields) lents) in
+      let n : 1 + length (h .basics) ≡ suc (length basic) = omega (arith, laid-length basic 0 0 (h .basics) (h .basicsLaid)) in
+      let own : linePieces sheet (templateLines (templateIn sheet)) 0 (suc (length basic)) ≡ good os =
+      ap (λ t. linePieces sheet (templateLines t) 0 (suc (length basic))) sameTemplate
+      ∙ lines-again sheet (templateLines (c .template)) 0 (suc (length basic)) (h .ownAt) (h .own) (lines-sound (c .template)) (h .ownLaid)
+      (subst (λ (f : ℕ). LentFrom sheet f (h .own)) n others) in
+      bind-good _ (lines-again sheet basic 0 1 0 (h .basics) basic-sound (h .basicsLaid) first) ∙ bind-good _ own
+      ∙ ap (λ t. good (bs ++ (blockPieces (numberOf t) ++ os))) sameTemplate
+
+  pub plan-again : plan sheet (c .text) lentPoints ≡ good again
+  unfolding plan
+  plan-again =
+      let stray = room-text S (c .endBit) (h .endAt + 1) (c .text) (h .ending .room) in
+      rw (right-length lentPoints (length (points c)) two (few-pairs (h .behind) c (h .calibrated)))
+      (bind-good _ fields-again
+      ∙ bind-good _ (ap (λ b. endingPieces (ending (templateIn sheet)) b (c .text)) sameEnd ∙ laid-ending (ending (templateIn sheet)) (c .endBit) (c .text) stray (h .ending .characters))
+      ∙ bind-good _ (ap tablePieces samePoints ∙ table-again (h .behind) (c .calibration) (h .calibrated)))
+
+  pub zero-behind : again ++ zeroIf (c .endBit && leb (needed again + 7) S) ≡ sheetPieces h
+  zero-behind =
+      let e : endPlace S (numberOf (c .template)) (c .endBit) (c .text) bs os ts ≡ h .endAt = omega (arith, h .end-at, h .behind-at, h .own-at) in
+      sym (reordered S (numberOf (c .template)) (c .endBit) (c .text) bs os ts)
+      ∙ ap (λ (n : ℕ). bs ++ (blockPieces (numberOf (c .template)) ++ (os ++ (ts ++ (piece 2 3 ∷ []) ++ endPieces S n (c .endBit) (c .text))))) e

@@ -1,0 +1,103 @@
+// What an opened sheet holds, straight from its image. The check has read each field, pair and character, so none is
+// refused here.
+ghost use mathlib.Core.Path.{_≡_};
+ghost use Prim.Native.Nat.{ℕ, _≤_, _<_};
+ghost use lib.ListN.{getD};
+ghost use Rattle.memory.specs.Answers.{Whole};
+ghost use Rattle.fields.specs.Lines.{lastField};
+ghost use Rattle.fields.specs.Stored.{Sound};
+ghost use Rattle.fields.specs.Calibration.{noPair};
+ghost use Rattle.layout.specs.Format.{parse};
+ghost use Rattle.layout.specs.Contents.{Contents, fieldOf};
+ghost use Rattle.layout.specs.Image.{streamIn, field as fieldIn, figure as figureOf, points};
+ghost use Rattle.sheet.specs.Opened.{Opens, Held};
+ghost use Rattle.sheet.specs.Walk.{valueIn};
+use crate::Opened;
+use crate::places;
+use fields::Decoded;
+use fields::Pair;
+use fields::Row;
+use fields::Value;
+use memory::Cursor;
+use memory::Sizes;
+use memory::Taken;
+
+// The value of the field of a row at a place: missing where none stands.
+fn value_at(sizes: Sizes, image: &[u8], at: usize, row: Row) -> Value
+    requires { ⌜ Whole sizes (now image) × Sound row ⌝ }
+    ensures { λ r. ⌜ r ≡ valueIn (parse (streamIn sizes (now (image .entry))) (fieldOf row) at) ⌝ }
+{
+    let cursor = Cursor { at };
+    match cursor.take(sizes, image, row.width as usize) {
+        Taken::Refused(_) => Value::Missing,
+        Taken::Field(code, _) => match fields::decode(row, at as u64, code) {
+            Decoded::Refused(_) => Value::Missing,
+            Decoded::Means(value) => value,
+        },
+    }
+}
+
+// The figure of a point or a deviation, which is always a whole number.
+fn figure(value: Value) -> i64
+    ensures { λ r. ⌜ r ≡ figureOf value ⌝ }
+{
+    match value {
+        Value::Whole(z) => z,
+        Value::Single(_) => 0,
+        Value::Missing => 0,
+    }
+}
+
+// The value of a field, counted from 1.
+pub fn value_in(sheet: Opened, image: &[u8], field: u64) -> Value
+    requires { ⌜ Held sheet (now image) × (1 ≤ field) × (field ≤ lastField (sheet .layout .template)) ⌝ }
+    ensures { λ r. ⌜ ((kind : ℕ) (c : Contents) → Opens kind (now (image .entry)) sheet c → r ≡ fieldIn c field .value) ⌝ }
+{
+    let sizes = sheet.sizes;
+    let layout = sheet.layout;
+    value_at(
+        sizes,
+        image,
+        places::locate(layout, field),
+        fields::row_of(layout, field),
+    )
+}
+
+// A pair, counted from 0.
+pub fn pair_in(sheet: Opened, image: &[u8], index: u64) -> Pair
+    requires { ⌜ Held sheet (now image) × (index < sheet .summary .points) ⌝ }
+    ensures { λ r. ⌜ ((kind : ℕ) (c : Contents) → Opens kind (now (image .entry)) sheet c → r ≡ getD (points c) index noPair) ⌝ }
+{
+    let sizes = sheet.sizes;
+    let layout = sheet.layout;
+    let at = places::locate_pair(layout, index);
+    let row = fields::cal_point();
+    let point = value_at(sizes, image, at, row);
+    let deviation = value_at(
+        sizes,
+        image,
+        at + row.width as usize,
+        fields::cal_deviation(),
+    );
+    Pair {
+        point: figure(point),
+        deviation: figure(deviation),
+    }
+}
+
+// A character of the closing text, counted from 0.
+pub fn character_in(sheet: Opened, image: &[u8], index: u64) -> u8
+    requires { ⌜ Held sheet (now image) × (index < sheet .summary .characters) ⌝ }
+    ensures { λ r. ⌜ ((kind : ℕ) (c : Contents) → Opens kind (now (image .entry)) sheet c → r ≡ getD (c .text) index 0) ⌝ }
+{
+    let sizes = sheet.sizes;
+    let layout = sheet.layout;
+    let summary = sheet.summary;
+    let cursor = Cursor {
+        at: places::locate_character(layout, summary.points, index),
+    };
+    match cursor.take(sizes, image, 7) {
+        Taken::Refused(_) => 0,
+        Taken::Field(character, _) => character as u8,
+    }
+}

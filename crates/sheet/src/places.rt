@@ -1,0 +1,60 @@
+// Where fields, pairs and characters stand in an accepted sheet.
+ghost use mathlib.Core.Path.{_≡_};
+ghost use Prim.Native.Nat.{_≤_, _<_, _^_};
+ghost use Rattle.fields.specs.Lines.{ending};
+ghost use Rattle.layout.specs.Places.{fieldPlace, behindFields, tableBits, pairPlace, characterPlace};
+use fields::Layout;
+
+// The bits of the first block, which stands behind Basic.
+const BLOCK_BITS: u64 = 10;
+
+// The first bit of a field, counted from 1; that of the ending is the first behind the fields.
+pub fn locate(layout: Layout, field: u64) -> usize
+    requires { ⌜ (1 ≤ field) × (field ≤ ending (layout .template)) ⌝ }
+    ensures { λ r. ⌜ r ≡ fieldPlace layout field ⌝ }
+{
+    let mut at: u64 = 0;
+    let mut before: u64 = 1;
+    while before < field {
+        at += fields::row_of(layout, before).width;
+        before += 1;
+    }
+    if fields::basic_fields() < field {
+        return (at + BLOCK_BITS) as usize;
+    }
+    at as usize
+}
+
+// The first bit behind the fields.
+fn fields_end(layout: Layout) -> usize
+    ensures { λ r. ⌜ r ≡ behindFields layout ⌝ }
+{
+    (fields::fields_bits(layout) + BLOCK_BITS) as usize
+}
+
+// The first bit of a pair, counted from 0.
+pub fn locate_pair(layout: Layout, index: u64) -> usize
+    requires { ⌜ index < 2 ^ 32 ⌝ }
+    ensures { λ r. ⌜ r ≡ pairPlace layout index ⌝ }
+{
+    fields_end(layout) + 18 + 37 * (index as usize)
+}
+
+// The bits of a table of pairs: none without one.
+fn table_bits(points: u64) -> usize
+    requires { ⌜ points < 2 ^ 32 ⌝ }
+    ensures { λ r. ⌜ r ≡ tableBits points ⌝ }
+{
+    if points == 0 {
+        return 0;
+    }
+    18 + 37 * (points as usize)
+}
+
+// The first bit of a character, counted from 0, behind so many pairs.
+pub fn locate_character(layout: Layout, points: u64, index: u64) -> usize
+    requires { ⌜ (points < 2 ^ 32) × (index < 2 ^ 32) ⌝ }
+    ensures { λ r. ⌜ r ≡ characterPlace layout points index ⌝ }
+{
+    fields_end(layout) + table_bits(points) + 3 + 7 * (index as usize)
+}

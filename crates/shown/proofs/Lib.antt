@@ -1,3 +1,0 @@
-pub mod Bounds
-pub mod DigitLaws
-pub mod RoundLaws

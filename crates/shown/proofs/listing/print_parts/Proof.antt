@@ -1,0 +1,17 @@
+use Prim.Native.Nat.{_-_}
+use borrow.Author.Needs.{needs}
+use Rattle.shown.proofs.listing.print_parts.Statement.{statement}
+use Rattle.shown.proofs.listing.print_parts.Tie as tie
+
+pub print-parts-spec : {M : Type 1} → statement M
+print-parts-spec =
+    tie.close
+    (tie.spec
+    (λ kind image part from end index₀ index. Unit {0})
+    (λ kind image part from end index₀ index. end - index)
+    (λ c. search needs)
+    (λ c κs. search needs)
+    (λ c. search needs)
+    (λ c. search needs)
+    (λ c. search needs)
+    (λ c. search needs))

@@ -1,0 +1,6 @@
+pub mod WordLaws
+pub mod FigureLaws
+pub mod FilledLaws
+pub mod ListLaws
+pub mod HexLaws
+pub mod ValueLaws

@@ -1,0 +1,81 @@
+-- What a word of a console line says, or nothing, and the answers that say so; and what a lent buffer then holds.
+use mathlib.Core.Bool.{Bool, true, false}
+use mathlib.Core.List.{List, [], _∷_}
+use mathlib.Core.Option.{Option, none, some}
+use Prim.Native.Nat.{ℕ}
+use lib.Dec.{ltb}
+use lib.IntN.{ℤ}
+use lib.ListN.{length}
+use Rattle.fields.specs.declared.Value.{Value}
+use Rattle.words.specs.declared.Number.{Number}
+use Rattle.words.specs.declared.Number.the-variants.{Is as IsNumber, Not as NoNumber}
+use Rattle.words.specs.declared.Figure.{Figure}
+use Rattle.words.specs.declared.Figure.the-variants.{Is as IsFigure, Not as NoFigure}
+use Rattle.words.specs.declared.Worth.{Worth}
+use Rattle.words.specs.declared.Worth.the-variants.{Is as IsValue, Not as NoValue}
+use Rattle.words.specs.declared.Filled.{Filled}
+use Rattle.words.specs.declared.Filled.the-variants.{To, Not as NotFilled}
+
+-- Something, where a test holds.
+infix 2 says_if_
+abbrev pub says_if_ : {A : Type 0} → A → Bool → Option A
+says_if_ a true = some a
+says_if_ a false = none
+
+-- One thing and the rest, where both are said.
+abbrev pub one : {A : Type 0} → Option A → Option (List A) → Option (List A)
+one none rest = none
+one (some a) none = none
+one (some a) (some rest) = some (a ∷ rest)
+
+-- All of them, where each says something.
+abbrev pub every : {A : Type 0} → List (Option A) → Option (List A)
+every [] = some []
+every (said ∷ rest) = one said (every rest)
+
+-- ---- the answers
+
+abbrev pub numberSaid : Number → Option ℕ
+numberSaid (IsNumber n) = some n
+numberSaid NoNumber = none
+
+-- A byte; 256 is none.
+abbrev pub byteSaid : ℕ → Option ℕ
+byteSaid n = says n if ltb n 256
+
+abbrev pub figureSaid : Figure → Option ℤ
+figureSaid (IsFigure z) = some z
+figureSaid NoFigure = none
+
+abbrev pub valueSaid : Worth → Option Value
+valueSaid (IsValue v) = some v
+valueSaid NoValue = none
+
+-- ---- a lent buffer
+
+-- What a buffer holds once the elements that are said were put there: those before the first that says nothing, as many as
+-- there is room for. The rest of it is as it was.
+abbrev pub written : {A : Type 0} → List (Option A) → List A → List A
+written [] held = held
+written (none ∷ said) held = held
+written (some a ∷ said) [] = []
+written (some a ∷ said) (h ∷ held) = a ∷ written said held
+
+-- Whether each says something, and there is room for all.
+abbrev pub isWhole : {A : Type 0} → List (Option A) → List A → Bool
+isWhole [] held = true
+isWhole (none ∷ said) held = false
+isWhole (some a ∷ said) [] = false
+isWhole (some a ∷ said) (h ∷ held) = isWhole said held
+
+-- How many elements were put at a buffer's start, if it was all of them, and all that it holds.
+pub record Held (A : Type 0) : Type 0 where
+  pub count : Option ℕ
+  pub all : List A
+
+abbrev pub filled : {A : Type 0} → List (Option A) → List A → Held A
+filled said held = record { count = says length said if isWhole said held; all = written said held }
+
+abbrev pub filledSaid : {A : Type 0} → Filled → List A → Held A
+filledSaid (To n) held = record { count = some n; all = held }
+filledSaid NotFilled held = record { count = none; all = held }

@@ -1,0 +1,127 @@
+// Decimal numbers.
+use crate::Figure;
+use crate::Filled;
+use crate::Number;
+use crate::parts::is_minus;
+use crate::parts::piece;
+ghost use mathlib.Core.Path.{_≡_};
+ghost use lib.ListN.{drop};
+ghost use Rattle.words.specs.Said.{numberSaid, figureSaid, filled, filledSaid};
+ghost use Rattle.words.specs.Figures.{longer as withDigit, number, above as aboveZero, below as belowZero, figure as figureOf, figures as figuresIn};
+
+// A number with one digit more behind it, if the character is a digit and 64 bits hold the number.
+fn longer(n: u64, character: u8) -> Number
+    ensures { λ r. ⌜ numberSaid r ≡ withDigit n character ⌝ }
+{
+    if character < b'0' {
+        return Number::Not;
+    }
+    if character > b'9' {
+        return Number::Not;
+    }
+    let digit = (character - b'0') as u64;
+    if n > 1_844_674_407_370_955_161 {
+        return Number::Not;
+    }
+    if 10 * n > u64::MAX - digit {
+        return Number::Not;
+    }
+    Number::Is(10 * n + digit)
+}
+
+// The number that a word's digits from `from` on spell; none where it has none there, or other characters, or where 64 bits
+// do not hold it.
+fn number_from(word: &[u8], from: usize) -> Number
+    ensures { λ r. ⌜ numberSaid r ≡ number (drop from (now (word .entry))) ⌝ }
+{
+    if from >= word.len() {
+        return Number::Not;
+    }
+    let mut n = 0;
+    let mut at = from;
+    while at < word.len() {
+        match longer(n, word[at]) {
+            Number::Is(m) => n = m,
+            Number::Not => return Number::Not,
+        }
+        at += 1;
+    }
+    Number::Is(n)
+}
+
+// A word's number, 0 to 2^64 - 1.
+pub fn number_of(word: &[u8]) -> Number
+    ensures { λ r. ⌜ numberSaid r ≡ number (now (word .entry)) ⌝ }
+{
+    number_from(word, 0)
+}
+
+// A number as a figure, if an i64 holds it.
+fn above(number: Number) -> Figure
+    ensures { λ r. ⌜ figureSaid r ≡ aboveZero (numberSaid number) ⌝ }
+{
+    match number {
+        Number::Is(n) => {
+            if n > 9_223_372_036_854_775_807 {
+                return Figure::Not;
+            }
+            Figure::Is(integers::difference(n, 0))
+        }
+        Number::Not => Figure::Not,
+    }
+}
+
+// A number with a minus before it as a figure, if an i64 holds it.
+fn below(number: Number) -> Figure
+    ensures { λ r. ⌜ figureSaid r ≡ belowZero (numberSaid number) ⌝ }
+{
+    match number {
+        Number::Is(n) => {
+            if n > 9_223_372_036_854_775_808 {
+                return Figure::Not;
+            }
+            Figure::Is(integers::difference(0, n))
+        }
+        Number::Not => Figure::Not,
+    }
+}
+
+// A word's figure, an i64: digits, with or without a minus before them.
+pub fn figure_of(word: &[u8]) -> Figure
+    ensures { λ r. ⌜ figureSaid r ≡ figureOf (now (word .entry)) ⌝ }
+{
+    if word.len() == 0 {
+        return Figure::Not;
+    }
+    if word[0] == b'-' {
+        return below(number_from(word, 1));
+    }
+    above(number_from(word, 0))
+}
+
+// Puts a word's figures, which commas separate, at the start of out, and says how many they are; `-` is none at all. Not
+// where one is no figure, or out is too short for them: then out has the figures before the first that is none, as many as it
+// has room for.
+pub fn figures_of(word: &[u8], out: &mut [i64]) -> Filled
+    ensures { λ r. ⌜ filledSaid r (now (out .exit)) ≡ filled (figuresIn (now (word .entry))) (now (out .entry)) ⌝ }
+{
+    if is_minus(word) {
+        return Filled::To(0);
+    }
+    let mut count = 0;
+    let mut at = 0;
+    while count < out.len() {
+        let part = piece(word, at, b',');
+        let to = at + part.len();
+        match figure_of(part) {
+            Figure::Is(figure) => out[count] = figure,
+            Figure::Not => return Filled::Not,
+        }
+        count += 1;
+        if to >= word.len() {
+            return Filled::To(count);
+        }
+        at = to + 1;
+    }
+    Filled::Not
+}

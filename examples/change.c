@@ -1,0 +1,94 @@
+/* Changes one field of a data sheet: change FILE FIELD VALUE NEW
+ *
+ * FILE holds a chip's image, and NEW is written with the changed one. VALUE is the text of a date or of letters (fields 3, 18 and
+ * 19), "missing", a Single with a point in it (0.5), or a whole number in the field's unit. Prints what the field then reads, or the
+ * refusal's number and place; on a refusal nothing is written.
+ *
+ *     rt staticlib dartelm
+ *     cc -Iinclude examples/change.c target/staticlib/libdartelm.a -o target/change
+ */
+#include <errno.h>
+#include <inttypes.h>
+#include <stdio.h>
+#include <stdlib.h>
+#include <string.h>
+
+#include "dartelm.h"
+
+/* The value that a word means for a field; 0 if it means none. */
+static int value_of(const char *word, uint64_t field, dartelm_value *value)
+{
+    char *end;
+    memset(value, 0, sizeof *value);
+    if (strcmp(word, "missing") == 0) {
+        value->is_missing = 1;
+        return 1;
+    }
+    dartelm_code_answer code = dartelm_code(field, word, strlen(word));
+    if (code.number == DARTELM_ACCEPTED) {
+        value->whole = (int64_t)code.code;
+        return 1;
+    }
+    errno = 0;
+    if (strchr(word, '.') != NULL) {
+        value->single = strtof(word, &end);
+        value->is_single = 1;
+    } else {
+        value->whole = strtoll(word, &end, 10);
+    }
+    return errno == 0 && end != word && *end == '\0';
+}
+
+static int refused(uint8_t number, uint64_t place)
+{
+    printf("refused %u at %" PRIu64 "\n", number, place);
+    return 1;
+}
+
+int main(int argc, char **argv)
+{
+    if (argc != 5) {
+        fprintf(stderr, "usage: %s FILE FIELD VALUE NEW\n", argv[0]);
+        return 2;
+    }
+    char *end;
+    errno = 0;
+    uint64_t field = strtoull(argv[2], &end, 10);
+    dartelm_value value;
+    if (errno != 0 || end == argv[2] || *end != '\0' || !value_of(argv[3], field, &value)) {
+        fprintf(stderr, "%s or %s is no number\n", argv[2], argv[3]);
+        return 2;
+    }
+    FILE *file = fopen(argv[1], "rb");
+    if (file == NULL) {
+        perror(argv[1]);
+        return 2;
+    }
+    uint8_t image[DARTELM_LONGEST_IMAGE + 1];
+    size_t length = fread(image, 1, sizeof image, file);
+    fclose(file);
+
+    uint8_t kind = dartelm_kind_of(length);
+    dartelm_write_answer changed = dartelm_change(kind, image, length, field, value);
+    if (changed.number != DARTELM_ACCEPTED) {
+        return refused(changed.number, changed.place);
+    }
+    dartelm_field_answer now = dartelm_field(kind, image, length, field);
+    if (now.number != DARTELM_ACCEPTED) {
+        return refused(now.number, now.place);
+    }
+    if (now.value.is_missing) {
+        printf("missing\n");
+    } else if (now.value.is_single) {
+        printf("%.9g\n", now.value.single);
+    } else {
+        printf("%" PRId64 "\n", now.value.whole);
+    }
+
+    file = fopen(argv[4], "wb");
+    if (file == NULL || fwrite(image, 1, length, file) != length || fclose(file) != 0) {
+        perror(argv[4]);
+        return 2;
+    }
+    return 0;
+}
