@@ -1,6 +1,6 @@
 -- A build in a buffer: its tests one after the other, and the bits.
 use mathlib.Core.Path.{_≡_, refl, sym, ap, subst, _∙_}
-use mathlib.Core.Bool.{Bool, true, false}
+use mathlib.Core.Bool.{Bool, true, false, _||_}
 use mathlib.Core.List.{List, _++_, map, append-assoc}
 use Prim.Native.Nat.{ℕ, zero, suc, _+_, _*_, _/_, _%_, _≤_, _<_, min}
 use native.Mathlib.Omega.{arith}
@@ -35,7 +35,6 @@ use Rattle.build.specs.Filled.{Room, codedEnding, codedSheet, fitted}
 use Rattle.build.proofs.PairPlans.{pairs-length, table-needed}
 use Rattle.build.proofs.EndingPlans.{ending-planned, character-lt}
 use Rattle.build.proofs.Filling.{Filling, filling-none}
-use Rattle.build.proofs.SheetPlans.{wrongLength}
 
 -- ---- the bits
 
@@ -96,6 +95,10 @@ module _ (z : Sizes) (template : Template) (fields : List CodedField) (endBit : 
   sheet-filling {a} {at} r = subst (Filling z a at (codedSheet template fields endBit text points) a at) ordered (filling-none z r)
 
 -- ---- the tests
+
+-- Row 16.
+abbrev pub wrongLength : List ℤ → Bool
+wrongLength points = eqb (length points % 2) 1 || ltb 254 (length points)
 
 pub few-points : (points : List ℤ) → wrongLength points ≡ false → length points ≤ 254
 few-points points e = ltb-false 254 (length points) (neither (eqb (length points % 2) 1) (ltb 254 (length points)) e .1)

@@ -3,7 +3,6 @@ pub mod LinePlans
 pub mod FieldPlans
 pub mod PairPlans
 pub mod EndingPlans
-pub mod SheetPlans
 pub mod Filling
 pub mod TextTurns
 pub mod Coding

@@ -1,21 +1,15 @@
--- Fields line by line: what a plan stores may stand in a stream, and what may stand is planned again.
-use mathlib.Core.Path.{_≡_, refl, sym, ap, ap₂, _∙_, subst, subst₂}
-use mathlib.Core.Bool.{Bool, true, false, true≢false}
-use mathlib.Core.List.{List, [], _∷_, _++_, map}
-use Prim.Native.Nat.{ℕ, zero, suc, _+_, _<_}
+-- Fields line by line: how many pieces there are, and those of lines behind lines.
+use mathlib.Core.Path.{_≡_, refl, sym, ap, ap₂, _∙_}
+use mathlib.Core.Bool.{true}
+use mathlib.Core.List.{List, [], _∷_, _++_}
+use Prim.Native.Nat.{ℕ, suc, _+_}
 use native.Mathlib.Omega.{arith}
-use lib.ListN.{length, getD}
+use lib.ListN.{length}
 use Rattle.refusal.specs.Outcome.{Outcome, good, refused, _>>=_}
 use Rattle.refusal.proofs.Outcomes.{good-same, good-bind, bind-assoc, bind-same}
-use Rattle.memory.specs.Pieces.{Piece, piece, needed}
-use Rattle.fields.specs.declared.Row.{Row}
+use Rattle.memory.specs.Pieces.{Piece, piece}
 use Rattle.fields.specs.Rules.{encode}
-use Rattle.fields.specs.Lines.{Line, chose, rowsOf, bitsBefore}
-use Rattle.fields.specs.Stored.{kept, Real, AllSound}
-use Rattle.fields.proofs.StoredLaws.{reads-back}
-use Rattle.layout.specs.Contents.{Found}
-use Rattle.layout.specs.Image.{nothing}
-use Rattle.layout.proofs.Fields.{pieceOf, found, row-is, Laid}
+use Rattle.fields.specs.Lines.{Line, chose}
 use Rattle.layout.proofs.Choices.{Steady}
 use Rattle.build.specs.declared.Sheet.{Sheet}
 use Rattle.build.specs.Build.{lent, linePieces}
@@ -57,98 +51,6 @@ module _ (sheet : Sheet) where
   lines-length (l ∷ lines) latest f ps e =
       let d = line-planned l lines latest f ps e in
       ap length (sym (d .joined)) ∙ ap suc (lines-length lines (chose (l .sets) (d .code) latest) (suc f) (d .rest) (d .others))
-
-  -- ---- what is stored
-
-  -- Field f has the code of the value lent.
-  abbrev pub HasCode : Row → ℕ → ℕ → Type 0
-  HasCode row f code = encode row f (lent sheet f) ≡ good code
-
-  -- So have fields from f on.
-  abbrev pub Stored : ℕ → List Found → Type 0
-  Stored f xs = (i : ℕ) → i < length xs → let x = getD xs i nothing in HasCode (x .row) (f + i) (x .code)
-
-  stored-more : (f : ℕ) (x : Found) (xs : List Found) → HasCode (x .row) f (x .code) → Stored (suc f) xs → Stored f (x ∷ xs)
-  stored-more f x xs h k zero l = subst (λ n. HasCode (x .row) n (x .code)) (sym (first f)) h
-  stored-more f x xs h k (suc i) l = subst (λ n. HasCode (getD xs i nothing .row) n (getD xs i nothing .code)) (shift f i) (k i (omega arith))
-
-  -- The rows of lines are sound whatever the choice.
-  abbrev pub SoundLines : List Line → Type 0
-  SoundLines lines = (latest : ℕ) → AllSound (rowsOf lines latest)
-
-  pub record LinesStored (lines : List Line) (latest f at : ℕ) (ps : List Piece) : Type 0 where
-    pub founds : List Found
-    pub stand : Laid lines latest at founds
-    pub are : map pieceOf founds ≡ ps
-    pub stored : Stored f founds
-
-  pub lines-stored : ((f : ℕ) → Real (lent sheet f)) → (lines : List Line) (latest f at : ℕ) (ps : List Piece) → SoundLines lines →
-      linePieces sheet lines latest f ≡ good ps → LinesStored lines latest f at ps
-  lines-stored real [] latest f at ps sound e =
-      record { founds = []; stand = tt; are = no-line latest f ps e; stored = λ i l. absurd (omega arith) }
-  lines-stored real (l ∷ lines) latest f at ps sound e =
-      let d = line-planned l lines latest f ps e in
-      let row : Row = l .rowAt latest in
-      let b = reads-back row f at (d .code) (lent sheet f) (sound latest .0) (real f) (d .coded) in
-      let r = lines-stored real lines (chose (l .sets) (d .code) latest) (suc f) (at + row .width) (d .rest) (λ c. sound c .1) (d .others) in
-      let x : Found = found row at (d .code) (kept row (lent sheet f)) in
-      record {
-        founds = x ∷ r .founds;
-        stand = (record { is = refl; fits = b .0; means = b .1 }, r .stand);
-        are = ap (λ q. pieceOf x ∷ q) (r .are) ∙ d .joined;
-        stored = stored-more f x (r .founds) (d .coded) (r .stored);
-      }
-
-  pub lines-again : (lines : List Line) (latest f at : ℕ) (xs : List Found) → Laid lines latest at xs → Stored f xs →
-      linePieces sheet lines latest f ≡ good (map pieceOf xs)
-  unfolding linePieces
-  lines-again [] latest f at [] h k = refl
-  lines-again [] latest f at (x ∷ xs) h k = absurd h
-  lines-again (l ∷ lines) latest f at [] h k = absurd h
-  lines-again (l ∷ lines) latest f at (x ∷ xs) h k =
-      let r : x .row ≡ l .rowAt latest = row-is (h .0) in
-      let e : HasCode (l .rowAt latest) f (x .code) = subst₂ (λ w n. HasCode w n (x .code)) r (first f) (k 0 (omega arith)) in
-      let rest = lines-again lines (chose (l .sets) (x .code) latest) (suc f) (at + l .rowAt latest .width) xs (h .1)
-      (λ i m. subst (λ n. HasCode (getD xs i nothing .row) n (getD xs i nothing .code)) (sym (shift f i)) (k (suc i) (omega arith))) in
-      rw (e, rest) (ap (λ (w : Row). good (piece (w .width) (x .code) ∷ map pieceOf xs)) (sym r))
-
-  -- ---- the bits
-
-  -- What lines need goes by the code of the line that sets widths, if there is one: `done` tells whether it has been passed.
-  pub record LinesBits (done : Bool) (lines : List Line) (latest f : ℕ) (ps : List Piece) : Type 0 where
-    pub choice : ℕ
-    pub settled : done ≡ true → choice ≡ latest
-    pub bits : needed ps ≡ bitsBefore lines choice (length lines)
-    pub chosen : (i : ℕ) (none : Line) → i < length lines → let l = getD lines i none in l .sets ≡ true → HasCode (l .rowAt choice) (f + i) choice
-
-  lines-more : {done before : Bool} (l : Line) (lines : List Line) (latest f : ℕ) (ps : List Piece) (d : LinePlanned l lines latest f ps) →
-      (r : LinesBits done lines (chose (l .sets) (d .code) latest) (suc f) (d .rest)) → l .rowAt latest ≡ l .rowAt (r .choice) →
-      (l .sets ≡ true → d .code ≡ r .choice) → (before ≡ true → r .choice ≡ latest) → LinesBits before (l ∷ lines) latest f ps
-  lines-more l lines latest f ps d r row code settled = record {
-    choice = r .choice;
-    settled = settled;
-    bits = omega (arith, ap needed (d .joined), r .bits, ap (λ w. w .width) row);
-    chosen = at;
-  }
-    where
-      at : (i : ℕ) (none : Line) → i < suc (length lines) → getD (l ∷ lines) i none .sets ≡ true → HasCode (getD (l ∷ lines) i none .rowAt (r .choice)) (f + i) (r .choice)
-      at zero none m t = rw (first f, ← row) (d .coded ∙ ap good (code t))
-      at (suc i) none m t = subst (λ n. HasCode (getD lines i none .rowAt (r .choice)) n (r .choice)) (shift f i) (r .chosen i none (omega arith) t)
-
-  pub lines-bits : (done : Bool) (lines : List Line) → Steady done lines → (latest f : ℕ) (ps : List Piece) → linePieces sheet lines latest f ≡ good ps →
-      LinesBits done lines latest f ps
-  lines-bits done [] s latest f ps e =
-      record { choice = latest; settled = λ t. refl; bits = ap needed (sym (no-line latest f ps e)); chosen = λ i none l. absurd (omega arith) }
-  lines-bits true (l ∷ lines) s latest f ps e =
-      let d = line-planned l lines latest f ps e in
-      let r = lines-bits true lines (s .1) (chose (l .sets) (d .code) latest) (suc f) (d .rest) (d .others) in
-      let same : r .choice ≡ latest = r .settled refl ∙ ap (λ t. chose t (d .code) latest) (s .0) in
-      lines-more l lines latest f ps d r (ap (l .rowAt) (sym same)) (λ t. absurd (true≢false (sym t ∙ s .0))) (λ t. same)
-  lines-bits false (l ∷ lines) s latest f ps e =
-      let d = line-planned l lines latest f ps e in
-      let r = lines-bits (l .sets) lines (s .1) (chose (l .sets) (d .code) latest) (suc f) (d .rest) (d .others) in
-      lines-more l lines latest f ps d r (s .0 latest (r .choice)) (λ t. sym (r .settled t ∙ ap (λ u. chose u (d .code) latest) t))
-      (λ t. absurd (true≢false (sym t)))
 
   -- ---- lines behind lines of which none sets widths
 

@@ -1,17 +1,14 @@
 -- Demand 3: what was built holds points near those lent, no change moves them, and a reading of them stays within the distance.
 use mathlib.Core.Path.{_≡_, refl, sym, ap, _∙_, subst}
-use mathlib.Core.Bool.{false}
 use mathlib.Core.List.{List, [], _∷_, map}
 use mathlib.Core.Option.{none}
 use Prim.Native.Nat.{ℕ, _+_, _≤_}
 use native.Mathlib.Omega.{arith}
-use lib.Dec.{eqb}
 use lib.IntN.{ℤ, pos, natAbs, _-ℤ_, _*ℤ_}
-use lib.Signed.{leZ}
-use Rattle.integers.proofs.PartLaws.{sub-parts-ℤ, abs-parts, nleZ-parts, is-false}
+use lib.Signed.{_<ℤ_}
+use Rattle.integers.proofs.PartLaws.{sub-parts-ℤ, abs-parts, ltZ-parts}
 use Rattle.refusal.specs.Outcome.{good, _>>=_}
-use Rattle.refusal.specs.Rows.{noSpan, outsideSpan, singleSpan}
-use Rattle.refusal.proofs.Outcomes.{good-same, good-bind, good-then, passed}
+use Rattle.refusal.proofs.Outcomes.{good-same, good-bind}
 use Rattle.memory.specs.Bits.{Bytes}
 use Rattle.memory.specs.Pieces.{Piece, pack}
 use Rattle.memory.proofs.Images.{image-bytes}
@@ -22,15 +19,14 @@ use Rattle.fields.specs.Lines.{basic, template33, linesOf, lastField}
 use Rattle.fields.specs.Calibration.{D, R}
 use Rattle.fields.specs.Figure.{billion}
 use Rattle.layout.specs.Contents.{Contents}
-use Rattle.layout.specs.Image.{contents, layoutOf, pairIn, pairsIn, points}
+use Rattle.layout.specs.Image.{contents, pairIn, pairsIn, points}
 use Rattle.sheet.proofs.ReadLaws.{accepted-reads}
 use Rattle.build.specs.Build.{pairsLent, pairPieces, tablePieces}
 use Rattle.line.specs.Line.{certificateLine}
 use Rattle.line.specs.Certificate.{Slopes, Within}
 use Rattle.line.proofs.Bound.{bound}
-use Rattle.reading.specs.declared.Reading.{Reading}
-use Rattle.reading.specs.declared.span.Span.{Span}
-use Rattle.reading.specs.Reading.{least, greatest, noneMissing, spanOf, tooFar, position, fraction, readingAt, takeReading}
+use Rattle.reading.specs.Reading.{least, greatest, position, fraction}
+use Rattle.reading.proofs.Orders.{shown}
 use Rattle.promises.specs.Again.{keptPair}
 use Rattle.promises.specs.Changes.{changed, held}
 use Rattle.promises.specs.Certificate.{whole, CertificateDistance}
@@ -45,37 +41,6 @@ unfolding tablePieces pairPieces
 planned-pairs [] ts e = ([], refl)
 planned-pairs (p ∷ pairs) ts e = let (ps, e1, e2) = good-bind (pairPieces none 0 (p ∷ pairs)) _ ts e in (ps, e1)
 
--- ---- what an accepted reading shows
-
-record Shown (kind : ℕ) (image : List ℕ) (v : ℤ) (r : Reading) : Type 0 where
-  holds : Contents
-  accepted : contents kind image ≡ good holds
-  span : leZ (greatest holds) (least holds) ≡ false
-  shows : r .fraction ≡ fraction (points holds) (position v (least holds) (greatest holds))
-
--- The ends of a span.
-ends : (c : Contents) (s : Span) → spanOf c ≡ good s → (leZ (greatest c) (least c) ≡ false) × (s .least ≡ least c) × (s .greatest ≡ greatest c)
-unfolding spanOf
-ends c s e =
-    let g1 = passed singleSpan (eqb (layoutOf c .precision) 2) _ s e in
-    let g2 = good-then (noneMissing c (7 ∷ 8 ∷ 10 ∷ 11 ∷ [])) _ s (g1 .1) in
-    let g3 = passed (noSpan 11) (leZ (greatest c) (least c)) _ s (g2 .1) in
-    let same = sym (good-same (g3 .1)) in
-    (g3 .0, ap (λ (y : Span). y .least) same, ap (λ (y : Span). y .greatest) same)
-
-at-ends : (pairs : List Pair) (s : Span) (v e f : ℤ) (r : Reading) → s .least ≡ e → s .greatest ≡ f → readingAt pairs s v ≡ r → r .fraction ≡ fraction pairs (position v e f)
-unfolding readingAt
-at-ends pairs s v e f r low high h = rw (sym low, sym high) (sym (ap (λ (y : Reading). y .fraction) h))
-
-shown : (kind : ℕ) (image : List ℕ) (v : ℤ) (r : Reading) → takeReading kind image v ≡ good r → Shown kind image v r
-unfolding takeReading
-shown kind image v r e =
-    let (c, e1, f1) = good-bind (contents kind image) _ r e in
-    let (s, e2, f2) = good-bind (spanOf c) _ r f1 in
-    let (span, low, high) = ends c s e2 in
-    let g = passed outsideSpan (tooFar v (s .least) (s .greatest)) _ r f2 in
-    record { holds = c; accepted = e1; span = span; shows = at-ends (points c) s v _ _ r low high (good-same (g .1)) }
-
 -- The ends of the span are fields of every template.
 ends-listed : (t : Template) → 11 ≤ lastField t
 unfolding linesOf basic template33
@@ -83,17 +48,17 @@ ends-listed Bridge = omega arith
 
 -- ---- the distance
 
-distance : (lent : List Pair) (ps : List Piece) (v e f : ℤ) (K : ℕ) → pairPieces none 0 lent ≡ good ps → leZ f e ≡ false → Slopes K lent →
+distance : (lent : List Pair) (ps : List Piece) (v e f : ℤ) (K : ℕ) → pairPieces none 0 lent ≡ good ps → e <ℤ f → Slopes K lent →
     Within D R K (fraction (map keptPair lent) (position v e f)) (certificateLine lent ((v -ℤ e) *ℤ pos billion) (natAbs (f -ℤ e)))
 unfolding position
 distance lent ps v e f K h span slopes =
     let rises = stored-rises none 0 lent ps h in
     bound D R K lent (map keptPair lent) ((v -ℤ e) *ℤ pos billion) (natAbs (f -ℤ e))
-    (omega (arith, nleZ-parts f e (is-false span), sub-parts-ℤ f e, abs-parts (f -ℤ e)))
+    (omega (arith, ltZ-parts e f (span .lt), sub-parts-ℤ f e, abs-parts (f -ℤ e)))
     (stored-close none 0 lent ps h) (rises .lent) (rises .kept) slopes
 
 -- The same of what was read, under other names.
-distance-of : (lent stored : List Pair) (ps : List Piece) (q v e f low high : ℤ) (K : ℕ) → pairPieces none 0 lent ≡ good ps → leZ f e ≡ false → Slopes K lent →
+distance-of : (lent stored : List Pair) (ps : List Piece) (q v e f low high : ℤ) (K : ℕ) → pairPieces none 0 lent ≡ good ps → e <ℤ f → Slopes K lent →
     stored ≡ map keptPair lent → q ≡ fraction stored (position v e f) → low ≡ e → high ≡ f →
     Within D R K q (certificateLine lent ((v -ℤ low) *ℤ pos billion) (natAbs (high -ℤ low)))
 distance-of lent stored ps q v e f low high K h span slopes p r l g = rw (r, p, l, g) (distance lent ps v e f K h span slopes)
@@ -112,6 +77,6 @@ certificate-distance kind buffer sheet text lentPoints image changes readingKind
     let c : s .holds ≡ held kind (w .0) changes = good-same (sym (s .accepted) ∙ ap (λ (n : ℕ). contents n last) k ∙ after) in
     let read = accepted-reads readingKind last (s .holds) (s .accepted) .fields in
     let listed = ends-listed (s .holds .template) in
-    distance-of (pairsLent lentPoints) (points (s .holds)) ps (r .fraction) v (least (s .holds)) (greatest (s .holds)) _ _ K pairs (s .span) slopes
+    distance-of (pairsLent lentPoints) (points (s .holds)) ps (r .fraction) v (least (s .holds)) (greatest (s .holds)) _ _ K pairs (s .rises) slopes
     (ap points c ∙ ap (λ q. map pairIn (pairsIn q)) (held-calibration kind (w .0) changes) ∙ w .2 .samePoints) (s .shows)
     (ap whole (read 10 (omega arith) (omega (arith, listed)))) (ap whole (read 11 (omega arith) listed))
