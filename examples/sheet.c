@@ -64,6 +64,10 @@ int main(int argc, char **argv)
         fprintf(stderr, "usage: %s FILE\n", argv[0]);
         return 2;
     }
+    if (dartelm_version() != DARTELM_VERSION) {
+        fprintf(stderr, "the archive is not this header's\n");
+        return 2;
+    }
     FILE *file = fopen(argv[1], "rb");
     if (file == NULL) {
         perror(argv[1]);
