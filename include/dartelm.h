@@ -1,7 +1,7 @@
 /* Dartelm: the IEEE 1451.4 data sheet (TEDS) in a sender's memory chip, from its image to a reading. For C99 and C++.
  *
  * Every call returns one struct by value. Its number is 0 where the call is accepted; else it is a refusal's, DARTELM_WRONG_IMAGE
- * to DARTELM_WRONG_LIST, with the refusal's place beside it, and every other member is 0. (0 as a float is +0.0. A Single that is
+ * to DARTELM_BLANK_CHIP, with the refusal's place beside it, and every other member is 0. (0 as a float is +0.0. A Single that is
  * returned is finite.) A refused call writes nothing; no call writes anything but the image of a build or a change.
  *
  * Nothing is kept between calls, so any number of them may run at once, in interrupts too. No heap is used; the only functions
@@ -51,7 +51,8 @@ enum {
                                  * else 11. */
     DARTELM_OUTSIDE_SPAN = 14,  /* A reading's input is too far outside the span. Place: 0. */
     DARTELM_SINGLE_SPAN = 15,   /* A reading at precision 2. Place: 9. */
-    DARTELM_WRONG_LIST = 16     /* A list of points that is odd or longer than 254. Place: its length. */
+    DARTELM_WRONG_LIST = 16,    /* A list of points that is odd or longer than 254. Place: its length. */
+    DARTELM_BLANK_CHIP = 17     /* Every page is blank: nothing has been written to this chip. Place: 0. */
 };
 
 /* Fields 1 to 21, and what a value counts. */
@@ -189,19 +190,19 @@ uint32_t dartelm_version(void);
 /* The kind of the chip whose image has so many bytes: 0 (40 bytes), 1 (128), 2 (512), else DARTELM_NO_KIND. */
 uint8_t dartelm_kind_of(size_t bytes);
 
-/* Checks an image. Refused with 1 to 7. */
+/* Checks an image. Refused with 1 to 7 and 17. */
 dartelm_check_answer dartelm_check(uint8_t kind, const uint8_t *image, size_t image_length);
 
-/* Reads field 1 to 21. Refused with 1 to 7 as a check is, and with 8 for another field. */
+/* Reads field 1 to 21. Refused as a check is, and with 8 for another field. */
 dartelm_field_answer dartelm_field(uint8_t kind, const uint8_t *image, size_t image_length, uint64_t field);
 
-/* Reads all fields with one check: each is what dartelm_field gives. Refused with 1 to 7 as a check is. */
+/* Reads all fields with one check: each is what dartelm_field gives. Refused as a check is. */
 dartelm_sheet_answer dartelm_sheet(uint8_t kind, const uint8_t *image, size_t image_length);
 
-/* Reads a calibration point, by index from 0. Refused with 1 to 7 as a check is, and with 8 past the last. */
+/* Reads a calibration point, by index from 0. Refused as a check is, and with 8 past the last. */
 dartelm_pair_answer dartelm_pair(uint8_t kind, const uint8_t *image, size_t image_length, uint64_t index);
 
-/* Reads a character of the closing text, by index from 0. Refused with 1 to 7 as a check is, and with 8 past the last. */
+/* Reads a character of the closing text, by index from 0. Refused as a check is, and with 8 past the last. */
 dartelm_character_answer dartelm_character(uint8_t kind, const uint8_t *image, size_t image_length, uint64_t index);
 
 /* Builds an image. The text's characters are 1 to 127; points are calibration point and deviation by turns, in billionths of the
@@ -209,11 +210,11 @@ dartelm_character_answer dartelm_character(uint8_t kind, const uint8_t *image, s
 dartelm_write_answer dartelm_build(uint8_t kind, uint8_t *image, size_t image_length, dartelm_fields fields,
                                    const char *text, size_t text_length, const int64_t *points, size_t points_length);
 
-/* Changes one field of an image, and the check bytes of its pages. Refused with 1 to 7 as a check is, and with 8, 9, 10 and 12:
+/* Changes one field of an image, and the check bytes of its pages. Refused as a check is, and with 8, 9, 10 and 12:
  * then the image keeps every byte. */
 dartelm_write_answer dartelm_change(uint8_t kind, uint8_t *image, size_t image_length, uint64_t field, dartelm_value value);
 
-/* Takes a reading at an input in nV/V. Refused with 1 to 7 as a check is, and with 13, 14 and 15. */
+/* Takes a reading at an input in nV/V. Refused as a check is, and with 13, 14 and 15. */
 dartelm_reading_answer dartelm_reading(uint8_t kind, const uint8_t *image, size_t image_length, int64_t input);
 
 /* The text of a code of field 3, 18 or 19: a letter, a date as 2018-01-02, three letters. Refused with 8 and 10. */

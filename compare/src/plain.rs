@@ -384,8 +384,15 @@ fn open(kind: u8, image: &[u8]) -> Answer<Open> {
     let Some(chip) = chip(kind, image.len()) else {
         return refuse(1, 0);
     };
+    let blank = |page| {
+        let start = chip.page_start(page);
+        image[start..start + PAGE].iter().all(|byte| *byte == 0xff)
+    };
+    if (0..chip.pages).all(blank) {
+        return refuse(17, 0);
+    }
     for page in 0..chip.pages {
-        if chip.sum(image, page) != 0 {
+        if blank(page) || chip.sum(image, page) != 0 {
             return refuse(2, page as u64);
         }
     }

@@ -107,7 +107,7 @@ struct Differ {
     calls: u64,
     differ: u64,
     /// By call and number.
-    numbers: [[u64; 17]; CALLS.len()],
+    numbers: [[u64; 18]; CALLS.len()],
     /// Accepted, by call and kind.
     kinds: [[u64; 3]; CALLS.len()],
 }
@@ -120,7 +120,7 @@ impl Differ {
             kind: 0,
             calls: 0,
             differ: 0,
-            numbers: [[0; 17]; CALLS.len()],
+            numbers: [[0; 18]; CALLS.len()],
             kinds: [[0; 3]; CALLS.len()],
         }
     }
@@ -486,14 +486,14 @@ impl Differ {
     fn report(&self, seed: u64) {
         println!("| Call | Calls | Accepted, kind 0 | kind 1 | kind 2 | Refused, number: times |");
         println!("|---|---|---|---|---|---|");
-        let times = |numbers: &[u64; 17]| {
-            let times: Vec<String> = (1..17)
+        let times = |numbers: &[u64; 18]| {
+            let times: Vec<String> = (1..18)
                 .filter(|number| numbers[*number] > 0)
                 .map(|number| format!("{number}: {}", numbers[number]))
                 .collect();
             times.join(", ")
         };
-        let mut totals = [0; 17];
+        let mut totals = [0; 18];
         for (call, name) in CALLS.iter().enumerate() {
             let numbers = &self.numbers[call];
             for (total, number) in totals.iter_mut().zip(numbers) {

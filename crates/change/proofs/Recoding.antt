@@ -1,14 +1,14 @@
 -- A change by its parts, and what the changed image holds.
-use mathlib.Core.Path.{_≡_, refl, sym, ap, ap₂, _∙_, subst, subst₂}
-use mathlib.Core.Bool.{Bool, true, false, _||_}
+use mathlib.Core.Path.{_≡_, sym, ap, ap₂, _∙_, subst}
+use mathlib.Core.Bool.{Bool, false, _||_}
 use mathlib.Core.List.{List}
 use Prim.Native.Nat.{ℕ, _+_, _-_, _^_, _≤_, _<_}
 use native.Mathlib.Omega.{arith}
 use lib.Dec.{eqb, ltb}
-use lib.ListN.{length, getD}
+use lib.ListN.{length}
 use borrow.Author.Tests.{eqb-false, ltb-false, ne-eqb, le-ltb}
 use Rattle.refusal.specs.declared.Refusal.{Refusal}
-use Rattle.refusal.specs.Outcome.{Outcome, good, refused, _>>_, _>>=_, refuse_if_}
+use Rattle.refusal.specs.Outcome.{good, refused, _>>_, _>>=_, refuse_if_}
 use Rattle.refusal.specs.Rows.{noSuch, changedAlone}
 use Rattle.refusal.proofs.Outcomes.{good-same, good-bind, passed, neither}
 use Rattle.memory.specs.declared.Sizes.{Sizes}
@@ -17,8 +17,8 @@ use Rattle.memory.specs.Image.{imageBytes, streamBits, imageSizes, streamNumber
 use Rattle.memory.proofs.FieldLaws.{put-lt, put-same}
 use Rattle.memory.proofs.Chips.{sizes-chip}
 use Rattle.memory.proofs.Streams.{stream-lt}
-use Rattle.memory.proofs.SumLaws.{sums-right, right-sums}
-use Rattle.memory.proofs.Images.{image-length, image-bytes, image-number-lt, image-sums, two-views}
+use Rattle.memory.proofs.SumLaws.{sums-right}
+use Rattle.memory.proofs.Images.{image-length, image-bytes, two-views}
 use Rattle.fields.specs.declared.Value.{Value}
 use Rattle.fields.specs.Rules.{decode, encode}
 use Rattle.fields.specs.Stored.{kept, Real, Sound}
@@ -30,7 +30,7 @@ use Rattle.layout.specs.Image.{streamIn, contents, field, layoutOf}
 use Rattle.layout.specs.Places.{fieldPlace}
 use Rattle.layout.proofs.Fields.{recoded, row-is, at-is, width-is, Keeps}
 use Rattle.layout.proofs.Places.{fields-count}
-use Rattle.layout.proofs.Accepted.{Holding, Accepted, contents-accepted, accepted-contents, accepted-at}
+use Rattle.layout.proofs.Accepted.{Holding, contents-accepted, accepted-at, written-contents}
 use Rattle.layout.proofs.Puts.{withField, holding-put}
 use Rattle.layout.proofs.Standing.{Stands, field-stands}
 use Rattle.change.specs.Change.{changeable, codeFor, recodedIn, rewritten, change}
@@ -138,12 +138,7 @@ module _ (kind : ℕ) (image : List ℕ) (c : Contents) (z : Sizes) (bytes : Byt
       ap (λ (t : Bool). chose t code latest) (h .free) ∙ sym (ap (λ (t : Bool). chose t (x .code) latest) (h .free)) in
       let p = holding-put (streamIn z image) c holding (f - 1) (omega (arith, h .least, h .most)) code v keeps fits means in
       let lt : M < 2 ^ streamBits z = put-lt N (x .at) (x .row .width) code fits (streamBits z) (stream-lt z image whole bytes) field-inside in
-      accepted-contents kind (imageOf z M) _ (record {
-        sizes = z;
-        sized = ap (imageSizes kind) (image-length z M ∙ sym whole) ∙ hz;
-        summed = right-sums z (imageOf z M) (image-sums z M);
-        holding = subst (λ (n : ℕ). Holding (record { bits = streamBits z; number = n }) (withField c (f - 1) (recoded x code v))) (sym (image-number-lt z M lt)) p;
-      })
+      written-contents kind (length image) z M _ hz lt p
 
   -- So is a value that was stored, at what its rule keeps of it.
   pub stored-contents : (v : Value) → Real v → (code : ℕ) → encode (x .row) f v ≡ good code →

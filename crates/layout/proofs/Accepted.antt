@@ -1,19 +1,25 @@
 -- What an accepted check says: the image's sizes and sums, the sheet that may stand there, and that its stream holds it.
 use mathlib.Core.Path.{_≡_, refl, sym, ap, _∙_, subst}
-use mathlib.Core.List.{List}
-use Prim.Native.Nat.{ℕ, _+_, _^_, _≤_, _%_}
+use mathlib.Core.List.{List, map}
+use Prim.Native.Nat.{ℕ, _+_, _^_, _≤_, _<_, _%_}
 use native.Mathlib.Omega.{arith}
 use lib.ListN.{length}
 use Rattle.refusal.specs.Outcome.{Outcome, good, _>>=_, _>>_}
 use Rattle.refusal.proofs.Outcomes.{good-same, good-bind, good-then}
 use Rattle.memory.specs.declared.Sizes.{Sizes}
-use Rattle.memory.specs.Image.{imageSizes, sums, streamBits, streamNumber}
-use Rattle.memory.specs.Pieces.{needed}
-use Rattle.memory.proofs.PieceLaws.{Fit, Holds}
+use Rattle.memory.specs.Bits.{bit, fieldAt}
+use Rattle.memory.specs.Image.{imageSizes, sums, streamBits, streamNumber, imageOf}
+use Rattle.memory.specs.Pieces.{piece, needed}
+use Rattle.memory.proofs.Chips.{sizes-chip}
+use Rattle.memory.proofs.FieldLaws.{field-bit}
+use Rattle.memory.proofs.Images.{image-length, image-number-lt, image-passes}
+use Rattle.memory.proofs.PieceLaws.{Fit, Holds, holds-piece}
 use Rattle.layout.specs.Format.{Stream, Parsed, parse}
 use Rattle.layout.specs.Contents.{Contents, sheetOf}
 use Rattle.layout.specs.Image.{streamIn, contents}
 use Rattle.layout.proofs.Formats.{parsed, parses-fit, parse-held, parsed-by, parse-agrees}
+use Rattle.layout.proofs.Fields.{pieceOf}
+use Rattle.layout.proofs.Places.{basic-is-64}
 use Rattle.layout.proofs.Sheets.{Formed, sheetPieces, sheet-needed, sheet-parses, sheet-formed}
 
 -- ---- the stream
@@ -41,6 +47,14 @@ holding-parsed s c h =
     parse-held s sheetOf 0 (sheetPieces (h .formed)) c (sheet-parses (h .formed)) (h .holds) (omega (arith, sheet-needed (h .formed), h .inside))
     ∙ ap (λ (n : ℕ). good (parsed c n)) (omega (arith, sheet-needed (h .formed)))
 
+-- The first selector is 0, and it stands at bit 64.
+pub selector-zero : {s : Stream} {c : Contents} → Holding s c → bit (s .number) 64 ≡ 0
+selector-zero {s} {c} h =
+    let selector = holds-piece (s .number) 0 (map pieceOf (h .formed .basics)) (piece 2 0) _ (holding-fit h) (h .holds) in
+    let at : 64 ≡ 0 + needed (map pieceOf (h .formed .basics)) = omega (arith, basic-is-64 (h .formed)) in
+    let none : fieldAt (s .number) 64 2 ≡ 0 = ap (λ (n : ℕ). fieldAt (s .number) n 2) at ∙ selector in
+    sym (field-bit (s .number) 64 2 0 (omega arith)) ∙ ap (λ (n : ℕ). bit n 0) none
+
 -- ---- the image
 
 pub record Accepted (kind : ℕ) (image : List ℕ) (c : Contents) : Type 0 where
@@ -67,6 +81,18 @@ contents-accepted kind image c e =
 pub accepted-contents : (kind : ℕ) (image : List ℕ) (c : Contents) → Accepted kind image c → contents kind image ≡ good c
 unfolding contents
 accepted-contents kind image c h = rw (h .sized, h .summed, holding-parsed (streamIn (h .sizes) image) c (h .holding))
+
+-- The image of a stream that holds a sheet is accepted. It is not blank, since its first selector is 0.
+pub written-contents : (kind bytes : ℕ) (z : Sizes) (N : ℕ) (c : Contents) → imageSizes kind bytes ≡ good z → N < 2 ^ streamBits z →
+    Holding (record { bits = streamBits z; number = N }) c → contents kind (imageOf z N) ≡ good c
+written-contents kind bytes z N c sizes small holding =
+    let chip = sizes-chip kind bytes z sizes in
+    accepted-contents kind (imageOf z N) c (record {
+      sizes = z;
+      sized = ap (imageSizes kind) (image-length z N ∙ sym (chip .long)) ∙ sizes;
+      summed = image-passes z bytes chip N small (selector-zero holding);
+      holding = subst (λ (n : ℕ). Holding (record { bits = streamBits z; number = n }) c) (sym (image-number-lt z N small)) holding;
+    })
 
 -- The same at sizes that are known.
 pub accepted-at : (kind : ℕ) (image : List ℕ) (c : Contents) (z : Sizes) → contents kind image ≡ good c → imageSizes kind (length image) ≡ good z →

@@ -8,3 +8,4 @@ pub mod Places
 pub mod Accepted
 pub mod Puts
 pub mod Standing
+pub mod Numbers

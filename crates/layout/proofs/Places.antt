@@ -77,6 +77,11 @@ module _ {S : ℕ} {c : Contents} (h : Formed S c) where
   basic-bits : needed (map pieceOf (h .basics)) ≡ bitsBefore basic choice (length basic)
   basic-bits = met-bits choice basic 0 0 (h .basics) (h .basicsLaid) (basic-met (h .basics) 0 choice)
 
+  -- Basic, 64 bits.
+  pub basic-is-64 : needed (map pieceOf (h .basics)) ≡ 64
+  unfolding basic
+  basic-is-64 = basic-bits
+
   own-met : MetAt (templateLines t) (h .own) 0 choice
   own-met = subst (MetAt (templateLines t) (h .own) 0) (sym choice-is) (template-met t (h .own) 0)
 

@@ -21,7 +21,7 @@ use Rattle.layout.specs.Contents.{Found, FoundPair, Calibration, bare, t
 abbrev pub streamIn : Sizes → List ℕ → Stream
 streamIn z image = record { bits = streamBits z; number = streamNumber z image }
 
--- Order of a check: 1, 2 by page, then the stream from its start.
+-- Order of a check: 1, 17, 2 by page, then the stream from its start.
 unfoldable pub contents : ℕ → List ℕ → Outcome Contents
 contents kind image = do
   z ← imageSizes kind (length image)

@@ -25,13 +25,14 @@ sizes-others (suc zero) bytes h i j = absurd (i refl)
 sizes-others (suc (suc zero)) bytes h i j = absurd (j refl)
 sizes-others (suc (suc (suc k))) bytes h i j = refl
 
--- An image of this many bytes has a page at least, and is no longer than the longest kind's.
+-- An image of this many bytes has a page at least, no more than 8 bytes of register, and is no longer than the longest kind's.
 pub record Chip (z : Sizes) (bytes : ℕ) : Type 0 where
   pub long : bytes ≡ imageBytes z
   pub paged : 1 ≤ z .pages
+  pub few : z .register ≤ 8
   pub most : imageBytes z ≤ 512
 
-kind-sizes : (kind : ℕ) (z : Sizes) → sizesOf kind ≡ good z → (1 ≤ z .pages) × (imageBytes z ≤ 512)
+kind-sizes : (kind : ℕ) (z : Sizes) → sizesOf kind ≡ good z → (1 ≤ z .pages) × (z .register ≤ 8) × (imageBytes z ≤ 512)
 kind-sizes zero z e = rw (← good-same e) (omega arith)
 kind-sizes (suc zero) z e = rw (← good-same e) (omega arith)
 kind-sizes (suc (suc zero)) z e = rw (← good-same e) (omega arith)
@@ -42,8 +43,8 @@ unfolding imageSizes
 sizes-chip kind bytes z e =
     let (y, s, t) = good-bind (sizesOf kind) _ z e in
     let (right, same) = passed wrongImage (not (eqb bytes (imageBytes y))) (good y) z t in
-    let (paged, most) = kind-sizes kind y s in
-    subst (λ x. Chip x bytes) (good-same same) (record { long = eqb-true bytes (imageBytes y) (not-false _ right); paged = paged; most = most })
+    let (paged, few, most) = kind-sizes kind y s in
+    subst (λ x. Chip x bytes) (good-same same) (record { long = eqb-true bytes (imageBytes y) (not-false _ right); paged = paged; few = few; most = most })
 
 pub sizes-whole : (kind : ℕ) (image : List ℕ) (z : Sizes) → imageSizes kind (length image) ≡ good z → Whole z image
 sizes-whole kind image z e =

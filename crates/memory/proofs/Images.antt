@@ -6,12 +6,14 @@ use native.Mathlib.Nat.{zero-add, mod-eq-of-lt}
 use native.Mathlib.Omega.{arith}
 use lib.ListN.{length, take, drop, getD, length-append, length-drop, take-append-drop}
 use lib.Seq.{length-take-le, take-at, drop-at, drop-drop, take-add, getD-drop}
+use Rattle.refusal.specs.Outcome.{good}
 use Rattle.memory.specs.declared.Sizes.{Sizes}
-use Rattle.memory.specs.Bits.{Bytes, number, bytesOf}
-use Rattle.memory.specs.Image.{imageBytes, streamBytes, streamBits, pageAt, total, SumsRight, checkByte, pagesStream, streamOf, streamNumber, pagesOf, withRight, imageOf}
+use Rattle.memory.specs.Bits.{Bytes, number, bytesOf, bit}
+use Rattle.memory.specs.Image.{imageBytes, streamBytes, streamBits, pageAt, total, SumsRight, sums, checkByte, pagesStream, streamOf, streamNumber, pagesOf, withRight, imageOf}
+use Rattle.memory.proofs.Chips.{Chip}
 use Rattle.memory.proofs.Digits.{bytes-take, bytes-drop, bytes-append, bytes-of, bytes-length, number-bytes}
 use Rattle.memory.proofs.Streams.{getD-past, bytes-stream, image-ext}
-use Rattle.memory.proofs.SumLaws.{total-append, streamPart, sum-parts, check-right, check-lt, right-check}
+use Rattle.memory.proofs.SumLaws.{total-append, streamPart, sum-parts, check-right, check-lt, right-check, right-sums, unblank-bit}
 
 -- ---- the pages
 
@@ -148,6 +150,12 @@ module _ (z : Sizes) (N : ℕ) where
       let f : streamOf z l ≡ bytesOf (streamBytes z) N = sym (bytes-stream z l wl hb) ∙ ap (bytesOf (streamBytes z)) e in
       image-ext z l (imageOf z N) wl image-length (f ∙ sym image-stream)
       (λ q h. right-check z l wl hb q h (s q h) ∙ ap (λ (x : List ℕ). checkByte (total (streamPart z x q))) f ∙ sym (image-check q h))
+
+-- The page test accepts it if bit 64 of its stream is 0, which stands in the first page of every chip.
+pub image-passes : (z : Sizes) (bytes : ℕ) → Chip z bytes → (N : ℕ) → N < 2 ^ streamBits z → bit N 64 ≡ 0 → sums z (imageOf z N) ≡ good tt
+image-passes z bytes chip N small e =
+    right-sums z (imageOf z N) (image-length z N) (chip .paged) (image-sums z N)
+    (unblank-bit z (imageOf z N) (image-length z N) (image-bytes z N) (chip .paged) 8 (chip .few) (omega arith) (ap (λ (n : ℕ). bit n 64) (image-number-lt z N small) ∙ e))
 
 -- Two views of one thing: an image with right sums is the image of its stream.
 pub two-views : (z : Sizes) (image : List ℕ) → length image ≡ imageBytes z → Bytes image → SumsRight z image → imageOf z (streamNumber z image) ≡ image

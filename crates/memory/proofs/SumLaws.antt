@@ -1,23 +1,44 @@
 -- Sums of pages: what they add up, and what the check of all pages says.
-use mathlib.Core.Path.{_≡_, refl, sym, ap, ap₂, _∙_}
-use mathlib.Core.Bool.{Bool, not}
+use mathlib.Core.Path.{_≡_, refl, sym, ap, ap₂, _∙_, subst}
+use mathlib.Core.Bool.{Bool, true, false, true≢false, not, _&&_}
 use mathlib.Core.List.{List, [], _∷_, _++_}
-use Prim.Native.Nat.{ℕ, zero, suc, _+_, _-_, _*_, _%_, _≤_, _<_}
+use Prim.Native.Nat.{ℕ, zero, suc, _+_, _-_, _*_, _/_, _%_, _≤_, _<_}
 use native.Mathlib.Nat.{add-zero, add-sub-cancel-left, le-refl}
 use native.Mathlib.Numerals.{add-one}
 use native.Mathlib.Omega.{arith}
 use native.Mathlib.Decide.{ℕ-discrete, decLt}
 use lib.Arith.{lt-of-le-ne}
+use lib.Dec.{eqb}
 use lib.ListN.{length, take, drop, getD, length-drop}
 use lib.Seq.{drop-cons, take-add, length-take-le, getD-take, getD-drop, ext-getD}
-use borrow.Author.Tests.{eq-eqb, ne-eqb}
+use borrow.Author.Tests.{eqb-true, eq-eqb, ne-eqb, not-false}
 use Rattle.refusal.specs.Outcome.{good, refused, refuse_if_, _>>_}
-use Rattle.refusal.specs.Rows.{wrongSum}
-use Rattle.refusal.specs.declared.Refusal.{Refusal}
+use Rattle.refusal.specs.Rows.{wrongSum, blankChip}
+use Rattle.refusal.proofs.Outcomes.{passed, both, Low, low-then}
 use Rattle.memory.specs.declared.Sizes.{Sizes}
-use Rattle.memory.specs.Bits.{Bytes}
-use Rattle.memory.specs.Image.{imageBytes, pageAt, covered, total, pageSum, SumsRight, sumsFrom, sums, checkByte, streamOf}
-use Rattle.memory.proofs.Streams.{stream-length, stream-at, index-register, index-page}
+use Rattle.memory.specs.declared.pages.PageTest.the-variants.{Good, Wrong, Blank}
+use Rattle.memory.specs.Bits.{Bytes, bit}
+use Rattle.memory.specs.Image.{
+  imageBytes,
+  pageAt,
+  page,
+  covered,
+  total,
+  pageSum,
+  SumsRight,
+  allFF,
+  blankPage,
+  pageTest,
+  isGood,
+  blankFrom,
+  sumsFrom,
+  sums,
+  checkByte,
+  streamOf,
+  streamNumber,
+}
+use Rattle.memory.specs.Answers.{streamIndex}
+use Rattle.memory.proofs.Streams.{stream-length, stream-at, stream-bit, index-register, index-page}
 
 -- ---- what a page's sum adds up
 
@@ -113,85 +134,185 @@ pub right-check : (z : Sizes) (image : List ℕ) → length image ≡ imageBytes
 right-check z image whole hb q hq e =
     check-is (getD image (pageAt z q) 0) (total (streamPart z (streamOf z image) q)) (hb (pageAt z q)) (sym (sum-parts z image whole q hq) ∙ e)
 
+-- ---- the page test
+
+-- As the code takes the bytes of a page.
+pub page-taken : (z : Sizes) (image : List ℕ) (q : ℕ) → take (pageAt z q + 32 - pageAt z q) (drop (pageAt z q) image) ≡ page z image q
+page-taken z image q = ap (λ (n : ℕ). take n (drop (pageAt z q) image)) (add-sub-cancel-left (pageAt z q) 32)
+
+module _ (z : Sizes) (image : List ℕ) (q : ℕ) where
+  pub test-blank : blankPage z image q ≡ true → pageTest z image q ≡ Blank
+  unfolding pageTest
+  test-blank b = rw b
+
+  pub test-good : blankPage z image q ≡ false → pageSum z image q ≡ 0 → pageTest z image q ≡ Good
+  unfolding pageTest
+  test-good b e = rw (b, eq-eqb (pageSum z image q) 0 e)
+
+  pub test-wrong : blankPage z image q ≡ false → (pageSum z image q ≡ 0 → ⊥) → pageTest z image q ≡ Wrong
+  unfolding pageTest
+  test-wrong b e = rw (b, ne-eqb (pageSum z image q) 0 e)
+
+  -- A good page adds up to 0.
+  pub good-sum : isGood (pageTest z image q) ≡ true → pageSum z image q ≡ 0
+  good-sum e = go (blankPage z image q) refl (ℕ-discrete (pageSum z image q) 0)
+    where
+      go : (b : Bool) → blankPage z image q ≡ b → Dec (pageSum z image q ≡ 0) → pageSum z image q ≡ 0
+      go b h (yes s) = s
+      go true h (no s) = absurd (true≢false (sym e ∙ ap isGood (test-blank h)))
+      go false h (no s) = absurd (true≢false (sym e ∙ ap isGood (test-wrong h s)))
+
+pub ff-total : (bytes : List ℕ) → allFF bytes ≡ true → total bytes ≡ 255 * length bytes
+ff-total [] e = refl
+ff-total (b ∷ bytes) e =
+    let (first, others) = both (eqb b 0xFF) (allFF bytes) e in
+    omega (arith, eqb-true b 0xFF first, ff-total bytes others)
+
+pub ff-at : (bytes : List ℕ) → allFF bytes ≡ true → (i : ℕ) → i < length bytes → getD bytes i 0 ≡ 255
+ff-at [] e i h = absurd (omega arith)
+ff-at (b ∷ bytes) e zero h = eqb-true b 0xFF (both (eqb b 0xFF) (allFF bytes) e .0)
+ff-at (b ∷ bytes) e (suc i) h = ff-at bytes (both (eqb b 0xFF) (allFF bytes) e .1) i (omega arith)
+
+pub at-ff : (bytes : List ℕ) → ((i : ℕ) → i < length bytes → getD bytes i 0 ≡ 255) → allFF bytes ≡ true
+at-ff [] f = refl
+at-ff (b ∷ bytes) f = rw (eq-eqb b 0xFF (f 0 (omega arith))) (at-ff bytes (λ i h. f (suc i) (omega arith)))
+
+module _ (z : Sizes) (image : List ℕ) (whole : length image ≡ imageBytes z) (q : ℕ) (hq : q < z .pages) where
+  page-length : length (page z image q) ≡ 32
+  page-length = length-take-le 32 (drop (pageAt z q) image) (omega (arith, length-drop (pageAt z q) image))
+
+  -- Each byte of a blank page is FF.
+  pub blank-at : blankPage z image q ≡ true → (i : ℕ) → i < 32 → getD image (pageAt z q + i) 0 ≡ 255
+  blank-at e i h =
+      sym (getD-drop (pageAt z q) image i 0) ∙ sym (getD-take 32 (drop (pageAt z q) image) i 0 h) ∙ ff-at (page z image q) e i (omega (arith, page-length))
+
+  pub at-blank : ((i : ℕ) → i < 32 → getD image (pageAt z q + i) 0 ≡ 255) → blankPage z image q ≡ true
+  at-blank f =
+      at-ff (page z image q) (λ i h.
+      getD-take 32 (drop (pageAt z q) image) i 0 (omega (arith, page-length)) ∙ getD-drop (pageAt z q) image i 0 ∙ f i (omega (arith, page-length)))
+
+-- A page behind the first that adds up to 0 is not blank: 32 times 255 does not.
+later-sum : (z : Sizes) (image : List ℕ) → length image ≡ imageBytes z → (q : ℕ) → suc q < z .pages → pageSum z image (suc q) ≡ 0 → blankPage z image (suc q) ≡ false
+later-sum z image whole q hq e = go (blankPage z image (suc q)) refl
+  where
+    go : (b : Bool) → blankPage z image (suc q) ≡ b → blankPage z image (suc q) ≡ false
+    go false h = h
+    go true h =
+        let n : total (page z image (suc q)) ≡ 8160 = ff-total (page z image (suc q)) h ∙ ap (λ (n : ℕ). 255 * n) (page-length z image whole (suc q) hq) in
+        let x : pageSum z image (suc q) ≡ 224 = ap (λ (t : ℕ). t % 256) n in
+        absurd (omega (arith, e, x))
+
 -- ---- the check of all pages
 
-module _ (z : Sizes) (image : List ℕ) where
-  step-right : (n i : ℕ) → pageSum z image i ≡ 0 → sumsFrom z image (suc n) i ≡ sumsFrom z image n (suc i)
-  unfolding sumsFrom
-  step-right n i e = ap (λ (b : Bool). (refuse wrongSum i if not b) >> sumsFrom z image n (suc i)) (eq-eqb (pageSum z image i) 0 e)
+-- Page i, or one behind it.
+from : (P : ℕ → Type 0) {i q : ℕ} → P i → (suc i ≤ q → P q) → i ≤ q → Dec (i ≡ q) → P q
+from P first others h (yes d) = subst P d first
+from P first others h (no d) = others (lt-of-le-ne h d)
 
-  step-wrong : (n i : ℕ) → (pageSum z image i ≡ 0 → ⊥) → sumsFrom z image (suc n) i ≡ refused (wrongSum i)
+module _ (z : Sizes) (image : List ℕ) where
+  step-good : (n i : ℕ) → isGood (pageTest z image i) ≡ true → sumsFrom z image (suc n) i ≡ sumsFrom z image n (suc i)
   unfolding sumsFrom
-  step-wrong n i e = ap (λ (b : Bool). (refuse wrongSum i if not b) >> sumsFrom z image n (suc i)) (ne-eqb (pageSum z image i) 0 e)
+  step-good n i e = rw e
+
+  step-wrong : (n i : ℕ) → isGood (pageTest z image i) ≡ false → sumsFrom z image (suc n) i ≡ refused (wrongSum i)
+  unfolding sumsFrom
+  step-wrong n i e = rw e
+
+  step-blank : (n i : ℕ) → blankPage z image i ≡ true → blankFrom z image (suc n) i ≡ blankFrom z image n (suc i)
+  unfolding blankFrom
+  step-blank n i e = rw e
+
+  step-written : (n i : ℕ) → blankPage z image i ≡ false → blankFrom z image (suc n) i ≡ false
+  unfolding blankFrom
+  step-written n i e = rw e
 
   -- One page of the pages from page i on, as the code goes through them.
-  pub turn-right : (n i : ℕ) → i < n → pageSum z image i ≡ 0 → sumsFrom z image (n - i) i ≡ sumsFrom z image (n - (i + 1)) (i + 1)
-  turn-right n i h e =
-      let k : n - i ≡ suc (n - (i + 1)) = omega arith in
-      rw (k, add-one i) (step-right (n - suc i) i e)
+  module _ (n i : ℕ) (h : i < n) where
+    left : n - i ≡ suc (n - (i + 1))
+    left = omega arith
 
-  pub turn-wrong : (n i : ℕ) → i < n → (pageSum z image i ≡ 0 → ⊥) → sumsFrom z image (n - i) i ≡ refused (wrongSum i)
-  turn-wrong n i h e =
-      let k : n - i ≡ suc (n - (i + 1)) = omega arith in
-      rw k (step-wrong (n - (i + 1)) i e)
+    pub turn-good : isGood (pageTest z image i) ≡ true → sumsFrom z image (n - i) i ≡ sumsFrom z image (n - (i + 1)) (i + 1)
+    turn-good e = rw (left, add-one i) (step-good (n - suc i) i e)
 
-  -- What the check of n pages from page i on comes to.
-  data Scanned (n i : ℕ) : Type 0 where
-    right : ((q : ℕ) → i ≤ q → q < i + n → pageSum z image q ≡ 0) → sumsFrom z image n i ≡ good tt → Scanned n i
-    wrong : (p : ℕ) → i ≤ p → p < i + n → (pageSum z image p ≡ 0 → ⊥) → ((q : ℕ) → i ≤ q → q < p → pageSum z image q ≡ 0)
-        → sumsFrom z image n i ≡ refused (wrongSum p) → Scanned n i
+    pub turn-wrong : isGood (pageTest z image i) ≡ false → sumsFrom z image (n - i) i ≡ refused (wrongSum i)
+    turn-wrong e = rw left (step-wrong (n - (i + 1)) i e)
 
-  scanned : (n i : ℕ) → Scanned n i
+    pub turn-blank : blankPage z image i ≡ true → blankFrom z image (n - i) i ≡ blankFrom z image (n - (i + 1)) (i + 1)
+    turn-blank e = rw (left, add-one i) (step-blank (n - suc i) i e)
+
+    pub turn-written : blankPage z image i ≡ false → blankFrom z image (n - i) i ≡ false
+    turn-written e = rw left (step-written (n - (i + 1)) i e)
+
+  pub blank-all : (n i : ℕ) → blankFrom z image n i ≡ true → (q : ℕ) → i ≤ q → q < i + n → blankPage z image q ≡ true
+  unfolding blankFrom
+  blank-all zero i e q h k = absurd (omega arith)
+  blank-all (suc n) i e q h k =
+      let (first, others) = both (blankPage z image i) (blankFrom z image n (suc i)) e in
+      from (λ (p : ℕ). blankPage z image p ≡ true) first (λ j. blank-all n (suc i) others q j (omega arith)) h (ℕ-discrete i q)
+
+  pub all-blank : (n i : ℕ) → ((q : ℕ) → i ≤ q → q < i + n → blankPage z image q ≡ true) → blankFrom z image n i ≡ true
+  unfolding blankFrom
+  all-blank zero i f = refl
+  all-blank (suc n) i f = step-blank n i (f i (le-refl i) (omega arith)) ∙ all-blank n (suc i) (λ q h k. f q (omega arith) (omega arith))
+
+  good-from : (n i : ℕ) → sumsFrom z image n i ≡ good tt → (q : ℕ) → i ≤ q → q < i + n → isGood (pageTest z image q) ≡ true
   unfolding sumsFrom
-  scanned zero i = right (λ q h k. absurd (omega arith)) refl
-  scanned (suc n) i = go (ℕ-discrete (pageSum z image i) 0) (scanned n (suc i))
-    where
-      at : {q : ℕ} → pageSum z image i ≡ 0 → i ≤ q → (suc i ≤ q → pageSum z image q ≡ 0) → Dec (i ≡ q) → pageSum z image q ≡ 0
-      at e h f (yes d) = ap (pageSum z image) (sym d) ∙ e
-      at e h f (no d) = f (lt-of-le-ne h d)
+  good-from zero i e q h k = absurd (omega arith)
+  good-from (suc n) i e q h k =
+      let (first, others) = passed (wrongSum i) (not (isGood (pageTest z image i))) (sumsFrom z image n (suc i)) tt e in
+      from (λ (p : ℕ). isGood (pageTest z image p) ≡ true) (not-false _ first) (λ j. good-from n (suc i) others q j (omega arith)) h (ℕ-discrete i q)
 
-      go : Dec (pageSum z image i ≡ 0) → Scanned n (suc i) → Scanned (suc n) i
-      go (no e) s = wrong i (le-refl i) (omega arith) e (λ q h k. absurd (omega arith)) (step-wrong n i e)
-      go (yes e) (right f s) = right (λ q h k. at e h (λ j. f q j (omega arith)) (ℕ-discrete i q)) (step-right n i e ∙ s)
-      go (yes e) (wrong p h k w f s) =
-          wrong p (omega arith) (omega arith) w (λ q i≤q q<p. at e i≤q (λ j. f q j q<p) (ℕ-discrete i q)) (step-right n i e ∙ s)
+  from-good : (n i : ℕ) → ((q : ℕ) → i ≤ q → q < i + n → isGood (pageTest z image q) ≡ true) → sumsFrom z image n i ≡ good tt
+  unfolding sumsFrom
+  from-good zero i f = refl
+  from-good (suc n) i f = step-good n i (f i (le-refl i) (omega arith)) ∙ from-good n (suc i) (λ q h k. f q (omega arith) (omega arith))
 
-  -- The check accepts just the images whose every page adds up to 0.
+  pub sums-low : (n i : ℕ) → Low (sumsFrom z image n i)
+  unfolding sumsFrom
+  sums-low zero i = tt
+  sums-low (suc n) i = low-then (wrongSum i) (not (isGood (pageTest z image i))) _ (omega arith) (sums-low n (suc i))
+
+  -- What the check accepts adds up to 0, page by page.
   pub sums-right : sums z image ≡ good tt → SumsRight z image
-  sums-right e q h = go (scanned (z .pages) 0)
-    where
-      go : Scanned (z .pages) 0 → pageSum z image q ≡ 0
-      go (right f s) = f q (omega arith) (omega arith)
-      go (wrong p i k w f s) = let x : _≡_ {A = ℕ} 0 1 = cc in absurd (omega arith)
+  sums-right e q h =
+      let (b, s) = passed blankChip (blankFrom z image (z .pages) 0) (sumsFrom z image (z .pages) 0) tt e in
+      good-sum z image q (good-from (z .pages) 0 s q (omega arith) (omega arith))
 
-  pub right-sums : SumsRight z image → sums z image ≡ good tt
-  right-sums f = go (scanned (z .pages) 0)
-    where
-      go : Scanned (z .pages) 0 → sums z image ≡ good tt
-      go (right g s) = s
-      go (wrong p i k w g s) = absurd (w (f p (omega arith)))
+-- It accepts an image whose every page adds up to 0, if its first page is not blank: with the register, a blank one may add up to 0 too.
+pub right-sums : (z : Sizes) (image : List ℕ) → length image ≡ imageBytes z → 1 ≤ z .pages → SumsRight z image → blankPage z image 0 ≡ false →
+    sums z image ≡ good tt
+right-sums z image whole paged right first =
+    ap (λ (b : Bool). refuse blankChip if b >> sumsFrom z image (z .pages) 0) written
+    ∙ from-good z image (z .pages) 0 (λ q h k. ap isGood (test-good z image q (unblank q (omega arith)) (right q (omega arith))))
+  where
+    unblank : (q : ℕ) → q < z .pages → blankPage z image q ≡ false
+    unblank zero h = first
+    unblank (suc q) h = later-sum z image whole q h (right (suc q) h)
 
-  -- It refuses any other with the first page whose sum is not 0.
-  pub record FirstWrong (p : ℕ) : Type 0 where
-    pub below : p < z .pages
-    pub wrong : pageSum z image p ≡ 0 → ⊥
-    pub before : (q : ℕ) → q < p → pageSum z image q ≡ 0
+    go : (b : Bool) → blankFrom z image (z .pages) 0 ≡ b → blankFrom z image (z .pages) 0 ≡ false
+    go false e = e
+    go true e = absurd (true≢false (sym (blank-all z image (z .pages) 0 e 0 (omega arith) (omega arith)) ∙ first))
 
-  pub refused-sums : (r : Refusal) → sums z image ≡ refused r → (p : ℕ) × (r ≡ wrongSum p) × FirstWrong p
-  refused-sums r e = go (scanned (z .pages) 0)
-    where
-      go : Scanned (z .pages) 0 → (p : ℕ) × (r ≡ wrongSum p) × FirstWrong p
-      go (right f s) = let x : _≡_ {A = ℕ} 0 1 = cc in absurd (omega arith)
-      go (wrong p h k w f s) = (p, cc, record { below = omega arith; wrong = w; before = λ q j. f q (omega arith) j })
+    written : blankFrom z image (z .pages) 0 ≡ false
+    written = go (blankFrom z image (z .pages) 0) refl
 
-  pub sums-refused : (p : ℕ) → FirstWrong p → sums z image ≡ refused (wrongSum p)
-  sums-refused p first = go (scanned (z .pages) 0)
-    where
-      same : (k : ℕ) → (pageSum z image k ≡ 0 → ⊥) → ((q : ℕ) → 0 ≤ q → q < k → pageSum z image q ≡ 0) → Dec (k < p) → Dec (p < k) → k ≡ p
-      same k w f (yes h) d = absurd (w (first .before k h))
-      same k w f (no h) (yes d) = absurd (first .wrong (f p (omega arith) d))
-      same k w f (no h) (no d) = omega arith
+-- A first page is not blank where a bit of its stream is 0: the lowest of byte i.
+pub unblank-bit : (z : Sizes) (image : List ℕ) → length image ≡ imageBytes z → Bytes image → 1 ≤ z .pages →
+    (i : ℕ) → z .register ≤ i → i < z .register + 31 → bit (streamNumber z image) (8 * i) ≡ 0 → blankPage z image 0 ≡ false
+unblank-bit z image whole bytes paged i least most e = go (blankPage z image 0) refl
+  where
+    at : streamIndex z i ≡ pageAt z 0 + (i - z .register + 1)
+    at = omega (arith, index-page z i least)
 
-      go : Scanned (z .pages) 0 → sums z image ≡ refused (wrongSum p)
-      go (right f s) = absurd (first .wrong (f p (omega arith) (omega arith)))
-      go (wrong k i j w f s) = s ∙ ap (λ (x : ℕ). refused (wrongSum x)) (same k w f (decLt k p) (decLt p k))
+    lowest : bit (streamNumber z image) (8 * i) ≡ bit (getD image (streamIndex z i) 0) 0
+    lowest =
+        let byte : 8 * i / 8 ≡ i = omega arith in
+        let first : 8 * i % 8 ≡ 0 = omega arith in
+        stream-bit z image whole bytes (8 * i) (omega arith) ∙ ap₂ (λ (j k : ℕ). bit (getD image (streamIndex z j) 0) k) byte first
+
+    go : (b : Bool) → blankPage z image 0 ≡ b → blankPage z image 0 ≡ false
+    go false h = h
+    go true h =
+        let ones : getD image (streamIndex z i) 0 ≡ 255 = ap (λ (j : ℕ). getD image j 0) at ∙ blank-at z image whole 0 (omega arith) h (i - z .register + 1) (omega arith) in
+        let x : bit 255 0 ≡ 0 = sym (ap (λ (b : ℕ). bit b 0) ones) ∙ sym lowest ∙ e in
+        absurd (omega (arith, x))

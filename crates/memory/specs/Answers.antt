@@ -6,12 +6,12 @@ use Prim.Native.Nat.{ℕ, _+_, _-_, _/_, _%_, _^_, _≤_, _<_}
 use lib.ListN.{length}
 use lib.Dec.{ltb}
 use Rattle.refusal.specs.Outcome.{Outcome, good, refused, _>>=_}
-use Rattle.refusal.specs.Rows.{wrongSum}
+use Rattle.refusal.specs.Rows.{wrongSum, blankChip}
 use Rattle.memory.specs.declared.Sizes.{Sizes}
 use Rattle.memory.specs.declared.kinds.SizesAnswer.{SizesAnswer}
 use Rattle.memory.specs.declared.kinds.SizesAnswer.the-variants.{Are, Refused as NoSizes}
 use Rattle.memory.specs.declared.pages.Sums.{Sums}
-use Rattle.memory.specs.declared.pages.Sums.the-variants.{Right, Wrong}
+use Rattle.memory.specs.declared.pages.Sums.the-variants.{Right, Wrong, Blank}
 use Rattle.memory.specs.declared.cursor.Cursor.{Cursor}
 use Rattle.memory.specs.declared.cursor.Taken.{Taken}
 use Rattle.memory.specs.declared.cursor.Taken.the-variants.{Field, Refused as NoField}
@@ -53,6 +53,7 @@ sizesSaid (NoSizes r) = refused r
 abbrev pub sumsSaid : Sums → Outcome (Unit {0})
 sumsSaid Right = good tt
 sumsSaid (Wrong page) = refused (wrongSum page)
+sumsSaid Blank = refused blankChip
 
 -- A field's code, and the place behind the field.
 pub record Step : Type 0 where

@@ -1,13 +1,15 @@
--- Document 01, "Image and stream": kinds, pages, check bytes, and the stream between them.
+-- Document 01, "Image and stream", with document 02's Note 1: kinds, pages, check bytes, blank pages, and the stream between them.
 use mathlib.Core.Path.{_≡_}
-use mathlib.Core.Bool.{not, cond}
+use mathlib.Core.Bool.{Bool, true, false, not, _&&_, cond}
 use mathlib.Core.List.{List, [], _∷_, _++_}
 use Prim.Native.Nat.{ℕ, zero, suc, _+_, _-_, _*_, _/_, _%_, _<_}
 use lib.ListN.{length, take, drop, set}
 use lib.Dec.{eqb, ltb}
 use Rattle.refusal.specs.Outcome.{Outcome, good, refused, _>>_, _>>=_, refuse_if_}
-use Rattle.refusal.specs.Rows.{wrongImage, wrongSum, pastEnd}
+use Rattle.refusal.specs.Rows.{wrongImage, wrongSum, blankChip, pastEnd}
 use Rattle.memory.specs.declared.Sizes.{Sizes}
+use Rattle.memory.specs.declared.pages.PageTest.{PageTest}
+use Rattle.memory.specs.declared.pages.PageTest.the-variants.{Good, Wrong, Blank}
 use Rattle.memory.specs.Bits.{number, bytesOf, fieldAt, putAt}
 
 -- ---- kinds
@@ -61,15 +63,40 @@ pageSum z image i = total (covered z image i) % 256
 abbrev pub SumsRight : Sizes → List ℕ → Type 0
 SumsRight z image = (i : ℕ) → i < z .pages → pageSum z image i ≡ 0
 
--- Row 2, page by page: n pages from page i on.
+-- Note 1: a blank page is 32 bytes of hexadecimal FF, its own; the register is not looked at.
+abbrev pub allFF : List ℕ → Bool
+allFF [] = true
+allFF (b ∷ bytes) = eqb b 0xFF && allFF bytes
+
+abbrev pub blankPage : Sizes → List ℕ → ℕ → Bool
+blankPage z image i = allFF (page z image i)
+
+-- The page test tells three things: good, wrong, or blank.
+unfoldable pub pageTest : Sizes → List ℕ → ℕ → PageTest
+pageTest z image i = cond (blankPage z image i) Blank (cond (eqb (pageSum z image i) 0) Good Wrong)
+
+abbrev pub isGood : PageTest → Bool
+isGood Good = true
+isGood Wrong = false
+isGood Blank = false
+
+-- All of n pages from page i on are blank.
+unfoldable pub blankFrom : Sizes → List ℕ → ℕ → ℕ → Bool
+blankFrom z image zero i = true
+blankFrom z image (suc n) i = blankPage z image i && blankFrom z image n (suc i)
+
+-- Row 2, page by page: n pages from page i on. A blank page among others is still a wrong sum.
 unfoldable pub sumsFrom : Sizes → List ℕ → ℕ → ℕ → Outcome (Unit {0})
 sumsFrom z image zero i = good tt
 sumsFrom z image (suc n) i = do
-  refuse wrongSum i if not (eqb (pageSum z image i) 0)
+  refuse wrongSum i if not (isGood (pageTest z image i))
   sumsFrom z image n (suc i)
 
+-- 17, then 2 by page.
 abbrev pub sums : Sizes → List ℕ → Outcome (Unit {0})
-sums z image = sumsFrom z image (z .pages) 0
+sums z image = do
+  refuse blankChip if blankFrom z image (z .pages) 0
+  sumsFrom z image (z .pages) 0
 
 -- A page's stream bytes, its bytes 1 to 31; empty for a wrong kind, image length or page number.
 abbrev pub partOf : List ℕ → ℕ → Outcome Sizes → List ℕ

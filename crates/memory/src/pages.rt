@@ -1,16 +1,37 @@
 // Pages, their sums and their check bytes.
 ghost use mathlib.Core.Path.{_≡_};
 ghost use Prim.Native.Nat.{_%_, _<_};
-ghost use Rattle.memory.specs.Image.{total, pageSum, sums, pageBytes, sealed};
+ghost use Rattle.memory.specs.Image.{
+  total,
+  pageSum,
+  allFF,
+  blankPage,
+  pageTest,
+  isGood,
+  blankFrom,
+  sumsFrom,
+  sums,
+  pageBytes,
+  sealed,
+};
 ghost use Rattle.memory.specs.Answers.{sumsSaid, Whole};
 use crate::Sizes;
 use crate::SizesAnswer;
 use crate::kinds;
 
+// What the page test tells of a page.
+enum PageTest {
+    Good,
+    Wrong,
+    Blank,
+}
+
 pub enum Sums {
     Right,
-    // The first page whose sum is wrong.
+    // The first page that is not good.
     Wrong(usize),
+    // Every page is blank.
+    Blank,
 }
 
 // The bytes of a slice, added up modulo 256.
@@ -39,20 +60,95 @@ fn page_sum(sizes: Sizes, image: &[u8], page: usize) -> u8
     sum(&image[at..end])
 }
 
-// Whether every page adds up to 0, or which is the first that does not.
-pub fn check_sums(sizes: Sizes, image: &[u8]) -> Sums
+// Whether every byte of a slice is hexadecimal FF.
+fn all_ff(bytes: &[u8]) -> bool
+    ensures { λ r. ⌜ r ≡ allFF (now (bytes .entry)) ⌝ }
+{
+    let mut i: usize = 0;
+    while i < bytes.len() {
+        if bytes[i] != 0xff {
+            return false;
+        }
+        i += 1;
+    }
+    true
+}
+
+// Whether the 32 bytes of a page are blank. The register is not looked at.
+fn is_blank(sizes: Sizes, image: &[u8], page: usize) -> bool
+    requires { ⌜ Whole sizes (now image) × (page < sizes .pages) ⌝ }
+    ensures { λ r. ⌜ r ≡ blankPage sizes (now (image .entry)) page ⌝ }
+{
+    let at = sizes.register + 32 * page;
+    let end = at + 32;
+    all_ff(&image[at..end])
+}
+
+// The page test: a blank page is blank, whatever it adds up to.
+fn test_page(sizes: Sizes, image: &[u8], page: usize) -> PageTest
+    requires { ⌜ Whole sizes (now image) × (page < sizes .pages) ⌝ }
+    ensures { λ r. ⌜ r ≡ pageTest sizes (now (image .entry)) page ⌝ }
+{
+    if is_blank(sizes, image, page) {
+        return PageTest::Blank;
+    }
+    if page_sum(sizes, image, page) == 0 {
+        return PageTest::Good;
+    }
+    PageTest::Wrong
+}
+
+fn is_good(test: PageTest) -> bool
+    ensures { λ r. ⌜ r ≡ isGood test ⌝ }
+{
+    match test {
+        PageTest::Good => true,
+        PageTest::Wrong => false,
+        PageTest::Blank => false,
+    }
+}
+
+// Whether every page is blank.
+fn all_blank(sizes: Sizes, image: &[u8]) -> bool
     requires { ⌜ Whole sizes (now image) ⌝ }
-    ensures { λ r. ⌜ sumsSaid r ≡ sums sizes (now (image .entry)) ⌝ }
+    ensures { λ r. ⌜ r ≡ blankFrom sizes (now (image .entry)) (sizes .pages) 0 ⌝ }
 {
     let pages = sizes.pages;
     let mut page: usize = 0;
     while page < pages {
-        if page_sum(sizes, image, page) != 0 {
+        if !is_blank(sizes, image, page) {
+            return false;
+        }
+        page += 1;
+    }
+    true
+}
+
+// Whether every page is good, or which is the first that is not.
+fn test_pages(sizes: Sizes, image: &[u8]) -> Sums
+    requires { ⌜ Whole sizes (now image) ⌝ }
+    ensures { λ r. ⌜ sumsSaid r ≡ sumsFrom sizes (now (image .entry)) (sizes .pages) 0 ⌝ }
+{
+    let pages = sizes.pages;
+    let mut page: usize = 0;
+    while page < pages {
+        if !is_good(test_page(sizes, image, page)) {
             return Sums::Wrong(page);
         }
         page += 1;
     }
     Sums::Right
+}
+
+// Whether every page is blank, every page is good, or which is the first that is not good.
+pub fn check_sums(sizes: Sizes, image: &[u8]) -> Sums
+    requires { ⌜ Whole sizes (now image) ⌝ }
+    ensures { λ r. ⌜ sumsSaid r ≡ sums sizes (now (image .entry)) ⌝ }
+{
+    if all_blank(sizes, image) {
+        return Sums::Blank;
+    }
+    test_pages(sizes, image)
 }
 
 // The stream bytes of a page, its bytes 1 to 31, as a part of the caller's image. The part is empty where the kind is

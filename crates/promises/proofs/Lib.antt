@@ -1,3 +1,4 @@
+pub mod Blanks
 pub mod AfterChanges
 pub mod Altering
 pub mod PlannedFields

@@ -17,9 +17,6 @@ use Rattle.memory.specs.declared.Sizes.{Sizes}
 use Rattle.memory.specs.Image.{imageSizes, streamBits, imageOf}
 use Rattle.memory.specs.Pieces.{Piece, pack, needed}
 use Rattle.memory.proofs.PieceLaws.{Holds, pack-lt, holds-pack}
-use Rattle.memory.proofs.Chips.{sizes-chip}
-use Rattle.memory.proofs.SumLaws.{right-sums}
-use Rattle.memory.proofs.Images.{image-length, image-number-lt, image-sums}
 use Rattle.fields.specs.declared.Template.{Template}
 use Rattle.fields.specs.declared.Template.the-variants.{Bridge}
 use Rattle.fields.specs.Lines.{basic, template33, linesOf, lastField}
@@ -30,7 +27,7 @@ use Rattle.layout.proofs.Formats.{parses-fit}
 use Rattle.layout.proofs.Endings.{zeroIf, zero-needed, zero-pack}
 use Rattle.layout.proofs.Sheets.{Formed, sheetPieces, sheet-needed, sheet-parses}
 use Rattle.layout.proofs.Places.{fields-count, fields-rows}
-use Rattle.layout.proofs.Accepted.{Holding, accepted-contents}
+use Rattle.layout.proofs.Accepted.{written-contents}
 use Rattle.build.specs.declared.Slot.{Slot}
 use Rattle.build.specs.declared.Sheet.{Sheet}
 use Rattle.build.specs.Build.{plan, builtIn, build}
@@ -99,15 +96,10 @@ image-contents kind bytes z pieces t c f sizes same inside =
     let packed : pack all ≡ N = ap pack same ∙ zero-pack pieces t in
     let small : N < 2 ^ streamBits z =
     subst (λ (n : ℕ). n < 2 ^ streamBits z) packed (lt-of-lt-of-le (pack-lt all fit) (pow-mono (subst (λ q. needed q ≤ streamBits z) (sym same) inside))) in
-    accepted-contents kind (imageOf z N) c (record {
-      sizes = z;
-      sized = ap (imageSizes kind) (image-length z N ∙ sym (sizes-chip kind bytes z sizes .long)) ∙ sizes;
-      summed = right-sums z (imageOf z N) (image-sums z N);
-      holding = record {
-        formed = f;
-        holds = subst (λ (n : ℕ). Holds n 0 all) (packed ∙ sym (image-number-lt z N small)) (holds-pack all fit);
-        inside = omega (arith, sheet-needed f, ap needed same, inside);
-      };
+    written-contents kind bytes z N c sizes small (record {
+      formed = f;
+      holds = subst (λ (n : ℕ). Holds n 0 all) packed (holds-pack all fit);
+      inside = omega (arith, sheet-needed f, ap needed same, inside);
     })
 
 -- What a check of a built image finds.

@@ -1,5 +1,6 @@
 pub mod Lent
 pub mod Stream
+pub mod Blank
 pub mod Again
 pub mod Changes
 pub mod Certificate

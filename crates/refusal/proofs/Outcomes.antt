@@ -1,7 +1,7 @@
 -- Outcomes: what a good one says of the tests and the calls on its way, and what the steps of one come to.
-use mathlib.Core.Path.{_≡_, refl, sym, ap, _∙_}
-use mathlib.Core.Bool.{Bool, true, false, not, cond, _||_, true≢false}
-use Prim.Native.Nat.{ℕ}
+use mathlib.Core.Path.{_≡_, refl, sym, ap, _∙_, subst}
+use mathlib.Core.Bool.{Bool, true, false, not, cond, _||_, true≢false, _&&_}
+use Prim.Native.Nat.{ℕ, _≤_}
 use native.Mathlib.Omega.{arith}
 use Rattle.refusal.specs.declared.Refusal.{Refusal}
 use Rattle.refusal.specs.Outcome.{Outcome, good, refused, _>>=_, _>>_, refuse_if_}
@@ -38,6 +38,11 @@ pub neither : (s t : Bool) → (s || t) ≡ false → (s ≡ false) × (t ≡ fa
 neither true t e = absurd (true≢false e)
 neither false t e = (refl, e)
 
+-- Both of two tests that an and joins.
+pub both : (s t : Bool) → (s && t) ≡ true → (s ≡ true) × (t ≡ true)
+both true t e = (refl, e)
+both false t e = absurd (true≢false (sym e))
+
 -- ---- from the steps to the outcome
 
 module _ {A B : Type 0} {o : Outcome A} where
@@ -67,3 +72,23 @@ bind-assoc (refused r) f g = refl
 pub bind-same : {A B : Type 0} (o : Outcome A) {f g : A → Outcome B} → ((a : A) → f a ≡ g a) → (o >>= f) ≡ (o >>= g)
 bind-same (good a) h = h a
 bind-same (refused r) h = refl
+
+-- Refused, if at all, with the number of one of the first seven rows.
+abbrev pub Low : {A : Type 0} → Outcome A → Type 0
+Low (good a) = Unit {0}
+Low (refused r) = r .number ≤ 7
+
+pub low-cond : {A : Type 0} (t : Bool) (o p : Outcome A) → Low o → Low p → Low (cond t o p)
+low-cond true o p h k = h
+low-cond false o p h k = k
+
+pub low-test : (r : Refusal) (t : Bool) → r .number ≤ 7 → Low (refuse r if t)
+low-test r true h = h
+low-test r false h = tt
+
+pub low-then : {B : Type 0} (r : Refusal) (t : Bool) (next : Outcome B) → r .number ≤ 7 → Low next → Low (refuse r if t >> next)
+low-then r true next h k = h
+low-then r false next h k = k
+
+pub low-number : {A : Type 0} (o : Outcome A) (r : Refusal) → o ≡ refused r → Low o → r .number ≤ 7
+low-number o r e h = subst Low e h

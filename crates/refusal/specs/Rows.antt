@@ -1,4 +1,4 @@
--- Document 01, "Turning down", row by row: the number returned and its place.
+-- Document 01, "Turning down", row by row, and the answers of document 02's notes: the number returned and its place.
 use Prim.Native.Nat.{ℕ, min}
 use Rattle.refusal.specs.declared.Refusal.{Refusal}
 
@@ -68,3 +68,7 @@ singleSpan = returned 15 9
 -- 16: points list odd or over 254 long.
 abbrev pub wrongList : ℕ → Refusal
 wrongList length = returned 16 length
+
+-- 17 (Note 1): every page is blank.
+abbrev pub blankChip : Refusal
+blankChip = returned 17 0

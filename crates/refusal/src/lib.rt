@@ -3,6 +3,7 @@
 
 mod rows;
 
+pub use rows::blank_chip;
 pub use rows::changed_alone;
 pub use rows::no_span;
 pub use rows::no_such;
@@ -64,3 +65,5 @@ pub const OUTSIDE_SPAN: u8 = 14;
 pub const SINGLE_SPAN: u8 = 15;
 
 pub const WRONG_LIST: u8 = 16;
+
+pub const BLANK_CHIP: u8 = 17;

@@ -17,6 +17,7 @@ ghost use Rattle.refusal.specs.Rows.{
   outsideSpan,
   singleSpan,
   wrongList,
+  blankChip,
 };
 use crate::Refusal;
 
@@ -168,5 +169,14 @@ pub fn wrong_list(length: u64) -> Refusal
     Refusal {
         number: crate::WRONG_LIST,
         place: length,
+    }
+}
+
+pub fn blank_chip() -> Refusal
+    ensures { λ r. ⌜ r ≡ blankChip ⌝ }
+{
+    Refusal {
+        number: crate::BLANK_CHIP,
+        place: 0,
     }
 }

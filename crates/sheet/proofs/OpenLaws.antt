@@ -5,13 +5,13 @@ use Prim.Native.Nat.{ℕ}
 use lib.ListN.{length}
 use Rattle.refusal.specs.declared.Refusal.{Refusal}
 use Rattle.refusal.specs.Outcome.{Outcome, good, refused, _>>=_}
-use Rattle.refusal.specs.Rows.{wrongSum}
+use Rattle.refusal.specs.Rows.{wrongSum, blankChip}
 use Rattle.refusal.proofs.Outcomes.{good-same, no-value, told, good-bind, bind-assoc}
 use Rattle.memory.specs.declared.Sizes.{Sizes}
 use Rattle.memory.specs.declared.kinds.SizesAnswer.{SizesAnswer}
 use Rattle.memory.specs.declared.kinds.SizesAnswer.the-variants.{Are, Refused as NoSizes}
 use Rattle.memory.specs.declared.pages.Sums.{Sums}
-use Rattle.memory.specs.declared.pages.Sums.the-variants.{Right, Wrong}
+use Rattle.memory.specs.declared.pages.Sums.the-variants.{Right, Wrong, Blank}
 use Rattle.memory.specs.Image.{imageSizes, sums}
 use Rattle.memory.specs.Answers.{Whole, sizesSaid, sumsSaid}
 use Rattle.memory.proofs.Chips.{sizes-whole}
@@ -38,6 +38,10 @@ module _ (kind : ℕ) (image : List ℕ) (x : SizesAnswer) (e : sizesSaid x ≡ 
     pub sums-wrong : {y : Sums} {page : ℕ} → sumsSaid y ≡ sums z image → y ≡ Wrong page → refused (wrongSum page) ≡ opened kind image
     unfolding opened contents
     sums-wrong f g = rw (← told sizesSaid h e, ← told sumsSaid g f)
+
+    pub sums-blank : {y : Sums} → sumsSaid y ≡ sums z image → y ≡ Blank → refused blankChip ≡ opened kind image
+    unfolding opened contents
+    sums-blank f g = rw (← told sizesSaid h e, ← told sumsSaid g f)
 
     pub sums-right : {y : Sums} → sumsSaid y ≡ sums z image → y ≡ Right → walked z image ≡ opened kind image
     unfolding opened contents

@@ -86,13 +86,14 @@ fn walk_sheet(sizes: Sizes, image: &[u8]) -> OpenedAnswer
     }
 }
 
-// 1, 2 by page, then the stream from its start: what every read needs, or the check's refusal.
+// 1, 17, 2 by page, then the stream from its start: what every read needs, or the check's refusal.
 pub fn open(kind: u8, image: &[u8]) -> OpenedAnswer
     ensures { λ r. ⌜ openedSaid r ≡ opened kind (now (image .entry)) ⌝ }
 {
     match memory::image_sizes(kind, image.len()) {
         SizesAnswer::Refused(r) => OpenedAnswer::Refused(r),
         SizesAnswer::Are(sizes) => match memory::check_sums(sizes, image) {
+            Sums::Blank => OpenedAnswer::Refused(refusal::blank_chip()),
             Sums::Wrong(page) => OpenedAnswer::Refused(refusal::wrong_sum(page as u64)),
             Sums::Right => walk_sheet(sizes, image),
         },

@@ -147,6 +147,21 @@ impl Differ {
         self.lent.image[MARGIN..MARGIN + image.len()].copy_from_slice(&image);
     }
 
+    /// Blank pages: all of them or but one; before the page of kind 0 a register that adds up to 32, so that the sum is right.
+    fn blank(&mut self, image: &mut [u8]) {
+        let register = image.len() % 32;
+        let pages = image.len() / 32;
+        let written = if self.random.percent(60) { pages } else { self.random.below(pages as u64) as usize };
+        for page in (0..pages).filter(|page| *page != written) {
+            let start = register + 32 * page;
+            image[start..start + 32].fill(0xff);
+        }
+        if register > 0 && self.random.percent(50) {
+            let others = image[1..register].iter().fold(0u8, |sum, byte| sum.wrapping_add(*byte));
+            image[0] = 32u8.wrapping_sub(others);
+        }
+    }
+
     /// Damages the image, mostly with its check bytes mended.
     pub fn damage(&mut self) {
         let kind = self.kind;
@@ -158,7 +173,7 @@ impl Differ {
         let mut mended = true;
         let after = first_bit(21, precision) + 11;
         let pairs = after + 18;
-        match self.random.below(12) {
+        match self.random.below(14) {
             0 => {
                 mended = false;
                 for _ in 0..self.random.within(1, 3) {
@@ -193,6 +208,10 @@ impl Differ {
             10 if points > 0 => {
                 let bit = pairs + 37 * self.random.below(points + 1) as usize;
                 put(kind, &mut image, bit, 3, self.random.below(8));
+            }
+            11 => {
+                mended = false;
+                self.blank(&mut image);
             }
             _ => {
                 let bit = self.random.below(bits) as usize;

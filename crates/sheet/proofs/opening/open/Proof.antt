@@ -1,7 +1,7 @@
 use borrow.Author.Needs.{needs}
 use mathlib.Core.Path.{ap, _∙_}
 use Rattle.refusal.specs.Outcome.{refused}
-use Rattle.sheet.proofs.OpenLaws.{sizes-refused, sized, sums-wrong, sums-right}
+use Rattle.sheet.proofs.OpenLaws.{sizes-refused, sized, sums-blank, sums-wrong, sums-right}
 use Rattle.sheet.proofs.opening.open.Statement.{statement}
 use Rattle.sheet.proofs.opening.open.Tie as tie
 
@@ -25,19 +25,27 @@ returns c =
 
 returns-2 : tie.Need-returns-2
 returns-2 c =
+    let s = c .before .before .before in
+    let z = s .before .before .before .before in
+    let a = z .before .before .args in
+    ap refused (c .blank-chip .ensures)
+    ∙ sums-blank (a .kind) (a .image .now) _ (z .image-sizes .ensures) (s .before .before .sizes .given .1) (s .check-sums .ensures) (c .before .enum-told .given .1)
+
+returns-3 : tie.Need-returns-3
+returns-3 c =
     let s = c .before .before .before .before in
     let z = s .before .before .before .before in
     let a = z .before .before .args in
     ap refused (c .wrong-sum .ensures)
     ∙ sums-wrong (a .kind) (a .image .now) _ (z .image-sizes .ensures) (s .before .before .sizes .given .1) (s .check-sums .ensures) (c .before .before .page .given .1)
 
-returns-3 : tie.Need-returns-3
-returns-3 c =
+returns-4 : tie.Need-returns-4
+returns-4 c =
     let s = c .before .before .before in
     let z = s .before .before .before .before in
     let a = z .before .before .args in
     c .walk-sheet .ensures
-    ∙ sums-right (a .kind) (a .image .now) _ (z .image-sizes .ensures) (s .before .before .sizes .given .1) (s .check-sums .ensures) (c .before .enum-told .given .1)
+    ∙ sums-right (a .kind) (a .image .now) _ (z .image-sizes .ensures) (s .before .before .sizes .given .1) (s .check-sums .ensures) (c .before .enum-told2 .given .1)
 
 pub open-spec : {M : Type 1} → statement M
 open-spec =
@@ -50,7 +58,10 @@ open-spec =
     (λ c. search needs)
     (λ c κs. search needs)
     (λ c. search needs)
+    (λ c κs. search needs)
+    (λ c. search needs)
     walk-sheet-requires
     returns
     returns-2
-    returns-3)
+    returns-3
+    returns-4)

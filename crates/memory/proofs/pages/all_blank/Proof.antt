@@ -1,0 +1,66 @@
+-- `pages::all_blank` meets its contract. The loop's invariant: whether what is left is blank says whether all is.
+use borrow.Author.Needs.{needs}
+use mathlib.Core.Path.{_≡_, sym, _∙_}
+use Prim.Native.Nat.{_-_, _≤_}
+use native.Mathlib.Nat.{sub-zero}
+use native.Mathlib.Omega.{arith}
+use borrow.Author.Tests.{not-true, not-false}
+use Rattle.memory.specs.Image.{blankFrom}
+use Rattle.memory.proofs.SumLaws.{turn-blank, turn-written}
+use Rattle.memory.proofs.pages.all_blank.Statement.{statement}
+use Rattle.memory.proofs.pages.all_blank.Tie as tie
+
+abbrev Inv-loop : tie.InvT-loop
+Inv-loop sizes image pages page₀ page = (page ≤ pages) × (blankFrom sizes image (pages - page) page ≡ blankFrom sizes image pages 0)
+
+abbrev μ-loop : tie.MeasureT-loop
+μ-loop sizes image pages page₀ page = pages - page
+
+loop-holds : tie.Need-loop-holds Inv-loop μ-loop
+loop-holds c = (search needs, simp sub-zero)
+
+is-blank-requires : tie.Need-is-blank-requires Inv-loop μ-loop
+is-blank-requires c κs = search needs
+
+returns : tie.Need-returns Inv-loop μ-loop
+returns c =
+    let a = c .before .before .before .before .before .args in
+    let l = c .before .before .before .loop in
+    sym (turn-written (a .sizes) (a .image .now) (a .sizes .pages) (l .page) (c .before .before .loop-test .taken) (sym (c .before .is-blank .ensures) ∙ not-true (c .before .is-blank .result) (c .if1 .taken)))
+    ∙ l .inv .1
+
+add-page : tie.Need-add-page Inv-loop μ-loop
+add-page c = search needs
+
+loop-less : tie.Need-loop-less Inv-loop μ-loop
+loop-less c = search needs
+
+loop-again : tie.Need-loop-again Inv-loop μ-loop
+loop-again c =
+    let a = c .before .before .before .before .before .args in
+    let l = c .before .before .before .loop in (
+      search needs,
+      sym (turn-blank (a .sizes) (a .image .now) (a .sizes .pages) (l .page) (c .before .before .loop-test .taken) (sym (c .before .is-blank .ensures) ∙ not-false (c .before .is-blank .result) (c .if1 .left)))
+          ∙ l .inv .1,
+    )
+
+returns-2 : tie.Need-returns-2 Inv-loop μ-loop
+unfolding blankFrom
+returns-2 c =
+    let l = c .before .loop in
+    let e : c .before .before .before .args .sizes .pages - l .page ≡ 0 = omega arith in
+    rw e at (l .inv .1)
+
+pub all-blank-spec : {M : Type 1} → statement M
+all-blank-spec =
+    tie.close
+    (tie.spec
+    Inv-loop
+    μ-loop
+    loop-holds
+    is-blank-requires
+    returns
+    add-page
+    loop-less
+    loop-again
+    returns-2)

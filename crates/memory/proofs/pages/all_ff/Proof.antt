@@ -1,0 +1,70 @@
+-- `pages::all_ff` meets its contract. The loop's invariant: whether the rest is all FF says whether the whole is.
+use borrow.Author.Needs.{needs}
+use mathlib.Core.Path.{_≡_, sym, ap, _∙_}
+use mathlib.Core.Bool.{Bool, _&&_}
+use mathlib.Core.List.{List}
+use Prim.Native.Nat.{ℕ, suc, _+_, _-_, _≤_}
+use native.Mathlib.Omega.{arith}
+use native.Mathlib.Numerals.{add-one}
+use lib.ListN.{length, getD, drop}
+use lib.Dec.{eqb}
+use lib.Seq.{drop-cons, drop-length}
+use borrow.Author.Tests.{eq-eqb, ne-eqb}
+use Rattle.memory.specs.Image.{allFF}
+use Rattle.memory.proofs.pages.all_ff.Statement.{statement}
+use Rattle.memory.proofs.pages.all_ff.Tie as tie
+
+abbrev Inv-loop : tie.InvT-loop
+Inv-loop bytes i₀ i = (i ≤ length bytes) × (allFF (drop i bytes) ≡ allFF bytes)
+
+abbrev μ-loop : tie.MeasureT-loop
+μ-loop bytes i₀ i = length bytes - i
+
+loop-holds : tie.Need-loop-holds Inv-loop μ-loop
+loop-holds c = search needs
+
+shared-slice-read-if1 : tie.Need-shared-slice-read-if1 Inv-loop μ-loop
+shared-slice-read-if1 c = search needs
+
+returns : tie.Need-returns Inv-loop μ-loop
+returns c =
+    let bytes = c .before .before .before .before .args .bytes .now in
+    let i = c .before .before .before .loop .i in
+    sym (ap allFF (drop-cons bytes i 0 (omega arith)) ∙ ap (λ (b : Bool). b && allFF (drop (suc i) bytes)) (ne-eqb (getD bytes i 0) 255 (λ e. c .if1 .taken e)))
+    ∙ c .before .before .before .loop .inv .1
+
+add-i : tie.Need-add-i Inv-loop μ-loop
+add-i c = search needs
+
+loop-less : tie.Need-loop-less Inv-loop μ-loop
+loop-less c = search needs
+
+loop-again : tie.Need-loop-again Inv-loop μ-loop
+loop-again c =
+    let bytes = c .before .before .before .before .args .bytes .now in
+    let i = c .before .before .before .loop .i in (
+      search needs,
+      rw (add-one i)
+          (sym (ap allFF (drop-cons bytes i 0 (omega arith)) ∙ ap (λ (b : Bool). b && allFF (drop (suc i) bytes)) (eq-eqb (getD bytes i 0) 255 (c .if1 .left)))
+          ∙ c .before .before .before .loop .inv .1),
+    )
+
+returns-2 : tie.Need-returns-2 Inv-loop μ-loop
+returns-2 c =
+    let bytes = c .before .before .args .bytes .now in
+    let d : c .before .loop .i ≡ length bytes = omega arith in
+    sym (rw d (ap allFF (drop-length bytes))) ∙ c .before .loop .inv .1
+
+pub all-ff-spec : {M : Type 1} → statement M
+all-ff-spec =
+    tie.close
+    (tie.spec
+    Inv-loop
+    μ-loop
+    loop-holds
+    shared-slice-read-if1
+    returns
+    add-i
+    loop-less
+    loop-again
+    returns-2)

@@ -1,0 +1,74 @@
+-- `pages::test_pages` meets its contract. The loop's invariant: what is left to test says what the whole test says.
+use borrow.Author.Needs.{needs}
+use mathlib.Core.Path.{_≡_, sym, ap, _∙_}
+use Prim.Native.Nat.{_-_, _≤_}
+use native.Mathlib.Nat.{sub-zero}
+use native.Mathlib.Omega.{arith}
+use borrow.Author.Tests.{not-true, not-false}
+use Rattle.memory.specs.Image.{isGood, sumsFrom}
+use Rattle.memory.proofs.SumLaws.{turn-good, turn-wrong}
+use Rattle.memory.proofs.pages.test_pages.Statement.{statement}
+use Rattle.memory.proofs.pages.test_pages.Tie as tie
+
+abbrev Inv-loop : tie.InvT-loop
+Inv-loop sizes image pages page₀ page = (page ≤ pages) × (sumsFrom sizes image (pages - page) page ≡ sumsFrom sizes image pages 0)
+
+abbrev μ-loop : tie.MeasureT-loop
+μ-loop sizes image pages page₀ page = pages - page
+
+loop-holds : tie.Need-loop-holds Inv-loop μ-loop
+loop-holds c = (search needs, simp sub-zero)
+
+test-page-requires : tie.Need-test-page-requires Inv-loop μ-loop
+test-page-requires c κs = search needs
+
+is-good-requires : tie.Need-is-good-requires Inv-loop μ-loop
+is-good-requires c κs = search needs
+
+returns : tie.Need-returns Inv-loop μ-loop
+returns c =
+    let a = c .before .before .before .before .before .before .args in
+    let l = c .before .before .before .before .loop in
+    sym
+    (turn-wrong (a .sizes) (a .image .now) (a .sizes .pages) (l .page) (c .before .before .before .loop-test .taken)
+    (sym (c .before .is-good .ensures ∙ ap isGood (c .before .before .test-page .ensures)) ∙ not-true (c .before .is-good .result) (c .if1 .taken)))
+    ∙ l .inv .1
+
+add-page : tie.Need-add-page Inv-loop μ-loop
+add-page c = search needs
+
+loop-less : tie.Need-loop-less Inv-loop μ-loop
+loop-less c = search needs
+
+loop-again : tie.Need-loop-again Inv-loop μ-loop
+loop-again c =
+    let a = c .before .before .before .before .before .before .args in
+    let l = c .before .before .before .before .loop in (
+      search needs,
+      sym
+          (turn-good (a .sizes) (a .image .now) (a .sizes .pages) (l .page) (c .before .before .before .loop-test .taken)
+          (sym (c .before .is-good .ensures ∙ ap isGood (c .before .before .test-page .ensures)) ∙ not-false (c .before .is-good .result) (c .if1 .left)))
+          ∙ l .inv .1,
+    )
+
+returns-2 : tie.Need-returns-2 Inv-loop μ-loop
+unfolding sumsFrom
+returns-2 c =
+    let l = c .before .loop in
+    let e : c .before .before .before .args .sizes .pages - l .page ≡ 0 = omega arith in
+    rw e at (l .inv .1)
+
+pub test-pages-spec : {M : Type 1} → statement M
+test-pages-spec =
+    tie.close
+    (tie.spec
+    Inv-loop
+    μ-loop
+    loop-holds
+    test-page-requires
+    is-good-requires
+    returns
+    add-page
+    loop-less
+    loop-again
+    returns-2)

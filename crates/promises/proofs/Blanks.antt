@@ -1,0 +1,63 @@
+-- Which images are named blank.
+use mathlib.Core.Path.{_≡_, refl, sym, ap, _∙_}
+use mathlib.Core.Bool.{Bool, true, false, true≢false}
+use mathlib.Core.List.{List}
+use Prim.Native.Nat.{ℕ, zero, suc, _+_, _-_, _*_, _/_, _%_, _≤_, _<_}
+use native.Mathlib.Omega.{arith}
+use lib.ListN.{length, getD}
+use Rattle.refusal.specs.declared.Refusal.{Refusal}
+use Rattle.refusal.specs.Outcome.{Outcome, good, refused, _>>=_, _>>_, refuse_if_}
+use Rattle.refusal.specs.Rows.{blankChip}
+use Rattle.refusal.proofs.Outcomes.{Low, low-number}
+use Rattle.memory.specs.declared.Sizes.{Sizes}
+use Rattle.memory.specs.Image.{imageSizes, imageBytes, pageAt, blankPage, blankFrom, sumsFrom, sums}
+use Rattle.memory.proofs.Chips.{sizes-chip}
+use Rattle.memory.proofs.SumLaws.{blank-all, all-blank, blank-at, at-blank, sums-low}
+use Rattle.layout.specs.Format.{Parsed, parse}
+use Rattle.layout.specs.Contents.{Contents, sheetOf}
+use Rattle.layout.specs.Image.{streamIn, contents}
+use Rattle.layout.proofs.Numbers.{parse-low, sheet-lows}
+use Rattle.promises.specs.Blank.{AllBlank, BlankExactly, NamedBlank}
+
+module _ (kind : ℕ) (image : List ℕ) (z : Sizes) (sizes : imageSizes kind (length image) ≡ good z) where
+  whole : length image ≡ imageBytes z
+  whole = sizes-chip kind (length image) z sizes .long
+
+  named : AllBlank z image → contents kind image ≡ refused blankChip
+  unfolding contents
+  named f =
+      let all : blankFrom z image (z .pages) 0 ≡ true = all-blank z image (z .pages) 0 (λ q h k.
+      at-blank z image whole q (omega arith) (λ i l. f (pageAt z q + i) (omega arith) (omega arith))) in
+      rw (sizes, all)
+
+  blank : contents kind image ≡ refused blankChip → AllBlank z image
+  unfolding contents
+  blank e i least below = go (blankFrom z image (z .pages) 0) refl (rw sizes at e)
+    where
+      page : ℕ
+      page = (i - z .register) / 32
+
+      rest : ℕ
+      rest = (i - z .register) % 32
+
+      place : pageAt z page + rest ≡ i
+      place = omega arith
+
+      after : Outcome Contents
+      after = parse (streamIn z image) sheetOf 0 >>= λ x. good (x .found)
+
+      low : (o : Outcome (Unit {0})) (p : Outcome (Parsed Contents)) → Low o → Low p → (o >> (p >>= λ x. good (x .found))) ≡ refused blankChip → ⊥
+      low (good u) (good x) h k d = let n : _≡_ {A = ℕ} 0 1 = cc in absurd (omega arith)
+      low (good u) (refused r) h k d = absurd (omega (arith, low-number (refused r) blankChip d k))
+      low (refused r) p h k d = absurd (omega (arith, low-number (refused r) blankChip d h))
+
+      go : (b : Bool) → blankFrom z image (z .pages) 0 ≡ b → (sums z image >> after) ≡ refused blankChip → getD image i 0 ≡ 255
+      go true h d =
+          ap (λ (n : ℕ). getD image n 0) (sym place)
+          ∙ blank-at z image whole page (omega arith) (blank-all z image (z .pages) 0 h page (omega arith) (omega arith)) rest (omega arith)
+      go false h d =
+          absurd (low (sumsFrom z image (z .pages) 0) (parse (streamIn z image) sheetOf 0) (sums-low z image (z .pages) 0)
+          (parse-low (streamIn z image) sheetOf 0 sheet-lows) (rw h at d))
+
+pub named-blank : NamedBlank
+named-blank kind image z sizes = record { named = named kind image z sizes; blank = blank kind image z sizes }
