@@ -1,5 +1,6 @@
 pub mod AfterChanges
 pub mod Altering
+pub mod ByIndex
 pub mod PlannedFields
 pub mod PlannedPairs
 pub mod PlannedSheet

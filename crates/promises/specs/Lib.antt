@@ -1,5 +1,6 @@
 pub mod Lent
 pub mod Stream
+pub mod Reads
 pub mod Again
 pub mod Changes
 pub mod Certificate
