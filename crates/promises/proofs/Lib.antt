@@ -9,4 +9,6 @@ pub mod Rebuilt
 pub mod NeededBits
 pub mod StoredPoints
 pub mod Distance
+pub mod Lending
+pub mod Calling
 pub mod EdgesHold

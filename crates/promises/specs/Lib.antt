@@ -4,5 +4,6 @@ pub mod Reads
 pub mod Again
 pub mod Changes
 pub mod Certificate
+pub mod Calls
 pub mod Edges
 pub mod Attained
