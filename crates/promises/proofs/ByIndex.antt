@@ -17,7 +17,7 @@ pub bits-behind-not-judged : BitsBehindNotJudged
 bits-behind-not-judged = agree
 
 -- What a check gives comes from what the image holds, and its refusal too.
-check-holds : (kind : ℕ) (image : List ℕ) (s : Summary) → check kind image ≡ good s → (c : Contents) × (contents kind image ≡ good c) × (summary c ≡ s)
+pub check-holds : (kind : ℕ) (image : List ℕ) (s : Summary) → check kind image ≡ good s → (c : Contents) × (contents kind image ≡ good c) × (summary c ≡ s)
 unfolding check
 check-holds kind image s e = let (c, h, g) = good-bind (contents kind image) (λ c. good (summary c)) s e in (c, h, good-same g)
 
