@@ -1,5 +1,6 @@
 pub mod AfterChanges
 pub mod Altering
+pub mod ByIndex
 pub mod PlannedFields
 pub mod PlannedPairs
 pub mod PlannedSheet
@@ -8,4 +9,6 @@ pub mod Rebuilt
 pub mod NeededBits
 pub mod StoredPoints
 pub mod Distance
+pub mod Lending
+pub mod Calling
 pub mod EdgesHold
