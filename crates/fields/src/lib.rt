@@ -29,7 +29,7 @@ pub use figure::physical_figure;
 pub use judging::judge;
 pub use scales::scale_value;
 pub use templates::basic_fields;
-pub use templates::fields_bits;
+pub use templates::bits_before;
 pub use templates::is_choice;
 pub use templates::last_field;
 pub use templates::row_of;
