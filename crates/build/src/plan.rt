@@ -5,7 +5,6 @@ use fields::Encoded;
 use fields::Judged;
 use fields::Layout;
 use fields::Previous;
-use fields::Row;
 use fields::Template;
 use fields::Value;
 use refusal::Refusal;
@@ -17,9 +16,8 @@ ghost use lib.Dec.{eqb, ltb};
 ghost use lib.ListN.{length};
 ghost use Rattle.refusal.specs.Outcome.{refuse_if_};
 ghost use Rattle.refusal.specs.Rows.{outOfRange};
-ghost use Rattle.fields.specs.Lines.{chose, lineOf, lastField, ending};
+ghost use Rattle.fields.specs.Lines.{chose, lineOf, rowOf, lastField, ending};
 ghost use Rattle.fields.specs.Answers.{judgedSaid, previousSaid};
-ghost use Rattle.fields.specs.Stored.{Sound};
 ghost use Rattle.build.specs.Build.{templateIn, unfit, endingPieces, pairsLent, pairCodes, tablePieces};
 ghost use Rattle.build.specs.Tested.{tested, pairAt, codesSaid, Encodes, FieldsPlanned};
 
@@ -49,15 +47,15 @@ pub fn template_in(sheet: Sheet) -> Template
     Template::Bridge
 }
 
-// The code of a value, which fits the row's bits: a Single that is lent has 32.
-fn code_of(row: Row, place: u64, value: Value) -> Encoded
-    requires { ⌜ Sound row ⌝ }
-    ensures { λ r. ⌜ Encodes row place value r ⌝ }
+// The code of a field's value, which fits its row's bits: a Single that is lent has 32.
+fn code_of(layout: Layout, field: u64, value: Value) -> Encoded
+    requires { ⌜ (1 ≤ field) × (field ≤ lastField (layout .template)) ⌝ }
+    ensures { λ r. ⌜ Encodes (rowOf layout field) field value r ⌝ }
 {
     match value {
-        Value::Whole(figure) => fields::encode_whole(row, place, figure),
-        Value::Single(x) => fields::encode_single(row, place, x),
-        Value::Missing => fields::encode_missing(row, place),
+        Value::Whole(figure) => fields::encode_whole(layout, field, figure),
+        Value::Single(x) => fields::encode_single(layout, field, x),
+        Value::Missing => fields::encode_missing(layout, field),
     }
 }
 
@@ -91,7 +89,7 @@ pub fn plan_fields(sheet: Sheet) -> Plan
             precision,
         };
         let row = fields::row_of(layout, field);
-        match code_of(row, field, value) {
+        match code_of(layout, field, value) {
             Encoded::Refused(r) => {
                 return Plan {
                     answer: Judged::Refused(r),

@@ -42,7 +42,7 @@ fn code_for(layout: Layout, field: u64, value: Value) -> Encoded
     let template = layout.template;
     match may_change(template, field) {
         Allowed::Refused(r) => Encoded::Refused(r),
-        Allowed::Free => fields::encode(fields::row_of(layout, field), field, value),
+        Allowed::Free => fields::encode(layout, field, value),
     }
 }
 

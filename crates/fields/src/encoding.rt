@@ -1,5 +1,6 @@
 // Document 01, "Layout": the code that a value is stored at.
 use crate::Encoded;
+use crate::Layout;
 use crate::Row;
 use crate::Rule;
 use crate::Scale;
@@ -10,6 +11,7 @@ use crate::scales::scale_value;
 use crate::scales::stored_code;
 use crate::steps::step_code;
 use crate::steps::step_value;
+use crate::templates::row_of;
 use integers::plus;
 use refusal::Refusal;
 ghost use mathlib.Core.Path.{_≡_};
@@ -18,6 +20,7 @@ ghost use lib.IntN.{natAbs};
 ghost use Rattle.refusal.specs.Outcome.{refused};
 ghost use Rattle.refusal.specs.Rows.{wrongSort, outOfRange};
 ghost use Rattle.fields.specs.Rules.{scaleWidth, outside, wholeCode, singleCode, encode as encodeOf};
+ghost use Rattle.fields.specs.Lines.{lastField, rowOf};
 ghost use Rattle.fields.specs.Stored.{Sound};
 ghost use Rattle.fields.specs.Answers.{encodedSaid};
 
@@ -90,10 +93,10 @@ fn geometric(scale: Scale, width: u64, place: u64, figure: i64) -> Encoded
     Encoded::Code(stored_code(scale, plus(figure)))
 }
 
-// `encode` of a whole figure: 9 where the rule takes no whole number.
-pub fn encode_whole(row: Row, place: u64, figure: i64) -> Encoded
+// The code of a whole figure, or 9 where the rule takes no whole number.
+fn whole(row: Row, place: u64, figure: i64) -> Encoded
     requires { ⌜ Sound row ⌝ }
-    ensures { λ r. ⌜ encodedSaid r ≡ encodeOf row place (Value.Whole figure) ⌝ }
+    ensures { λ r. ⌜ encodedSaid r ≡ wholeCode (row .rule) (row .width) place figure ⌝ }
 {
     let width = row.width;
     let rule = row.rule;
@@ -132,33 +135,44 @@ fn single(rule: Rule, place: u64, x: f32) -> Encoded
     }
 }
 
-// `encode` of a Single, and of missing: 9 where the row has none.
-pub fn encode_single(row: Row, place: u64, x: f32) -> Encoded
-    ensures { λ r. ⌜ encodedSaid r ≡ encodeOf row place (Value.Single x) ⌝ }
+// `encode` of a whole figure, of a Single and of missing. The row is found here and is no parameter, so that the rule is a
+// constant to the compiler in each arm of the rows.
+pub fn encode_whole(layout: Layout, field: u64, figure: i64) -> Encoded
+    requires { ⌜ (1 ≤ field) × (field ≤ lastField (layout .template)) ⌝ }
+    ensures { λ r. ⌜ encodedSaid r ≡ encodeOf (rowOf layout field) field (Value.Whole figure) ⌝ }
 {
-    let rule = row.rule;
-    single(rule, place, x)
+    whole(row_of(layout, field), field, figure)
 }
 
-pub fn encode_missing(row: Row, place: u64) -> Encoded
-    requires { ⌜ row .width ≤ 32 ⌝ }
-    ensures { λ r. ⌜ encodedSaid r ≡ encodeOf row place Value.Missing ⌝ }
+pub fn encode_single(layout: Layout, field: u64, x: f32) -> Encoded
+    requires { ⌜ (1 ≤ field) × (field ≤ lastField (layout .template)) ⌝ }
+    ensures { λ r. ⌜ encodedSaid r ≡ encodeOf (rowOf layout field) field (Value.Single x) ⌝ }
 {
+    let row = row_of(layout, field);
+    let rule = row.rule;
+    single(rule, field, x)
+}
+
+pub fn encode_missing(layout: Layout, field: u64) -> Encoded
+    requires { ⌜ (1 ≤ field) × (field ≤ lastField (layout .template)) ⌝ }
+    ensures { λ r. ⌜ encodedSaid r ≡ encodeOf (rowOf layout field) field Value.Missing ⌝ }
+{
+    let row = row_of(layout, field);
     if row.missing {
         return Encoded::Code(all_ones(row.width));
     }
-    wrong_sort(place)
+    wrong_sort(field)
 }
 
-// The code of a value, whatever i64 or f32 it holds: refusal 9 where the row takes no value of its sort, 10 where it has
-// no code for it, each with the place that the call gives.
-pub fn encode(row: Row, place: u64, value: Value) -> Encoded
-    requires { ⌜ Sound row ⌝ }
-    ensures { λ r. ⌜ encodedSaid r ≡ encodeOf row place value ⌝ }
+// The code of a field's value, whatever i64 or f32 it holds: refusal 9 where the row takes no value of its sort, 10 where it
+// has no code for it, each at the field.
+pub fn encode(layout: Layout, field: u64, value: Value) -> Encoded
+    requires { ⌜ (1 ≤ field) × (field ≤ lastField (layout .template)) ⌝ }
+    ensures { λ r. ⌜ encodedSaid r ≡ encodeOf (rowOf layout field) field value ⌝ }
 {
     match value {
-        Value::Whole(figure) => encode_whole(row, place, figure),
-        Value::Single(x) => encode_single(row, place, x),
-        Value::Missing => encode_missing(row, place),
+        Value::Whole(figure) => encode_whole(layout, field, figure),
+        Value::Single(x) => encode_single(layout, field, x),
+        Value::Missing => encode_missing(layout, field),
     }
 }

@@ -1,7 +1,7 @@
 // Document 01, "Layout": a field's value, the rows of the table of fields, the templates that put them in order, the
 // calibration table, and the two ways between a code and a value.
-// No call faults, whatever i64 or f32 it is given. `decode`, `judge` and `encode` ask that the row is sound
-// (specs/Stored.antt), which every row of the table is, and `decode` that the code has no more bits than the row.
+// No call faults, whatever i64 or f32 it is given. `decode` and `judge` ask that the row is sound (specs/Stored.antt), which
+// every row of the table is, `decode` that the code has no more bits than the row, and `encode` that the template has the field.
 use refusal::Refusal;
 
 mod calibration; // calibration.rt: the calibration table

@@ -1,5 +1,6 @@
 use borrow.Author.Needs.{needs}
 use Rattle.fields.specs.Rules.{encode}
+use Rattle.fields.proofs.RowLaws.{row-sound}
 use Rattle.fields.proofs.encoding.encode_missing.Statement.{statement}
 use Rattle.fields.proofs.encoding.encode_missing.Tie as tie
 
@@ -9,6 +10,7 @@ encode-missing-spec =
     tie.close
     (tie.spec
     (λ c κs. search needs)
-    (λ c. rw (c .before .if1 .taken, c .all-ones .ensures))
+    (λ c κs. rw (c .before .row-of .ensures) (row-sound _ _ (c .before .before .pre .0) (c .before .before .pre .1) .most))
+    (λ c. rw (← c .before .before .row-of .ensures, c .before .if1 .taken, c .all-ones .ensures))
     (λ c κs. search needs)
-    (λ c. rw (c .before .if1 .left) (c .wrong-sort .ensures)))
+    (λ c. rw (← c .before .before .row-of .ensures, c .before .if1 .left) (c .wrong-sort .ensures)))

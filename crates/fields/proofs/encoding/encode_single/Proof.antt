@@ -5,4 +5,9 @@ use Rattle.fields.proofs.encoding.encode_single.Tie as tie
 
 pub encode-single-spec : {M : Type 1} → statement M
 unfolding encode
-encode-single-spec = tie.close (tie.spec (λ c κs. search needs) (λ c. c .single .ensures))
+encode-single-spec =
+    tie.close
+    (tie.spec
+    (λ c κs. search needs)
+    (λ c κs. search needs)
+    (λ c. rw (c .before .row-of .ensures) at (c .single .ensures)))

@@ -1,8 +1,7 @@
 use borrow.Author.Needs.{needs}
-use mir.Syntax.{w64}
 use mir.Facts.{toZ-ofZ}
 use Rattle.fields.specs.Rules.{encode}
-use Rattle.fields.proofs.RowLaws.{sound-rule, plain-small}
+use Rattle.fields.proofs.RowLaws.{row-sound}
 use Rattle.fields.proofs.encoding.encode_whole.Statement.{statement}
 use Rattle.fields.proofs.encoding.encode_whole.Tie as tie
 
@@ -11,21 +10,6 @@ unfolding encode
 encode-whole-spec =
     tie.close
     (tie.spec
-    (λ c. search needs)
-    (λ c κs. plain-small (c .before .before .before .pre) (c .before .rule .given .1))
-    (λ c. search needs)
-    (λ c κs.
-    let p = c .before .before .before .pre in
-    let sound = sound-rule p (c .before .rule2 .given .1) in
-    rw (toZ-ofZ {w = w64} {z = c .before .rule2 .given .0 .0} (search needs))
-    ((p .some, p .most), (sound .0, (sound .2, sound .3))))
-    (λ c. search needs)
-    (λ c κs. let p = c .before .before .before .pre in ((p .some, p .most), sound-rule p (c .before .rule3 .given .1)))
-    (λ c. search needs)
     (λ c κs. search needs)
-    (λ c. rw (c .before .before .rule .given .1) (rw (toZ-ofZ (c .before .before .before .before .fits .figure)) at (c .plain .ensures)))
-    (λ c.
-    let start = toZ-ofZ {w = w64} {z = c .before .before .rule2 .given .0 .0} (search needs) in
-    rw (c .before .before .rule2 .given .1) (rw (toZ-ofZ (c .before .before .before .before .fits .figure), start) at (c .stepped .ensures)))
-    (λ c. rw (c .before .before .rule3 .given .1) (rw (toZ-ofZ (c .before .before .before .before .fits .figure)) at (c .geometric .ensures)))
-    (λ c. rw (c .before .enum-told .given .1) (c .wrong-sort .ensures)))
+    (λ c κs. rw (c .row-of .ensures) (row-sound _ _ (c .before .pre .0) (c .before .pre .1)))
+    (λ c. rw (c .before .row-of .ensures, toZ-ofZ (c .before .before .fits .figure)) at (c .whole .ensures)))
