@@ -1,7 +1,7 @@
 /* Dartelm: the IEEE 1451.4 data sheet (TEDS) in a sender's memory chip, from its image to a reading. For C99 and C++.
  *
  * Every call returns one struct by value. Its number is 0 where the call is accepted; else it is a refusal's, DARTELM_WRONG_IMAGE
- * to DARTELM_BLANK_CHIP, with the refusal's place beside it, and every other member is 0. (0 as a float is +0.0. A Single that is
+ * to DARTELM_SHORT_INDEX, with the refusal's place beside it, and every other member is 0. (0 as a float is +0.0. A Single that is
  * returned is finite.) A refused call writes nothing; no call writes anything but the image of a build or a change.
  *
  * Nothing is kept between calls, so any number of them may run at once, in interrupts too. No heap is used; the only functions
@@ -52,7 +52,8 @@ enum {
     DARTELM_OUTSIDE_SPAN = 14,  /* A reading's input is too far outside the span. Place: 0. */
     DARTELM_SINGLE_SPAN = 15,   /* A reading at precision 2. Place: 9. */
     DARTELM_WRONG_LIST = 16,    /* A list of points that is odd or longer than 254. Place: its length. */
-    DARTELM_BLANK_CHIP = 17     /* Every page is blank: nothing has been written to this chip. Place: 0. */
+    DARTELM_BLANK_CHIP = 17,    /* Every page is blank: nothing has been written to this chip. Place: 0. */
+    DARTELM_SHORT_INDEX = 18    /* A buffer too short for an index, or an index too short to be one. Place: the bytes needed. */
 };
 
 /* Fields 1 to 21, and what a value counts. */

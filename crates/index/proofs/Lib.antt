@@ -1,0 +1,4 @@
+pub mod Laying
+pub mod EntryLaws
+pub mod IndexLaws
+pub mod FetchLaws
