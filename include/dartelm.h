@@ -9,7 +9,8 @@
  *
  * What the caller owes, since nothing can test it:
  *   - a pointer is good for the length beside it, and is not NULL, not even where that length is 0;
- *   - what is lent to one call does not overlap, and nothing else writes to it until the call returns.
+ *   - what is lent to one call does not overlap, and nothing else writes to it until the call returns;
+ *   - the processor rounds to nearest and keeps subnormal numbers, as it does where nobody changed it.
  * Nothing else is owed: any kind, number, length, byte and float may be handed in.
  *
  * A flag is a uint8_t: 0 means no, and anything else yes, so that every byte means something (a C bool with a byte other than 0 or

@@ -15,6 +15,7 @@ use Rattle.refusal.specs.Outcome.{Outcome, good, refused, _>>_}
 use Rattle.refusal.specs.Rows.{returned, tooLong, wrongList}
 use Rattle.refusal.proofs.Outcomes.{neither, bind-refused}
 use Rattle.memory.specs.declared.Sizes.{Sizes}
+use Rattle.memory.specs.declared.cursor.Cursor.{Cursor}
 use Rattle.memory.specs.Image.{imageBytes, imageSizes, streamBits, imageOf}
 use Rattle.memory.specs.Pieces.{Piece, pack, needed}
 use Rattle.memory.proofs.PieceLaws.{needed-append}
@@ -91,8 +92,8 @@ module _ (z : Sizes) (template : Template) (fields : List CodedField) (endBit : 
   ordered : codedSheet template fields endBit text points ≡ inOrder
   ordered = simp append-assoc
 
-  pub sheet-filling : {a : List ℕ} {at : ℕ} → Room z a at (codedSheet template fields endBit text points) → Filling z a at (codedSheet template fields endBit text points) a at inOrder
-  sheet-filling {a} {at} r = subst (Filling z a at (codedSheet template fields endBit text points) a at) ordered (filling-none z r)
+  pub sheet-filling : {a : List ℕ} {k : Cursor} → Room z a k (codedSheet template fields endBit text points) → Filling z a k (codedSheet template fields endBit text points) a k inOrder
+  sheet-filling {a} {k} r = subst (Filling z a k (codedSheet template fields endBit text points) a k) ordered (filling-none z r)
 
 -- ---- the tests
 

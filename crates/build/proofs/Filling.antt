@@ -1,21 +1,21 @@
 -- Pieces filled in one behind the other.
 use mathlib.Core.Path.{_≡_, refl, sym, ap, ap₂, _∙_}
 use mathlib.Core.List.{List, [], _∷_, _++_}
-use Prim.Native.Nat.{ℕ, zero, suc, _+_, _*_, _^_, _<_}
+use Prim.Native.Nat.{ℕ, zero, suc, _+_, _*_, _^_, _≤_, _<_}
 use native.Mathlib.Nat.{mod-eq-of-lt, div-eq-of-lt, lt-of-lt-of-le, add-comm, mul-assoc, zero-mul}
 use native.Mathlib.Omega.{arith}
 use lib.Arith.{digits-lt}
 use lib.ListN.{length, getD, replicate, length-replicate}
 use lib.Pow.{pow-add, pow-mono}
 use Rattle.memory.specs.declared.Sizes.{Sizes}
+use Rattle.memory.specs.declared.cursor.Cursor.{Cursor}
 use Rattle.memory.specs.Bits.{number, putAt}
 use Rattle.memory.specs.Image.{imageBytes, streamOf, streamNumber, putIn}
-use Rattle.memory.specs.Answers.{Whole, streamIndex}
+use Rattle.memory.specs.Answers.{Whole, InStream, streamIndex}
 use Rattle.memory.specs.Pieces.{Piece, piece, pack, needed}
 use Rattle.memory.proofs.PieceLaws.{pack-append, needed-append}
 use Rattle.memory.proofs.Streams.{stream-at, stream-length}
 use Rattle.memory.proofs.Written.{put-whole, put-bytes, put-stream}
-use Rattle.build.specs.Tested.{Fitting}
 use Rattle.build.specs.Filled.{Free, Room, Filled}
 
 -- ---- numbers
@@ -39,50 +39,65 @@ behind P Q N at w =
 module _ (z : Sizes) where
   -- ---- one code
 
-  pub fills : (image : List ℕ) (at w code : ℕ) → Room z image at (piece w code ∷ []) → Fitting w code → Filled z image at (piece w code ∷ []) (putIn z image at w code) (at + w)
-  fills image at w code r h =
+  fills : {a b : List ℕ} {k n : Cursor} {w code : ℕ} → Room z a k (piece w code ∷ []) → code < 2 ^ w → b ≡ putIn z a (k .at) w code → n .at ≡ k .at + w →
+      Filled z a k (piece w code ∷ []) b n
+  fills {a} {b} {k} {n} {w} {code} r h put moved =
       let f = r .free in
-      let e : streamNumber z (putIn z image at w code) ≡ code * 2 ^ at + streamNumber z image =
-      put-stream z image at w code (f .whole .long) (f .bytes) (omega (arith, r .inside)) (h .fits) ∙ put-free (streamNumber z image) at w code (f .below) in
-      let size : 2 ^ w * 2 ^ at ≡ 2 ^ (at + w) = sym (pow-add 2 w at) ∙ ap (λ (n : ℕ). 2 ^ n) (add-comm w at) in
+      let at : ℕ = k .at in
+      let e : streamNumber z b ≡ code * 2 ^ at + streamNumber z a =
+      ap (streamNumber z) put ∙ put-stream z a at w code (f .whole .long) (f .bytes) (omega (arith, r .inside)) h ∙ put-free (streamNumber z a) at w code (f .below) in
+      let size : 2 ^ w * 2 ^ at ≡ 2 ^ n .at = sym (pow-add 2 w at) ∙ ap (λ (n : ℕ). 2 ^ n) (add-comm w at ∙ sym moved) in
       record {
         free = record {
-          whole = record { long = put-whole z image at w code (f .whole .long); small = f .whole .small };
-          bytes = put-bytes z image at w code (f .whole .long) (f .bytes);
-          below = rw (e, ← size) (digits-lt (h .fits) (f .below));
+          whole = record { long = ap length put ∙ put-whole z a at w code (f .whole .long); small = f .whole .small };
+          bytes = rw put (put-bytes z a at w code (f .whole .long) (f .bytes));
+          below = rw (e, ← size) (digits-lt h (f .below));
         };
-        stream = e ∙ ap (λ (x : ℕ). x * 2 ^ at + streamNumber z image) (omega (arith, zero-mul (2 ^ w)));
-        moved = omega arith;
+        stream = e ∙ ap (λ (x : ℕ). x * 2 ^ at + streamNumber z a) (omega (arith, zero-mul (2 ^ w)));
+        moved = omega (arith, moved);
       }
 
   -- ---- on the way
 
-  -- Of the pieces that are filled in from bit `at` on, those left go behind bit `next`.
-  pub record Filling (before : List ℕ) (at : ℕ) (pieces : List Piece) (image : List ℕ) (next : ℕ) (left : List Piece) : Type 0 where
+  -- Of the pieces that are filled in from a cursor on, those left go behind the cursor `next`.
+  pub record Filling (before : List ℕ) (cursor : Cursor) (pieces : List Piece) (image : List ℕ) (next : Cursor) (left : List Piece) : Type 0 where
     pub room : Room z image next left
-    pub stream : pack left * 2 ^ next + streamNumber z image ≡ pack pieces * 2 ^ at + streamNumber z before
-    pub moved : next + needed left ≡ at + needed pieces
+    pub stream : pack left * 2 ^ next .at + streamNumber z image ≡ pack pieces * 2 ^ cursor .at + streamNumber z before
+    pub moved : next .at + needed left ≡ cursor .at + needed pieces
 
-  pub filling-none : {a : List ℕ} {at : ℕ} {ps : List Piece} → Room z a at ps → Filling a at ps a at ps
+  pub filling-none : {a : List ℕ} {k : Cursor} {ps : List Piece} → Room z a k ps → Filling a k ps a k ps
   filling-none r = record { room = r; stream = refl; moved = refl }
 
-  module _ {a b : List ℕ} {at m : ℕ} {all : List Piece} where
+  module _ {a b : List ℕ} {k m : Cursor} {all : List Piece} where
     -- Room for the first of those left, and the way behind them.
-    module _ {left : List Piece} (ps qs : List Piece) (e : left ≡ ps ++ qs) (f : Filling a at all b m left) where
+    module _ {left : List Piece} (ps qs : List Piece) (e : left ≡ ps ++ qs) (f : Filling a k all b m left) where
       pub room-first : Room z b m ps
       room-first = record { free = f .room .free; inside = omega (arith, ap needed e, needed-append ps qs, f .room .inside) }
 
-      pub filling-more : {c : List ℕ} {n : ℕ} → Filled z b m ps c n → Filling a at all c n qs
+      pub filling-more : {c : List ℕ} {n : Cursor} → Filled z b m ps c n → Filling a k all c n qs
       filling-more {c} {n} l = record {
         room = record { free = l .free; inside = omega (arith, ap needed e, needed-append ps qs, f .room .inside, l .moved) };
         stream =
-            ap₂ (λ (k x : ℕ). pack qs * 2 ^ k + x) (l .moved) (l .stream) ∙ behind (pack ps) (pack qs) (streamNumber z b) m (needed ps)
-            ∙ ap (λ (x : ℕ). x * 2 ^ m + streamNumber z b) (sym (ap pack e ∙ pack-append ps qs)) ∙ f .stream;
+            ap₂ (λ (i x : ℕ). pack qs * 2 ^ i + x) (l .moved) (l .stream) ∙ behind (pack ps) (pack qs) (streamNumber z b) (m .at) (needed ps)
+            ∙ ap (λ (x : ℕ). x * 2 ^ m .at + streamNumber z b) (sym (ap pack e ∙ pack-append ps qs)) ∙ f .stream;
         moved = omega (arith, ap needed e, needed-append ps qs, f .moved, l .moved);
       }
 
-    pub filled : Filling a at all b m [] → Filled z a at all b m
-    filled f = record { free = f .room .free; stream = omega (arith, f .stream, zero-mul (2 ^ m)); moved = omega (arith, f .moved) }
+    -- The same for one code, which is put at the cursor.
+    module _ {left : List Piece} (w code : ℕ) (qs : List Piece) (e : left ≡ piece w code ∷ qs) (f : Filling a k all b m left) where
+      pub code-inside : 1 ≤ w → w ≤ 32 → InStream z b (m .at) w
+      code-inside some most = record {
+        whole = f .room .free .whole;
+        inside = omega (arith, room-first (piece w code ∷ []) qs e f .inside);
+        some = some;
+        most = most;
+      }
+
+      pub code-more : {c : List ℕ} {n : Cursor} → code < 2 ^ w → (c ≡ putIn z b (m .at) w code) × (n .at ≡ m .at + w) → Filling a k all c n qs
+      code-more fits put = filling-more (piece w code ∷ []) qs e f (fills (room-first (piece w code ∷ []) qs e f) fits (put .0) (put .1))
+
+    pub filled : Filling a k all b m [] → Filled z a k all b m
+    filled f = record { free = f .room .free; stream = omega (arith, f .stream, zero-mul (2 ^ m .at)); moved = omega (arith, f .moved) }
 
 -- ---- a cleared image
 
@@ -105,5 +120,7 @@ cleared-free z image w =
     record { whole = record { long = whole; small = w .small }; bytes = (λ i. omega (arith, zeros-at n i)); below = omega (arith, none) }
 
 -- What is filled in from the first bit on is the whole stream.
-pub filled-all : {z : Sizes} {a b : List ℕ} {n : ℕ} {ps : List Piece} → Filled z a 0 ps b n → Free z a 0 → streamNumber z b ≡ pack ps
-filled-all l f = l .stream ∙ omega (arith, f .below)
+pub filled-all : {z : Sizes} {a b : List ℕ} {k n : Cursor} {ps : List Piece} → Filled z a k ps b n → k .at ≡ 0 → Free z a 0 → streamNumber z b ≡ pack ps
+filled-all {z} {a} {ps = ps} l e f =
+    let none : streamNumber z a ≡ 0 = omega (arith, f .below) in
+    l .stream ∙ ap₂ (λ (i x : ℕ). pack ps * 2 ^ i + x) e none ∙ omega arith

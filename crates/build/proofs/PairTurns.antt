@@ -12,6 +12,7 @@ use Rattle.refusal.specs.declared.Refusal.{Refusal}
 use Rattle.refusal.specs.Outcome.{Outcome, good, refused, _>>=_, _>>_}
 use Rattle.refusal.proofs.Outcomes.{bind-good, bind-refused}
 use Rattle.memory.specs.declared.Sizes.{Sizes}
+use Rattle.memory.specs.declared.cursor.Cursor.{Cursor}
 use Rattle.memory.specs.Pieces.{Piece, piece}
 use Rattle.fields.specs.declared.Value.the-variants.{Whole}
 use Rattle.fields.specs.declared.Row.{Row}
@@ -121,23 +122,23 @@ table-tested (p ∷ pairs) = tested-made (pairPieces none 0 (p ∷ pairs)) _
 -- ---- filled in
 
 -- The pairs from index i on are left.
-pub record PairsFilling (z : Sizes) (points : List ℤ) (before : List ℕ) (at : ℕ) (image : List ℕ) (next i : ℕ) : Type 0 where
+pub record PairsFilling (z : Sizes) (points : List ℤ) (before : List ℕ) (cursor : Cursor) (image : List ℕ) (next : Cursor) (i : ℕ) : Type 0 where
   pub behind : Option Codes
   pub left : List Piece
   pub plans : pairPieces behind i (pairsFrom points i) ≡ good left
-  pub filling : Filling z before at (piecesOf (pairPieces none 0 (pairsLent points))) image next left
+  pub filling : Filling z before cursor (piecesOf (pairPieces none 0 (pairsLent points))) image next left
 
-module _ (z : Sizes) (points : List ℤ) {a : List ℕ} {at : ℕ} where
-  pub pairs-filling : Accepted (pairPieces none 0 (pairsLent points)) → Room z a at (piecesOf (pairPieces none 0 (pairsLent points))) → PairsFilling z points a at a at 0
+module _ (z : Sizes) (points : List ℤ) {a : List ℕ} {k : Cursor} where
+  pub pairs-filling : Accepted (pairPieces none 0 (pairsLent points)) → Room z a k (piecesOf (pairPieces none 0 (pairsLent points))) → PairsFilling z points a k a k 0
   pairs-filling ok r = record { behind = none; left = piecesOf (pairPieces none 0 (pairsLent points)); plans = ok; filling = filling-none z r }
 
-  module _ {b : List ℕ} {m : ℕ} (i : ℕ) (f : PairsFilling z points a at b m i) where
-    pub pairs-filled : length points / 2 ≤ i → Filled z a at (piecesOf (pairPieces none 0 (pairsLent points))) b m
+  module _ {b : List ℕ} {m : Cursor} (i : ℕ) (f : PairsFilling z points a k b m i) where
+    pub pairs-filled : length points / 2 ≤ i → Filled z a k (piecesOf (pairPieces none 0 (pairsLent points))) b m
     unfolding pairPieces
     pairs-filled h =
         let e : good [] ≡ good (f .left) = sym (ap (pairPieces (f .behind) i) (pairs-end points i h)) ∙ f .plans in
         let e' : f .left ≡ [] = cc in
-        filled z (subst (Filling z a at (piecesOf (pairPieces none 0 (pairsLent points))) b m) e' (f .filling))
+        filled z (subst (Filling z a k (piecesOf (pairPieces none 0 (pairsLent points))) b m) e' (f .filling))
 
     module _ (h : i < length points / 2) where
       planned : PairsPlanned (f .behind) i (pairAt points i) (pairsFrom points (i + 1)) (f .left)
@@ -152,7 +153,7 @@ module _ (z : Sizes) (points : List ℤ) {a : List ℕ} {at : ℕ} where
       pub room-pair : Room z b m pair
       room-pair = room-first z pair (planned .rest) first (f .filling)
 
-      pub pairs-more : {c : List ℕ} {n : ℕ} → Filled z b m pair c n → PairsFilling z points a at c n (i + 1)
+      pub pairs-more : {c : List ℕ} {n : Cursor} → Filled z b m pair c n → PairsFilling z points a k c n (i + 1)
       pairs-more l = record {
         behind = some (planned .codes);
         left = planned .rest;

@@ -9,6 +9,7 @@ use lib.IntN.{ℤ}
 use Rattle.refusal.specs.Outcome.{Outcome, good, refused, _>>_, refuse_if_}
 use Rattle.refusal.specs.Rows.{tooLong}
 use Rattle.memory.specs.declared.Sizes.{Sizes}
+use Rattle.memory.specs.declared.cursor.Cursor.{Cursor}
 use Rattle.memory.specs.Bits.{Bytes}
 use Rattle.memory.specs.Image.{streamBits, streamNumber, imageOf}
 use Rattle.memory.specs.Answers.{Whole}
@@ -29,16 +30,16 @@ pub record Free (z : Sizes) (image : List ℕ) (at : ℕ) : Type 0 where
   pub bytes : Bytes image
   pub below : streamNumber z image < 2 ^ at
 
--- From that bit on there is room for pieces.
-pub record Room (z : Sizes) (image : List ℕ) (at : ℕ) (pieces : List Piece) : Type 0 where
-  pub free : Free z image at
-  pub inside : at + needed pieces ≤ streamBits z
+-- From the cursor on there is nothing yet, and room for pieces.
+pub record Room (z : Sizes) (image : List ℕ) (cursor : Cursor) (pieces : List Piece) : Type 0 where
+  pub free : Free z image (cursor .at)
+  pub inside : cursor .at + needed pieces ≤ streamBits z
 
--- Pieces laid there; `next` is the bit behind them.
-pub record Filled (z : Sizes) (before : List ℕ) (at : ℕ) (pieces : List Piece) (after : List ℕ) (next : ℕ) : Type 0 where
-  pub free : Free z after next
-  pub stream : streamNumber z after ≡ pack pieces * 2 ^ at + streamNumber z before
-  pub moved : next ≡ at + needed pieces
+-- Pieces laid there; `next` is the cursor behind them.
+pub record Filled (z : Sizes) (before : List ℕ) (cursor : Cursor) (pieces : List Piece) (after : List ℕ) (next : Cursor) : Type 0 where
+  pub free : Free z after (next .at)
+  pub stream : streamNumber z after ≡ pack pieces * 2 ^ cursor .at + streamNumber z before
+  pub moved : next .at ≡ cursor .at + needed pieces
 
 -- ---- which pieces
 

@@ -55,9 +55,9 @@ fn code_of(row: Row, place: u64, value: Value) -> Encoded
     ensures { λ r. ⌜ Encodes row place value r ⌝ }
 {
     match value {
-        Value::Whole(figure) => fields::encode(row, place, Value::Whole(figure)),
-        Value::Single(x) => fields::encode(row, place, Value::Single(x)),
-        Value::Missing => fields::encode(row, place, Value::Missing),
+        Value::Whole(figure) => fields::encode_whole(row, place, figure),
+        Value::Single(x) => fields::encode_single(row, place, x),
+        Value::Missing => fields::encode_missing(row, place),
     }
 }
 

@@ -1,9 +1,10 @@
 // What a build writes, once nothing turns it down: pieces one behind the other into a cleared image, then every check byte.
-// A function that lays pieces takes the bit to lay them at, and gives the bit behind them.
+// A function that lays pieces takes the cursor to lay them at, and hands back the cursor behind them.
 use crate::plan::CodedField;
 use crate::plan::PairAnswer;
 use crate::plan::code_pair;
 use fields::Template;
+use memory::Cursor;
 use memory::Sizes;
 ghost use mathlib.Core.Path.{_≡_};
 ghost use mathlib.Core.List.{[], _∷_, map};
@@ -16,149 +17,134 @@ ghost use Rattle.memory.specs.Answers.{Whole};
 ghost use Rattle.memory.specs.Pieces.{piece, pack, needed};
 ghost use Rattle.layout.specs.Pieces.{blockPieces};
 ghost use Rattle.build.specs.Build.{pairsLent, pairCodes, pairPieces, tablePieces};
-ghost use Rattle.build.specs.Tested.{piecesOf, Accepted, Fitting, fieldPiece, FieldsFit, pairAt, Tested};
+ghost use Rattle.build.specs.Tested.{piecesOf, Accepted, fieldPiece, FieldsFit, pairAt, Tested};
 ghost use Rattle.build.specs.Filled.{Room, Filled, codedPair, codedEnding, codedSheet};
-
-// One code, of 1 to 32 bits.
-fn lay(sizes: Sizes, image: &mut [u8], at: usize, width: u64, code: u64) -> usize
-    requires { ⌜ Room sizes (now image) at (piece width code ∷ []) ⌝ }
-    requires { ⌜ Fitting width code ⌝ }
-    ensures { λ r. ⌜ Filled sizes (now (image .entry)) at (piece width code ∷ []) (now (image .exit)) r ⌝ }
-{
-    let bits = width as usize;
-    memory::put(sizes, image, at, bits, code);
-    at + bits
-}
 
 // The fields from index `first` up to `end`.
 fn lay_fields(
     sizes: Sizes,
     image: &mut [u8],
-    at: usize,
+    start: Cursor,
     fields: [CodedField; 21],
     first: usize,
     end: usize,
-) -> usize
-    requires { ⌜ Room sizes (now image) at (slice first end (map fieldPiece fields)) ⌝ }
+) -> Cursor
+    requires { ⌜ Room sizes (now image) start (slice first end (map fieldPiece fields)) ⌝ }
     requires { ⌜ (first ≤ end) × (end ≤ 21) × FieldsFit fields ⌝ }
-    ensures { λ r. ⌜ Filled sizes (now (image .entry)) at (slice first end (map fieldPiece fields)) (now (image .exit)) r ⌝ }
+    ensures { λ r. ⌜ Filled sizes (now (image .entry)) start (slice first end (map fieldPiece fields)) (now (image .exit)) r ⌝ }
 {
-    let mut next = at;
+    let mut cursor = start;
     let mut i = first;
     while i < end {
         let field = fields[i];
-        next = lay(sizes, image, next, field.width, field.code);
+        cursor = cursor.put(sizes, image, field.width as usize, field.code);
         i += 1;
     }
-    next
+    cursor
 }
 
 // A block's selector 0 and its template number.
-fn lay_block(sizes: Sizes, image: &mut [u8], at: usize, number: u64) -> usize
-    requires { ⌜ Room sizes (now image) at (blockPieces number) ⌝ }
+fn lay_block(sizes: Sizes, image: &mut [u8], cursor: Cursor, number: u64) -> Cursor
+    requires { ⌜ Room sizes (now image) cursor (blockPieces number) ⌝ }
     requires { ⌜ number < 2 ^ 8 ⌝ }
-    ensures { λ r. ⌜ Filled sizes (now (image .entry)) at (blockPieces number) (now (image .exit)) r ⌝ }
+    ensures { λ r. ⌜ Filled sizes (now (image .entry)) cursor (blockPieces number) (now (image .exit)) r ⌝ }
 {
-    let next = lay(sizes, image, at, 2, 0);
-    lay(sizes, image, next, 8, number)
+    cursor.put(sizes, image, 2, 0).put(sizes, image, 8, number)
 }
 
 // Pair i, which has its codes.
-fn lay_pair(sizes: Sizes, image: &mut [u8], at: usize, points: &[i64], i: usize) -> usize
-    requires { ⌜ Room sizes (now image) at (codedPair (pairCodes none i (pairAt (now points) i))) ⌝ }
+fn lay_pair(sizes: Sizes, image: &mut [u8], cursor: Cursor, points: &[i64], i: usize) -> Cursor
+    requires { ⌜ Room sizes (now image) cursor (codedPair (pairCodes none i (pairAt (now points) i))) ⌝ }
     requires { ⌜ 2 * i + 1 < length (now points) ⌝ }
-    ensures { λ r. ⌜ Filled sizes (now (image .entry)) at (codedPair (pairCodes none i (pairAt (now (points .entry)) i))) (now (image .exit)) r ⌝ }
+    ensures { λ r. ⌜ Filled sizes (now (image .entry)) cursor (codedPair (pairCodes none i (pairAt (now (points .entry)) i))) (now (image .exit)) r ⌝ }
 {
     match code_pair(points, i) {
-        PairAnswer::Refused(_) => at,
+        PairAnswer::Refused(_) => cursor,
         PairAnswer::Are(codes) => {
-            let next = lay(sizes, image, at, fields::cal_point().width, codes.point);
-            lay(
-                sizes,
-                image,
-                next,
-                fields::cal_deviation().width,
-                codes.deviation,
-            )
+            let point_bits = fields::cal_point().width as usize;
+            let deviation_bits = fields::cal_deviation().width as usize;
+            let next = cursor.put(sizes, image, point_bits, codes.point);
+            next.put(sizes, image, deviation_bits, codes.deviation)
         }
     }
 }
 
 // Every pair.
-fn lay_pairs(sizes: Sizes, image: &mut [u8], at: usize, points: &[i64]) -> usize
-    requires { ⌜ Room sizes (now image) at (piecesOf (pairPieces none 0 (pairsLent (now points)))) ⌝ }
+fn lay_pairs(sizes: Sizes, image: &mut [u8], start: Cursor, points: &[i64]) -> Cursor
+    requires { ⌜ Room sizes (now image) start (piecesOf (pairPieces none 0 (pairsLent (now points)))) ⌝ }
     requires { ⌜ Accepted (pairPieces none 0 (pairsLent (now points))) ⌝ }
-    ensures { λ r. ⌜ Filled sizes (now (image .entry)) at (piecesOf (pairPieces none 0 (pairsLent (now (points .entry))))) (now (image .exit)) r ⌝ }
+    ensures { λ r. ⌜ Filled sizes (now (image .entry)) start (piecesOf (pairPieces none 0 (pairsLent (now (points .entry))))) (now (image .exit)) r ⌝ }
 {
     let n = points.len() / 2;
-    let mut next = at;
+    let mut cursor = start;
     let mut i: usize = 0;
     while i < n {
-        next = lay_pair(sizes, image, next, points, i);
+        cursor = lay_pair(sizes, image, cursor, points, i);
         i += 1;
     }
-    next
+    cursor
 }
 
 // Block 40: domain 0, the count and the pairs; nothing without points.
-fn lay_table(sizes: Sizes, image: &mut [u8], at: usize, points: &[i64]) -> usize
-    requires { ⌜ Room sizes (now image) at (piecesOf (tablePieces (pairsLent (now points)))) ⌝ }
+fn lay_table(sizes: Sizes, image: &mut [u8], cursor: Cursor, points: &[i64]) -> Cursor
+    requires { ⌜ Room sizes (now image) cursor (piecesOf (tablePieces (pairsLent (now points)))) ⌝ }
     requires { ⌜ Accepted (tablePieces (pairsLent (now points))) × (length (now points) ≤ 254) ⌝ }
-    ensures { λ r. ⌜ Filled sizes (now (image .entry)) at (piecesOf (tablePieces (pairsLent (now (points .entry))))) (now (image .exit)) r ⌝ }
+    ensures { λ r. ⌜ Filled sizes (now (image .entry)) cursor (piecesOf (tablePieces (pairsLent (now (points .entry))))) (now (image .exit)) r ⌝ }
 {
     let n = points.len() / 2;
     if n == 0 {
-        return at;
+        return cursor;
     }
-    let domain = lay_block(sizes, image, at, 40);
-    let count = lay(sizes, image, domain, 1, 0);
-    let pairs = lay(sizes, image, count, 7, n as u64);
+    let domain = lay_block(sizes, image, cursor, 40);
+    let count = domain.put(sizes, image, 1, 0);
+    let pairs = count.put(sizes, image, 7, n as u64);
     lay_pairs(sizes, image, pairs, points)
 }
 
 // The text in 7-bit characters. The zero that ends it needs no writing.
-fn lay_text(sizes: Sizes, image: &mut [u8], at: usize, text: &[u8]) -> usize
-    requires { ⌜ Room sizes (now image) at (map (piece 7) (now text)) ⌝ }
+fn lay_text(sizes: Sizes, image: &mut [u8], start: Cursor, text: &[u8]) -> Cursor
+    requires { ⌜ Room sizes (now image) start (map (piece 7) (now text)) ⌝ }
     requires { ⌜ ((i : ℕ) → getD (now text) i 0 < 128) ⌝ }
-    ensures { λ r. ⌜ Filled sizes (now (image .entry)) at (map (piece 7) (now (text .entry))) (now (image .exit)) r ⌝ }
+    ensures { λ r. ⌜ Filled sizes (now (image .entry)) start (map (piece 7) (now (text .entry))) (now (image .exit)) r ⌝ }
 {
-    let mut next = at;
+    let mut cursor = start;
     let mut i: usize = 0;
     while i < text.len() {
-        next = lay(sizes, image, next, 7, text[i] as u64);
+        cursor = cursor.put(sizes, image, 7, text[i] as u64);
         i += 1;
     }
-    next
+    cursor
 }
 
 // Selector 3, the end bit and the text.
-fn lay_ending(sizes: Sizes, image: &mut [u8], at: usize, end_bit: bool, text: &[u8]) -> usize
-    requires { ⌜ Room sizes (now image) at (codedEnding «end_bit» (now text)) ⌝ }
+fn lay_ending(sizes: Sizes, image: &mut [u8], cursor: Cursor, end_bit: bool, text: &[u8]) -> Cursor
+    requires { ⌜ Room sizes (now image) cursor (codedEnding «end_bit» (now text)) ⌝ }
     requires { ⌜ ((i : ℕ) → getD (now text) i 0 < 128) ⌝ }
-    ensures { λ r. ⌜ Filled sizes (now (image .entry)) at (codedEnding «end_bit» (now (text .entry))) (now (image .exit)) r ⌝ }
+    ensures { λ r. ⌜ Filled sizes (now (image .entry)) cursor (codedEnding «end_bit» (now (text .entry))) (now (image .exit)) r ⌝ }
 {
-    let ending = lay(sizes, image, at, 2, 3);
-    let characters = lay(sizes, image, ending, 1, end_bit as u64);
+    let end = cursor.put(sizes, image, 2, 3);
+    let characters = end.put(sizes, image, 1, end_bit as u64);
     lay_text(sizes, image, characters, text)
 }
 
-// All of a sheet, from the first bit on.
+// All of a sheet.
 fn lay_sheet(
     sizes: Sizes,
     image: &mut [u8],
+    cursor: Cursor,
     template: Template,
     fields: [CodedField; 21],
     end_bit: bool,
     text: &[u8],
     points: &[i64],
-) -> usize
-    requires { ⌜ Room sizes (now image) 0 (codedSheet template fields «end_bit» (now text) (now points)) ⌝ }
+) -> Cursor
+    requires { ⌜ Room sizes (now image) cursor (codedSheet template fields «end_bit» (now text) (now points)) ⌝ }
     requires { ⌜ Tested fields (now text) (now points) ⌝ }
-    ensures { λ r. ⌜ Filled sizes (now (image .entry)) 0 (codedSheet template fields «end_bit» (now (text .entry)) (now (points .entry))) (now (image .exit)) r ⌝ }
+    ensures { λ r. ⌜ Filled sizes (now (image .entry)) cursor (codedSheet template fields «end_bit» (now (text .entry)) (now (points .entry))) (now (image .exit)) r ⌝ }
 {
     let basic = fields::basic_fields() as usize;
     let last = fields::last_field(template) as usize;
-    let block = lay_fields(sizes, image, 0, fields, 0, basic);
+    let block = lay_fields(sizes, image, cursor, fields, 0, basic);
     let own = lay_block(sizes, image, block, fields::template_number(template));
     let table = lay_fields(sizes, image, own, fields, basic, last);
     let ending = lay_table(sizes, image, table, points);
@@ -180,6 +166,15 @@ pub fn write(
     ensures { λ _. ⌜ now (image .exit) ≡ imageOf sizes (pack (codedSheet template fields «end_bit» (now (text .entry)) (now (points .entry)))) ⌝ }
 {
     memory::clear(image);
-    lay_sheet(sizes, image, template, fields, end_bit, text, points);
+    lay_sheet(
+        sizes,
+        image,
+        Cursor::start(),
+        template,
+        fields,
+        end_bit,
+        text,
+        points,
+    );
     memory::seal_pages(sizes, image);
 }

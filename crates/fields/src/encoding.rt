@@ -90,10 +90,10 @@ fn geometric(scale: Scale, width: u64, place: u64, figure: i64) -> Encoded
     Encoded::Code(stored_code(scale, plus(figure)))
 }
 
-// The code of a whole figure, or 9 where the rule takes no whole number.
-fn whole(row: Row, place: u64, figure: i64) -> Encoded
+// `encode` of a whole figure: 9 where the rule takes no whole number.
+pub fn encode_whole(row: Row, place: u64, figure: i64) -> Encoded
     requires { ⌜ Sound row ⌝ }
-    ensures { λ r. ⌜ encodedSaid r ≡ wholeCode (row .rule) (row .width) place figure ⌝ }
+    ensures { λ r. ⌜ encodedSaid r ≡ encodeOf row place (Value.Whole figure) ⌝ }
 {
     let width = row.width;
     let rule = row.rule;
@@ -132,21 +132,33 @@ fn single(rule: Rule, place: u64, x: f32) -> Encoded
     }
 }
 
+// `encode` of a Single, and of missing: 9 where the row has none.
+pub fn encode_single(row: Row, place: u64, x: f32) -> Encoded
+    ensures { λ r. ⌜ encodedSaid r ≡ encodeOf row place (Value.Single x) ⌝ }
+{
+    let rule = row.rule;
+    single(rule, place, x)
+}
+
+pub fn encode_missing(row: Row, place: u64) -> Encoded
+    requires { ⌜ row .width ≤ 32 ⌝ }
+    ensures { λ r. ⌜ encodedSaid r ≡ encodeOf row place Value.Missing ⌝ }
+{
+    if row.missing {
+        return Encoded::Code(all_ones(row.width));
+    }
+    wrong_sort(place)
+}
+
 // The code of a value, whatever i64 or f32 it holds: refusal 9 where the row takes no value of its sort, 10 where it has
 // no code for it, each with the place that the call gives.
 pub fn encode(row: Row, place: u64, value: Value) -> Encoded
     requires { ⌜ Sound row ⌝ }
     ensures { λ r. ⌜ encodedSaid r ≡ encodeOf row place value ⌝ }
 {
-    let rule = row.rule;
     match value {
-        Value::Whole(figure) => whole(row, place, figure),
-        Value::Single(x) => single(rule, place, x),
-        Value::Missing => {
-            if row.missing {
-                return Encoded::Code(all_ones(row.width));
-            }
-            wrong_sort(place)
-        }
+        Value::Whole(figure) => encode_whole(row, place, figure),
+        Value::Single(x) => encode_single(row, place, x),
+        Value::Missing => encode_missing(row, place),
     }
 }

@@ -12,9 +12,10 @@ use crate::rows::electrical;
 use crate::rows::optional;
 use crate::rows::scaled;
 ghost use mathlib.Core.Path.{_≡_};
-ghost use Prim.Native.Nat.{_≤_, _<_};
+ghost use Prim.Native.Nat.{ℕ, min, _+_, _-_, _*_, _≤_, _<_};
 ghost use lib.ListN.{length};
-ghost use Rattle.fields.specs.Lines.{basic, linesOf, lineOf, lastField, numberOf, templateOf, rowOf, bitsBefore};
+ghost use Rattle.fields.specs.Rows.{electrical as electricalRow};
+ghost use Rattle.fields.specs.Lines.{basic, linesOf, lineOf, lastField, ending, numberOf, templateOf, rowOf, bitsBefore};
 ghost use Rattle.fields.specs.Answers.{templateSaid};
 
 // The fields of Basic.
@@ -57,16 +58,6 @@ pub fn is_choice(template: Template, field: u64) -> bool
 {
     match template {
         Template::Bridge => field == 9,
-    }
-}
-
-// The bits of all fields.
-pub fn fields_bits(layout: Layout) -> u64
-    ensures { λ r. ⌜ r ≡ bitsBefore (linesOf (layout .template)) (layout .precision) (lastField (layout .template)) ⌝ }
-{
-    let template = layout.template;
-    match template {
-        Template::Bridge => 243 + 2 * electrical(layout.precision).width,
     }
 }
 
@@ -120,5 +111,64 @@ pub fn row_of(layout: Layout, field: u64) -> Row
     let template = layout.template;
     match template {
         Template::Bridge => bridge_row(layout.precision, field),
+    }
+}
+
+// The bits before a field of template 33, or before the ending, of all rows but those of the electrical values: added up here, so
+// that a field is found without going over those before it.
+fn bridge_bits(field: u64) -> u64
+    requires { ⌜ (1 ≤ field) × (field ≤ 22) ⌝ }
+    ensures { λ r. ⌜ ((precision : ℕ) → bitsBefore (linesOf Template.Bridge) precision (field - 1) ≡ r + min (field - 10) 2 * electricalRow precision .width) × (r ≤ 243) ⌝ }
+{
+    match field {
+        1 => 0,
+        2 => 14,
+        3 => 29,
+        4 => 34,
+        5 => 40,
+        6 => 64,
+        7 => 70,
+        8 => 102,
+        9 => 134,
+        10 => 136,
+        11 => 136,
+        12 => 136,
+        13 => 138,
+        14 => 156,
+        15 => 162,
+        16 => 171,
+        17 => 180,
+        18 => 189,
+        19 => 205,
+        20 => 220,
+        21 => 232,
+        _ => 243,
+    }
+}
+
+// The same of all rows.
+fn bridge_place(precision: u64, field: u64) -> u64
+    requires { ⌜ (1 ≤ field) × (field ≤ 22) ⌝ }
+    ensures { λ r. ⌜ r ≡ bitsBefore (linesOf Template.Bridge) precision (field - 1) ⌝ }
+{
+    let others = bridge_bits(field);
+    if field < 11 {
+        return others;
+    }
+    let width = electrical(precision).width;
+    if field < 12 {
+        return others + width;
+    }
+    others + 2 * width
+}
+
+// The bits of the fields before a field, counted from 1, or before the ending.
+pub fn bits_before(layout: Layout, field: u64) -> u64
+    requires { ⌜ (1 ≤ field) × (field ≤ ending (layout .template)) ⌝ }
+    ensures { λ r. ⌜ r ≡ bitsBefore (linesOf (layout .template)) (layout .precision) (field - 1) ⌝ }
+{
+    let template = layout.template;
+    match template {
+        Template::Bridge => bridge_place(layout.precision, field),
     }
 }

@@ -10,7 +10,7 @@ use borrow.Author.Tests.{eqb-true, eqb-false, ne-eqb, lt-ltb}
 use Rattle.memory.specs.Pieces.{Piece, piece, pack, needed}
 use Rattle.memory.proofs.PieceLaws.{needed-append, pack-append}
 use Rattle.layout.specs.Format.{Format, ends, _>>=_}
-use Rattle.layout.specs.Contents.{Ending, textOf, endingOf}
+use Rattle.layout.specs.Contents.{Ending, charactersOf, endingOf}
 use Rattle.layout.specs.Pieces.{endCode}
 use Rattle.layout.proofs.Formats.{Parses, ends-pieces, parses-made, made-pieces}
 
@@ -46,14 +46,14 @@ textPieces n text = map (piece 7) text ++ zeroIf (ltb (length text) n)
 shorter : (c n : ℕ) (text : List ℕ) → textPieces (suc n) (c ∷ text) ≡ piece 7 c ∷ textPieces n text
 shorter c n text = ap (λ t. piece 7 c ∷ (map (piece 7) text ++ zeroIf t)) (leb·suc-suc (suc (length text)) n)
 
-text-parses : (S n at : ℕ) (text : List ℕ) → Characters text → length text ≤ n → Parses S (textOf n) at (textPieces n text) text
-unfolding textOf
+text-parses : (S n at : ℕ) (text : List ℕ) → Characters text → length text ≤ n → Parses S (charactersOf n) at (textPieces n text) text
+unfolding charactersOf
 text-parses S zero at [] h m = refl
 text-parses S zero at (c ∷ text) h m = absurd (omega arith)
 text-parses S (suc n) at [] h m = rw (lt-ltb 0 (suc n) (omega arith)) (refl, omega arith, refl)
 text-parses S (suc n) at (c ∷ text) h m =
-    let l = parses-made S (textOf n) (λ rest. c ∷ rest) (at + 7) (textPieces n text) text (text-parses S n (at + 7) text (h .2) (omega arith)) in
-    subst (λ q. Parses S (textOf (suc n)) at q (c ∷ text)) (sym (shorter c n text))
+    let l = parses-made S (charactersOf n) (λ rest. c ∷ rest) (at + 7) (textPieces n text) text (text-parses S n (at + 7) text (h .2) (omega arith)) in
+    subst (λ q. Parses S (charactersOf (suc n)) at q (c ∷ text)) (sym (shorter c n text))
     (refl, omega arith, rw (ne-eqb c 0 (λ e. omega arith)) l)
 
 record TextPieces (n : ℕ) (ps : List Piece) (text : List ℕ) : Type 0 where
@@ -61,8 +61,8 @@ record TextPieces (n : ℕ) (ps : List Piece) (text : List ℕ) : Type 0 where
   room : length text ≤ n
   split : ps ≡ textPieces n text
 
-text-pieces : (S n at : ℕ) (ps : List Piece) (text : List ℕ) → Parses S (textOf n) at ps text → TextPieces n ps text
-unfolding textOf
+text-pieces : (S n at : ℕ) (ps : List Piece) (text : List ℕ) → Parses S (charactersOf n) at ps text → TextPieces n ps text
+unfolding charactersOf
 text-pieces S zero at ps text l =
     let (e, f) = ends-pieces S [] at ps text l in
     subst₂ (λ q t. TextPieces 0 q t) (sym e) f (record { characters = tt; room = omega arith; split = refl })
@@ -72,15 +72,15 @@ text-pieces S (suc n) at (p ∷ ps) text l = go (text-pieces S n (at + 7) ps) (e
     character : (c : ℕ) → p .code ≡ c → p ≡ piece 7 c
     character c e = λ i. record { width = l .0 i; code = e i }
 
-    go : ((rest : List ℕ) → Parses S (textOf n) (at + 7) ps rest → TextPieces n ps rest) → (t : Bool) → eqb (p .code) 0 ≡ t →
-        Parses S (cond t (ends []) (textOf n >>= λ rest. ends (p .code ∷ rest))) (at + 7) ps text → TextPieces (suc n) (p ∷ ps) text
+    go : ((rest : List ℕ) → Parses S (charactersOf n) (at + 7) ps rest → TextPieces n ps rest) → (t : Bool) → eqb (p .code) 0 ≡ t →
+        Parses S (cond t (ends []) (charactersOf n >>= λ rest. ends (p .code ∷ rest))) (at + 7) ps text → TextPieces (suc n) (p ∷ ps) text
     go others true e m =
         let (f, g) = ends-pieces S [] (at + 7) ps text m in
         let z : zeroIf (ltb 0 (suc n)) ≡ piece 7 0 ∷ [] = ap zeroIf (lt-ltb 0 (suc n) (omega arith)) in
         subst (TextPieces (suc n) (p ∷ ps)) g
         (record { characters = tt; room = omega arith; split = ap₂ (λ q r. q ∷ r) (character 0 (eqb-true (p .code) 0 e)) f ∙ sym z })
     go others false e m =
-        let (rest, f, k) = made-pieces S (textOf n) (λ rest. p .code ∷ rest) (at + 7) ps text m in
+        let (rest, f, k) = made-pieces S (charactersOf n) (λ rest. p .code ∷ rest) (at + 7) ps text m in
         let w = others rest k in
         subst (TextPieces (suc n) (p ∷ ps)) f (record {
           characters = (omega (arith, eqb-false (p .code) 0 e), omega (arith, l .1), w .characters);
@@ -116,10 +116,10 @@ module _ (S at : ℕ) where
   unfolding endingOf
   ending-parses endBit text h = go endBit (text-parses S (charactersFrom S endBit (at + 1)) (at + 1) text (h .characters) (h .room))
     where
-      go : (b : Bool) → Parses S (textOf (charactersFrom S b (at + 1))) (at + 1) (textPieces (charactersFrom S b (at + 1)) text) text →
+      go : (b : Bool) → Parses S (charactersOf (charactersFrom S b (at + 1))) (at + 1) (textPieces (charactersFrom S b (at + 1)) text) text →
           Parses S endingOf at (endPieces S at b text) (ended b text)
-      go true l = (refl, omega arith, parses-made S (textOf ((S - (at + 1)) / 7)) (ended true) (at + 1) _ text l)
-      go false l = (refl, omega arith, parses-made S (textOf 0) (ended false) (at + 1) _ text l)
+      go true l = (refl, omega arith, parses-made S (charactersOf ((S - (at + 1)) / 7)) (ended true) (at + 1) _ text l)
+      go false l = (refl, omega arith, parses-made S (charactersOf 0) (ended false) (at + 1) _ text l)
 
   pub ending-pieces : (ps : List Piece) (e : Ending) → Parses S endingOf at ps e → (ps ≡ endPieces S at (e .endBit) (e .text)) × EndingAt S at (e .endBit) (e .text)
   unfolding endingOf
@@ -127,7 +127,7 @@ module _ (S at : ℕ) where
   ending-pieces (p ∷ ps) e l =
       let b : Bool = eqb (p .code) 1 in
       let f : p .code ≡ endCode b = bit-is (p .code) (l .1) in
-      let (text, g, m) = made-pieces S (textOf (charactersFrom S b (at + 1))) (ended b) (at + 1) ps e (l .2) in
+      let (text, g, m) = made-pieces S (charactersOf (charactersFrom S b (at + 1))) (ended b) (at + 1) ps e (l .2) in
       let w = text-pieces S (charactersFrom S b (at + 1)) (at + 1) ps text m in
       subst (λ (x : Ending). (p ∷ ps ≡ endPieces S at (x .endBit) (x .text)) × EndingAt S at (x .endBit) (x .text)) g (
         (λ i. record { width = l .0 i; code = f i } ∷ w .split i),

@@ -33,7 +33,7 @@ use Rattle.layout.specs.Contents.{
   tableOf,
   blockAt,
   calibrationOf,
-  textOf,
+  charactersOf,
   endingOf,
   sheetOf,
 }
@@ -142,14 +142,14 @@ calibration-lows = λ at left. λ selector.
     (lows-bind (blockAt at) _ (block40-lows at) (λ k. lows-bind (selectorOf 3) _ (selector-lows 3) (λ u. tt)))
     (lows-bind (refuse wrongBlock at if not (eqb selector 3)) _ (lows-test (wrongBlock at) (not (eqb selector 3)) (omega arith)) (λ u. tt))
 
-text-lows : (n : ℕ) → Lows (textOf n)
-unfolding textOf
+text-lows : (n : ℕ) → Lows (charactersOf n)
+unfolding charactersOf
 text-lows zero = tt
-text-lows (suc n) = λ c. lows-cond (eqb c 0) _ _ tt (lows-bind (textOf n) _ (text-lows n) (λ text. tt))
+text-lows (suc n) = λ c. lows-cond (eqb c 0) _ _ tt (lows-bind (charactersOf n) _ (text-lows n) (λ text. tt))
 
 ending-lows : Lows endingOf
 unfolding endingOf
-ending-lows = λ bit. λ at left. lows-bind (textOf (cond (eqb bit 1) (left / 7) 0)) _ (text-lows _) (λ text. tt)
+ending-lows = λ bit. λ at left. lows-bind (charactersOf (cond (eqb bit 1) (left / 7) 0)) _ (text-lows _) (λ text. tt)
 
 pub sheet-lows : Lows sheetOf
 unfolding sheetOf

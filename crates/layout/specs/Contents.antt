@@ -134,11 +134,11 @@ calibrationOf = do
 -- ---- the ending
 
 -- At most n characters of 7 bits, up to a zero character.
-unfoldable pub textOf : ℕ → Format (List ℕ)
-textOf zero = ends []
-textOf (suc n) = do
+unfoldable pub charactersOf : ℕ → Format (List ℕ)
+charactersOf zero = ends []
+charactersOf (suc n) = do
   c ← bits 7
-  cond (eqb c 0) (ends []) (textOf n >>= λ text. ends (c ∷ text))
+  cond (eqb c 0) (ends []) (charactersOf n >>= λ text. ends (c ∷ text))
 
 -- The end bit, and the text behind it.
 pub record Ending : Type 0 where
@@ -150,7 +150,7 @@ unfoldable pub endingOf : Format Ending
 endingOf = do
   endBit ← bits 1
   left ← remaining
-  text ← textOf (cond (eqb endBit 1) (left / 7) 0)
+  text ← charactersOf (cond (eqb endBit 1) (left / 7) 0)
   ends (record { endBit = eqb endBit 1; text = text })
 
 -- ---- the sheet

@@ -9,7 +9,7 @@ use lib.IntN.{ℤ, pos, _*ℤ_}
 use lib.Signed.{leZ, _<ℤ_}
 use Rattle.integers.specs.Nearest.{Fraction, _over_}
 use Rattle.fields.specs.declared.Pair.{Pair}
-use Rattle.line.specs.Line.{Correction, held, between, correctionAfter, correction}
+use Rattle.line.specs.Line.{Correction, atEnd, between, correctionAfter, correction}
 use Rattle.line.specs.Certificate.{Neighbours, Rises}
 use Rattle.line.proofs.Distances.{scaled, Apart}
 use Rattle.line.proofs.Order.{AtMost, by-test, is-up-to}
@@ -27,7 +27,7 @@ pub record Is (s : ℤ) (x : Fraction) (c : Correction) : Type 0 where
 is-none : (x : Fraction) → Is (pos 0) x (record { num = pos 0; run = 1 })
 is-none x = omega arith
 
-is-held : (p : Pair) (x : Fraction) → Is (p .deviation) x (held (x .den) p)
+is-held : (p : Pair) (x : Fraction) → Is (p .deviation) x (atEnd (x .den) p)
 is-held p x = omega (arith, scaled (p .deviation) (x .den))
 
 -- At a point it is that point's deviation.
@@ -84,6 +84,6 @@ module _ (S : Pair → Pair → Type 0) (Q : Fraction → Correction → Fractio
   unfolding correction
   everywhere [] rises so x y hx hy order = holds .level x y _ _ (pos 0) hx hy order (is-none x) (is-none y)
   everywhere (p ∷ pairs) rises so x y hx hy order =
-      bent (λ z. Unit {0}) p (λ X F. held F p) (λ X F. correctionAfter X F p pairs)
+      bent (λ z. Unit {0}) p (λ X F. atEnd F p) (λ X F. correctionAfter X F p pairs)
       tt (is-held p (at p)) (is-start p pairs rises) (λ v w hv hw pv pw o. holds .level v w _ _ (p .deviation) hv hw o (is-held p v) (is-held p w)) (after p pairs rises so)
       x y hx hy tt tt order

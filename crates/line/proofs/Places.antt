@@ -12,7 +12,7 @@ use Rattle.integers.specs.Nearest.{_over_, nearest}
 use Rattle.integers.proofs.PartLaws.{ltZ-parts, nleZ-parts, parts-<ℤ, is-true, is-false}
 use Rattle.integers.proofs.NearestLaws.{nearest-exact}
 use Rattle.fields.specs.declared.Pair.{Pair}
-use Rattle.line.specs.Line.{Correction, held, between, correctionAfter, correction, deviation}
+use Rattle.line.specs.Line.{Correction, atEnd, between, correctionAfter, correction, deviation}
 use Rattle.line.specs.Ranges.{Between, Table}
 use Rattle.fields.specs.Calibration.{noPair}
 use Rattle.line.specs.Before.{pointOf, Before}
@@ -53,14 +53,14 @@ module _ (of : Pair → ℤ) (pairs : List Pair) (p : ℤ) where
 abbrev rounded : Correction → ℤ
 rounded c = nearest (c .num over c .run)
 
-held-rounded : (q : Pair) → q .deviation ≡ rounded (held 1 q)
+held-rounded : (q : Pair) → q .deviation ≡ rounded (atEnd 1 q)
 held-rounded q = sym (nearest-exact (q .deviation) 1 (omega arith))
 
 module _ (p : ℤ) where
   -- Pair i is the last before p: the first is before p too, and the correction c is from pair i on.
   record Last (pairs : List Pair) (i : ℕ) (c : Correction) : Type 0 where
     first : getD pairs 0 noPair .point <ℤ p
-    end : length pairs ≡ suc i → c ≡ held 1 (getD pairs i noPair)
+    end : length pairs ≡ suc i → c ≡ atEnd 1 (getD pairs i noPair)
     next : suc i < length pairs → Between p (getD pairs i noPair) (getD pairs (suc i) noPair) × (c ≡ between p 1 (getD pairs i noPair) (getD pairs (suc i) noPair))
 
   last : (q : Pair) (pairs : List Pair) (i : ℕ) → Table (q ∷ pairs) → Before pointOf (q ∷ pairs) p (suc i) → Last (q ∷ pairs) i (correctionAfter p 1 q pairs)

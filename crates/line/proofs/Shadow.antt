@@ -11,7 +11,7 @@ use Rattle.integers.specs.Parts.{up, dn}
 use Rattle.integers.specs.Nearest.{Fraction, _over_}
 use Rattle.integers.proofs.PartLaws.{add-parts, sub-parts-ℤ}
 use Rattle.fields.specs.declared.Pair.{Pair}
-use Rattle.line.specs.Line.{Correction, held, between, correctionAfter, correction}
+use Rattle.line.specs.Line.{Correction, atEnd, between, correctionAfter, correction}
 use Rattle.line.specs.Certificate.{Rises, Close}
 use Rattle.line.proofs.Distances.{Near, near-as, near-times, near-mean, scaled, Apart, apart-whole}
 use Rattle.line.proofs.Order.{Ahead, AtMost, Below, by-test, is-up-to, is-behind}
@@ -42,7 +42,7 @@ module _ (p : ℤ) (a A : Pair) where
   shift-parts : up (shift p a A) + (dn p + dn (a .point) + up (A .point)) ≡ dn (shift p a A) + (up p + up (a .point) + dn (A .point))
   shift-parts = omega (arith, add-parts p (a .point -ℤ A .point), sub-parts-ℤ (a .point) (A .point))
 
-  shifted : {D R : ℕ} → Alike D R a A → Shadow D R p (held 1 A) (shift p a A over 1) (held 1 a)
+  shifted : {D R : ℕ} → Alike D R a A → Shadow D R p (atEnd 1 A) (shift p a A over 1) (atEnd 1 a)
   shifted h = omega (arith, shift-parts, h .point .near, h .deviation .near, scaled (a .deviation) 1, scaled (A .deviation) 1)
 
 -- Between neighbours: it parts the lent ones as p parts the stored ones, with the weights w and u.
@@ -126,7 +126,7 @@ module _ {D R : ℕ} (p : ℤ) where
   cast [] (A ∷ stored) rises stored-rises close = absurd close
   cast (a ∷ lent) [] rises stored-rises close = absurd close
   cast (a ∷ lent) (A ∷ stored) rises stored-rises close =
-      bent (λ x. Unit {0}) a A (held 1 A) _ (λ X F. held F a) (λ X F. correctionAfter X F a lent)
+      bent (λ x. Unit {0}) a A (atEnd 1 A) _ (λ X F. atEnd F a) (λ X F. correctionAfter X F a lent)
       (λ x h. tt)
       (λ (w, i). record { x = shift p a A over 1; there = (tt, (w, omega (arith, i .is, shift-parts p a A))); shadow = shifted p a A (alike a A lent stored close) })
       (after a A lent stored rises stored-rises close)

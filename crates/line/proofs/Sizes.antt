@@ -10,7 +10,7 @@ use Rattle.integers.specs.Nearest.{Fraction, _over_, nearest}
 use Rattle.integers.proofs.PartLaws.{abs-parts}
 use Rattle.integers.proofs.NearestLaws.{Low, High, nearest-low, nearest-high}
 use Rattle.fields.specs.declared.Pair.{Pair}
-use Rattle.line.specs.Line.{Correction, held, between, correctionAfter, correction, deviation}
+use Rattle.line.specs.Line.{Correction, atEnd, between, correctionAfter, correction, deviation}
 use Rattle.line.specs.Certificate.{Rises}
 use Rattle.line.specs.Ranges.{AllFigures, Table}
 use Rattle.line.proofs.Distances.{Near, near-as, near-times, near-mean, scaled}
@@ -37,7 +37,7 @@ size : (s : ℤ) → natAbs s ≤ 2 ^ 32 → Near (up s) (dn s) (2 ^ 32)
 size s h = omega (arith, abs-parts s)
 
 module _ (x : Fraction) where
-  held-small : (p : Pair) → natAbs (p .deviation) ≤ 2 ^ 32 → Small x (held (x .den) p)
+  held-small : (p : Pair) → natAbs (p .deviation) ≤ 2 ^ 32 → Small x (atEnd (x .den) p)
   held-small p h = record { some = omega arith; size = near-as (omega (arith, scaled (p .deviation) (x .den))) (omega arith) (near-times (x .den) (size (p .deviation) h)) }
 
   between-small : (p r : Pair) → p .point <ℤ r .point → natAbs (p .deviation) ≤ 2 ^ 32 → natAbs (r .deviation) ≤ 2 ^ 32 → AtMost (at p) x → AtMost x (at r) → Small x (between (x .num) (x .den) p r)

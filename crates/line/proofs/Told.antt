@@ -11,10 +11,10 @@ use mir.Facts.{toZ-ofZ}
 use Rattle.integers.specs.Parts.{up, dn}
 use Rattle.integers.specs.Nearest.{_over_, nearest}
 use Rattle.integers.proofs.PartLaws.{same, sub-is, sub-parts-ℤ, abs-parts, leZ-parts, ltZ-parts, parts-<ℤ}
-use Rattle.integers.proofs.Bridge.{seen}
+use Rattle.integers.proofs.Bridge.{seen, parts-fit}
 use Rattle.fields.specs.declared.Pair.{Pair}
 use Rattle.line.specs.Line.{between}
-use Rattle.line.specs.Ranges.{Weights, Between}
+use Rattle.line.specs.Ranges.{Figures, Weights, Between}
 use Rattle.line.proofs.Order.{Ahead}
 use Rattle.line.proofs.Weights.{at, weights-run, weights-num}
 
@@ -52,17 +52,22 @@ gap-made a b {u} {d} {x} {y} h eu ed ex ey =
 pub weighed-fits : (s t past left : ℕ) → Weights s t past left → s * left + t * past ≤ 2 ^ 62
 weighed-fits s t past left h = omega (arith, mul-le-mul-right left (h .first), mul-le-mul-right past (h .second))
 
+-- What a stored deviation has above 0, and below, as a call is handed it.
+pub deviation-parts : {q : Pair} → Figures q → (up (toZ w64 (ofZ w64 (q .deviation))) ≤ 2 ^ 32) × (dn (toZ w64 (ofZ w64 (q .deviation))) ≤ 2 ^ 32)
+deviation-parts {q} h =
+    let e = abs-parts (q .deviation) in
+    let same = seen (parts-fit {w = w64} {z = q .deviation} (omega (arith, e, h .deviation)) (omega (arith, e, h .deviation))) in
+    (omega (arith, same .0, e, h .deviation), omega (arith, same .1, e, h .deviation))
+
 -- What the distances from the two points are good for.
 pub record Gaps (p : ℤ) (before behind : Pair) (past left : ℕ) : Type 0 where
   pub run : (0 < past + left) × (past + left ≤ 2 ^ 30)
-  pub weights : (s t : ℕ) → s ≤ up (before .deviation) + dn (before .deviation) → t ≤ up (behind .deviation) + dn (behind .deviation) → Weights s t past left
   pub made : nearest (subℕ (up (before .deviation) * left + up (behind .deviation) * past) (dn (before .deviation) * left + dn (behind .deviation) * past) over past + left) ≡ nearest (between p 1 before behind .num over between p 1 before behind .run)
 
 pub gaps : (p : ℤ) (before behind : Pair) {past left : ℕ} → Between p before behind → pos past ≡ p -ℤ before .point → pos left ≡ behind .point -ℤ p → Gaps p before behind past left
 unfolding between
 gaps p before behind {past} {left} h hp hl = record {
   run = omega (arith, run);
-  weights = λ s t ls lt. omega (arith, run, h .first .deviation, h .second .deviation, abs-parts (before .deviation), abs-parts (behind .deviation));
   made = ap₂ (λ (z : ℤ) (n : ℕ). nearest (z over n)) (sub-is _ _ (between p 1 before behind .num) (weights-num before behind rises l r)) (omega (arith, weights-run before behind rises l r));
 }
   where

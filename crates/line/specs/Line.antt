@@ -13,9 +13,9 @@ pub record Correction : Type 0 where
   pub num : ℤ
   pub run : ℕ
 
--- A deviation that holds.
-abbrev pub held : ℕ → Pair → Correction
-held F p = record { num = p .deviation *ℤ pos F; run = 1 }
+-- Before the first point and behind the last: a deviation that holds.
+abbrev pub atEnd : ℕ → Pair → Correction
+atEnd F p = record { num = p .deviation *ℤ pos F; run = 1 }
 
 -- Between neighbours (a, s) and (b, t): s + (t − s) × (x − a) / (b − a).
 unfoldable pub between : ℤ → ℕ → Pair → Pair → Correction
@@ -28,13 +28,13 @@ between X F p r =
 
 -- From a point on: the last deviation from the last point on.
 unfoldable pub correctionAfter : ℤ → ℕ → Pair → List Pair → Correction
-correctionAfter X F p [] = held F p
+correctionAfter X F p [] = atEnd F p
 correctionAfter X F p (r ∷ pairs) = cond (leZ X (r .point *ℤ pos F)) (between X F p r) (correctionAfter X F r pairs)
 
 -- 0 without points, the first deviation up to the first point.
 unfoldable pub correction : ℤ → ℕ → List Pair → Correction
 correction X F [] = record { num = pos 0; run = 1 }
-correction X F (p ∷ pairs) = cond (leZ X (p .point *ℤ pos F)) (held F p) (correctionAfter X F p pairs)
+correction X F (p ∷ pairs) = cond (leZ X (p .point *ℤ pos F)) (atEnd F p) (correctionAfter X F p pairs)
 
 -- The deviation at a whole p: exact, then to the nearest whole, halves upward.
 unfoldable pub deviation : List Pair → ℤ → ℤ

@@ -1,7 +1,8 @@
 // A place in the stream, carried by value and handed back moved on.
 ghost use mathlib.Core.Path.{_≡_};
-ghost use Prim.Native.Nat.{_≤_};
-ghost use Rattle.memory.specs.Answers.{Whole, takenSaid, takenAt};
+ghost use Prim.Native.Nat.{_+_, _^_, _≤_, _<_};
+ghost use Rattle.memory.specs.Image.{putIn};
+ghost use Rattle.memory.specs.Answers.{Whole, InStream, takenSaid, takenAt};
 use crate::Sizes;
 use crate::bitfields;
 use refusal::Refusal;
@@ -43,5 +44,16 @@ impl Cursor {
             bitfields::take(sizes, image, at, width),
             Cursor { at: at + width },
         )
+    }
+
+    // Writes a code into the field of `width` bits at the cursor, and hands back the cursor behind it.
+    pub fn put(self, sizes: Sizes, image: &mut [u8], width: usize, code: u64) -> Self
+        requires { ⌜ InStream sizes (now image) (self .at) width × (code < 2 ^ width) ⌝ }
+        ensures { λ r. ⌜ (now (image .exit) ≡ putIn sizes (now (image .entry)) (self .at) width code) × (r .at ≡ self .at + width) ⌝ }
+    {
+        bitfields::put(sizes, image, self.at, width, code);
+        Cursor {
+            at: self.at + width,
+        }
     }
 }

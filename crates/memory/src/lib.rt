@@ -8,7 +8,6 @@ mod kinds;
 mod pages;
 mod writing;
 
-pub use bitfields::put;
 pub use cursor::Cursor;
 pub use cursor::Taken;
 pub use kinds::SizesAnswer;

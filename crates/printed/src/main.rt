@@ -1,6 +1,7 @@
-// Examples that documents 000 and 002 print, and the cases of document 01's "Edges" and "Slips" (docs/EXAMPLES.md). The first
-// six lines are document 000's examples of ConRes, 7.4.5.3.3, which are of no field of the sheet: they go through the one
-// rule that every stepped field has. The others are answers to lines of the console.
+// Examples that documents 000 and 002 print, the cases of document 01's "Edges" and "Slips", the edges of its rows, and sheets
+// as a person sees them (docs/EXAMPLES.md). The first six lines are document 000's examples of ConRes, 7.4.5.3.3, which are of
+// no field of the sheet: they go through the one rule that every stepped field has. The others are answers to lines of the
+// console.
 use fields::Decoded;
 use fields::Row;
 use fields::Rule;

@@ -24,7 +24,8 @@ use Rattle.layout.proofs.Accepted.{Accepted, contents-accepted}
 use Rattle.layout.proofs.Puts.{withField}
 use Rattle.change.specs.Change.{codeFor, recodedIn, change}
 use Rattle.change.proofs.Recoding.{Changeable, code-found, change-unread, change-is, change-made, made-length, made-bytes, stored-contents, same-value}
-use Rattle.promises.specs.Changes.{Change, changedBy, changed, stores, heldBy, held, AfterChanges, ChangedToTheSame}
+use Rattle.promises.specs.declared.Change.{Change}
+use Rattle.promises.specs.Changes.{changedBy, changed, stores, heldBy, held, AfterChanges, ChangedToTheSame}
 
 -- ---- another kind
 

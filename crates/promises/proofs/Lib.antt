@@ -1,6 +1,7 @@
 pub mod Blanks
 pub mod AfterChanges
 pub mod Altering
+pub mod ByIndex
 pub mod PlannedFields
 pub mod PlannedPairs
 pub mod PlannedSheet
@@ -9,4 +10,6 @@ pub mod Rebuilt
 pub mod NeededBits
 pub mod StoredPoints
 pub mod Distance
+pub mod Lending
+pub mod Calling
 pub mod EdgesHold

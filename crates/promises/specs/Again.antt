@@ -5,7 +5,7 @@ use mathlib.Core.List.{List, [], _∷_, _++_, map}
 use Prim.Native.Nat.{ℕ, zero, suc, _+_, _-_, _*_, _^_, _<_}
 use lib.Dec.{leb}
 use lib.IntN.{ℤ, pos}
-use lib.ListN.{length, replicate}
+use lib.ListN.{length, getD, replicate}
 use Rattle.refusal.specs.Outcome.{good}
 use Rattle.memory.specs.declared.Sizes.{Sizes}
 use Rattle.memory.specs.Bits.{Bytes}
@@ -18,12 +18,14 @@ use Rattle.fields.specs.declared.Template.{Template}
 use Rattle.fields.specs.declared.Template.the-variants.{Bridge}
 use Rattle.fields.specs.declared.Layout.{Layout}
 use Rattle.fields.specs.declared.Pair.{Pair}
-use Rattle.fields.specs.Lines.{linesOf, lastField, rowsOf}
-use Rattle.fields.specs.Calibration.{calPoint, calDeviation}
+use Rattle.fields.specs.Lines.{linesOf, rowsOf}
+use Rattle.fields.specs.Calibration.{calPoint, calDeviation, noPair}
 use Rattle.fields.specs.Stored.{kept}
 use Rattle.layout.specs.Contents.{Contents}
 use Rattle.layout.specs.Image.{contents, layoutOf, figure, points}
 use Rattle.layout.specs.Places.{behindFields, tableBits}
+use Rattle.sheet.specs.declared.Summary.{Summary}
+use Rattle.sheet.specs.Check.{check, readField, readPair, readCharacter}
 use Rattle.build.specs.declared.Slot.{Slot}
 use Rattle.build.specs.declared.Sheet.{Sheet}
 use Rattle.build.specs.Build.{slot, lent, templateIn, pairsLent, plan, build}
@@ -83,6 +85,24 @@ RebuiltSameBytes =
     contents kind image ≡ good c →
     streamNumber z image < 2 ^ c .bits →
     build kind buffer (sheetRead c) (c .text) (turns (points c)) ≡ good image
+
+-- The same of whatever a caller hands in who read the image through the calls: the sheet has each field that is read, text and points have each
+-- character and pair, as many as the check gives.
+pub record ReadOff (kind : ℕ) (image : List ℕ) (s : Summary) (sheet : Sheet) (text : List ℕ) (pointsLent : List ℤ) : Type 0 where
+  pub fields : (f : ℕ) (v : Value) → readField kind image f ≡ good v → lent sheet f ≡ v
+  pub endBit : sheet .«end_bit» ≡ s .«end_bit»
+  pub characters : length text ≡ s .characters
+  pub character : (i x : ℕ) → readCharacter kind image i ≡ good x → getD text i 0 ≡ x
+  pub pairs : length pointsLent ≡ 2 * s .points
+  pub pair : (i : ℕ) (p : Pair) → readPair kind image i ≡ good p → getD (pairsLent pointsLent) i noPair ≡ p
+
+abbrev pub RebuiltFromReads : Type 0
+RebuiltFromReads =
+    (kind : ℕ) (image buffer : List ℕ) (z : Sizes) (s : Summary) (sheet : Sheet) (text : List ℕ) (pointsLent : List ℤ) → Bytes image →
+    length buffer ≡ length image → imageSizes kind (length image) ≡ good z →
+    check kind image ≡ good s → ReadOff kind image s sheet text pointsLent →
+    streamNumber z image < 2 ^ s .bits →
+    build kind buffer sheet text pointsLent ≡ good image
 
 -- ---- row 11's bits
 

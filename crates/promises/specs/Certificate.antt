@@ -17,7 +17,8 @@ use Rattle.line.specs.Certificate.{Slopes, Within}
 use Rattle.line.specs.Line.{certificateLine}
 use Rattle.reading.specs.Reading.{takeReading}
 use Rattle.promises.specs.Lent.{Lendable}
-use Rattle.promises.specs.Changes.{Change, RealChanges, changed}
+use Rattle.promises.specs.declared.Change.{Change}
+use Rattle.promises.specs.Changes.{RealChanges, changed}
 
 -- The figure of a field as it is read; an accepted reading has both ends as whole numbers.
 abbrev pub whole : Outcome Value → ℤ

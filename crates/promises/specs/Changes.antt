@@ -17,13 +17,9 @@ use Rattle.fields.specs.Stored.{kept, Real}
 use Rattle.layout.specs.Contents.{Found, Contents}
 use Rattle.layout.specs.Image.{contents, field}
 use Rattle.change.specs.Change.{codeFor, change}
+use Rattle.promises.specs.declared.Change.{Change}
 
--- A one-field change as a caller can hand it in: its own kind, field and value.
-pub record Change : Type 0 where
-  pub kind : ℕ
-  pub field : ℕ
-  pub value : Value
-
+-- What a caller can hand in: changes whose Singles are f32.
 abbrev pub RealChanges : List Change → Type 0
 RealChanges [] = Unit {0}
 RealChanges (ch ∷ changes) = Real (ch .value) × RealChanges changes

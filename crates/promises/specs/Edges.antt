@@ -22,7 +22,8 @@ use Rattle.build.specs.declared.Sheet.{Sheet}
 use Rattle.build.specs.Build.{slot, linePieces, pairsLent, build}
 use Rattle.line.specs.Line.{deviation}
 use Rattle.reading.specs.Reading.{position, takeReading}
-use Rattle.promises.specs.Changes.{Change, changed}
+use Rattle.promises.specs.declared.Change.{Change}
+use Rattle.promises.specs.Changes.{changed}
 
 -- A sheet at a precision, with the ends of its span.
 abbrev pub sheetAt : ℕ → ℤ → ℤ → Sheet

@@ -1,8 +1,10 @@
 pub mod Lent
 pub mod Stream
 pub mod Blank
+pub mod Reads
 pub mod Again
 pub mod Changes
 pub mod Certificate
+pub mod Calls
 pub mod Edges
 pub mod Attained

@@ -1,1 +1,23 @@
-// What holds across calls: the demands of document 01, stated in specs/ and proved in proofs/.
+// What holds across calls: the demands of document 01, stated in specs/ and proved in proofs/; and the third demand on the calls
+// themselves.
+mod certificate; // certificate.rt: from the points lent to the q returned
+
+pub use certificate::points_to_reading;
+use fields::Value;
+use reading::ReadingAnswer;
+use refusal::Written;
+
+// A one-field change as a caller can hand it in: its own kind, field and value.
+pub struct Change {
+    pub kind: u8,
+    pub field: u64,
+    pub value: Value,
+}
+
+// What a build, two changes and a reading answered, one after the other.
+pub struct Answers {
+    pub built: Written,
+    pub first: Written,
+    pub second: Written,
+    pub reading: ReadingAnswer,
+}

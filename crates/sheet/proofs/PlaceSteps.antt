@@ -1,26 +1,16 @@
--- Places worked out field by field.
-use mathlib.Core.Path.{_≡_, refl, sym, ap, _∙_}
+-- Places from the bits that stand before them.
+use mathlib.Core.Path.{_≡_, refl, ap, _∙_}
 use mathlib.Core.Bool.{Bool, cond}
 use mathlib.Core.List.{List, [], _∷_}
 use Prim.Native.Nat.{ℕ, zero, suc, _+_, _-_, _*_, _^_, _≤_, _<_}
 use native.Mathlib.Omega.{arith}
-use lib.Dec.{ltb}
-use lib.ListN.{length, getD, length-append}
+use lib.ListN.{length, length-append}
 use borrow.Author.Tests.{lt-ltb, le-ltb}
-use Rattle.fields.specs.declared.Row.{Row}
 use Rattle.fields.specs.declared.Template.{Template}
 use Rattle.fields.specs.declared.Template.the-variants.{Bridge}
 use Rattle.fields.specs.declared.Layout.{Layout}
-use Rattle.fields.specs.Rows.{any}
-use Rattle.fields.specs.Lines.{Line, line, basic, template33, templateLines, linesOf, lastField, ending, rowOf, bitsBefore}
+use Rattle.fields.specs.Lines.{Line, basic, template33, templateLines, linesOf, lastField, ending, bitsBefore}
 use Rattle.layout.specs.Places.{blockBits, fieldPlace, behindFields, tableBits}
-use Rattle.layout.proofs.Choices.{bits-front}
-
--- The bits of one line more.
-bits-next : (lines : List Line) (p i : ℕ) → i < length lines → bitsBefore lines p (suc i) ≡ bitsBefore lines p i + getD lines i (line (any 0)) .rowAt p .width
-bits-next [] p i h = absurd (omega arith)
-bits-next (l ∷ lines) p zero h = omega (arith, bits-front [] lines p 0 (omega arith))
-bits-next (l ∷ lines) p (suc i) h = omega (arith, bits-next lines p i (omega arith))
 
 bits-most : (lines : List Line) (p i : ℕ) → bitsBefore lines p i ≤ bitsBefore lines p (length lines)
 bits-most [] p i = omega arith
@@ -44,16 +34,6 @@ module _ (layout : Layout) where
 
   pub place-few : (i : ℕ) → bitsBefore lines (layout .precision) i < 2 ^ 16
   place-few i = omega (arith, bits-most lines (layout .precision) i, fields-few (layout .template) (layout .precision))
-
-  -- The bits before the first field, and before the next one.
-  pub first-place : bitsBefore lines (layout .precision) 0 ≡ 0
-  first-place = bits-front [] lines (layout .precision) 0 (omega arith)
-
-  pub next-place : (f : ℕ) (row : Row) → 1 ≤ f → f ≤ lastField (layout .template) → row ≡ rowOf layout f →
-      bitsBefore lines (layout .precision) (f - 1) + row .width ≡ bitsBefore lines (layout .precision) (f + 1 - 1)
-  next-place f row lo hi e =
-      let j : f + 1 - 1 ≡ suc (f - 1) = omega arith in
-      rw (e, j) (sym (bits-next lines (layout .precision) (f - 1) (omega arith)))
 
   pub in-basic : (f : ℕ) → f ≤ length basic → fieldPlace layout f ≡ bitsBefore lines (layout .precision) (f - 1)
   unfolding fieldPlace

@@ -7,7 +7,7 @@ ghost use lib.ListN.{length};
 ghost use Rattle.memory.specs.Answers.{Whole};
 ghost use Rattle.memory.specs.Image.{imageBytes, streamBits};
 ghost use Rattle.layout.specs.Format.{parse};
-ghost use Rattle.layout.specs.Contents.{textOf, endingOf};
+ghost use Rattle.layout.specs.Contents.{charactersOf, endingOf};
 ghost use Rattle.layout.specs.Image.{streamIn};
 ghost use Rattle.sheet.specs.Walk.{keeping, endCount, countSaid, endSaid};
 use crate::table::CountStep;
@@ -25,7 +25,7 @@ pub enum EndStep {
 // At most so many characters, up to a zero character: how many they are.
 fn take_text(sizes: Sizes, image: &[u8], start: Cursor, most: u64) -> CountStep
     requires { ⌜ Whole sizes (now image) ⌝ }
-    ensures { λ r. ⌜ countSaid r ≡ keeping length (parse (streamIn sizes (now (image .entry))) (textOf most) (start .at)) ⌝ }
+    ensures { λ r. ⌜ countSaid r ≡ keeping length (parse (streamIn sizes (now (image .entry))) (charactersOf most) (start .at)) ⌝ }
 {
     let mut cursor = start;
     let mut left = most;

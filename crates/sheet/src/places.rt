@@ -13,23 +13,19 @@ pub fn locate(layout: Layout, field: u64) -> usize
     requires { ⌜ (1 ≤ field) × (field ≤ ending (layout .template)) ⌝ }
     ensures { λ r. ⌜ r ≡ fieldPlace layout field ⌝ }
 {
-    let mut at: u64 = 0;
-    let mut before: u64 = 1;
-    while before < field {
-        at += fields::row_of(layout, before).width;
-        before += 1;
-    }
+    let before = fields::bits_before(layout, field);
     if fields::basic_fields() < field {
-        return (at + BLOCK_BITS) as usize;
+        return (before + BLOCK_BITS) as usize;
     }
-    at as usize
+    before as usize
 }
 
 // The first bit behind the fields.
 fn fields_end(layout: Layout) -> usize
     ensures { λ r. ⌜ r ≡ behindFields layout ⌝ }
 {
-    (fields::fields_bits(layout) + BLOCK_BITS) as usize
+    let template = layout.template;
+    locate(layout, fields::last_field(template) + 1)
 }
 
 // The first bit of a pair, counted from 0.

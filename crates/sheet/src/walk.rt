@@ -2,7 +2,7 @@
 ghost use mathlib.Core.Path.{_≡_};
 ghost use Prim.Native.Nat.{_≤_};
 ghost use Rattle.memory.specs.Answers.{Whole};
-ghost use Rattle.fields.specs.Lines.{chose, lastField};
+ghost use Rattle.fields.specs.Lines.{chose, lastField, rowOf};
 ghost use Rattle.fields.specs.Stored.{Sound};
 ghost use Rattle.layout.specs.Format.{parse};
 ghost use Rattle.layout.specs.Contents.{fieldOf, fieldsOf, firstBlock};
@@ -107,6 +107,25 @@ pub fn take_mark(
     }
 }
 
+// The code of a field: `take_code` of its row. The row is asked for twice, for its bits and to judge the code, so that the
+// compiler judges in the arm of the row and keeps no part of it while the code is taken.
+fn take_field(sizes: Sizes, image: &[u8], cursor: Cursor, layout: Layout, field: u64) -> CodeStep
+    requires { ⌜ Whole sizes (now image) × (1 ≤ field) × (field ≤ lastField (layout .template)) ⌝ }
+    ensures { λ r. ⌜ codeSaid (cursor .at) r ≡ keeping coded (parse (streamIn sizes (now (image .entry))) (fieldOf (rowOf layout field)) (cursor .at)) ⌝ }
+{
+    match cursor.take(sizes, image, fields::row_of(layout, field).width as usize) {
+        Taken::Refused(r) => CodeStep::Refused(r),
+        Taken::Field(code, next) => match fields::judge(
+            fields::row_of(layout, field),
+            cursor.at as u64,
+            code,
+        ) {
+            Judged::Refused(r) => CodeStep::Refused(r),
+            Judged::Stands => CodeStep::Code(code, next),
+        },
+    }
+}
+
 // The latest choice behind a field.
 fn chosen(sets: bool, code: u64, latest: u64) -> u64
     ensures { λ r. ⌜ r ≡ chose sets code latest ⌝ }
@@ -135,12 +154,7 @@ pub fn take_fields(
             template,
             precision,
         };
-        let row = fields::row_of(layout, field);
-        match judged(
-            row,
-            cursor.at as u64,
-            cursor.take(sizes, image, row.width as usize),
-        ) {
+        match take_field(sizes, image, cursor, layout, field) {
             CodeStep::Refused(r) => {
                 return ChoiceStep::Refused(r);
             }

@@ -1,9 +1,6 @@
 -- `dartelm_page` meets its contract.
 -- Assumes nothing.
 use borrow.Author.Needs.{needs}
-use mathlib.Core.Path.{ap}
-use native.Mathlib.Omega.{arith}
-use lib.ListN.{length}
 use Rattle.dartelm.proofs.Padding.{page-short, page-told}
 use Rattle.dartelm.proofs.dartelm_page.Statement.{statement}
 use Rattle.dartelm.proofs.dartelm_page.Tie as tie
@@ -17,7 +14,7 @@ slice-aggregate-copy c = search needs
 copy-requires : tie.Need-copy-requires
 copy-requires c κs =
     let a = c .before .before .before .args in
-    omega (arith, ap length (c .before .page-bytes .ensures), page-short (a .kind) (a .image .now) (a .page))
+    rw (c .before .page-bytes .ensures) (page-short (a .kind) (a .image .now) _)
 
 returns : tie.Need-returns
 returns c =

@@ -1,29 +1,30 @@
 -- `write::lay_block` meets its contract.
 use mathlib.Core.Path.{refl}
-use mathlib.Core.List.{[], _∷_}
+use mathlib.Core.List.{[]}
 use borrow.Author.Needs.{needs}
 use native.Mathlib.Omega.{arith}
-use Rattle.memory.specs.Pieces.{piece}
-use Rattle.build.proofs.Filling.{filling-none, room-first, filling-more, filled}
+use Rattle.build.proofs.Filling.{filling-none, code-inside, code-more, filled}
 use Rattle.build.proofs.write.lay_block.Statement.{statement}
 use Rattle.build.proofs.write.lay_block.Tie as tie
 
-lay-requires : tie.Need-lay-requires
-lay-requires c κs =
+put-requires : tie.Need-put-requires
+put-requires c κs =
     let s = c .before .before in
-    (room-first (s .args .sizes) (piece 2 0 ∷ []) _ refl (filling-none _ (s .pre .0)), omega arith)
+    (code-inside (s .args .sizes) 2 0 _ refl (filling-none _ (s .pre .0)) (omega arith) (omega arith), omega arith)
 
-lay-requires-2 : tie.Need-lay-requires-2
-lay-requires-2 c κs =
+put-requires-2 : tie.Need-put-requires-2
+put-requires-2 c κs =
     let s = c .before .before .before .before .before .before in
-    (filling-more (s .args .sizes) (piece 2 0 ∷ []) _ refl (filling-none _ (s .pre .0)) (c .before .before .before .lay .ensures) .room, omega arith)
+    let z = s .args .sizes in
+    let f = code-more z 2 0 _ refl (filling-none z (s .pre .0)) (omega arith) (c .before .before .before .put .ensures) in
+    (code-inside z 8 (s .args .number) [] refl f (omega arith) (omega arith), s .pre .1)
 
 returns : tie.Need-returns
 returns c =
     let s = c .before .before .before .before .before .before .before .before .before in
     let z = s .args .sizes in
-    let f = filling-more z (piece 2 0 ∷ []) _ refl (filling-none z (s .pre .0)) (c .before .before .before .before .before .before .lay .ensures) in
-    filled z (filling-more z (piece 8 (s .args .number) ∷ []) [] refl f (c .before .before .lay2 .ensures))
+    let f = code-more z 2 0 _ refl (filling-none z (s .pre .0)) (omega arith) (c .before .before .before .before .before .before .put .ensures) in
+    filled z (code-more z 8 (s .args .number) [] refl f (s .pre .1) (c .before .before .put2 .ensures))
 
 pub lay-block-spec : {M : Type 1} → statement M
-lay-block-spec = tie.close (tie.spec lay-requires lay-requires-2 (λ c. search needs) returns)
+lay-block-spec = tie.close (tie.spec put-requires put-requires-2 (λ c. search needs) returns)

@@ -1,38 +1,41 @@
 -- `write::lay_fields` meets its contract.
 use mathlib.Core.Path.{_≡_, refl}
 use mathlib.Core.List.{map}
-use Prim.Native.Nat.{_≤_, _-_}
+use Prim.Native.Nat.{_≤_, _<_, _-_}
 use borrow.Author.Needs.{needs}
 use native.Mathlib.Omega.{arith}
 use lib.ListN.{length}
 use lib.Seq.{slice}
 use Rattle.build.specs.Tested.{fieldPiece}
 use Rattle.build.proofs.Coding.{fields-left, fields-end}
-use Rattle.build.proofs.Filling.{Filling, filling-none, room-first, filling-more, filled}
+use Rattle.build.proofs.Filling.{Filling, filling-none, code-inside, code-more, filled}
 use Rattle.build.proofs.write.lay_fields.Statement.{statement}
 use Rattle.build.proofs.write.lay_fields.Tie as tie
 
 abbrev Inv-loop : tie.InvT-loop
-Inv-loop sizes image₀ at first end fields next₀ i₀ image next i =
-    (i ≤ end) × ((length image ≡ length image₀) × Filling sizes image₀ at (slice first end (map fieldPiece fields)) image next (slice i end (map fieldPiece fields)))
+Inv-loop sizes image₀ first end fields cursor₀ i₀ image cursor i =
+    (i ≤ end) × ((length image ≡ length image₀) × Filling sizes image₀ cursor₀ (slice first end (map fieldPiece fields)) image cursor (slice i end (map fieldPiece fields)))
 
 abbrev μ-loop : tie.MeasureT-loop
-μ-loop sizes image₀ at first end fields next₀ i₀ image next i = end - i
+μ-loop sizes image₀ first end fields cursor₀ i₀ image cursor i = end - i
 
-lay-requires : tie.Need-lay-requires Inv-loop μ-loop
-lay-requires c κs =
+put-requires : tie.Need-put-requires Inv-loop μ-loop
+put-requires c κs =
     let s = c .before .before .before .before .before in
     let l = c .before .before .before .loop in
     let fit = s .pre .1 .2 in
+    let few : l .i < 21 = omega arith in
     let turn = fields-left (s .args .t4) (l .i) (s .args .end) _ (c .before .before .loop-test .taken) (omega (arith, fit .long)) in
-    (room-first (s .args .sizes) _ _ turn (l .inv .1 .1), fit .each (l .i) _ (omega arith))
+    (code-inside (s .args .sizes) _ _ _ turn (l .inv .1 .1) (fit .each (l .i) _ few .some) (fit .each (l .i) _ few .most), fit .each (l .i) _ few .fits)
 
 loop-again : tie.Need-loop-again Inv-loop μ-loop
 loop-again c =
     let s = c .before .before .before .before .before .before .before .before in
     let l = c .before .before .before .before .before .before .loop in
-    let turn = fields-left (s .args .t4) (l .i) (s .args .end) _ (c .before .before .before .before .before .loop-test .taken) (omega (arith, s .pre .1 .2 .long)) in
-    (omega arith, (omega (arith, c .before .before .lay .kept), filling-more (s .args .sizes) _ _ turn (l .inv .1 .1) (c .before .before .lay .ensures)))
+    let fit = s .pre .1 .2 in
+    let few : l .i < 21 = omega arith in
+    let turn = fields-left (s .args .t4) (l .i) (s .args .end) _ (c .before .before .before .before .before .loop-test .taken) (omega (arith, fit .long)) in
+    (omega arith, (omega (arith, c .before .before .put .kept), code-more (s .args .sizes) _ _ _ turn (l .inv .1 .1) (fit .each (l .i) _ few .fits) (c .before .before .put .ensures)))
 
 returns : tie.Need-returns Inv-loop μ-loop
 returns c =
@@ -49,7 +52,7 @@ lay-fields-spec =
     (λ c. (search needs, (refl, filling-none _ (c .before .pre .0))))
     (λ c. omega arith)
     (λ c. omega arith)
-    lay-requires
+    put-requires
     (λ c. omega arith)
     (λ c. omega arith)
     loop-again

@@ -9,11 +9,11 @@ use Rattle.build.proofs.write.lay_pairs.Statement.{statement}
 use Rattle.build.proofs.write.lay_pairs.Tie as tie
 
 abbrev Inv-loop : tie.InvT-loop
-Inv-loop sizes image₀ at points n next₀ i₀ image next i =
-    (i ≤ length points / 2) × ((length image ≡ length image₀) × PairsFilling sizes points image₀ at image next i)
+Inv-loop sizes image₀ points n cursor₀ i₀ image cursor i =
+    (i ≤ length points / 2) × ((length image ≡ length image₀) × PairsFilling sizes points image₀ cursor₀ image cursor i)
 
 abbrev μ-loop : tie.MeasureT-loop
-μ-loop sizes image₀ at points n next₀ i₀ image next i = length points / 2 - i
+μ-loop sizes image₀ points n cursor₀ i₀ image cursor i = length points / 2 - i
 
 lay-pair-requires : tie.Need-lay-pair-requires Inv-loop μ-loop
 lay-pair-requires c κs =

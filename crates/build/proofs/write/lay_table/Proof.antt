@@ -1,11 +1,12 @@
 -- `write::lay_table` meets its contract.
 use mathlib.Core.Path.{refl, sym}
-use mathlib.Core.List.{[], _∷_, append-nil}
+use mathlib.Core.List.{[], append-nil}
+use Prim.Native.Nat.{_/_}
 use borrow.Author.Needs.{needs}
 use native.Mathlib.Omega.{arith}
-use Rattle.memory.specs.Pieces.{piece}
+use lib.ListN.{length}
 use Rattle.layout.specs.Pieces.{blockPieces}
-use Rattle.build.proofs.Filling.{filling-none, room-first, filling-more, filled}
+use Rattle.build.proofs.Filling.{filling-none, room-first, filling-more, code-inside, code-more, filled}
 use Rattle.build.proofs.PairTurns.{table-none, table-some}
 use Rattle.build.proofs.write.lay_table.Statement.{statement}
 use Rattle.build.proofs.write.lay_table.Tie as tie
@@ -21,23 +22,24 @@ lay-block-requires c κs =
     let s = c .before .before .before in
     (room-first (s .args .sizes) (blockPieces 40) _ (table-some (s .args .points .now) (c .before .if1 .left) (s .pre .1 .0) .1) (filling-none _ (s .pre .0)), omega arith)
 
-lay-requires : tie.Need-lay-requires
-lay-requires c κs =
+put-requires : tie.Need-put-requires
+put-requires c κs =
     let s = c .before .before .before .before .before .before .before in
     let z = s .args .sizes in
     let points = s .args .points .now in
     let t = table-some points (c .before .before .before .before .before .if1 .left) (s .pre .1 .0) in
     let start = filling-more z (blockPieces 40) _ (t .1) (filling-none z (s .pre .0)) (c .before .before .before .lay-block .ensures) in
-    (room-first z (piece 1 0 ∷ []) _ refl start, omega arith)
+    (code-inside z 1 0 _ refl start (omega arith) (omega arith), omega arith)
 
-lay-requires-2 : tie.Need-lay-requires-2
-lay-requires-2 c κs =
+put-requires-2 : tie.Need-put-requires-2
+put-requires-2 c κs =
     let s = c .before .before .before .before .before .before .before .before .before .before .before in
     let z = s .args .sizes in
     let points = s .args .points .now in
     let t = table-some points (c .before .before .before .before .before .before .before .before .before .if1 .left) (s .pre .1 .0) in
     let start = filling-more z (blockPieces 40) _ (t .1) (filling-none z (s .pre .0)) (c .before .before .before .before .before .before .before .lay-block .ensures) in
-    (room-first z (piece 7 _ ∷ []) _ refl (filling-more z (piece 1 0 ∷ []) _ refl start (c .before .before .before .lay .ensures)), omega (arith, s .pre .1 .1))
+    let domain = code-more z 1 0 _ refl start (omega arith) (c .before .before .before .put .ensures) in
+    (code-inside z 7 (length points / 2) _ refl domain (omega arith) (omega arith), omega (arith, s .pre .1 .1))
 
 lay-pairs-requires : tie.Need-lay-pairs-requires
 lay-pairs-requires c κs =
@@ -46,8 +48,8 @@ lay-pairs-requires c κs =
     let points = s .args .points .now in
     let t = table-some points (c .before .before .before .before .before .before .before .before .before .before .before .before .before .if1 .left) (s .pre .1 .0) in
     let start = filling-more z (blockPieces 40) _ (t .1) (filling-none z (s .pre .0)) (c .before .before .before .before .before .before .before .before .before .before .before .lay-block .ensures) in
-    let domain = filling-more z (piece 1 0 ∷ []) _ refl start (c .before .before .before .before .before .before .before .lay .ensures) in
-    (filling-more z (piece 7 _ ∷ []) _ refl domain (c .before .before .before .lay2 .ensures) .room, t .0)
+    let domain = code-more z 1 0 _ refl start (omega arith) (c .before .before .before .before .before .before .before .put .ensures) in
+    (code-more z 7 (length points / 2) _ refl domain (omega (arith, s .pre .1 .1)) (c .before .before .before .put2 .ensures) .room, t .0)
 
 returns-2 : tie.Need-returns-2
 returns-2 c =
@@ -56,8 +58,8 @@ returns-2 c =
     let points = s .args .points .now in
     let t = table-some points (c .before .before .before .before .before .before .before .before .before .before .before .before .before .before .before .before .if1 .left) (s .pre .1 .0) in
     let start = filling-more z (blockPieces 40) _ (t .1) (filling-none z (s .pre .0)) (c .before .before .before .before .before .before .before .before .before .before .before .before .before .before .lay-block .ensures) in
-    let domain = filling-more z (piece 1 0 ∷ []) _ refl start (c .before .before .before .before .before .before .before .before .before .before .lay .ensures) in
-    let count = filling-more z (piece 7 _ ∷ []) _ refl domain (c .before .before .before .before .before .before .lay2 .ensures) in
+    let domain = code-more z 1 0 _ refl start (omega arith) (c .before .before .before .before .before .before .before .before .before .before .put .ensures) in
+    let count = code-more z 7 (length points / 2) _ refl domain (omega (arith, s .pre .1 .1)) (c .before .before .before .before .before .before .put2 .ensures) in
     filled z (filling-more z _ [] (sym (append-nil _)) count (c .before .before .lay-pairs .ensures))
 
 pub lay-table-spec : {M : Type 1} → statement M
@@ -66,8 +68,8 @@ lay-table-spec =
     (tie.spec
     returns
     lay-block-requires
-    lay-requires
-    lay-requires-2
+    put-requires
+    put-requires-2
     lay-pairs-requires
     (λ c. search needs)
     returns-2)

@@ -9,19 +9,20 @@ use Rattle.build.proofs.write.write.Tie as tie
 
 lay-sheet-requires : tie.Need-lay-sheet-requires
 lay-sheet-requires c κs =
-    let s = c .before .before .before .before .before .before .before in
-    (rw (c .before .before .before .clear .ensures) (record { free = cleared-free (s .args .sizes) _ (s .pre .0 .0); inside = omega (arith, s .pre .1) }), s .pre .0 .1)
+    let s = c .before .before .before .before .before .before .before .before in
+    (rw (c .start .ensures, c .before .before .before .before .clear .ensures) (record { free = cleared-free (s .args .sizes) _ (s .pre .0 .0); inside = omega (arith, s .pre .1) }), s .pre .0 .1)
 
 returns : tie.Need-returns
 returns c =
-    let s = c .before .before .before .before .before .before .before .before .before .before .before .before .before .before in
+    let s = c .before .before .before .before .before .before .before .before .before .before .before .before .before .before .before in
     c .before .before .seal-pages .ensures
-    ∙ ap (imageOf (s .args .sizes)) (filled-all (c .before .before .before .before .before .before .lay-sheet .ensures) (rw (c .before .before .before .before .before .before .before .before .before .before .clear .ensures) (cleared-free (s .args .sizes) _ (s .pre .0 .0))))
+    ∙ ap (imageOf (s .args .sizes)) (filled-all (c .before .before .before .before .before .before .lay-sheet .ensures) (c .before .before .before .before .before .before .before .start .ensures) (rw (c .before .before .before .before .before .before .before .before .before .before .before .clear .ensures) (cleared-free (s .args .sizes) _ (s .pre .0 .0))))
 
 pub write-spec : {M : Type 1} → statement M
 write-spec =
     tie.close
     (tie.spec
+    (λ c κs. search needs)
     (λ c κs. search needs)
     lay-sheet-requires
     (λ c κs. c .before .before .before .lay-sheet .ensures .free .whole)

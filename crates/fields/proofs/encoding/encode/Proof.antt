@@ -1,12 +1,10 @@
 use borrow.Author.Needs.{needs}
 use mir.Syntax.{w64}
 use mir.Facts.{toZ-ofZ}
-use Rattle.fields.specs.Rules.{encode}
 use Rattle.fields.proofs.encoding.encode.Statement.{statement}
 use Rattle.fields.proofs.encoding.encode.Tie as tie
 
 pub encode-spec : {M : Type 1} → statement M
-unfolding encode
 encode-spec =
     tie.close
     (tie.spec
@@ -16,10 +14,8 @@ encode-spec =
     (λ c κs. search needs)
     (λ c. search needs)
     (λ c κs. search needs)
-    (λ c. rw (c .before .before .enum-told .given .1, c .before .if1 .taken, c .all-ones .ensures))
-    (λ c κs. search needs)
     (λ c.
     let figure = toZ-ofZ {w = w64} {z = c .before .before .value .given .0 .0} (search needs) in
-    rw (c .before .before .value .given .1) (rw figure at (c .whole .ensures)))
-    (λ c. rw (c .before .before .value2 .given .1) (c .single .ensures))
-    (λ c. rw (c .before .before .enum-told .given .1, c .before .if1 .left) (c .wrong-sort .ensures)))
+    rw (c .before .before .value .given .1) (rw figure at (c .encode-whole .ensures)))
+    (λ c. rw (c .before .before .value2 .given .1) (c .encode-single .ensures))
+    (λ c. rw (c .before .enum-told .given .1) (c .encode-missing .ensures)))

@@ -1,34 +1,19 @@
 use borrow.Author.Needs.{needs, sfits-of}
-use mathlib.Core.Path.{_≡_, _∙_}
+use mathlib.Core.Path.{_∙_}
 use native.Mathlib.Omega.{arith}
 use mir.Facts.{toZ-ofZ}
-use Rattle.integers.specs.Parts.{up, dn}
 use Rattle.line.proofs.Distances.{less}
-use Rattle.line.proofs.Told.{told-up, told-dn, told-≤, told-gap, Gaps, gaps}
+use Rattle.line.proofs.Told.{told-up, told-dn, told-≤, told-gap, deviation-parts, Gaps, gaps}
 use Rattle.line.proofs.line.between.Statement.{statement}
 use Rattle.line.proofs.line.between.Tie as tie
 
--- How far p is from the two points, and what the deviations have above 0, and below.
+-- How far p is from the two points.
 distances : (c : tie.After-gap2) → let a = c .before .before .before .before .args in Gaps (a .p) (a .before) (a .behind) (c .before .before .gap .result) (c .gap2 .result)
 distances c =
     let s = c .before .before .before .before in
     gaps (s .args .p) (s .args .before) (s .args .behind) (s .pre)
     (told-gap {b = s .args .before .point} (s .fits .p) (sfits-of (c .before .before .before .struct-told .given .0 .1)) (c .before .before .gap .ensures))
     (told-gap {a = s .args .behind .point} (sfits-of (c .before .struct-told2 .given .0 .1)) (s .fits .p) (c .gap2 .ensures))
-
-above : (c : tie.After-plus2) → let a = c .before .before .before .before .before .before .before .before .args in (c .before .plus .result ≡ up (a .before .deviation)) × (c .plus2 .result ≡ up (a .behind .deviation))
-above c =
-    let a = c .before .before .before .before .before .before .before .before .args in (
-      told-up {z = a .before .deviation} (sfits-of (c .before .before .before .struct-told3 .given .1 .0 .1)) (c .before .plus .ensures),
-      told-up {z = a .behind .deviation} (sfits-of (c .before .before .struct-told4 .given .1 .0 .1)) (c .plus2 .ensures),
-    )
-
-below : (c : tie.After-minus2) → let a = c .before .before .before .before .before .before .before .before .before .before .before .args in (c .before .minus .result ≡ dn (a .before .deviation)) × (c .minus2 .result ≡ dn (a .behind .deviation))
-below c =
-    let a = c .before .before .before .before .before .before .before .before .before .before .before .args in (
-      told-dn {z = a .before .deviation} (sfits-of (c .before .before .before .before .before .before .struct-told3 .given .1 .0 .1)) (c .before .minus .ensures),
-      told-dn {z = a .behind .deviation} (sfits-of (c .before .before .before .before .before .struct-told4 .given .1 .0 .1)) (c .minus2 .ensures),
-    )
 
 gap-requires : tie.Need-gap-requires
 gap-requires c κs =
@@ -45,7 +30,15 @@ plus-requires-2 : tie.Need-plus-requires-2
 plus-requires-2 c κs = search needs
 
 weighed-requires : tie.Need-weighed-requires
-weighed-requires c κs = distances (c .before .before .before .before) .weights _ _ (omega (arith, above c)) (omega (arith, above c))
+weighed-requires c κs =
+    let h = c .before .before .before .before .before .before .before .before .pre in
+    let s = deviation-parts (h .first) in
+    let t = deviation-parts (h .second) in
+    record {
+      first = omega (arith, c .before .plus .ensures .0, s .0, t .0);
+      second = omega (arith, c .plus2 .ensures .0, s .0, t .0);
+      run = distances (c .before .before .before .before) .run .1;
+    }
 
 minus-requires : tie.Need-minus-requires
 minus-requires c κs = search needs
@@ -54,7 +47,15 @@ minus-requires-2 : tie.Need-minus-requires-2
 minus-requires-2 c κs = search needs
 
 weighed-requires-2 : tie.Need-weighed-requires-2
-weighed-requires-2 c κs = distances (c .before .before .before .before .before .before .before) .weights _ _ (omega (arith, below c)) (omega (arith, below c))
+weighed-requires-2 c κs =
+    let h = c .before .before .before .before .before .before .before .before .before .before .before .pre in
+    let s = deviation-parts (h .first) in
+    let t = deviation-parts (h .second) in
+    record {
+      first = omega (arith, c .before .minus .ensures .0, s .1, t .1);
+      second = omega (arith, c .minus2 .ensures .0, s .1, t .1);
+      run = distances (c .before .before .before .before .before .before .before) .run .1;
+    }
 
 add-nearest : tie.Need-add-nearest
 add-nearest c = omega (arith, distances (c .before .before .before .before .before .before .before .before) .run)
@@ -64,11 +65,16 @@ nearest-requires c κs = omega (arith, distances (c .before .before .before .bef
 
 returns : tie.Need-returns
 returns c =
-    let u = above (c .before .before .before .before .before) in
-    let d = below (c .before .before) in
+    let a = c .before .before .before .before .before .before .before .before .before .before .before .before .before .args in
+    let s = sfits-of (c .before .before .before .before .before .before .before .before .struct-told3 .given .1 .0 .1) in
+    let t = sfits-of (c .before .before .before .before .before .before .before .struct-told4 .given .1 .0 .1) in
+    let us = told-up {z = a .before .deviation} s (c .before .before .before .before .before .before .plus .ensures) in
+    let ut = told-up {z = a .behind .deviation} t (c .before .before .before .before .before .plus2 .ensures) in
+    let ds = told-dn {z = a .before .deviation} s (c .before .before .before .minus .ensures) in
+    let dt = told-dn {z = a .behind .deviation} t (c .before .before .minus2 .ensures) in
     toZ-ofZ (sfits-of (c .nearest .ok))
     ∙ c .nearest .ensures
-    ∙ rw (c .before .before .before .before .weighed .ensures .0, c .before .weighed2 .ensures .0, u .0, u .1, d .0, d .1) (distances (c .before .before .before .before .before .before .before .before .before) .made)
+    ∙ rw (c .before .before .before .before .weighed .ensures .0, c .before .weighed2 .ensures .0, us, ut, ds, dt) (distances (c .before .before .before .before .before .before .before .before .before) .made)
 
 pub between-spec : {M : Type 1} → statement M
 between-spec =

@@ -19,12 +19,6 @@ abbrev μ-loop : tie.MeasureT-loop
 loop-holds : tie.Need-loop-holds Inv-loop μ-loop
 loop-holds c = (search needs, simp sub-zero)
 
-test-page-requires : tie.Need-test-page-requires Inv-loop μ-loop
-test-page-requires c κs = search needs
-
-is-good-requires : tie.Need-is-good-requires Inv-loop μ-loop
-is-good-requires c κs = search needs
-
 returns : tie.Need-returns Inv-loop μ-loop
 returns c =
     let a = c .before .before .before .before .before .before .args in
@@ -33,12 +27,6 @@ returns c =
     (turn-wrong (a .sizes) (a .image .now) (a .sizes .pages) (l .page) (c .before .before .before .loop-test .taken)
     (sym (c .before .is-good .ensures ∙ ap isGood (c .before .before .test-page .ensures)) ∙ not-true (c .before .is-good .result) (c .if1 .taken)))
     ∙ l .inv .1
-
-add-page : tie.Need-add-page Inv-loop μ-loop
-add-page c = search needs
-
-loop-less : tie.Need-loop-less Inv-loop μ-loop
-loop-less c = search needs
 
 loop-again : tie.Need-loop-again Inv-loop μ-loop
 loop-again c =
@@ -65,10 +53,10 @@ test-pages-spec =
     Inv-loop
     μ-loop
     loop-holds
-    test-page-requires
-    is-good-requires
+    (λ c κs. search needs)
+    (λ c κs. search needs)
     returns
-    add-page
-    loop-less
+    (λ c. search needs)
+    (λ c. search needs)
     loop-again
     returns-2)

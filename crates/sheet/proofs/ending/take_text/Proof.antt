@@ -3,7 +3,7 @@ use mathlib.Core.Path.{_≡_, refl, sym, _∙_}
 use Prim.Native.Nat.{_≤_}
 use lib.ListN.{length}
 use Rattle.layout.specs.Format.{parse}
-use Rattle.layout.specs.Contents.{textOf}
+use Rattle.layout.specs.Contents.{charactersOf}
 use Rattle.layout.specs.Image.{streamIn}
 use Rattle.sheet.specs.Walk.{keeping}
 use Rattle.sheet.proofs.Steps.{countLeft, count-start, count-done, got, past}
@@ -13,13 +13,13 @@ use Rattle.sheet.proofs.ending.take_text.Tie as tie
 
 abbrev Inv-loop : tie.InvT-loop
 Inv-loop sizes image most cursor₀ left₀ cursor left =
-    (left ≤ most) × (countLeft (streamIn sizes image) textOf most left (cursor .at) ≡ keeping length (parse (streamIn sizes image) (textOf most) (cursor₀ .at)))
+    (left ≤ most) × (countLeft (streamIn sizes image) charactersOf most left (cursor .at) ≡ keeping length (parse (streamIn sizes image) (charactersOf most) (cursor₀ .at)))
 
 abbrev μ-loop : tie.MeasureT-loop
 μ-loop sizes image most cursor₀ left₀ cursor left = left
 
 loop-holds : tie.Need-loop-holds Inv-loop μ-loop
-loop-holds c = let a = c .before .args in (search needs, count-start (streamIn (a .sizes) (a .image .now)) textOf (a .most) (a .start .at))
+loop-holds c = let a = c .before .args in (search needs, count-start (streamIn (a .sizes) (a .image .now)) charactersOf (a .most) (a .start .at))
 
 returns : tie.Need-returns Inv-loop μ-loop
 returns c =
@@ -43,10 +43,10 @@ loop-again c =
     (search needs, sym (text-next (streamIn (a .sizes) (a .image .now)) _ _ _ (t .before .loop-test .taken) (t .before .before .loop .inv .0) e (c .if1 .left)) ∙ t .before .before .loop .inv .1)
 
 returns-3 : tie.Need-returns-3 Inv-loop μ-loop
-unfolding textOf
+unfolding charactersOf
 returns-3 c =
     let a = c .before .before .before .args in
-    sym (count-done (streamIn (a .sizes) (a .image .now)) textOf (a .most) _ _ refl (c .loop-test .left)) ∙ c .before .loop .inv .1
+    sym (count-done (streamIn (a .sizes) (a .image .now)) charactersOf (a .most) _ _ refl (c .loop-test .left)) ∙ c .before .loop .inv .1
 
 pub take-text-spec : {M : Type 1} → statement M
 take-text-spec =

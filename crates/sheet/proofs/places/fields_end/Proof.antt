@@ -1,16 +1,24 @@
 use borrow.Author.Needs.{needs}
-use mathlib.Core.Path.{sym, ap, _∙_}
-use Prim.Native.Nat.{ℕ, _+_}
+use mathlib.Core.Path.{_≡_, ap, _∙_}
+use Prim.Native.Nat.{_+_}
 use native.Mathlib.Omega.{arith}
-use Rattle.fields.specs.Lines.{lastField}
-use Rattle.sheet.proofs.PlaceSteps.{place-few, fields-end}
+use Rattle.fields.specs.Lines.{ending}
+use Rattle.layout.specs.Places.{fieldPlace}
+use Rattle.sheet.proofs.PlaceSteps.{last-few}
 use Rattle.sheet.proofs.places.fields_end.Statement.{statement}
 use Rattle.sheet.proofs.places.fields_end.Tie as tie
+
+returns : tie.Need-returns
+returns c =
+    let layout = c .before .before .args .layout in
+    let behind : c .before .last-field .result + 1 ≡ ending (layout .template) = omega (arith, c .before .last-field .ensures) in
+    c .locate .ensures ∙ ap (fieldPlace layout) behind
 
 pub fields-end-spec : {M : Type 1} → statement M
 fields-end-spec =
     tie.close
     (tie.spec
     (λ c κs. search needs)
-    (λ c. omega (arith, c .fields-bits .ensures, place-few (c .before .args .layout) (lastField (c .before .args .layout .template))))
-    (λ c. ap (λ (n : ℕ). n + 10) (c .fields-bits .ensures) ∙ sym (fields-end (c .before .args .layout))))
+    (λ c. omega (arith, c .last-field .ensures, last-few (c .before .args .layout .template)))
+    (λ c κs. omega (arith, c .last-field .ensures))
+    returns)

@@ -2,9 +2,7 @@ use borrow.Author.Needs.{needs}
 use mathlib.Core.Path.{_≡_, refl, sym, _∙_}
 use Prim.Native.Nat.{suc, _-_, _≤_}
 use native.Mathlib.Omega.{arith}
-use Rattle.fields.proofs.RowLaws.{row-sound}
 use Rattle.layout.specs.Image.{streamIn}
-use Rattle.sheet.proofs.Steps.{code-judged}
 use Rattle.sheet.proofs.PlaceSteps.{last-few}
 use Rattle.sheet.proofs.WalkSteps.{fieldsLeft, fields-done, fields-halt, fields-next}
 use Rattle.sheet.proofs.walk.take_fields.Statement.{statement}
@@ -20,36 +18,23 @@ abbrev μ-loop : tie.MeasureT-loop
 loop-holds : tie.Need-loop-holds Inv-loop μ-loop
 loop-holds c = (search needs, refl)
 
-take-requires : tie.Need-take-requires Inv-loop μ-loop
-take-requires c κs =
-    let l = c .before .before in
-    let s = row-sound (record { template = l .before .before .args .template; precision = l .loop .precision }) (l .loop .field) (l .loop .inv .0) (omega arith) in
-    (l .before .before .pre .0, rw (c .row-of .ensures) (s .some), rw (c .row-of .ensures) (s .most))
-
-judged-requires : tie.Need-judged-requires Inv-loop μ-loop
-judged-requires c κs = rw (c .before .row-of .ensures) (row-sound _ _ (c .before .before .before .loop .inv .0) (omega arith))
-
 returns : tie.Need-returns Inv-loop μ-loop
 returns c =
-    let j = c .before .before .before in
-    let r = j .before .before in
-    let l = r .before .before in
+    let t = c .before .before .before in
+    let l = t .before .before in
     let b = l .before .before in
     let a = b .args in
-    let e = code-judged (a .sizes) (a .image .now) _ (j .before .take .result) (j .judged .result) (r .row-of .ensures) (j .before .take .ensures) (j .judged .ensures) in
-    sym (fields-halt (streamIn (a .sizes) (a .image .now)) (a .template) _ (a .last) _ _ (l .loop .inv .0) (r .before .loop-test .taken) (b .pre .2) _ e (c .before .r .given .1))
+    sym (fields-halt (streamIn (a .sizes) (a .image .now)) (a .template) _ (a .last) _ _ (l .loop .inv .0) (t .before .loop-test .taken) (b .pre .2) _ (t .take-field .ensures) (c .before .r .given .1))
     ∙ l .loop .inv .1
 
 loop-again : tie.Need-loop-again Inv-loop μ-loop
 loop-again c =
-    let j = c .before .before .before .before .before in
-    let r = j .before .before in
-    let l = r .before .before in
+    let t = c .before .before .before .before .before in
+    let l = t .before .before in
     let b = l .before .before in
-    let a = b .args in
-    let e = code-judged (a .sizes) (a .image .now) _ (j .before .take .result) (j .judged .result) (r .row-of .ensures) (j .before .take .ensures) (j .judged .ensures) in (
+    let a = b .args in (
       omega arith,
-      sym (fields-next (streamIn (a .sizes) (a .image .now)) (a .template) _ (a .last) _ _ (l .loop .inv .0) (r .before .loop-test .taken) (b .pre .2) _ e _ (c .before .before .before .code .given .1) (rw (c .before .is-choice .ensures) at (c .chosen .ensures)))
+      sym (fields-next (streamIn (a .sizes) (a .image .now)) (a .template) _ (a .last) _ _ (l .loop .inv .0) (t .before .loop-test .taken) (b .pre .2) _ (t .take-field .ensures) _ (c .before .before .before .code .given .1) (rw (c .before .is-choice .ensures) at (c .chosen .ensures)))
           ∙ l .loop .inv .1,
     )
 
@@ -65,15 +50,13 @@ take-fields-spec =
     Inv-loop
     μ-loop
     loop-holds
-    (λ c κs. omega arith)
-    take-requires
-    judged-requires
+    (λ c κs. (c .before .before .before .pre .0, c .before .loop .inv .0, omega arith))
     (λ c. search needs)
     returns
     (λ c. search needs)
     (λ c κs. omega arith)
     (λ c κs. search needs)
-    (λ c. omega (arith, last-few (c .before .before .before .before .before .before .before .before .before .before .before .args .template)))
+    (λ c. omega (arith, last-few (c .before .before .before .before .before .before .before .before .before .args .template)))
     (λ c. omega arith)
     loop-again
     returns-2)

@@ -1,12 +1,14 @@
 use borrow.Author.Needs.{needs}
 use mir.Syntax.{w64}
 use mir.Facts.{toZ-ofZ}
+use Rattle.fields.specs.Rules.{encode}
 use Rattle.fields.proofs.RowLaws.{sound-rule, plain-small}
-use Rattle.fields.proofs.encoding.whole.Statement.{statement}
-use Rattle.fields.proofs.encoding.whole.Tie as tie
+use Rattle.fields.proofs.encoding.encode_whole.Statement.{statement}
+use Rattle.fields.proofs.encoding.encode_whole.Tie as tie
 
-pub whole-spec : {M : Type 1} → statement M
-whole-spec =
+pub encode-whole-spec : {M : Type 1} → statement M
+unfolding encode
+encode-whole-spec =
     tie.close
     (tie.spec
     (λ c. search needs)

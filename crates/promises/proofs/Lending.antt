@@ -1,0 +1,39 @@
+-- What the types of parameters say: a sheet that is lent is `Lendable`, and the value of a change is `Real`.
+-- Assumes nothing.
+use mathlib.Core.Path.{subst}
+use mathlib.Core.List.{List, [], _∷_, map}
+use lib.ListN.{length-map}
+use mir.Val.{Val}
+use denote.Shadow.{shadow}
+use denote.Laws.{Is}
+use denote.Array.{each}
+use denote.Enum.Declared as enum
+use denote.Enum.Laws.{tells}
+use denote.Struct.Declared as struct
+use Rattle.fields.specs.declared.Value.{Value}
+use Rattle.fields.specs.Stored.{Real}
+use Rattle.fields.proofs.Value as value
+use Rattle.fields.proofs.Value.Laws.{the-laws}
+use Rattle.change.proofs.PartLaws.{lent-real}
+use Rattle.build.specs.declared.Slot.{Slot}
+use Rattle.build.specs.declared.Sheet.{Sheet}
+use Rattle.build.proofs.Slot as slot
+use Rattle.build.proofs.Sheet as sheet
+use Rattle.promises.specs.declared.Change.{Change}
+use Rattle.promises.specs.Lent.{AllReal, Lendable}
+use Rattle.promises.proofs.Change as change
+
+-- A value, whatever machine values stand for it.
+value-real : (v : Value) (vs : List Val) → Is (enum.row value.the-type) v vs → Real v
+value-real v vs h = lent-real v (subst (Is (enum.row value.the-type) v) (tells value.the-type the-laws v vs h) h)
+
+pub change-real : (ch : Change) (vs : List Val) → Is (struct.row change.the-type) ch vs → Real (ch .value)
+change-real ch vs h = value-real (ch .value) (h .0 .1 .1 .0) (h .1 .1 .1 .1 .0)
+
+slots-real : (slots : List Slot) (us : List Val) → shadow (each (slot.the-field .row .Denot) (slot.the-field .row .own) (map (slot.the-field .into) slots) us) → AllReal slots
+slots-real [] us h = tt
+slots-real (s ∷ slots) [] h = absurd h
+slots-real (s ∷ slots) (u ∷ us) h = (value-real (s .value) (h .0 .0 .0) (h .0 .1 .1 .0), slots-real slots us (h .1))
+
+pub sheet-lendable : (s : Sheet) (vs : List Val) → Is (struct.row sheet.the-type) s vs → Lendable s
+sheet-lendable s vs h = record { fields = simp length-map at (h .1 .1 .0 .1 .0 .1); singles = slots-real (s .fields) (h .1 .1 .0 .0) (h .1 .1 .0 .1 .1) }

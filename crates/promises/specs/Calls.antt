@@ -1,0 +1,41 @@
+-- Demand 3 on the calls themselves: what a build, two changes and a reading answer one after the other, what the image holds then, and how far the q
+-- returned lies from the certificate line.
+use mathlib.Core.Path.{_≡_}
+use mathlib.Core.List.{List, [], _∷_}
+use Prim.Native.Nat.{ℕ}
+use lib.IntN.{ℤ}
+use Rattle.refusal.specs.declared.Written.{Written}
+use Rattle.refusal.specs.declared.Written.the-variants.{Done}
+use Rattle.refusal.specs.Written.{writtenSaid, afterwards}
+use Rattle.fields.specs.Calibration.{D, R}
+use Rattle.build.specs.declared.Sheet.{Sheet}
+use Rattle.build.specs.Build.{pairsLent, build}
+use Rattle.change.specs.Change.{change}
+use Rattle.line.specs.Certificate.{Slopes, Within}
+use Rattle.reading.specs.declared.Reading.{Reading}
+use Rattle.reading.specs.declared.ReadingAnswer.the-variants.{Shows}
+use Rattle.reading.specs.Reading.{takeReading, readingSaid}
+use Rattle.promises.specs.declared.Change.{Change}
+use Rattle.promises.specs.declared.Answers.{Answers}
+use Rattle.promises.specs.Changes.{changedBy, changed}
+use Rattle.promises.specs.Certificate.{leastIn, greatestIn, lineFor}
+
+-- What a change of an image answered.
+abbrev pub ChangeSaid : List ℕ → Change → Written → Type 0
+ChangeSaid image ch w = writtenSaid w (changedBy image ch) ≡ change (ch .kind) image (ch .field) (ch .value)
+
+module _ (kind : ℕ) (buffer : List ℕ) (sheet : Sheet) (text : List ℕ) (points : List ℤ) where
+  -- The image behind the build.
+  abbrev pub made : List ℕ
+  made = afterwards buffer (build kind buffer sheet text points)
+
+  -- Each call answers by its definition, accepted or refused; the image is as build and changes leave it, and the reading is of that. If the build and
+  -- the reading were accepted, the q returned lies within the distance of the certificate line through the points lent, for every K.
+  pub record Answered (first second : Change) (readingKind : ℕ) (v : ℤ) (image : List ℕ) (r : Answers) : Type 0 where
+    pub buildSaid : writtenSaid (r .built) made ≡ build kind buffer sheet text points
+    pub firstSaid : ChangeSaid made first (r .first)
+    pub secondSaid : ChangeSaid (changedBy made first) second (r .second)
+    pub bytes : image ≡ changed made (first ∷ second ∷ [])
+    pub shown : readingSaid (r .reading) ≡ takeReading readingKind image v
+    pub distance : (q : Reading) (K : ℕ) → r .built ≡ Done → r .reading ≡ Shows q → Slopes K (pairsLent points) →
+        Within D R K (q .fraction) (lineFor points v (leastIn readingKind image) (greatestIn readingKind image))

@@ -1,0 +1,49 @@
+-- Document 01, "Layout" and "Turning down": how far a check judges an image, and what is read of it.
+use mathlib.Core.Path.{_≡_}
+use mathlib.Core.List.{List}
+use mathlib.Core.Logic.{_⊎_}
+use Prim.Native.Nat.{ℕ, _%_, _^_, _≤_, _<_}
+use lib.ListN.{length, getD}
+use Rattle.refusal.specs.declared.Refusal.{Refusal}
+use Rattle.refusal.specs.Outcome.{good, refused}
+use Rattle.refusal.specs.Rows.{noSuch}
+use Rattle.memory.specs.declared.Sizes.{Sizes}
+use Rattle.memory.specs.Image.{imageSizes, sums, streamNumber}
+use Rattle.fields.specs.Calibration.{noPair}
+use Rattle.fields.specs.Lines.{lastField}
+use Rattle.layout.specs.Contents.{Contents}
+use Rattle.layout.specs.Image.{contents, field, points}
+use Rattle.sheet.specs.declared.Summary.{Summary}
+use Rattle.sheet.specs.Check.{check, readField, readPair, readCharacter}
+
+-- Bits after the end are not judged: an image of the same kind that passes the page test, and whose stream has the bits of an accepted one up to its
+-- end, holds the same.
+abbrev pub BitsBehindNotJudged : Type 0
+BitsBehindNotJudged =
+    (kind : ℕ) (image other : List ℕ) (z : Sizes) (c : Contents) →
+    imageSizes kind (length image) ≡ good z → contents kind image ≡ good c →
+    imageSizes kind (length other) ≡ good z → sums z other ≡ good tt →
+    streamNumber z image % 2 ^ c .bits ≡ streamNumber z other % 2 ^ c .bits →
+    contents kind other ≡ good c
+
+-- Fields are read by their number from 1, pairs and characters by index from 0, as many as the check gives; any other number is 8.
+pub record ReadsEach (kind : ℕ) (image : List ℕ) (s : Summary) (c : Contents) : Type 0 where
+  pub fields : (f : ℕ) → 1 ≤ f → f ≤ lastField (c .template) → readField kind image f ≡ good (field c f .value)
+  pub noField : (f : ℕ) → (f < 1) ⊎ (lastField (c .template) < f) → readField kind image f ≡ refused (noSuch f)
+  pub pairs : (i : ℕ) → i < s .points → readPair kind image i ≡ good (getD (points c) i noPair)
+  pub noPairs : (i : ℕ) → s .points ≤ i → readPair kind image i ≡ refused (noSuch i)
+  pub characters : (i : ℕ) → i < s .characters → readCharacter kind image i ≡ good (getD (c .text) i 0)
+  pub noCharacter : (i : ℕ) → s .characters ≤ i → readCharacter kind image i ≡ refused (noSuch i)
+
+-- Of a refused image nothing is read: each read gives the check's refusal.
+pub record ReadsNone (kind : ℕ) (image : List ℕ) (r : Refusal) : Type 0 where
+  pub field : (f : ℕ) → readField kind image f ≡ refused r
+  pub pair : (i : ℕ) → readPair kind image i ≡ refused r
+  pub character : (i : ℕ) → readCharacter kind image i ≡ refused r
+
+-- Field, pair or character read: check, 8.
+abbrev pub ReadByIndex : Type 0
+ReadByIndex =
+    (kind : ℕ) (image : List ℕ) →
+    ((s : Summary) → check kind image ≡ good s → (c : Contents) × (contents kind image ≡ good c) × ReadsEach kind image s c) ×
+    ((r : Refusal) → check kind image ≡ refused r → ReadsNone kind image r)
