@@ -8,16 +8,19 @@ use lib.ListN.{length, getD, length-append, length-map, List·getD-map}
 use lib.Seq.{ext-getD, getD-at}
 use borrow.Author.Tests.{lt-ltb, le-ltb}
 use Rattle.fields.specs.declared.Layout.{Layout}
-use Rattle.fields.specs.Lines.{lastField, rowOf}
+use Rattle.fields.specs.Rows.{any}
+use Rattle.fields.specs.Lines.{Line, line, basic, linesOf, lastField, rowOf, bitsBefore}
 use Rattle.fields.proofs.RowLaws.{row-sound}
 use Rattle.layout.specs.Format.{Stream}
 use Rattle.layout.specs.Contents.{FoundPair, Contents}
 use Rattle.layout.specs.Image.{nothing, field, layoutOf, pairsIn}
 use Rattle.layout.specs.Places.{fieldPlace, pairBits, pairPlace}
+use Rattle.layout.proofs.Choices.{bits-front}
 use Rattle.layout.proofs.Fields.{at-is, width-is}
 use Rattle.layout.proofs.Places.{get-front, get-back, fields-count}
 use Rattle.layout.proofs.Accepted.{Holding}
 use Rattle.layout.proofs.Standing.{field-stands, pair-here}
+use Rattle.sheet.proofs.PlaceSteps.{in-basic, behind-basic}
 use Rattle.index.specs.declared.Entry.{Entry}
 use Rattle.index.specs.Index.{entry, fieldEntry, pairEntry, entries}
 use Rattle.index.specs.Laid.{entryOf, firstEntries}
@@ -130,3 +133,51 @@ module _ {s : Stream} {c : Contents} (h : Holding s c) where
   entries-are =
       ext-getD noEntry (entries c) (firstEntries layout (length (entries c))) (sym (first-length layout (length (entries c)))) (λ i l.
       lies i l .is ∙ sym (first-at layout (length (entries c)) i l))
+
+-- ---- sorted by offset
+
+-- The bits of one line more.
+bits-next : (lines : List Line) (p i : ℕ) → i < length lines → bitsBefore lines p (suc i) ≡ bitsBefore lines p i + getD lines i (line (any 0)) .rowAt p .width
+bits-next [] p i h = absurd (omega arith)
+bits-next (l ∷ lines) p zero h = omega (arith, bits-front [] lines p 0 (omega arith))
+bits-next (l ∷ lines) p (suc i) h = omega (arith, bits-next lines p i (omega arith))
+
+module _ (layout : Layout) where
+  -- A field ends where the next one begins, or the first block stands between them.
+  place-rises : (f : ℕ) → 1 ≤ f → f ≤ lastField (layout .template) → fieldPlace layout f + rowOf layout f .width ≤ fieldPlace layout (suc f)
+  place-rises f lo hi = go (decLt f (length basic)) (decLt (length basic) f)
+    where
+      next : bitsBefore (linesOf (layout .template)) (layout .precision) (f - 1) + rowOf layout f .width ≡ bitsBefore (linesOf (layout .template)) (layout .precision) (suc f - 1)
+      next =
+          let n : suc (f - 1) ≡ suc f - 1 = omega arith in
+          sym (bits-next (linesOf (layout .template)) (layout .precision) (f - 1) (omega arith)) ∙ ap (bitsBefore (linesOf (layout .template)) (layout .precision)) n
+
+      go : Dec (f < length basic) → Dec (length basic < f) → fieldPlace layout f + rowOf layout f .width ≤ fieldPlace layout (suc f)
+      go (yes l) k = omega (arith, next, in-basic layout f (omega arith), in-basic layout (suc f) l)
+      go (no l) (yes k) = omega (arith, next, behind-basic layout f k, behind-basic layout (suc f) (omega arith))
+      go (no l) (no k) = omega (arith, next, in-basic layout f (omega arith), behind-basic layout (suc f) (omega arith))
+
+  -- An entry ends before the next one begins.
+  pub entry-rises : (i : ℕ) → entryOf layout i .offset + entryOf layout i .length ≤ entryOf layout (suc i) .offset
+  entry-rises i = go (decLt i (lastField (layout .template))) (decLt (suc i) (lastField (layout .template)))
+    where
+      offset : {e g : Entry} → e ≡ g → e .offset ≡ g .offset
+      offset h = ap (λ (x : Entry). x .offset) h
+
+      width : {e g : Entry} → e ≡ g → e .length ≡ g .length
+      width h = ap (λ (x : Entry). x .length) h
+
+      go : Dec (i < lastField (layout .template)) → Dec (suc i < lastField (layout .template)) →
+          entryOf layout i .offset + entryOf layout i .length ≤ entryOf layout (suc i) .offset
+      go (yes l) (yes k) = omega (arith, offset (of-field layout i l), width (of-field layout i l), offset (of-field layout (suc i) k), place-rises (suc i) (omega arith) (omega arith))
+      go (yes l) (no k) =
+          let n : suc i ≡ lastField (layout .template) = omega arith in
+          omega (
+            arith,
+            offset (of-field layout i l),
+            width (of-field layout i l),
+            offset (of-pair layout (suc i) (omega arith)),
+            place-rises (suc i) (omega arith) (omega arith),
+            ap (λ (m : ℕ). fieldPlace layout (suc m)) n,
+          )
+      go (no l) k = omega (arith, offset (of-pair layout i (omega arith)), width (of-pair layout i (omega arith)), offset (of-pair layout (suc i) (omega arith)))

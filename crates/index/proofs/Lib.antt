@@ -2,3 +2,4 @@ pub mod Laying
 pub mod EntryLaws
 pub mod IndexLaws
 pub mod FetchLaws
+pub mod Fetched
