@@ -2,8 +2,9 @@
 use mathlib.Core.Path.{_≡_, refl, sym, ap, _∙_}
 use mathlib.Core.Bool.{Bool, true, false, cond}
 use mathlib.Core.List.{List, [], _∷_, _++_, map}
-use Prim.Native.Nat.{ℕ, suc, _-_, _<_}
+use Prim.Native.Nat.{ℕ, zero, suc, _-_, _≤_, _<_}
 use native.Mathlib.Omega.{arith}
+use native.Mathlib.Decide.{decLt}
 use lib.Dec.{eqb}
 use lib.ListN.{length, drop}
 use lib.Seq.{map-set-same}
@@ -11,22 +12,29 @@ use Rattle.refusal.specs.Outcome.{Outcome, good, refused, _>>_, _>>=_}
 use Rattle.refusal.proofs.Outcomes.{good-same}
 use Rattle.memory.specs.declared.Sizes.{Sizes}
 use Rattle.memory.specs.Image.{imageSizes, sums}
+use Rattle.memory.proofs.Chips.{sizes-chip}
+use Rattle.fields.specs.declared.Template.{Template}
+use Rattle.fields.specs.declared.Template.the-variants.{Bridge}
+use Rattle.fields.specs.declared.Layout.{Layout}
+use Rattle.fields.specs.Lines.{basic, template33, linesOf, lastField, bitsBefore}
 use Rattle.layout.specs.Contents.{Contents}
 use Rattle.layout.specs.Image.{contents, nothing, layoutOf, pairsIn}
 use Rattle.layout.proofs.Accepted.{contents-accepted}
 use Rattle.sheet.specs.Check.{readField}
+use Rattle.sheet.proofs.PlaceSteps.{fields-end}
 use Rattle.sheet.proofs.ReadLaws.{refused-reads}
 use Rattle.change.specs.Change.{codeFor}
 use Rattle.index.specs.declared.Entry.{Entry}
 use Rattle.index.specs.Index.{fieldEntry, pairEntry, entries, entryBytes, entryAt, index, fetch}
 use Rattle.index.specs.Laid.{entryOf}
-use Rattle.index.proofs.EntryLaws.{lies, entry-rises}
+use Rattle.index.proofs.Laying.{bytes-count}
+use Rattle.index.proofs.EntryLaws.{of-pair, lies, entry-rises}
 use Rattle.index.proofs.IndexLaws.{index-unread, index-of, index-same}
 use Rattle.index.proofs.FetchLaws.{fetch-unsized, fetch-turned}
 use Rattle.index.proofs.Fetched.{read-back, fetched-own}
 use Rattle.promises.specs.declared.Change.{Change}
 use Rattle.promises.specs.Changes.{changed, stores, heldBy, held}
-use Rattle.promises.specs.Index.{FetchedAsRead, RefusedAlike, IndexSorted, IndexKept, FetchedAfterChanges}
+use Rattle.promises.specs.Index.{FetchedAsRead, RefusedAlike, IndexSorted, IndexFits, IndexKept, FetchedAfterChanges}
 use Rattle.promises.proofs.AfterChanges.{after-changes, refused-after}
 
 -- ---- fetched as read
@@ -65,6 +73,44 @@ index-sorted kind image buffer made c i e h l =
       entry-rises (layoutOf c) i,
       lies (contents-accepted kind image c e .holding) i (omega arith) .some,
     )
+
+-- ---- its bytes
+
+fields-are : (t : Template) → lastField t ≡ 21
+unfolding basic template33 linesOf
+fields-are Bridge = refl
+
+fields-least : (t : Template) (p : ℕ) → 265 ≤ bitsBefore (linesOf t) p (lastField t)
+unfolding basic template33 linesOf
+fields-least Bridge zero = omega arith
+fields-least Bridge (suc zero) = omega arith
+fields-least Bridge (suc (suc p)) = omega arith
+
+pub index-fits : IndexFits
+index-fits kind image c e = go (decLt (lastField (c .template)) (length (entries c)))
+  where
+    layout : Layout
+    layout = layoutOf c
+
+    go : Dec (lastField (c .template) < length (entries c)) → length (entryBytes (entries c)) ≤ 480
+    go (no l) = omega (arith, bytes-count (entries c), fields-are (c .template))
+    go (yes l) =
+        let a = contents-accepted kind image c e in
+        let i : ℕ = length (entries c) - 1 in
+        let chip = sizes-chip kind (length image) (a .sizes) (a .sized) in
+        let at = of-pair layout i (omega arith) in
+        omega (
+          arith,
+          bytes-count (entries c),
+          fields-are (c .template),
+          fields-least (c .template) (layout .precision),
+          fields-end layout,
+          ap (λ (x : Entry). x .offset) at,
+          ap (λ (x : Entry). x .length) at,
+          lies (a .holding) i (omega arith) .inside,
+          chip .few,
+          chip .most,
+        )
 
 -- ---- after changes
 

@@ -2,7 +2,7 @@
 -- makes it wrong.
 use mathlib.Core.Path.{_≡_}
 use mathlib.Core.List.{List}
-use Prim.Native.Nat.{ℕ, suc, _<_}
+use Prim.Native.Nat.{ℕ, suc, _≤_, _<_}
 use lib.ListN.{length}
 use Rattle.refusal.specs.declared.Refusal.{Refusal}
 use Rattle.refusal.specs.Outcome.{Outcome, good, refused, _>>=_}
@@ -11,7 +11,7 @@ use Rattle.memory.specs.Image.{imageSizes, sums}
 use Rattle.layout.specs.Contents.{Contents}
 use Rattle.layout.specs.Image.{contents}
 use Rattle.sheet.specs.Check.{readField}
-use Rattle.index.specs.Index.{entries, entryAt, index, fetch}
+use Rattle.index.specs.Index.{entries, entryBytes, entryAt, index, fetch}
 use Rattle.promises.specs.declared.Change.{Change}
 use Rattle.promises.specs.Changes.{RealChanges, changed}
 
@@ -44,6 +44,12 @@ abbrev pub IndexSorted : Type 0
 IndexSorted =
     (kind : ℕ) (image buffer made : List ℕ) (c : Contents) (i : ℕ) → contents kind image ≡ good c → index kind image buffer ≡ good made →
     suc i < length (entries c) → entryAt made i .offset < entryAt made (suc i) .offset
+
+-- ---- its bytes
+
+-- 480 bytes hold any index: 4 for each of 21 fields and of the 99 points that the largest chip has room for.
+abbrev pub IndexFits : Type 0
+IndexFits = (kind : ℕ) (image : List ℕ) (c : Contents) → contents kind image ≡ good c → length (entryBytes (entries c)) ≤ 480
 
 -- ---- after changes
 
