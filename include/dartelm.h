@@ -1,8 +1,9 @@
 /* Dartelm: the IEEE 1451.4 data sheet (TEDS) in a sender's memory chip, from its image to a reading. For C99 and C++.
  *
  * Every call returns one struct by value. Its number is 0 where the call is accepted; else it is a refusal's, DARTELM_WRONG_IMAGE
- * to DARTELM_BLANK_CHIP, with the refusal's place beside it, and every other member is 0. (0 as a float is +0.0. A Single that is
- * returned is finite.) A refused call writes nothing; no call writes anything but the image of a build or a change.
+ * to DARTELM_SHORT_INDEX, with the refusal's place beside it, and every other member is 0. (0 as a float is +0.0. A Single that is
+ * returned is finite.) A refused call writes nothing; no call writes anything but the image of a build or a change, and the buffer
+ * of an index.
  *
  * Nothing is kept between calls, so any number of them may run at once, in interrupts too. No heap is used; the only functions
  * taken from outside are memcpy and memset. Every call returns, whatever it is handed.
@@ -53,7 +54,8 @@ enum {
     DARTELM_OUTSIDE_SPAN = 14,  /* A reading's input is too far outside the span. Place: 0. */
     DARTELM_SINGLE_SPAN = 15,   /* A reading at precision 2. Place: 9. */
     DARTELM_WRONG_LIST = 16,    /* A list of points that is odd or longer than 254. Place: its length. */
-    DARTELM_BLANK_CHIP = 17     /* Every page is blank: nothing has been written to this chip. Place: 0. */
+    DARTELM_BLANK_CHIP = 17,    /* Every page is blank: nothing has been written to this chip. Place: 0. */
+    DARTELM_SHORT_INDEX = 18    /* A buffer too short for an index, or an index too short to be one. Place: the bytes needed. */
 };
 
 /* Fields 1 to 21, and what a value counts. */
@@ -87,6 +89,10 @@ enum {
 
 /* The bytes of the longest image. */
 #define DARTELM_LONGEST_IMAGE 512
+
+/* The bytes of an index of an image with so many calibration points, and of the longest index. */
+#define DARTELM_INDEX_LENGTH(points) (4 * (DARTELM_FIELDS + (points)))
+#define DARTELM_LONGEST_INDEX 480
 
 /* ---- structs ---- */
 
@@ -196,6 +202,18 @@ dartelm_check_answer dartelm_check(uint8_t kind, const uint8_t *image, size_t im
 
 /* Reads field 1 to 21. Refused as a check is, and with 8 for another field. */
 dartelm_field_answer dartelm_field(uint8_t kind, const uint8_t *image, size_t image_length, uint64_t field);
+
+/* Makes the index of an image in a buffer: for each field in order, then for each calibration point, its first bit in the stream
+ * and its bits, 16 bits each, low byte first. DARTELM_INDEX_LENGTH gives the bytes; those beyond stay. Refused as a check is, and with 18: then the
+ * buffer keeps every byte. An index stays right when a field is changed. */
+dartelm_write_answer dartelm_index(uint8_t kind, const uint8_t *image, size_t image_length, uint8_t *buffer, size_t buffer_length);
+
+/* Fetches field 1 to 21 where an index says that it stands: through the image's own index it is what dartelm_field gives. Only the
+ * page sums and this field are looked at. Refused with 1, 2 and 17 for the image, 8 for another field, 18 for an index of fewer
+ * than 84 bytes; with 5 where the index gives the field bits that it cannot have, or that the stream has not; and with 5 and 6 for
+ * the field's bits. Any bytes may be handed in as an index. */
+dartelm_field_answer dartelm_fetch(uint8_t kind, const uint8_t *image, size_t image_length, const uint8_t *index,
+                                   size_t index_length, uint64_t field);
 
 /* Reads all fields with one check: each is what dartelm_field gives. Refused as a check is. */
 dartelm_sheet_answer dartelm_sheet(uint8_t kind, const uint8_t *image, size_t image_length);

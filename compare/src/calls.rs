@@ -21,6 +21,8 @@ pub trait Calls {
     fn text(&self, field: u64, code: u64) -> TextAnswer;
     fn code(&self, field: u64, text: &[u8]) -> CodeAnswer;
     fn page(&self, kind: u8, image: &[u8], page: u64) -> PageAnswer;
+    fn index(&self, kind: u8, image: &[u8], buffer: &mut [u8]) -> WriteAnswer;
+    fn fetch(&self, kind: u8, image: &[u8], index: &[u8], field: u64) -> FieldAnswer;
 
     fn checked(&self, kind: u8, image: &[u8]) -> Result<Summary, Refusal> {
         let CheckAnswer { number, place, bits, points, characters, end_bit } = self.check(kind, image);
@@ -30,6 +32,17 @@ pub trait Calls {
 
     fn field_read(&self, kind: u8, image: &[u8], field: u64) -> Result<Value, Refusal> {
         let FieldAnswer { number, place, value } = self.field(kind, image, field);
+        accepted(number, place)?;
+        Ok(value.value())
+    }
+
+    fn indexed(&self, kind: u8, image: &[u8], buffer: &mut [u8]) -> Result<(), Refusal> {
+        let WriteAnswer { number, place } = self.index(kind, image, buffer);
+        accepted(number, place)
+    }
+
+    fn fetched(&self, kind: u8, image: &[u8], index: &[u8], field: u64) -> Result<Value, Refusal> {
+        let FieldAnswer { number, place, value } = self.fetch(kind, image, index, field);
         accepted(number, place)?;
         Ok(value.value())
     }
@@ -116,10 +129,7 @@ impl Calls for Plain {
     }
 
     fn field(&self, kind: u8, image: &[u8], field: u64) -> FieldAnswer {
-        match plain::field(kind, image, field) {
-            Ok(value) => FieldAnswer { value: value.into(), ..FieldAnswer::default() },
-            Err(Refusal { number, place }) => FieldAnswer { number, place, ..FieldAnswer::default() },
-        }
+        held(plain::field(kind, image, field))
     }
 
     /// A check, and then the fields one by one.
@@ -189,6 +199,21 @@ impl Calls for Plain {
         let mut bytes = [0; 31];
         bytes[..part.len()].copy_from_slice(part);
         PageAnswer { count: part.len() as u64, bytes }
+    }
+
+    fn index(&self, kind: u8, image: &[u8], buffer: &mut [u8]) -> WriteAnswer {
+        wrote(plain::index(kind, image, buffer))
+    }
+
+    fn fetch(&self, kind: u8, image: &[u8], index: &[u8], field: u64) -> FieldAnswer {
+        held(plain::fetch(kind, image, index, field))
+    }
+}
+
+fn held(answer: Result<Value, Refusal>) -> FieldAnswer {
+    match answer {
+        Ok(value) => FieldAnswer { value: value.into(), ..FieldAnswer::default() },
+        Err(Refusal { number, place }) => FieldAnswer { number, place, ..FieldAnswer::default() },
     }
 }
 

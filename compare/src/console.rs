@@ -18,6 +18,8 @@ pub enum Command {
     Reading(u8, Vec<u8>, i64),
     Text(u64, u64),
     Code(u64, Vec<u8>),
+    Index(u8, Vec<u8>, Vec<u8>),
+    Fetch(u8, Vec<u8>, Vec<u8>, u64),
 }
 
 /// Answers a line; `?` if it is no command.
@@ -44,6 +46,10 @@ pub fn parse(line: &str) -> Option<Command> {
         ["reading", kind, image, input] => Command::Reading(unsigned(kind)?, bytes(image)?, signed(input)?),
         ["text", field, code] => Command::Text(unsigned(field)?, unsigned(code)?),
         ["code", field, text] => Command::Code(unsigned(field)?, bytes(text)?),
+        ["index", kind, image, buffer] => Command::Index(unsigned(kind)?, bytes(image)?, bytes(buffer)?),
+        ["fetch", kind, image, index, field] => {
+            Command::Fetch(unsigned(kind)?, bytes(image)?, bytes(index)?, unsigned(field)?)
+        }
         ["build", kind, length, ref rest @ ..] if rest.len() == 24 => {
             let mut values = Box::new([Value::Missing; 21]);
             for (place, word) in values.iter_mut().zip(rest) {
@@ -171,6 +177,10 @@ impl Display for Command {
             }
             Command::Text(field, code) => write!(to, "text {field} {code}"),
             Command::Code(field, text) => write!(to, "code {field} {}", Hex(text)),
+            Command::Index(kind, image, buffer) => write!(to, "index {kind} {} {}", Hex(image), Hex(buffer)),
+            Command::Fetch(kind, image, index, field) => {
+                write!(to, "fetch {kind} {} {} {field}", Hex(image), Hex(index))
+            }
         }
     }
 }
@@ -221,6 +231,12 @@ impl Command {
                 Hex(&text.characters[..text.length]).to_string()
             }
             Command::Code(field, text) => calls.code_of(*field, text)?.to_string(),
+            Command::Index(kind, image, buffer) => {
+                let mut buffer = buffer.clone();
+                calls.indexed(*kind, image, &mut buffer)?;
+                format!("ok {}", Hex(&buffer))
+            }
+            Command::Fetch(kind, image, index, field) => calls.fetched(*kind, image, index, *field)?.to_string(),
         })
     }
 }
@@ -254,6 +270,10 @@ mod tests {
             "change 0 - 1 s+0000000",
             "change 0 - 1 w",
             "build 0 40 m",
+            "index 0 -",
+            "index 0 - 0",
+            "fetch 0 - -",
+            "fetch 0 - - w1",
         ] {
             assert_eq!(answer(line, &Plain), "?", "{line}");
         }
@@ -273,6 +293,8 @@ mod tests {
             "reading 0 - -9223372036854775808",
             "text 18 0",
             "code 18 -",
+            "index 1 00ff -",
+            "fetch 2 - 0a0b 21",
             &format!("build 0 40 {fields}1 6162 -"),
             &format!("build 0 40 {fields}0 - 5,-6"),
         ] {

@@ -32,6 +32,21 @@ mod dartelm {
         pub safe fn dartelm_text(field: u64, code: u64) -> TextAnswer;
         pub fn dartelm_code(field: u64, text: *const u8, text_length: usize) -> CodeAnswer;
         pub fn dartelm_page(kind: u8, image: *const u8, image_length: usize, page: u64) -> PageAnswer;
+        pub fn dartelm_index(
+            kind: u8,
+            image: *const u8,
+            image_length: usize,
+            buffer: *mut u8,
+            buffer_length: usize,
+        ) -> WriteAnswer;
+        pub fn dartelm_fetch(
+            kind: u8,
+            image: *const u8,
+            image_length: usize,
+            index: *const u8,
+            index_length: usize,
+            field: u64,
+        ) -> FieldAnswer;
     }
 }
 
@@ -89,5 +104,14 @@ impl Calls for Product {
 
     fn page(&self, kind: u8, image: &[u8], page: u64) -> PageAnswer {
         unsafe { dartelm::dartelm_page(kind, image.as_ptr(), image.len(), page) }
+    }
+
+    fn index(&self, kind: u8, image: &[u8], buffer: &mut [u8]) -> WriteAnswer {
+        let (buffer, buffer_length) = (buffer.as_mut_ptr(), buffer.len());
+        unsafe { dartelm::dartelm_index(kind, image.as_ptr(), image.len(), buffer, buffer_length) }
+    }
+
+    fn fetch(&self, kind: u8, image: &[u8], index: &[u8], field: u64) -> FieldAnswer {
+        unsafe { dartelm::dartelm_fetch(kind, image.as_ptr(), image.len(), index.as_ptr(), index.len(), field) }
     }
 }

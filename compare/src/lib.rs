@@ -1,4 +1,4 @@
-//! Dartelm's calls against a plain Rust implementation of the same document 01.
+//! Dartelm's calls against a plain Rust implementation of the same documents 01 and 02.
 
 #![deny(unsafe_code)]
 

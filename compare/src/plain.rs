@@ -380,7 +380,8 @@ struct Open {
     text: u64,
 }
 
-fn open(kind: u8, image: &[u8]) -> Answer<Open> {
+/// An image's pages: 1, 17, then 2 for the first that is not good.
+fn paged(kind: u8, image: &[u8]) -> Answer<Chip> {
     let Some(chip) = chip(kind, image.len()) else {
         return refuse(1, 0);
     };
@@ -396,6 +397,11 @@ fn open(kind: u8, image: &[u8]) -> Answer<Open> {
             return refuse(2, page as u64);
         }
     }
+    Ok(chip)
+}
+
+fn open(kind: u8, image: &[u8]) -> Answer<Open> {
+    let chip = paged(kind, image)?;
     let mut walk = Walk::new(chip, image);
     for rule in &RULES[..5] {
         let bit = walk.at;
@@ -564,6 +570,49 @@ pub fn character(kind: u8, image: &[u8], index: u64) -> Answer<u8> {
         return refuse(8, index);
     }
     Ok(open.chip.get(image, open.text + 7 * index, 7) as u8)
+}
+
+// ---- an index beside the image ----
+
+/// Pairs of offset and length, 16 bits each, low byte first: the fields, then the points.
+pub fn index(kind: u8, image: &[u8], buffer: &mut [u8]) -> Answer<()> {
+    let open = open(kind, image)?;
+    let (precision, points) = (open.precision, open.summary.points);
+    let needed = 4 * (21 + points);
+    if (buffer.len() as u64) < needed {
+        return refuse(18, needed);
+    }
+    let fields = (1..=21).map(|field| (first_bit(field, precision), rule(field, precision).width() as u16));
+    let pairs = (0..points).map(|index| (open.pairs + PAIR_BITS * index, PAIR_BITS as u16));
+    for ((offset, length), entry) in fields.chain(pairs).zip(buffer.chunks_exact_mut(4)) {
+        entry[..2].copy_from_slice(&(offset as u16).to_le_bytes());
+        entry[2..].copy_from_slice(&length.to_le_bytes());
+    }
+    Ok(())
+}
+
+pub fn fetch(kind: u8, image: &[u8], index: &[u8], field: u64) -> Answer<Value> {
+    let chip = paged(kind, image)?;
+    if !(1..=21).contains(&field) {
+        return refuse(8, field);
+    }
+    if index.len() < 84 {
+        return refuse(18, 84);
+    }
+    let field = field as usize;
+    let entry = &index[4 * (field - 1)..4 * field];
+    let offset = u64::from(u16::from_le_bytes([entry[0], entry[1]]));
+    let length = u32::from(u16::from_le_bytes([entry[2], entry[3]]));
+    let mut rules = (0..3).map(|precision| rule(field, precision));
+    let Some(rule) = rules.find(|rule| rule.width() == length) else {
+        return refuse(5, offset);
+    };
+    if offset + u64::from(length) > chip.stream_bits() {
+        return refuse(5, offset);
+    }
+    let code = chip.get(image, offset, length);
+    rule.judge(code, offset)?;
+    Ok(rule.value(code))
 }
 
 // ---- write ----

@@ -20,6 +20,7 @@ struct Case {
     fields: Fields,
     text: &'static [u8],
     points: Vec<i64>,
+    index: [u8; 480],
 }
 
 fn values() -> [Value; 21] {
@@ -59,8 +60,9 @@ impl Case {
             points: (0..count)
                 .flat_map(|i| [i * 1_000_000_000 / count.max(1), (i * 7_919 % 200 - 100) * 10_000])
                 .collect(),
+            index: [0; 480],
         };
-        let number = build(&Plain, &mut case, 0);
+        let number = build(&Plain, &mut case, 0).max(index(&Plain, &mut case, 0));
         assert_eq!(number, 0, "kind {kind}, {count} points");
         case
     }
@@ -85,6 +87,26 @@ fn first_field<C: Calls>(calls: &C, case: &mut Case, _: usize) -> u8 {
 
 fn last_field<C: Calls>(calls: &C, case: &mut Case, _: usize) -> u8 {
     field(calls, case, 21)
+}
+
+#[inline(never)]
+fn index<C: Calls>(calls: &C, case: &mut Case, _: usize) -> u8 {
+    let buffer = black_box(&mut case.index[..]);
+    black_box(&calls.index(black_box(case.kind), black_box(&case.image), buffer)).number
+}
+
+#[inline(never)]
+fn fetch<C: Calls>(calls: &C, case: &mut Case, field: u64) -> u8 {
+    let (image, index) = (black_box(&case.image), black_box(&case.index[..]));
+    black_box(&calls.fetch(black_box(case.kind), image, index, black_box(field))).number
+}
+
+fn first_fetched<C: Calls>(calls: &C, case: &mut Case, _: usize) -> u8 {
+    fetch(calls, case, 1)
+}
+
+fn last_fetched<C: Calls>(calls: &C, case: &mut Case, _: usize) -> u8 {
+    fetch(calls, case, 21)
 }
 
 #[inline(never)]
@@ -156,10 +178,13 @@ fn main() {
     println!("|---|---|---|---|---|---|");
     for (kind, points, text) in CASES {
         let mut case = Case::new(kind, points, text);
-        let rows: [(&str, Run, Run); 6] = [
+        let rows: [(&str, Run, Run); 9] = [
             ("check", &over(Product, check), &over(Plain, check)),
             ("field 1", &over(Product, first_field), &over(Plain, first_field)),
             ("field 21", &over(Product, last_field), &over(Plain, last_field)),
+            ("index", &over(Product, index), &over(Plain, index)),
+            ("fetch 1", &over(Product, first_fetched), &over(Plain, first_fetched)),
+            ("fetch 21", &over(Product, last_fetched), &over(Plain, last_fetched)),
             ("reading", &over(Product, reading), &over(Plain, reading)),
             ("change field 18", &over(Product, change), &over(Plain, change)),
             ("build", &over(Product, build), &over(Plain, build)),

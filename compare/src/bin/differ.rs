@@ -23,10 +23,12 @@ mod layout;
 #[path = "differ/values.rs"]
 mod values;
 
-use layout::{get, image_length, pages};
+use layout::{get, image_length, pages, stream_bits, width};
 
-const CALLS: [&str; 12] =
-    ["check", "page", "field", "pair", "char", "build", "change", "reading", "text", "code", "sheet", "kind"];
+const CALLS: [&str; 14] = [
+    "check", "page", "field", "pair", "char", "build", "change", "reading", "text", "code", "sheet", "kind", "index",
+    "fetch",
+];
 const CHECK: usize = 0;
 const PAGE: usize = 1;
 const FIELD: usize = 2;
@@ -39,20 +41,27 @@ const TEXT: usize = 8;
 const CODE: usize = 9;
 const SHEET: usize = 10;
 const KIND: usize = 11;
+const INDEX: usize = 12;
+const FETCH: usize = 13;
+
+/// Refusal numbers, and 0.
+const NUMBERS: usize = 19;
 
 const MOST_SHOWN: u64 = 10;
 
-/// Lent images stand this far inside a longer buffer.
+/// What is lent stands this far inside a longer buffer.
 const MARGIN: usize = 16;
 const ROOM: usize = 640;
 
 // ---- what is lent and answered ----
 
-/// The one buffer that a call can write to, longer than what is lent of it.
+/// The buffers that a call can write to, longer than what is lent of them.
 #[derive(Clone)]
 struct Lent {
     image: [u8; ROOM],
     image_length: usize,
+    index: [u8; ROOM],
+    index_length: usize,
 }
 
 impl Lent {
@@ -62,6 +71,19 @@ impl Lent {
 
     fn image_mut(&mut self) -> &mut [u8] {
         &mut self.image[MARGIN..MARGIN + self.image_length]
+    }
+
+    fn index(&self) -> &[u8] {
+        &self.index[MARGIN..MARGIN + self.index_length]
+    }
+
+    fn index_mut(&mut self) -> &mut [u8] {
+        &mut self.index[MARGIN..MARGIN + self.index_length]
+    }
+
+    fn image_and_index(&mut self) -> (&[u8], &mut [u8]) {
+        let image = &self.image[MARGIN..MARGIN + self.image_length];
+        (image, &mut self.index[MARGIN..MARGIN + self.index_length])
     }
 }
 
@@ -107,7 +129,7 @@ struct Differ {
     calls: u64,
     differ: u64,
     /// By call and number.
-    numbers: [[u64; 18]; CALLS.len()],
+    numbers: [[u64; NUMBERS]; CALLS.len()],
     /// Accepted, by call and kind.
     kinds: [[u64; 3]; CALLS.len()],
 }
@@ -116,11 +138,11 @@ impl Differ {
     fn new(seed: u64) -> Differ {
         Differ {
             random: Random(seed),
-            lent: Lent { image: [0; ROOM], image_length: 0 },
+            lent: Lent { image: [0; ROOM], image_length: 0, index: [0; ROOM], index_length: 0 },
             kind: 0,
             calls: 0,
             differ: 0,
-            numbers: [[0; 18]; CALLS.len()],
+            numbers: [[0; NUMBERS]; CALLS.len()],
             kinds: [[0; 3]; CALLS.len()],
         }
     }
@@ -140,7 +162,7 @@ impl Differ {
         kind
     }
 
-    /// Both sides' call on the same buffer; afterwards the buffer is the plain side's.
+    /// Both sides' call on the same buffers; afterwards the buffers are the plain side's.
     fn both<A: Answer>(
         &mut self,
         call: usize,
@@ -157,7 +179,7 @@ impl Differ {
         if expected.number() == 0 {
             self.kinds[call][usize::from(kind % 3)] += 1;
         }
-        let same = product.image == plain.image;
+        let same = product.image == plain.image && product.index == plain.index;
         if given != expected || !same {
             self.differ += 1;
             if self.differ <= MOST_SHOWN {
@@ -166,7 +188,7 @@ impl Differ {
                 println!("  {command}");
                 println!("  product {given:?}");
                 println!("  plain   {expected:?}");
-                println!("  bytes of the image {}", if same { "the same" } else { "differ" });
+                println!("  bytes lent {}", if same { "the same" } else { "differ" });
             }
         }
         self.lent = plain;
@@ -293,6 +315,65 @@ impl Differ {
             kind,
             |image| Command::Change(kind, image.to_vec(), field, value.value()),
             |calls, lent| calls.change(kind, lent.image_mut(), field, value),
+        );
+    }
+
+    /// An index made in a buffer that is mostly long enough, and often just so.
+    fn make_index(&mut self) {
+        let points = plain::check(self.kind, self.image()).map_or(0, |summary| summary.points);
+        let needed = 4 * (21 + points) as usize;
+        let any = self.random.below(600) as usize;
+        self.lent.index_length = self.random.pick(&[any, needed - 1, needed, needed, needed + 1, needed + 7, 608]);
+        if self.random.percent(50) {
+            self.random.fill(&mut self.lent.index);
+        }
+        let buffer = self.lent.index().to_vec();
+        let kind = self.chip();
+        self.both(
+            INDEX,
+            kind,
+            |image| Command::Index(kind, image.to_vec(), buffer.clone()),
+            |calls, lent| {
+                let (image, index) = lent.image_and_index();
+                calls.index(kind, image, index)
+            },
+        );
+    }
+
+    /// A field through an index: mostly the image's own, else what the buffer holds; now and then the field's entry is another.
+    fn fetch(&mut self) {
+        let field = self.field_number();
+        self.lent.index_length = 608;
+        if self.random.percent(80) {
+            let image = self.image().to_vec();
+            // Where the image is refused, the buffer stays.
+            let _ = plain::index(self.kind, &image, self.lent.index_mut());
+        }
+        if self.random.percent(25) && (1..=21).contains(&field) {
+            let at = 4 * (field as usize - 1);
+            let bits = stream_bits(self.kind) as u64;
+            let width = width(field as usize, self.precision()) as u64;
+            let near = bits + 2 - self.random.below(40);
+            let inside = self.random.below(bits);
+            let any = self.random.below(1 << 16);
+            let offset = self.random.pick(&[0, 64, 146, bits - width, bits - width + 1, near, inside, any]);
+            let length = self.random.pick(&[width, width, width, 0, 11, 19, 32, width + 1, width | 256, any]);
+            let entry = &mut self.lent.index_mut()[at..at + 4];
+            if self.random.percent(70) {
+                entry[..2].copy_from_slice(&(offset as u16).to_le_bytes());
+            }
+            entry[2..].copy_from_slice(&(length as u16).to_le_bytes());
+        }
+        if self.random.percent(20) {
+            self.lent.index_length = self.random.pick(&[480, 85, 84, 83, 0]);
+        }
+        let index = self.lent.index().to_vec();
+        let kind = self.chip();
+        self.both(
+            FETCH,
+            kind,
+            |image| Command::Fetch(kind, image.to_vec(), index.clone(), field),
+            |calls, lent| calls.fetch(kind, lent.image(), lent.index(), field),
         );
     }
 
@@ -450,7 +531,9 @@ impl Differ {
             37..=46 => self.pair(),
             47..=56 => self.character(),
             57..=65 => self.change(),
-            66..=91 => self.reading(),
+            66..=80 => self.reading(),
+            81..=83 => self.make_index(),
+            84..=91 => self.fetch(),
             92..=95 => self.text(),
             _ => self.code(),
         }
@@ -486,14 +569,14 @@ impl Differ {
     fn report(&self, seed: u64) {
         println!("| Call | Calls | Accepted, kind 0 | kind 1 | kind 2 | Refused, number: times |");
         println!("|---|---|---|---|---|---|");
-        let times = |numbers: &[u64; 18]| {
-            let times: Vec<String> = (1..18)
+        let times = |numbers: &[u64; NUMBERS]| {
+            let times: Vec<String> = (1..NUMBERS)
                 .filter(|number| numbers[*number] > 0)
                 .map(|number| format!("{number}: {}", numbers[number]))
                 .collect();
             times.join(", ")
         };
-        let mut totals = [0; 18];
+        let mut totals = [0; NUMBERS];
         for (call, name) in CALLS.iter().enumerate() {
             let numbers = &self.numbers[call];
             for (total, number) in totals.iter_mut().zip(numbers) {

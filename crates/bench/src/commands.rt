@@ -2,6 +2,7 @@
 use crate::asked;
 use crate::asked::Asked;
 use crate::asked::ROOM;
+use crate::indexes;
 use crate::printing;
 use crate::reads;
 use crate::turned;
@@ -13,7 +14,7 @@ use words::Number;
 use words::front;
 use words::word;
 
-const HELP: [u8; 407] = *b"check KIND IMAGE\n\
+const HELP: [u8; 469] = *b"check KIND IMAGE\n\
     page KIND IMAGE PAGE\n\
     field KIND IMAGE FIELD\n\
     pair KIND IMAGE INDEX\n\
@@ -22,10 +23,12 @@ const HELP: [u8; 407] = *b"check KIND IMAGE\n\
     show KIND IMAGE\n\
     build KIND LENGTH V1 .. V21 ENDBIT TEXT POINTS\n\
     change KIND IMAGE FIELD VALUE\n\
+    index KIND IMAGE BUFFER\n\
+    fetch KIND IMAGE BUFFER FIELD\n\
     text FIELD CODE\n\
     code FIELD TEXT\n\
     help\n\
-    KIND 0, 1 or 2; IMAGE and TEXT in hexadecimal, - for none; VALUE w7, s3f800000 or m;\n\
+    KIND 0, 1 or 2; IMAGE, TEXT and BUFFER in hexadecimal, - for none; VALUE w7, s3f800000 or m;\n\
     POINTS point,deviation,.. or -; a refusal is: no NUMBER PLACE\n";
 
 // Answers a line.
@@ -35,7 +38,7 @@ pub fn answer(line: &[u8]) {
         1 => of_nothing(name),
         3 => of_two(line, name),
         4 => of_three(line, name),
-        5 => writes::change(line, name),
+        5 => of_four(line, name),
         27 => writes::build(line, name),
         _ => printing::unknown(),
     }
@@ -73,13 +76,23 @@ fn of_image(name: &[u8], kind: u8, image: &[u8]) {
     printing::unknown();
 }
 
-// The commands of an image and an input or a number.
+// The commands of an image and a buffer, an input or a number.
 fn of_three(line: &[u8], name: &[u8]) {
+    if equal(name, b"index") {
+        return indexes::index(line);
+    }
     let mut room = [0u8; ROOM];
     let Asked::Of(chip) = asked::lent(line, &mut room) else {
         return printing::unknown();
     };
     of_image_and(name, chip.kind, front(&room, chip.length), word(line, 3));
+}
+
+fn of_four(line: &[u8], name: &[u8]) {
+    if equal(name, b"fetch") {
+        return indexes::fetch(line);
+    }
+    writes::change(line, name);
 }
 
 fn of_image_and(name: &[u8], kind: u8, image: &[u8], last: &[u8]) {

@@ -3,6 +3,7 @@
 // call ends; what is read and written goes through `io` and `libc`, whose contracts of C's read and write are assumed.
 mod asked; // asked.rt: the kind and the image of a line
 mod commands; // commands.rt: a command, by its words
+mod indexes; // indexes.rt: index and fetch
 mod printing; // printing.rt: what an answer is made of
 mod reads; // reads.rt: the commands that leave the image alone
 mod serving; // serving.rt: lines from standard input

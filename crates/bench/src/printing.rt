@@ -1,4 +1,5 @@
 // What an answer is made of.
+use crate::asked::ROOM;
 use fields::Value;
 use libc::STDOUT_FILENO;
 use refusal::Refusal;
@@ -7,8 +8,8 @@ use shown::put_figure;
 use shown::put_number;
 use words::Filled;
 
-// The most bytes that an answer spells: the largest image.
-const LARGEST: usize = 512;
+// The most bytes that an answer spells: any buffer that a line can lend.
+const LARGEST: usize = ROOM;
 
 // Bytes in hexadecimal, `-` for none.
 pub fn bytes(bytes: &[u8]) {

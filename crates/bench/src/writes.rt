@@ -15,11 +15,12 @@ use words::Worth;
 use words::front_mut;
 use words::word;
 
-fn written(answer: Written, image: &[u8]) {
+// A buffer afterwards, or the refusal.
+pub fn written(answer: Written, buffer: &[u8]) {
     match answer {
         Written::Done => {
             put(b"ok ");
-            printing::bytes(image);
+            printing::bytes(buffer);
             printing::end();
         }
         Written::Refused(r) => printing::refused(r),

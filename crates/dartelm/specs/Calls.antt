@@ -1,4 +1,4 @@
--- include/dartelm.h, call by call: which call of document 01 it is, and the struct that tells its outcome.
+-- include/dartelm.h, call by call: which call of documents 01 and 02 it is, and the struct that tells its outcome.
 use mathlib.Core.Bool.{Bool, true, false, cond}
 use mathlib.Core.List.{List, []}
 use Prim.Native.Nat.{ℕ}
@@ -9,6 +9,7 @@ use Rattle.memory.specs.Image.{imageSizes, pageBytes}
 use Rattle.fields.specs.declared.Value.the-variants.{Whole}
 use Rattle.texts.specs.Text.{textOf, codeOf}
 use Rattle.sheet.specs.Check.{check, readField, readPair, readCharacter}
+use Rattle.index.specs.Index.{index, fetch}
 use Rattle.build.specs.Build.{build}
 use Rattle.change.specs.Change.{change}
 use Rattle.reading.specs.Reading.{takeReading}
@@ -52,19 +53,25 @@ checkCall kind image = told checkAnswer noSummary (check kind image)
 abbrev pub fieldCall : ℕ → List ℕ → ℕ → DartelmFieldAnswer
 fieldCall kind image field = told fieldAnswer (Whole (pos 0)) (readField kind image field)
 
+abbrev pub fetchCall : ℕ → List ℕ → List ℕ → ℕ → DartelmFieldAnswer
+fetchCall kind image made field = told fieldAnswer (Whole (pos 0)) (fetch kind image made field)
+
 abbrev pub pairCall : ℕ → List ℕ → ℕ → DartelmPairAnswer
 pairCall kind image index = told pairAnswer noPair (readPair kind image index)
 
 abbrev pub characterCall : ℕ → List ℕ → ℕ → DartelmCharacterAnswer
 characterCall kind image index = told characterAnswer 0 (readCharacter kind image index)
 
--- ---- build and change: the outcome, of which the answer and every byte of the image afterwards are told
+-- ---- build, change and index: the outcome, of which the answer and every byte of the image or the buffer afterwards are told
 
 abbrev pub buildCall : ℕ → List ℕ → DartelmFields → List ℕ → List ℤ → Outcome (List ℕ)
 buildCall kind image fields text points = build kind image (sheetOf fields) text points
 
 abbrev pub changeCall : ℕ → List ℕ → ℕ → DartelmValue → Outcome (List ℕ)
 changeCall kind image field value = change kind image field (valueOf value)
+
+abbrev pub indexCall : ℕ → List ℕ → List ℕ → Outcome (List ℕ)
+indexCall kind image buffer = index kind image buffer
 
 -- ---- a reading, texts, a page
 

@@ -1,19 +1,25 @@
 // Dartelm for firmware: the calls of `include/dartelm.h`. Every function is proved, nothing is assumed, and no call asks
-// anything of its caller. A call answers one struct by value; the only slices are what is lent: an image, a text, points.
+// anything of its caller. A call answers one struct by value; the only slices are what is lent: an image, a text, points,
+// an index.
 ghost use mathlib.Core.Path.{_≡_};
 ghost use mathlib.Core.List.{List, []};
 ghost use Prim.Native.Nat.{ℕ};
+ghost use lib.IntN.{pos};
 ghost use Rattle.refusal.specs.Written.{writtenSaid, afterwards};
-ghost use Rattle.dartelm.specs.Answers.{told, writeAnswer};
+ghost use Rattle.fields.specs.declared.Value.the-variants.{Whole};
+ghost use Rattle.sheet.specs.Check.{fieldSaid};
+ghost use Rattle.dartelm.specs.Answers.{told, fieldAnswer, writeAnswer};
 ghost use Rattle.dartelm.specs.Calls.{
   version,
   kindOf,
   checkCall,
   fieldCall,
+  fetchCall,
   pairCall,
   characterCall,
   buildCall,
   changeCall,
+  indexCall,
   readingCall,
   textCall,
   codeCall,
@@ -93,12 +99,11 @@ pub extern "C" fn dartelm_check(kind: u8, image: &[u8]) -> DartelmCheckAnswer
     }
 }
 
-// Reads field 1 to 21.
-#[no_mangle]
-pub extern "C" fn dartelm_field(kind: u8, image: &[u8], field: u64) -> DartelmFieldAnswer
-    ensures { λ r. ⌜ r ≡ fieldCall kind (now (image .entry)) field ⌝ }
+// What a field that was read or fetched answers.
+fn held(answer: FieldAnswer) -> DartelmFieldAnswer
+    ensures { λ r. ⌜ r ≡ told fieldAnswer (Whole (pos 0)) (fieldSaid answer) ⌝ }
 {
-    match sheet::read_field(kind, image, field) {
+    match answer {
         FieldAnswer::Refused(r) => DartelmFieldAnswer {
             number: r.number,
             place: r.place,
@@ -110,6 +115,27 @@ pub extern "C" fn dartelm_field(kind: u8, image: &[u8], field: u64) -> DartelmFi
             value: values::by_flags(value),
         },
     }
+}
+
+// Reads field 1 to 21.
+#[no_mangle]
+pub extern "C" fn dartelm_field(kind: u8, image: &[u8], field: u64) -> DartelmFieldAnswer
+    ensures { λ r. ⌜ r ≡ fieldCall kind (now (image .entry)) field ⌝ }
+{
+    held(sheet::read_field(kind, image, field))
+}
+
+// Fetches field 1 to 21 through an index, without a check of the whole sheet.
+#[no_mangle]
+pub extern "C" fn dartelm_fetch(
+    kind: u8,
+    image: &[u8],
+    index: &[u8],
+    field: u64,
+) -> DartelmFieldAnswer
+    ensures { λ r. ⌜ r ≡ fetchCall kind (now (image .entry)) (now (index .entry)) field ⌝ }
+{
+    held(index::fetch(kind, image, index, field))
 }
 
 // Reads all fields, with one check.
@@ -163,7 +189,7 @@ pub extern "C" fn dartelm_character(kind: u8, image: &[u8], index: u64) -> Darte
     }
 }
 
-// What a build or a change answers.
+// What a build, a change or an index answers.
 fn wrote(written: Written) -> DartelmWriteAnswer
     ensures { λ r. ⌜ ((image : List ℕ) → r ≡ told writeAnswer [] (writtenSaid written image)) ⌝ }
 {
@@ -206,6 +232,15 @@ pub extern "C" fn dartelm_change(
         (r ≡ told writeAnswer [] outcome) × (now (image .exit) ≡ afterwards (now (image .entry)) outcome)) ⌝ }
 {
     wrote(change::change(kind, image, field, values::value_of(value)))
+}
+
+// Makes the index of an image in a buffer.
+#[no_mangle]
+pub extern "C" fn dartelm_index(kind: u8, image: &[u8], buffer: &mut [u8]) -> DartelmWriteAnswer
+    ensures { λ r. ⌜ (let outcome = indexCall kind (now (image .entry)) (now (buffer .entry)) in
+        (r ≡ told writeAnswer [] outcome) × (now (buffer .exit) ≡ afterwards (now (buffer .entry)) outcome)) ⌝ }
+{
+    wrote(index::make_index(kind, image, buffer))
 }
 
 // Takes a reading at an input in nV/V.

@@ -141,6 +141,33 @@ changed-to-the-same kind image after c f bytes e h =
     let (free, stored) = code-found c f (field c f .value) (m .code) (subst (λ d. codeFor d f (field c f .value) ≡ good (m .code)) q (m .coded)) in
     m .is ∙ ap (λ d. recodedIn (m .sizes) image (field d f) (m .code)) q ∙ same-value kind image c (m .sizes) bytes e (m .sized) f free (m .code) stored
 
+-- What a check refuses it still refuses: an image that is changed is of another kind, which the changed one is too.
+module _ (kind : ℕ) (r : Refusal) where
+  unsized : (image : List ℕ) (q : Refusal) → imageSizes kind (length image) ≡ refused q → contents kind image ≡ refused q
+  unfolding contents
+  unsized image q h = rw h
+
+  by-refused : (image : List ℕ) (ch : Change) → contents kind image ≡ refused r → contents kind (changedBy image ch) ≡ refused r
+  by-refused image ch e = go (change (ch .kind) image (ch .field) (ch .value)) refl
+    where
+      other : (after : List ℕ) → change (ch .kind) image (ch .field) (ch .value) ≡ good after → (o : Outcome Sizes) → imageSizes kind (length image) ≡ o →
+          contents kind after ≡ refused r
+      other after h (good z) s =
+          let m = change-made (ch .kind) image (ch .field) (ch .value) after h in
+          let same : kind ≡ ch .kind = kind-told kind (length image) z s ∙ sym (kind-told (ch .kind) (length image) (m .sizes) (m .sized)) in
+          no-value (sym e ∙ ap (λ (k : ℕ). contents k image) same ∙ m .accepted)
+      other after h (refused q) s =
+          let n : length after ≡ length image = made-length (ch .kind) image (ch .field) (ch .value) after h in
+          unsized after q (ap (imageSizes kind) n ∙ s) ∙ sym (unsized image q s) ∙ e
+
+      go : (o : Outcome (List ℕ)) → change (ch .kind) image (ch .field) (ch .value) ≡ o → contents kind (afterwards image o) ≡ refused r
+      go (refused q) h = e
+      go (good after) h = other after h (imageSizes kind (length image)) refl
+
+  pub refused-after : (image : List ℕ) (changes : List Change) → contents kind image ≡ refused r → contents kind (changed image changes) ≡ refused r
+  refused-after image [] e = e
+  refused-after image (ch ∷ changes) e = refused-after (changedBy image ch) changes (by-refused image ch e)
+
 -- ---- what no change alters
 
 -- What does not go by the fields is as it was, and so is the calibration.

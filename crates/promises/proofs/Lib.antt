@@ -1,5 +1,6 @@
 pub mod Blanks
 pub mod AfterChanges
+pub mod Indexes
 pub mod Altering
 pub mod ByIndex
 pub mod PlannedFields

@@ -4,6 +4,7 @@ pub mod Blank
 pub mod Reads
 pub mod Again
 pub mod Changes
+pub mod Index
 pub mod Certificate
 pub mod Calls
 pub mod Edges

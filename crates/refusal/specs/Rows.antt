@@ -72,3 +72,7 @@ wrongList length = returned 16 length
 -- 17 (Note 1): every page is blank.
 abbrev pub blankChip : Refusal
 blankChip = returned 17 0
+
+-- 18 (Note 2): the lent buffer is too short for an index, or an index too short to be one.
+abbrev pub shortIndex : ℕ → Refusal
+shortIndex needed = returned 18 needed

@@ -13,6 +13,7 @@ pub use rows::out_of_range;
 pub use rows::outside_span;
 pub use rows::outside_table;
 pub use rows::past_end;
+pub use rows::short_index;
 pub use rows::single_span;
 pub use rows::too_long;
 pub use rows::wrong_block;
@@ -67,3 +68,5 @@ pub const SINGLE_SPAN: u8 = 15;
 pub const WRONG_LIST: u8 = 16;
 
 pub const BLANK_CHIP: u8 = 17;
+
+pub const SHORT_INDEX: u8 = 18;

@@ -18,6 +18,7 @@ ghost use Rattle.refusal.specs.Rows.{
   singleSpan,
   wrongList,
   blankChip,
+  shortIndex,
 };
 use crate::Refusal;
 
@@ -178,5 +179,14 @@ pub fn blank_chip() -> Refusal
     Refusal {
         number: crate::BLANK_CHIP,
         place: 0,
+    }
+}
+
+pub fn short_index(needed: u64) -> Refusal
+    ensures { λ r. ⌜ r ≡ shortIndex needed ⌝ }
+{
+    Refusal {
+        number: crate::SHORT_INDEX,
+        place: needed,
     }
 }

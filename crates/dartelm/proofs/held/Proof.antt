@@ -1,0 +1,28 @@
+-- `held` meets its contract.
+-- Assumes nothing.
+use borrow.Author.Needs.{needs}
+use mathlib.Core.Path.{sym, ap}
+use lib.IntN.{pos}
+use Rattle.fields.specs.declared.Value.the-variants.{Whole}
+use Rattle.sheet.specs.declared.FieldAnswer.{FieldAnswer}
+use Rattle.sheet.specs.Check.{fieldSaid}
+use Rattle.dartelm.specs.Answers.{told, fieldAnswer}
+use Rattle.dartelm.proofs.held.Statement.{statement}
+use Rattle.dartelm.proofs.held.Tie as tie
+
+returns : tie.Need-returns
+returns c = rw (c .no-value .ensures) (sym (ap (λ (x : FieldAnswer). told fieldAnswer (Whole (pos 0)) (fieldSaid x)) (c .before .before .answer .given .1)))
+
+returns-2 : tie.Need-returns-2
+returns-2 c = rw (c .by-flags .ensures) (sym (ap (λ (x : FieldAnswer). told fieldAnswer (Whole (pos 0)) (fieldSaid x)) (c .before .before .answer2 .given .1)))
+
+pub held-spec : {M : Type 1} → statement M
+held-spec =
+    tie.close
+    (tie.spec
+    (λ c. search needs)
+    (λ c κs. search needs)
+    (λ c. search needs)
+    (λ c κs. search needs)
+    returns
+    returns-2)

@@ -1,0 +1,171 @@
+-- A field fetched through the index of its own image: the entries are read back as they were written, and a field's row is told by its entry.
+use mathlib.Core.Path.{_≡_, refl, sym, ap, ap₂, _∙_}
+use mathlib.Core.Bool.{Bool}
+use mathlib.Core.List.{List, [], _∷_, _++_}
+use mathlib.Core.Logic.{inl, inr}
+use Prim.Native.Nat.{ℕ, zero, suc, _+_, _-_, _*_, _/_, _%_, _≤_, _<_}
+use native.Mathlib.Omega.{arith}
+use native.Mathlib.Decide.{decLt}
+use lib.ListN.{length, getD, length-append}
+use borrow.Author.Tests.{eq-eqb, le-ltb}
+use Rattle.refusal.specs.Outcome.{good, _>>_, _>>=_, refuse_if_}
+use Rattle.refusal.specs.Rows.{outsideTable}
+use Rattle.memory.specs.declared.Sizes.{Sizes}
+use Rattle.memory.specs.Bits.{number, fieldAt}
+use Rattle.memory.specs.Image.{streamBits, streamNumber}
+use Rattle.memory.proofs.Chips.{sizes-chip}
+use Rattle.fields.specs.declared.Row.{Row}
+use Rattle.fields.specs.declared.Template.{Template}
+use Rattle.fields.specs.declared.Template.the-variants.{Bridge}
+use Rattle.fields.specs.declared.Layout.{Layout}
+use Rattle.fields.specs.Rules.{decode}
+use Rattle.fields.specs.Rows.{any, electrical}
+use Rattle.fields.specs.Lines.{Line, line, chosen, basic, template33, templateLines, linesOf, lastField, lineOf, rowOf}
+use Rattle.fields.proofs.RowLaws.{bridge}
+use Rattle.layout.specs.Contents.{Contents}
+use Rattle.layout.specs.Image.{streamIn, contents, field, layoutOf}
+use Rattle.layout.specs.Places.{fieldPlace}
+use Rattle.layout.proofs.Accepted.{Accepted, contents-accepted}
+use Rattle.layout.proofs.Standing.{Stands, field-stands}
+use Rattle.sheet.specs.Check.{readField}
+use Rattle.sheet.proofs.ReadLaws.{accepted-reads}
+use Rattle.index.specs.declared.Entry.{Entry}
+use Rattle.index.specs.Index.{entry, entries, entryBytes, templateAt, entryAt, rowOfLength, bitsAt, fetchIn, fetch}
+use Rattle.index.specs.Laid.{entryOf}
+use Rattle.index.proofs.Laying.{bytes-count}
+use Rattle.index.proofs.EntryLaws.{noEntry, of-field, entries-count, lies}
+use Rattle.index.proofs.FetchLaws.{in-none, in-past, in-entry, fetch-right}
+
+-- ---- entries read back
+
+abbrev Small : Entry → Type 0
+Small e = (e .offset < 65_536) × (e .length < 65_536)
+
+entry-back : (es : List Entry) (rest : List ℕ) (i : ℕ) (none : Entry) → i < length es → Small (getD es i none) → entryAt (entryBytes es ++ rest) i ≡ getD es i none
+entry-back [] rest i none h small = absurd (omega arith)
+entry-back (e ∷ es) rest zero none h small =
+    let o : (0 * 256 + e .offset / 256 % 256) * 256 + e .offset % 256 ≡ e .offset = omega (arith, small .0) in
+    let l : (0 * 256 + e .length / 256 % 256) * 256 + e .length % 256 ≡ e .length = omega (arith, small .1) in
+    ap₂ entry o l
+entry-back (e ∷ es) rest (suc i) none h small =
+    let bytes : List ℕ = entryBytes (e ∷ es) ++ rest in
+    let a : 4 * suc i ≡ suc (suc (suc (suc (4 * i)))) = omega arith in
+    let b : 4 * suc i + 1 ≡ suc (suc (suc (suc (4 * i + 1)))) = omega arith in
+    let c : 4 * suc i + 2 ≡ suc (suc (suc (suc (4 * i + 2)))) = omega arith in
+    let d : 4 * suc i + 3 ≡ suc (suc (suc (suc (4 * i + 3)))) = omega arith in
+    ap₂ entry
+    (ap₂ (λ (m n : ℕ). number (getD bytes m 0 ∷ getD bytes n 0 ∷ [])) a b)
+    (ap₂ (λ (m n : ℕ). number (getD bytes m 0 ∷ getD bytes n 0 ∷ [])) c d)
+    ∙ entry-back es rest i none (omega arith) small
+
+-- Those of an accepted image.
+pub read-back : (kind : ℕ) (image rest : List ℕ) (c : Contents) → contents kind image ≡ good c → (i : ℕ) → i < length (entries c) →
+    entryAt (entryBytes (entries c) ++ rest) i ≡ entryOf (layoutOf c) i
+read-back kind image rest c e i h =
+    let a = contents-accepted kind image c e in
+    let l = lies (a .holding) i h in
+    let o = ap (λ (x : Entry). x .offset) (l .is) in
+    let w = ap (λ (x : Entry). x .length) (l .is) in
+    let most = sizes-chip kind (length image) (a .sizes) (a .sized) .most in
+    entry-back (entries c) rest i noEntry h (omega (arith, l .inside), omega (arith, l .most)) ∙ l .is
+
+-- ---- a row told by its length
+
+-- A line's row at any choice is the first of its rows that is as long.
+Told : Line → Type 0
+Told l = (at p : ℕ) → rowOfLength l (entry at (l .rowAt p .width)) ≡ good (l .rowAt p)
+
+Tolds : List Line → Type 0
+Tolds [] = Unit {0}
+Tolds (l ∷ lines) = Told l × Tolds lines
+
+one : (sets : Bool) (row : Row) → Told (record { sets = sets; rowAt = λ latest. row })
+unfolding Told
+one sets row at p = rw (eq-eqb (row .width) (row .width) refl)
+
+ends : Told (chosen electrical)
+unfolding Told
+ends at zero = refl
+ends at (suc zero) = refl
+ends at (suc (suc p)) = refl
+
+told-template : (t : Template) → Tolds (templateLines t)
+unfolding Tolds template33
+told-template Bridge = (one _ _, (one _ _, (one _ _, (one _ _, (ends, (ends, (one _ _, (one _ _, (one _ _, (one _ _, (one _ _, (one _ _, (one _ _, (one _ _, (one _ _, (one _ _, tt))))))))))))))))
+
+told-lines : (t : Template) → Tolds (linesOf t)
+unfolding Tolds linesOf basic
+told-lines t = (one _ _, (one _ _, (one _ _, (one _ _, (one _ _, told-template t)))))
+
+told-at : (lines : List Line) → Tolds lines → (i : ℕ) → Told (getD lines i (line (any 0)))
+unfolding Tolds
+told-at [] h i = one _ _
+told-at (l ∷ lines) h zero = h .0
+told-at (l ∷ lines) h (suc i) = told-at lines (h .1) i
+
+row-told : (layout : Layout) (f at : ℕ) → rowOfLength (lineOf (layout .template) f) (entry at (rowOf layout f .width)) ≡ good (rowOf layout f)
+unfolding Told
+row-told layout f at = told-at (linesOf (layout .template)) (told-lines (layout .template)) (f - 1) at (layout .precision)
+
+-- ---- the fetch
+
+-- A fetch takes the template that the sheet has.
+pub template-told : (stream : ℕ) (c : Contents) → templateAt stream ≡ c .template
+template-told stream c = sym (bridge (c .template))
+
+module _ (kind : ℕ) (image made : List ℕ) (c : Contents) (e : contents kind image ≡ good c) (rest : List ℕ) (is : made ≡ entryBytes (entries c) ++ rest) where
+  accepted : Accepted kind image c
+  accepted = contents-accepted kind image c e
+
+  abbrev z : Sizes
+  z = accepted .sizes
+
+  abbrev N : ℕ
+  N = streamNumber z image
+
+  last-is : lastField (templateAt N) ≡ lastField (c .template)
+  last-is = ap lastField (template-told N c)
+
+  long : 4 * lastField (templateAt N) ≤ length made
+  long =
+      omega (
+        arith,
+        last-is,
+        ap length is,
+        length-append (entryBytes (entries c)) rest,
+        bytes-count (entries c),
+        entries-count (accepted .holding),
+      )
+
+  stands-here : (row : Row) (at code : ℕ) → at + row .width ≤ streamBits z → fieldAt N at (row .width) ≡ code →
+      bitsAt z image row (entry at (row .width)) ≡ decode row at code
+  unfolding bitsAt
+  stands-here row at code inside h =
+      ap₂ (λ (b : Bool) (k : ℕ). (refuse outsideTable at if b) >> decode row at k) (le-ltb (streamBits z) (at + row .width) inside) h
+
+  fetched-field : (f : ℕ) → 1 ≤ f → f ≤ lastField (c .template) → fetchIn z image made f ≡ good (field c f .value)
+  fetched-field f lo hi =
+      let layout : Layout = layoutOf c in
+      let row : Row = rowOf layout f in
+      let at : ℕ = fieldPlace layout f in
+      let next : suc (f - 1) ≡ f = omega arith in
+      let st : Stands (streamIn z image) row at (field c f) = field-stands (accepted .holding) f lo hi in
+      let here : entryAt made (f - 1) ≡ entry at (row .width) =
+      ap (λ (l : List ℕ). entryAt l (f - 1)) is
+      ∙ read-back kind image rest c e (f - 1) (omega (arith, entries-count (accepted .holding)))
+      ∙ of-field layout (f - 1) (omega arith)
+      ∙ ap (λ (n : ℕ). entry (fieldPlace layout n) (rowOf layout n .width)) next in
+      in-entry z image made f lo (omega (arith, last-is)) long
+      ∙ ap₂ (λ (t : Template) (x : Entry). rowOfLength (lineOf t f) x >>= λ r. bitsAt z image r x) (template-told N c) here
+      ∙ ap (λ o. o >>= λ r. bitsAt z image r (entry at (row .width))) (row-told layout f at)
+      ∙ stands-here row at (field c f .code) (st .inside) (st .code)
+      ∙ st .field .means
+
+  pub fetched-own : (f : ℕ) → fetch kind image made f ≡ readField kind image f
+  fetched-own f =
+      fetch-right kind image made f (accepted .sized) (accepted .summed) ∙ go (decLt f 1) (decLt (lastField (c .template)) f)
+    where
+      go : Dec (f < 1) → Dec (lastField (c .template) < f) → fetchIn z image made f ≡ readField kind image f
+      go (yes l) h = sym (in-none z image made f l) ∙ sym (accepted-reads kind image c e .no-field f (inl l))
+      go (no k) (yes l) = sym (in-past z image made f (omega arith) (omega (arith, last-is))) ∙ sym (accepted-reads kind image c e .no-field f (inr l))
+      go (no k) (no l) = fetched-field f (omega arith) (omega arith) ∙ sym (accepted-reads kind image c e .fields f (omega arith) (omega arith))

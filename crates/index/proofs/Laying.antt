@@ -1,0 +1,68 @@
+-- Bytes laid into a buffer, one behind the other, and the bytes of entries.
+use mathlib.Core.Path.{_≡_, refl, sym, ap, ap₂, _∙_}
+use mathlib.Core.List.{List, [], _∷_, _++_, append-assoc}
+use Prim.Native.Nat.{ℕ, zero, suc, _+_, _*_, _/_, _%_, _≤_}
+use native.Mathlib.Nat.{zero-add}
+use native.Mathlib.Omega.{arith}
+use lib.ListN.{length, take, drop, set, length-append, length-drop}
+use lib.Seq.{length-take-le, take-at, drop-at, drop-drop, sets-eq}
+use Rattle.memory.specs.Bits.{bytesOf}
+use Rattle.fields.specs.declared.Layout.{Layout}
+use Rattle.index.specs.declared.Entry.{Entry}
+use Rattle.index.specs.Index.{entryBytes}
+use Rattle.index.specs.Laid.{laid, entryOf, firstEntries}
+
+module _ (buffer : List ℕ) (at : ℕ) (xs : List ℕ) (inside : at + length xs ≤ length buffer) where
+  front-length : length (take at buffer ++ xs) ≡ at + length xs
+  front-length = omega (arith, length-append (take at buffer) xs, length-take-le at buffer (omega arith))
+
+  pub laid-length : length (laid buffer at xs) ≡ length buffer
+  laid-length = omega (arith, length-append (take at buffer ++ xs) (drop (at + length xs) buffer), front-length, length-drop (at + length xs) buffer)
+
+  pub laid-more : (ys : List ℕ) → laid (laid buffer at xs) (at + length xs) ys ≡ laid buffer at (xs ++ ys)
+  laid-more ys =
+      let front : List ℕ = take at buffer ++ xs in
+      let behind : List ℕ = drop (at + length xs) buffer in
+      let n : at + length xs + length ys ≡ at + length (xs ++ ys) = omega (arith, length-append xs ys) in
+      ap₂ (λ (l r : List ℕ). l ++ ys ++ r) (take-at front behind (at + length xs) front-length)
+      (sym (drop-drop (length ys) (at + length xs) (laid buffer at xs)) ∙ ap (drop (length ys)) (drop-at front behind (at + length xs) front-length)
+      ∙ drop-drop (length ys) (at + length xs) buffer ∙ ap (λ (k : ℕ). drop k buffer) n)
+      ∙ ap (λ (l : List ℕ). l ++ drop (at + length (xs ++ ys)) buffer) (append-assoc (take at buffer) xs ys)
+
+-- From the start.
+pub laid-start : (buffer bytes : List ℕ) → laid buffer 0 bytes ≡ bytes ++ drop (length bytes) buffer
+laid-start buffer bytes = ap (λ (n : ℕ). bytes ++ drop n buffer) (zero-add (length bytes))
+
+-- ---- entries
+
+pub bytes-count : (es : List Entry) → length (entryBytes es) ≡ 4 * length es
+bytes-count [] = refl
+bytes-count (e ∷ es) = omega (arith, bytes-count es)
+
+pub bytes-append : (es gs : List Entry) → entryBytes (es ++ gs) ≡ entryBytes es ++ entryBytes gs
+bytes-append [] gs = refl
+bytes-append (e ∷ es) gs =
+    ap (λ (q : List ℕ). e .offset % 256 ∷ e .offset / 256 % 256 ∷ e .length % 256 ∷ e .length / 256 % 256 ∷ q) (bytes-append es gs)
+
+-- Two bytes stored one behind the other.
+pub two-laid : (index : List ℕ) (at word : ℕ) {low high : ℕ} → at + 2 ≤ length index → low ≡ word % 256 → high ≡ word / 256 % 256 →
+    set (set index at low) (at + 1) high ≡ laid index at (bytesOf 2 word)
+two-laid index at word inside l h =
+    let next : at + 1 ≡ suc at = omega arith in
+    rw (next, l, h) (sets-eq (bytesOf 2 word) index at inside)
+
+-- ---- entries one behind the other
+
+pub first-length : (layout : Layout) (n : ℕ) → length (firstEntries layout n) ≡ n
+first-length layout zero = refl
+first-length layout (suc n) = omega (arith, length-append (firstEntries layout n) (entryOf layout n ∷ []), first-length layout n)
+
+pub first-more : (layout : Layout) (buffer index : List ℕ) (i : ℕ) → 4 * i ≤ length buffer → index ≡ laid buffer 0 (entryBytes (firstEntries layout i)) →
+    laid index (4 * i) (entryBytes (entryOf layout i ∷ [])) ≡ laid buffer 0 (entryBytes (firstEntries layout (suc i)))
+first-more layout buffer index i inside e =
+    let before : List ℕ = entryBytes (firstEntries layout i) in
+    let new : List ℕ = entryBytes (entryOf layout i ∷ []) in
+    let n : 4 * i ≡ 0 + length before = omega (arith, bytes-count (firstEntries layout i), first-length layout i) in
+    ap₂ (λ (l : List ℕ) (k : ℕ). laid l k new) e n
+    ∙ laid-more buffer 0 before (omega arith) new
+    ∙ ap (laid buffer 0) (sym (bytes-append (firstEntries layout i) (entryOf layout i ∷ [])))

@@ -1,0 +1,5 @@
+pub mod Laying
+pub mod EntryLaws
+pub mod IndexLaws
+pub mod FetchLaws
+pub mod Fetched

@@ -1,0 +1,54 @@
+-- `fetching::bits_at` meets its contract.
+use borrow.Author.Needs.{needs}
+use mathlib.Core.Path.{ap, _∙_}
+use Rattle.refusal.specs.Outcome.{refused}
+use Rattle.refusal.proofs.Outcomes.{told}
+use Rattle.fields.specs.Answers.{decodedSaid}
+use Rattle.index.proofs.FetchLaws.{bits-past, bits-fit, bits-decoded}
+use Rattle.index.proofs.fetching.bits_at.Statement.{statement}
+use Rattle.index.proofs.fetching.bits_at.Tie as tie
+
+take-requires : tie.Need-take-requires
+take-requires c κs = search needs
+
+decode-requires : tie.Need-decode-requires
+decode-requires c κs =
+    let t = c .before .before .before in
+    let a = t .before .before .args in
+    let p = t .before .before .pre in
+    (p .1, bits-fit (a .sizes) (a .image .now) (a .row) (a .entry) _ (t .take .ensures) (c .before .code .given .1) (p .2))
+
+returns : tie.Need-returns
+returns c =
+    let t = c .before .before .before in
+    let a = t .before .before .args in
+    ap refused (c .outside-table .ensures) ∙ bits-past (a .sizes) (a .image .now) (a .row) (a .entry) _ (t .take .ensures) (c .before .enum-told .given .1)
+
+returns-2 : tie.Need-returns-2
+returns-2 c =
+    let d = c .before .before .before in
+    let t = d .before .before .before .before in
+    let a = t .before .before .args in
+    bits-decoded (a .sizes) (a .image .now) (a .row) (a .entry) _ (t .take .ensures) (d .before .before .code .given .1) (told decodedSaid (c .before .r .given .1) (d .decode .ensures))
+
+returns-3 : tie.Need-returns-3
+returns-3 c =
+    let d = c .before .before .before in
+    let t = d .before .before .before .before in
+    let a = t .before .before .args in
+    bits-decoded (a .sizes) (a .image .now) (a .row) (a .entry) _ (t .take .ensures) (d .before .before .code .given .1) (told decodedSaid (c .before .value .given .1) (d .decode .ensures))
+
+pub bits-at-spec : {M : Type 1} → statement M
+bits-at-spec =
+    tie.close
+    (tie.spec
+    take-requires
+    (λ c. search needs)
+    (λ c κs. search needs)
+    (λ c. search needs)
+    decode-requires
+    (λ c. search needs)
+    (λ c. search needs)
+    returns
+    returns-2
+    returns-3)

@@ -1,0 +1,137 @@
+-- An index, and fields fetched through it.
+use mathlib.Core.Path.{_≡_, refl, sym, ap, _∙_}
+use mathlib.Core.Bool.{Bool, true, false, cond}
+use mathlib.Core.List.{List, [], _∷_, _++_, map}
+use Prim.Native.Nat.{ℕ, zero, suc, _-_, _≤_, _<_}
+use native.Mathlib.Omega.{arith}
+use native.Mathlib.Decide.{decLt}
+use lib.Dec.{eqb}
+use lib.ListN.{length, drop}
+use lib.Seq.{map-set-same}
+use Rattle.refusal.specs.Outcome.{Outcome, good, refused, _>>_, _>>=_}
+use Rattle.refusal.proofs.Outcomes.{good-same}
+use Rattle.memory.specs.declared.Sizes.{Sizes}
+use Rattle.memory.specs.Image.{imageSizes, sums}
+use Rattle.memory.proofs.Chips.{sizes-chip}
+use Rattle.fields.specs.declared.Template.{Template}
+use Rattle.fields.specs.declared.Template.the-variants.{Bridge}
+use Rattle.fields.specs.declared.Layout.{Layout}
+use Rattle.fields.specs.Lines.{basic, template33, linesOf, lastField, bitsBefore}
+use Rattle.layout.specs.Contents.{Contents}
+use Rattle.layout.specs.Image.{contents, nothing, layoutOf, pairsIn}
+use Rattle.layout.proofs.Accepted.{contents-accepted}
+use Rattle.sheet.specs.Check.{readField}
+use Rattle.sheet.proofs.PlaceSteps.{fields-end}
+use Rattle.sheet.proofs.ReadLaws.{refused-reads}
+use Rattle.change.specs.Change.{codeFor}
+use Rattle.index.specs.declared.Entry.{Entry}
+use Rattle.index.specs.Index.{fieldEntry, pairEntry, entries, entryBytes, entryAt, index, fetch}
+use Rattle.index.specs.Laid.{entryOf}
+use Rattle.index.proofs.Laying.{bytes-count}
+use Rattle.index.proofs.EntryLaws.{of-pair, lies, entry-rises}
+use Rattle.index.proofs.IndexLaws.{index-unread, index-of, index-same}
+use Rattle.index.proofs.FetchLaws.{fetch-unsized, fetch-turned}
+use Rattle.index.proofs.Fetched.{read-back, fetched-own}
+use Rattle.promises.specs.declared.Change.{Change}
+use Rattle.promises.specs.Changes.{changed, stores, heldBy, held}
+use Rattle.promises.specs.Index.{FetchedAsRead, RefusedAlike, IndexSorted, IndexFits, IndexKept, FetchedAfterChanges}
+use Rattle.promises.proofs.AfterChanges.{after-changes, refused-after}
+
+-- ---- fetched as read
+
+pub fetched-as-read : FetchedAsRead
+fetched-as-read kind image buffer made f e =
+    let m = index-of kind image buffer made e in
+    fetched-own kind image made (m .held) (m .accepted) (drop (length (entryBytes (entries (m .held)))) buffer) (m .is) f
+
+pub refused-alike : RefusedAlike
+unfolding contents
+refused-alike kind image made f r e = go (imageSizes kind (length image)) refl e
+  where
+    both : contents kind image ≡ refused r → fetch kind image made f ≡ refused r → (fetch kind image made f ≡ refused r) × (readField kind image f ≡ refused r)
+    both c d = (d, refused-reads kind image r c .field f)
+
+    go : (o : Outcome Sizes) → imageSizes kind (length image) ≡ o → (o >>= λ z. sums z image) ≡ refused r →
+        (fetch kind image made f ≡ refused r) × (readField kind image f ≡ refused r)
+    go (refused q) h g = let same : q ≡ r = cc in both (rw h (ap refused same)) (fetch-unsized kind image made f (h ∙ ap refused same))
+    go (good z) h g = both (rw (h, g)) (fetch-turned kind image made f h g)
+
+-- ---- sorted
+
+pub index-sorted : IndexSorted
+index-sorted kind image buffer made c i e h l =
+    let m = index-of kind image buffer made h in
+    let same : m .held ≡ c = good-same (sym (m .accepted) ∙ e) in
+    let is : made ≡ entryBytes (entries c) ++ drop (length (entryBytes (entries c))) buffer =
+    m .is ∙ ap (λ d. entryBytes (entries d) ++ drop (length (entryBytes (entries d))) buffer) same in
+    let back : (j : ℕ) → j < length (entries c) → entryAt made j .offset ≡ entryOf (layoutOf c) j .offset = λ j k.
+    ap (λ (bytes : List ℕ). entryAt bytes j .offset) is ∙ ap (λ (x : Entry). x .offset) (read-back kind image _ c e j k) in
+    omega (
+      arith,
+      back i (omega arith),
+      back (suc i) l,
+      entry-rises (layoutOf c) i,
+      lies (contents-accepted kind image c e .holding) i (omega arith) .some,
+    )
+
+-- ---- its bytes
+
+fields-are : (t : Template) → lastField t ≡ 21
+unfolding basic template33 linesOf
+fields-are Bridge = refl
+
+fields-least : (t : Template) (p : ℕ) → 265 ≤ bitsBefore (linesOf t) p (lastField t)
+unfolding basic template33 linesOf
+fields-least Bridge zero = omega arith
+fields-least Bridge (suc zero) = omega arith
+fields-least Bridge (suc (suc p)) = omega arith
+
+pub index-fits : IndexFits
+index-fits kind image c e = go (decLt (lastField (c .template)) (length (entries c)))
+  where
+    layout : Layout
+    layout = layoutOf c
+
+    go : Dec (lastField (c .template) < length (entries c)) → length (entryBytes (entries c)) ≤ 480
+    go (no l) = omega (arith, bytes-count (entries c), fields-are (c .template))
+    go (yes l) =
+        let a = contents-accepted kind image c e in
+        let i : ℕ = length (entries c) - 1 in
+        let chip = sizes-chip kind (length image) (a .sizes) (a .sized) in
+        let at = of-pair layout i (omega arith) in
+        omega (
+          arith,
+          bytes-count (entries c),
+          fields-are (c .template),
+          fields-least (c .template) (layout .precision),
+          fields-end layout,
+          ap (λ (x : Entry). x .offset) at,
+          ap (λ (x : Entry). x .length) at,
+          lies (a .holding) i (omega arith) .inside,
+          chip .few,
+          chip .most,
+        )
+
+-- ---- after changes
+
+-- A change keeps rows and places, and with them the entries.
+held-entries : (kind : ℕ) (c : Contents) (changes : List Change) → entries (held kind c changes) ≡ entries c
+held-entries kind c [] = refl
+held-entries kind c (ch ∷ changes) = held-entries kind (heldBy kind c ch) changes ∙ go (eqb (ch .kind) kind) (codeFor c (ch .field) (ch .value))
+  where
+    go : (b : Bool) (o : Outcome ℕ) → entries (cond b (stores c (ch .field) (ch .value) o) c) ≡ entries c
+    go false o = refl
+    go true (refused r) = refl
+    go true (good code) = ap (λ (es : List Entry). es ++ map pairEntry (pairsIn (c .calibration))) (map-set-same fieldEntry (c .fields) (ch .field - 1) _ nothing refl)
+
+pub index-kept : IndexKept
+index-kept kind image buffer changes bytes real = go (contents kind image) refl
+  where
+    go : (o : Outcome Contents) → contents kind image ≡ o → index kind (changed image changes) buffer ≡ index kind image buffer
+    go (refused r) e = index-unread kind (changed image changes) buffer r (refused-after kind r image changes e) ∙ sym (index-unread kind image buffer r e)
+    go (good c) e =
+        index-same kind (changed image changes) image buffer (held kind c changes) c (after-changes kind image c changes bytes real e) e (held-entries kind c changes)
+
+pub fetched-after-changes : FetchedAfterChanges
+fetched-after-changes kind image buffer made changes f bytes real e =
+    fetched-as-read kind (changed image changes) buffer made f (index-kept kind image buffer changes bytes real ∙ e)

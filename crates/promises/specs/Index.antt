@@ -1,0 +1,68 @@
+-- Document 02, Note 2: an index beside the image. A field fetched through it is the field read straight, its offsets rise, and no one-field change
+-- makes it wrong.
+use mathlib.Core.Path.{_≡_}
+use mathlib.Core.List.{List}
+use Prim.Native.Nat.{ℕ, suc, _≤_, _<_}
+use lib.ListN.{length}
+use Rattle.refusal.specs.declared.Refusal.{Refusal}
+use Rattle.refusal.specs.Outcome.{Outcome, good, refused, _>>=_}
+use Rattle.memory.specs.Bits.{Bytes}
+use Rattle.memory.specs.Image.{imageSizes, sums}
+use Rattle.layout.specs.Contents.{Contents}
+use Rattle.layout.specs.Image.{contents}
+use Rattle.sheet.specs.Check.{readField}
+use Rattle.index.specs.Index.{entries, entryBytes, entryAt, index, fetch}
+use Rattle.promises.specs.declared.Change.{Change}
+use Rattle.promises.specs.Changes.{RealChanges, changed}
+
+-- ---- fetched as read
+
+-- A field fetched through the index of its own image, made in any buffer that is long enough, equals the field read straight: the same value, and 8
+-- for a number that no field has.
+abbrev pub FetchedAsRead : Type 0
+FetchedAsRead =
+    (kind : ℕ) (image buffer made : List ℕ) (f : ℕ) → index kind image buffer ≡ good made →
+    fetch kind image made f ≡ readField kind image f
+
+-- 1, 17 and 2, which a fetch tests as a check does.
+abbrev pub pageCheck : ℕ → List ℕ → Outcome (Unit {0})
+pageCheck kind image = do
+  z ← imageSizes kind (length image)
+  sums z image
+
+-- Where they turn an image down, a fetch and a read are refused alike, whatever the index holds. An image that a check turns down later, with 3 to 7,
+-- has no index.
+abbrev pub RefusedAlike : Type 0
+RefusedAlike =
+    (kind : ℕ) (image made : List ℕ) (f : ℕ) (r : Refusal) → pageCheck kind image ≡ refused r →
+    (fetch kind image made f ≡ refused r) × (readField kind image f ≡ refused r)
+
+-- ---- sorted by offset
+
+-- Of the entries of an index each begins before the next one does.
+abbrev pub IndexSorted : Type 0
+IndexSorted =
+    (kind : ℕ) (image buffer made : List ℕ) (c : Contents) (i : ℕ) → contents kind image ≡ good c → index kind image buffer ≡ good made →
+    suc i < length (entries c) → entryAt made i .offset < entryAt made (suc i) .offset
+
+-- ---- its bytes
+
+-- 480 bytes hold any index: 4 for each of 21 fields and of the 99 points that the largest chip has room for.
+abbrev pub IndexFits : Type 0
+IndexFits = (kind : ℕ) (image : List ℕ) (c : Contents) → contents kind image ≡ good c → length (entryBytes (entries c)) ≤ 480
+
+-- ---- after changes
+
+-- After any list of one-field changes, accepted or refused, the index that would be made is the one that was made before, byte for byte; and where none
+-- could be made, none can, for the same reason.
+abbrev pub IndexKept : Type 0
+IndexKept =
+    (kind : ℕ) (image buffer : List ℕ) (changes : List Change) → Bytes image → RealChanges changes →
+    index kind (changed image changes) buffer ≡ index kind image buffer
+
+-- So a field fetched through the old index is the field read straight from the changed image.
+abbrev pub FetchedAfterChanges : Type 0
+FetchedAfterChanges =
+    (kind : ℕ) (image buffer made : List ℕ) (changes : List Change) (f : ℕ) → Bytes image → RealChanges changes →
+    index kind image buffer ≡ good made →
+    fetch kind (changed image changes) made f ≡ readField kind (changed image changes) f
