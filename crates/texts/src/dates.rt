@@ -35,19 +35,22 @@ fn days_before_year(year: u64) -> u64
     365 * (year - 1998) + last / 4 - last / 100 + last / 400 - 484
 }
 
-// The days of a leap year, or of another, before a month: as if February had 30 days, less what it lacks.
+// The days of a year that is no leap year before each month, January first.
+const DAYS_BEFORE: [u16; 12] = [0, 31, 59, 90, 120, 151, 181, 212, 243, 273, 304, 334];
+
+// The days of a leap year, or of another, before a month: from March on a leap year has one more.
 fn days_before_month(month: u64, long: bool) -> u64
     requires { ⌜ (1 ≤ month) × (month ≤ 12) ⌝ }
     ensures { λ r. ⌜ ((year : ℕ) → leapYear year ≡ long → r ≡ daysBeforeMonth year month) ⌝ }
 {
-    let days = (367 * month - 362) / 12;
+    let days = DAYS_BEFORE[(month - 1) as usize] as u64;
     if month < 3 {
         return days;
     }
     if long {
-        return days - 1;
+        return days + 1;
     }
-    days - 2
+    days
 }
 
 // The year of a code: the last one whose first day is not after it.

@@ -1,54 +1,77 @@
--- `texts::dates::days_before_month` meets its contract: the formula is tested at each month of a leap year and of another.
+-- `texts::dates::days_before_month` meets its contract: antt works the table out from the calendar, and tests at once what it gives at each month of
+-- a leap year and of another.
 -- Assumes nothing.
 use mathlib.Core.Path.{_≡_, sym, subst, _∙_}
-use mathlib.Core.Bool.{Bool, true, false, cond}
-use mathlib.Core.List.{List, foldr}
-use Prim.Native.Nat.{ℕ, _+_, _-_, _*_, _/_, _≤_, suc-le-suc}
+use mathlib.Core.Bool.{Bool, true, false, _&&_, cond}
+use mathlib.Core.List.{List, [], _∷_, foldr}
+use Prim.Native.Nat.{ℕ, zero, suc, _+_, _-_, _≤_, _<_, suc-le-suc}
 use native.Mathlib.Omega.{arith}
-use lib.Dec.{T, eqb, ltb, eqb→eq}
-use lib.ListN.{take}
+use lib.Dec.{T, eqb, ltb, eqb→eq, ltb→lt}
+use lib.ListN.{getD, take}
 use borrow.Author.Needs.{needs}
 use borrow.Author.Tests.{lt-ltb, le-ltb}
+use mir.Facts.{and-yes}
 use Rattle.texts.specs.Dates.{leap, daysBeforeMonth}
 use Rattle.texts.proofs.Below.{below, at}
 use Rattle.texts.proofs.Months.{model, like-model}
 use Rattle.texts.proofs.dates.days_before_month.Statement.{statement}
 use Rattle.texts.proofs.dates.days_before_month.Tie as tie
 
--- the formula at a month of a leap year and of another
+-- the entries for a month and those behind it: the days of a year that is no leap year
+abbrev from : ℕ → ℕ → List ℕ
+from month zero = []
+from month (suc n) = daysBeforeMonth (model false) month ∷ from (suc month) n
+
+abbrev entry : ℕ → ℕ
+entry month = getD (from 1 12) (month - 1) 0
+
+-- a leap year has one more from March on
+abbrev given : Bool → ℕ → ℕ
+given long month = entry month + cond (ltb month 3) 0 (cond long 1 0)
+
 abbrev right : Bool → ℕ → Bool
-right long month = eqb ((367 * month - 362) / 12) (daysBeforeMonth (model long) month + cond (ltb month 3) 0 (cond long 1 2))
+right long month = ltb (entry month) 366 && eqb (given long month) (daysBeforeMonth (model long) month)
 
 all-right : (long : Bool) → T (below (right long) 13)
 all-right true = tt
 all-right false = tt
 
-formula : (year month : ℕ) (long : Bool) → leap year ≡ long → month ≤ 12 → (367 * month - 362) / 12 ≡ daysBeforeMonth year month + cond (ltb month 3) 0 (cond long 1 2)
-formula year month long e h =
-    subst (λ (l : List ℕ). (367 * month - 362) / 12 ≡ foldr _+_ 0 (take (month - 1) l) + cond (ltb month 3) 0 (cond long 1 2)) (sym (like-model year long e))
-    (eqb→eq _ _ (at (right long) 13 (all-right long) month (suc-le-suc h)))
+tested : (month : ℕ) (long : Bool) → month ≤ 12 → T (ltb (entry month) 366) × T (eqb (given long month) (daysBeforeMonth (model long) month))
+tested month long h = and-yes (ltb (entry month) 366) _ (at (right long) 13 (all-right long) month (suc-le-suc h))
 
-mul-days : tie.Need-mul-days
-mul-days c = search needs
+small : (month : ℕ) → month ≤ 12 → entry month < 366
+small month h = ltb→lt (entry month) 366 (tested month false h .0)
+
+found : (year month : ℕ) (long : Bool) → leap year ≡ long → month ≤ 12 → given long month ≡ daysBeforeMonth year month
+found year month long e h =
+    subst (λ (l : List ℕ). given long month ≡ foldr _+_ 0 (take (month - 1) l)) (sym (like-model year long e))
+    (eqb→eq _ _ (tested month long h .1))
 
 sub-days : tie.Need-sub-days
 sub-days c = search needs
 
-returns : tie.Need-returns
-returns c year e = omega (arith, rw (lt-ltb _ _ (c .if1 .taken)) at (formula year _ _ e (c .before .pre .1)))
+mul-days : tie.Need-mul-days
+mul-days c = search needs
 
-sub-result : tie.Need-sub-result
-sub-result c = search needs
+array-read-days : tie.Need-array-read-days
+array-read-days c = search needs
+
+returns : tie.Need-returns
+returns c year e = omega (arith, rw (lt-ltb _ _ (c .if1 .taken)) at (found year _ _ e (c .before .pre .1)))
 
 returns-2 : tie.Need-returns-2
-returns-2 c year e = omega (arith, rw (le-ltb _ _ (c .before .if1 .left)) at (formula year _ _ (e ∙ c .if2 .taken) (c .before .before .pre .1)))
-
-sub-result-2 : tie.Need-sub-result-2
-sub-result-2 c = search needs
+returns-2 c year e = omega (arith, rw (le-ltb _ _ (c .before .if1 .left)) at (found year _ _ (e ∙ c .if2 .taken) (c .before .before .pre .1)))
 
 returns-3 : tie.Need-returns-3
-returns-3 c year e = omega (arith, rw (le-ltb _ _ (c .before .if1 .left)) at (formula year _ _ (e ∙ c .if2 .left) (c .before .before .pre .1)))
+returns-3 c year e = omega (arith, rw (le-ltb _ _ (c .before .if1 .left)) at (found year _ _ (e ∙ c .if2 .left) (c .before .before .pre .1)))
+
+cast-days : tie.Need-cast-days
+cast-days c = record { fits = omega (arith, small (c .args .month) (c .pre .1)) }
+
+add-result : tie.Need-add-result
+add-result c = record { fits = omega (arith, small (c .before .before .args .month) (c .before .before .pre .1)) }
 
 pub days-before-month-spec : {M : Type 1} → statement M
 days-before-month-spec =
-    tie.close (tie.spec mul-days sub-days returns sub-result returns-2 sub-result-2 returns-3)
+    tie.close
+    (tie.spec sub-days mul-days array-read-days cast-days returns add-result returns-2 returns-3)
