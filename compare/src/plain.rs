@@ -1,5 +1,5 @@
-//! Document 01 as a firmware programmer would write it: plain loops over the bytes, nothing allocated, nothing proved.
-//! It was written from the document and shares no line with the product.
+//! Document 01, and document 02 so far, as a firmware programmer would write them: plain loops over the bytes, nothing
+//! allocated, nothing proved. It was written from the documents and shares no line with the product.
 
 /// A field's value.
 #[derive(Clone, Copy, Debug)]
@@ -291,7 +291,7 @@ impl Rule {
                     return Err(10);
                 }
                 let above = RESPONSE.partition_point(|value| *value < figure);
-                if above > 0 && figure - RESPONSE[above - 1] < RESPONSE[above] - figure {
+                if above > 0 && figure * figure < RESPONSE[above - 1] * RESPONSE[above] {
                     return Ok(above as u32 - 1);
                 }
                 Ok(above as u32)
@@ -916,6 +916,20 @@ mod tests {
             assert!(less(&power, &times(&unit, 2 * response + 1)));
             power = times(&power, 1292);
             unit = times(&unit, 1000);
+        }
+    }
+
+    #[test]
+    fn responses_are_stored_by_ratio() {
+        let stored = |figure| Rule::Geometric.code(Value::Whole(figure));
+        assert_eq!([100, 113, 114, 129].map(stored), [Ok(0), Ok(0), Ok(1), Ok(1)]);
+        for (code, pair) in RESPONSE.windows(2).enumerate() {
+            let (a, b) = (pair[0], pair[1]);
+            let middle = ((a * b) as f64).sqrt() as i64;
+            for figure in [a, middle - 1, middle, middle + 1, middle + 2, b] {
+                let up = (figure * figure >= a * b) as u32;
+                assert_eq!(stored(figure), Ok(code as u32 + up));
+            }
         }
     }
 

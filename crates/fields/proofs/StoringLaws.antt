@@ -1,18 +1,15 @@
 -- The code that a figure is stored at, for any table that rises.
-use mathlib.Core.Path.{_≡_, refl, sym, _∙_}
+use mathlib.Core.Path.{_≡_, refl, sym, ap, _∙_}
 use mathlib.Core.Bool.{Bool, true, false, cond}
 use mathlib.Core.Logic.{_⊎_, inl, inr}
-use Prim.Native.Nat.{ℕ, zero, suc, _+_, _*_, _-_, _≤_, _<_}
+use Prim.Native.Nat.{ℕ, zero, suc, _≤_, _<_}
 use native.Mathlib.Nat.{le-refl, le-trans, le-of-lt, le-of-suc-le-suc, le-antisymm, not-suc-le-zero, eq-or-lt-of-le}
 use native.Mathlib.Omega.{arith}
 use borrow.Author.Tests.{lt-ltb, le-ltb, ltb-true, ltb-false}
 use lib.Dec.{ltb}
-use lib.IntN.{ℤ, pos, negsuc, natAbs, _-ℤ_}
-use Rattle.integers.specs.Parts.{up, dn}
-use Rattle.integers.proofs.PartLaws.{sub-parts-ℤ}
 use Rattle.fields.specs.Rules.{goesUp, storedAt}
-use Rattle.fields.specs.Stored.{Rising, Closest, GeometricClosest, GeometricBetween, GeometricRises}
-use Rattle.fields.proofs.StoringRule.{up-later, up-lower, up-above, stay-below, up-near, stay-near}
+use Rattle.fields.specs.Stored.{Rising, GeometricBetween, GeometricRises, GeometricOwn, GeometricByRatio, GeometricCovers}
+use Rattle.fields.proofs.StoringRule.{up-later, up-lower, up-above, stay-below, up-ratio, stay-ratio}
 
 -- Whether a figure goes up from code m to the next.
 abbrev pub goes : (ℕ → ℕ) → ℕ → ℕ → Bool
@@ -81,7 +78,7 @@ module _ (value : ℕ → ℕ) (n w : ℕ) (r : Rising value n) where
           not-reached c k (stay-below _ _ w some (r .rises c k) h)
 
 -- A value that a code has is stored at that code.
-pub own : (value : ℕ → ℕ) (n c : ℕ) → Rising value n → c ≤ n → storedAt value n (value c) ≡ c
+pub own : GeometricOwn
 own value n c r l =
     le-antisymm (at-most value n (value c) r c l (le-refl _)) (at-least value n (value c) r c l (le-refl _))
 
@@ -101,51 +98,16 @@ geometric-rises value n v w r h = go (storedAt value n v) refl
         let l : m < n = omega (arith, inside value n v) in
         reached value n w r m l (up-later _ _ v w h (goes-before value n m v r l ∙ lt-ltb m (storedAt value n v) (omega arith)))
 
--- ---- nearest by difference
+pub geometric-by-ratio : GeometricByRatio
+geometric-by-ratio value n c w r l h k =
+    let named = geometric-between value n c w r l h k in
+    (λ up. named ∙ ap (λ (t : Bool). cond t (suc c) c) (up-ratio _ _ w up), λ stays. named ∙ ap (λ (t : Bool). cond t (suc c) c) (stay-ratio _ _ w stays))
 
--- How far two numbers are apart.
-apart : (t : ℤ) (a b : ℕ) → up t + b ≡ dn t + a → natAbs t ≡ (a - b) + (b - a)
-apart (pos n) a b e = omega arith
-apart (negsuc n) a b e = omega arith
-
-gap : (a b : ℕ) → natAbs (pos a -ℤ pos b) ≡ (a - b) + (b - a)
-gap a b = apart (pos a -ℤ pos b) a b (omega (arith, sub-parts-ℤ (pos a) (pos b)))
-
-no-farther : (a b c w : ℕ) → a ≤ b → b < c → b + c ≤ 2 * w → natAbs (pos c -ℤ pos w) ≤ natAbs (pos a -ℤ pos w)
-no-farther a b c w h k l = omega (arith, gap a w, gap c w)
-
-nearer : (a b c w : ℕ) → a < b → b ≤ c → 2 * w < a + b → natAbs (pos a -ℤ pos w) < natAbs (pos c -ℤ pos w)
-nearer a b c w h k l = omega (arith, gap a w, gap c w)
-
-module _ (value : ℕ → ℕ) (n w : ℕ) (r : Rising value n) where
-  -- The codes before the one stored, and those behind it.
-  before : (s k : ℕ) → storedAt value n w ≡ s → k < s → natAbs (pos (value s) -ℤ pos w) ≤ natAbs (pos (value k) -ℤ pos w)
-  before zero k e h = absurd (not-suc-le-zero h)
-  before (suc m) k e h =
-      let l : m < n = omega (arith, inside value n w) in
-      let goes-up = goes-before value n m w r l ∙ lt-ltb m (storedAt value n w) (omega arith) in
-      no-farther _ _ _ w (no-less value n k m r (le-of-suc-le-suc h) (le-of-lt l)) (r .rises m l) (up-near _ _ w goes-up)
-
-  behind : (k : ℕ) → storedAt value n w < k → k ≤ n → natAbs (pos (value (storedAt value n w)) -ℤ pos w) < natAbs (pos (value k) -ℤ pos w)
-  behind k h l =
-      let s = storedAt value n w in
-      let b : s < n = omega arith in
-      nearer _ _ _ w (r .rises s b) (no-less value n (suc s) k r h l) (stay-near _ _ w (goes-before value n s w r b ∙ le-ltb s s (le-refl _)))
-
-  closest : Closest value n (pos w) (storedAt value n w)
-  closest = record { inside = inside value n w; nearer = λ k l. at k l (ltb s k) refl .0; greater = λ k l. at k l (ltb s k) refl .1 }
-    where
-      s : ℕ
-      s = storedAt value n w
-
-      at : (k : ℕ) → k ≤ n → (t : Bool) → ltb s k ≡ t → (natAbs (pos (value s) -ℤ pos w) ≤ natAbs (pos (value k) -ℤ pos w)) × (natAbs (pos (value k) -ℤ pos w) ≡ natAbs (pos (value s) -ℤ pos w) → k ≤ s)
-      at k l true e = let h = behind k (ltb-true _ _ e) l in (le-of-lt h, λ q. absurd (omega arith))
-      at k l false e = let h = ltb-false s k e in (go (eq-or-lt-of-le h), λ q. h)
-        where
-          go : (k ≡ s) ⊎ (k < s) → natAbs (pos (value s) -ℤ pos w) ≤ natAbs (pos (value k) -ℤ pos w)
-          go (inl q) = rw q (le-refl _)
-          go (inr b) = before s k refl b
-
-pub geometric-closest : GeometricClosest
-geometric-closest value n (pos w) r low high = closest value n w r
-geometric-closest value n (negsuc w) r low high = absurd (low .le)
+pub geometric-covers : GeometricCovers
+geometric-covers value zero w some low high = absurd (not-suc-le-zero some)
+geometric-covers value (suc zero) w some low high = (0, (some, low, high))
+geometric-covers value (suc (suc n)) w some low high = go (ltb (value (suc n)) w) refl (λ l. geometric-covers value (suc n) w (omega arith) low l)
+  where
+    go : (t : Bool) → ltb (value (suc n)) w ≡ t → (w ≤ value (suc n) → (c : ℕ) × ((c < suc n) × (value c ≤ w) × (w ≤ value (suc c)))) → (c : ℕ) × ((c < suc (suc n)) × (value c ≤ w) × (w ≤ value (suc c)))
+    go true e before = (suc n, (le-refl _, le-of-lt (ltb-true _ _ e), high))
+    go false e before = let p = before (ltb-false _ _ e) in (p .0, (omega (arith, p .1 .0), p .1 .1, p .1 .2))

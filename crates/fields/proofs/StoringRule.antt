@@ -1,35 +1,35 @@
 -- The rule between two neighbouring values. Nothing else looks into `goesUp`: another rule that has the first four laws can stand behind the
--- name, and the last two are what "nearest" rests on.
+-- name, and the last two say which rule it is.
 use mathlib.Core.Path.{_≡_}
 use mathlib.Core.Bool.{true, false}
-use Prim.Native.Nat.{ℕ, _+_, _*_, _≤_, _<_}
-use native.Mathlib.Omega.{arith}
-use borrow.Author.Tests.{le-leb, lt-leb, leb-true, leb-false}
+use Prim.Native.Nat.{ℕ, _*_, _≤_, _<_}
+use native.Mathlib.Nat.{le-trans, lt-of-le-of-lt, mul-le-mul, mul-lt-mul-of-pos-left}
+use borrow.Author.Tests.{le-leb, lt-leb, leb-true}
 use Rattle.fields.specs.Rules.{goesUp}
 
 -- A greater figure goes up where a smaller one does, and a figure goes up to smaller values where it goes up to greater ones.
 pub up-later : (a b v w : ℕ) → v ≤ w → goesUp a b v ≡ true → goesUp a b w ≡ true
 unfolding goesUp
-up-later a b v w h e = le-leb (a + b) (2 * w) (omega (arith, leb-true (a + b) (2 * v) e))
+up-later a b v w h e = le-leb (a * b) (w * w) (le-trans (leb-true (a * b) (v * v) e) (mul-le-mul h h))
 
 pub up-lower : (a b c d w : ℕ) → a ≤ c → b ≤ d → goesUp c d w ≡ true → goesUp a b w ≡ true
 unfolding goesUp
-up-lower a b c d w h k e = le-leb (a + b) (2 * w) (omega (arith, leb-true (c + d) (2 * w) e))
+up-lower a b c d w h k e = le-leb (a * b) (w * w) (le-trans (mul-le-mul h k) (leb-true (c * d) (w * w) e))
 
 -- From b on a figure goes up, and up to a it does not.
 pub up-above : (a b w : ℕ) → a ≤ b → b ≤ w → goesUp a b w ≡ true
 unfolding goesUp
-up-above a b w h k = le-leb (a + b) (2 * w) (omega arith)
+up-above a b w h k = le-leb (a * b) (w * w) (mul-le-mul (le-trans h k) k)
 
 pub stay-below : (a b w : ℕ) → 0 < a → a < b → w ≤ a → goesUp a b w ≡ false
 unfolding goesUp
-stay-below a b w some h k = lt-leb (a + b) (2 * w) (omega arith)
+stay-below a b w some h k = lt-leb (a * b) (w * w) (lt-of-le-of-lt (mul-le-mul k k) (mul-lt-mul-of-pos-left h some))
 
--- A figure that goes up is as near to b as to a or nearer, and one that does not is nearer to a.
-pub up-near : (a b w : ℕ) → goesUp a b w ≡ true → a + b ≤ 2 * w
+-- By ratio: w × w against a × b.
+pub up-ratio : (a b w : ℕ) → a * b ≤ w * w → goesUp a b w ≡ true
 unfolding goesUp
-up-near a b w e = leb-true (a + b) (2 * w) e
+up-ratio a b w h = le-leb (a * b) (w * w) h
 
-pub stay-near : (a b w : ℕ) → goesUp a b w ≡ false → 2 * w < a + b
+pub stay-ratio : (a b w : ℕ) → w * w < a * b → goesUp a b w ≡ false
 unfolding goesUp
-stay-near a b w e = leb-false (a + b) (2 * w) e
+stay-ratio a b w h = lt-leb (a * b) (w * w) h

@@ -81,11 +81,10 @@ outside lowest highest figure = ltZ figure lowest || ltZ highest figure
 abbrev pub steppedCode : ℤ → ℕ → ℤ → ℕ
 steppedCode start step figure = natAbs (nearest (figure -ℤ start over step))
 
--- Geometric, the storing rule: between the values a and b of neighbouring codes a figure w goes to b where it is as near to b by difference, or nearer.
--- The code's own test and the six laws of `proofs/StoringRule.antt` look inside, the last two for `GeometricClosest` alone; nothing else does, so
--- that another rule can stand here.
+-- Geometric, the storing rule (document 02, Note 4): between the values a and b of neighbouring codes a figure w goes to b if w × w is at least
+-- a × b, otherwise to a. The code's own test and the laws of `proofs/StoringRule.antt` look inside; nothing else does.
 unfoldable pub goesUp : ℕ → ℕ → ℕ → Bool
-goesUp a b w = leb (a + b) (2 * w)
+goesUp a b w = leb (a * b) (w * w)
 
 -- Of codes 0 to n, the last that the figure goes up to; 0 where there is none.
 unfoldable pub storedAt : (ℕ → ℕ) → ℕ → ℕ → ℕ

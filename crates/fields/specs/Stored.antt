@@ -122,14 +122,19 @@ GeometricBetween =
 abbrev pub GeometricRises : Type 0
 GeometricRises = (value : ℕ → ℕ) (n v w : ℕ) → Rising value n → v ≤ w → storedAt value n v ≤ storedAt value n w
 
--- No code's value is nearer than the one stored, and of two as near the stored one is the greater.
-pub record Closest (value : ℕ → ℕ) (n : ℕ) (z : ℤ) (code : ℕ) : Type 0 where
-  pub inside : code ≤ n
-  pub nearer : (k : ℕ) → k ≤ n → natAbs (pos (value code) -ℤ z) ≤ natAbs (pos (value k) -ℤ z)
-  pub greater : (k : ℕ) → k ≤ n → natAbs (pos (value k) -ℤ z) ≡ natAbs (pos (value code) -ℤ z) → k ≤ code
+-- A value of the table is stored at its own code.
+abbrev pub GeometricOwn : Type 0
+GeometricOwn = (value : ℕ → ℕ) (n c : ℕ) → Rising value n → c ≤ n → storedAt value n (value c) ≡ c
 
--- So is a figure within the table stored.
-abbrev pub GeometricClosest : Type 0
-GeometricClosest =
-    (value : ℕ → ℕ) (n : ℕ) (z : ℤ) → Rising value n → pos (value 0) ≤ℤ z → z ≤ℤ pos (value n) →
-    Closest value n z (storedAt value n (natAbs z))
+-- Document 02, Note 4, of the values a and b of codes c and c + 1: to b if w × w is at least a × b, otherwise to a.
+abbrev pub GeometricByRatio : Type 0
+GeometricByRatio =
+    (value : ℕ → ℕ) (n c w : ℕ) → Rising value n → c < n → value c ≤ w → w ≤ value (suc c) →
+    (value c * value (suc c) ≤ w * w → storedAt value n w ≡ suc c) ×
+    (w * w < value c * value (suc c) → storedAt value n w ≡ c)
+
+-- Every figure from the least to the greatest value lies between two neighbours.
+abbrev pub GeometricCovers : Type 0
+GeometricCovers =
+    (value : ℕ → ℕ) (n w : ℕ) → 0 < n → value 0 ≤ w → w ≤ value n →
+    (c : ℕ) × ((c < n) × (value c ≤ w) × (w ≤ value (suc c)))

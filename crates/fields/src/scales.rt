@@ -101,11 +101,11 @@ fn value_in(values: &[u32], code: u64) -> i64
     values[code as usize] as i64
 }
 
-// The storing rule: whether a figure between two neighbours goes up to b.
+// The storing rule: whether a figure between two neighbours goes up to b. A product of two numbers of 32 bits fits 64.
 fn goes_up(a: u32, b: u32, figure: u32) -> bool
     ensures { λ r. ⌜ r ≡ goesUp a b figure ⌝ }
 {
-    wide(a) + wide(b) <= 2 * wide(figure)
+    wide(a) * wide(b) <= wide(figure) * wide(figure)
 }
 
 // The code that a figure is stored at, of a figure that is not above the last value. A figure that does not go up to a code

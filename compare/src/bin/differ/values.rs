@@ -75,8 +75,8 @@ impl Differ {
                     0 => response(code),
                     1 => response(code + 1),
                     2 => {
-                        let middle = (response(code) + response(code + 1)) / 2;
-                        middle + self.random.within(-1, 1)
+                        let middle = (response(code) * response(code + 1)) as f64;
+                        middle.sqrt() as i64 + self.random.within(-1, 1)
                     }
                     _ => self.random.within(response(code), response(code + 1)),
                 }
