@@ -1,2 +1,3 @@
 pub mod Recoding
 pub mod PartLaws
+pub mod CommitLaws
