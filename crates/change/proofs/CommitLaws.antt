@@ -1,6 +1,6 @@
 -- The parts of a proposal and of a commit as the code takes them are those of their definitions.
 use mathlib.Core.Path.{_≡_, refl, sym, ap, ap₂, _∙_, subst}
-use mathlib.Core.Bool.{Bool, true, false, not, _||_, _&&_}
+use mathlib.Core.Bool.{Bool, true, false, not, _||_}
 use mathlib.Core.List.{List}
 use Prim.Native.Nat.{ℕ, _+_, _/_, _^_, _≤_, _<_}
 use native.Mathlib.Nat.{zero-add, div-lt-iff-lt-mul}
@@ -13,7 +13,7 @@ use borrow.Author.Tests.{ltb-true, eqb-true, lt-ltb, le-ltb, eq-eqb, ne-eqb, not
 use Rattle.refusal.specs.declared.Refusal.{Refusal}
 use Rattle.refusal.specs.Outcome.{Outcome, good, refused, _>>_, _>>=_, refuse_if_}
 use Rattle.refusal.specs.Rows.{noSuch, changedAlone, outOfRange}
-use Rattle.refusal.proofs.Outcomes.{good-same, good-bind, good-then, passed, both, bind-good, bind-refused, then-good, then-refused}
+use Rattle.refusal.proofs.Outcomes.{good-bind, passed, both, bind-good, bind-refused, then-good, then-refused}
 use Rattle.memory.specs.declared.Sizes.{Sizes}
 use Rattle.memory.specs.Bits.{fieldAt, putAt}
 use Rattle.memory.specs.Image.{imageSizes, streamNumber, imageOf}
@@ -22,16 +22,14 @@ use Rattle.fields.specs.declared.Value.{Value}
 use Rattle.fields.specs.declared.Row.{Row}
 use Rattle.fields.specs.declared.Layout.{Layout}
 use Rattle.fields.specs.declared.Template.{Template}
-use Rattle.fields.specs.Rules.{decode, encode}
+use Rattle.fields.specs.Rules.{decode}
 use Rattle.fields.specs.Judgement.{judge}
-use Rattle.fields.specs.Stored.{Real}
 use Rattle.fields.specs.Lines.{lastField, lineOf, rowOf}
 use Rattle.fields.proofs.DecodeLaws.{tested}
 use Rattle.fields.proofs.RowLaws.{row-sound}
-use Rattle.fields.proofs.StoredLaws.{reads-back}
 use Rattle.layout.specs.Contents.{Found, Contents}
 use Rattle.layout.specs.Format.{bits, parse}
-use Rattle.layout.specs.Image.{streamIn, contents, field, layoutOf}
+use Rattle.layout.specs.Image.{streamIn, contents, field}
 use Rattle.layout.specs.Places.{fieldPlace}
 use Rattle.layout.proofs.Fields.{row-is, at-is, width-is}
 use Rattle.layout.proofs.Formats.{parsed}
@@ -40,8 +38,7 @@ use Rattle.layout.proofs.Standing.{Stands, field-stands}
 use Rattle.sheet.specs.declared.opening.Opened.{Opened}
 use Rattle.sheet.specs.Opened.{Opens}
 use Rattle.sheet.proofs.HeldLaws.{layout-is, held-whole, holding}
-use Rattle.change.specs.declared.Proposal.{Proposal}
-use Rattle.change.specs.Change.{otherCode, changeable, codeFor, recodedIn, rewritten, taken, mayStand, proposedFor, propose, mayCommit, commit}
+use Rattle.change.specs.Change.{otherCode, changeable, recodedIn, rewritten, taken, mayStand, propose, mayCommit, commit}
 use Rattle.change.specs.Parts.{allowedIn, codeIn, proposedAt, mayFollow}
 use Rattle.change.proofs.Recoding.{Changeable, changeable-is}
 use Rattle.change.proofs.PartLaws.{code-known, coded}

@@ -1,6 +1,7 @@
 pub mod Blanks
-pub mod AfterChanges
+pub mod AfterAlterations
 pub mod Altering
+pub mod Proposing
 pub mod ByIndex
 pub mod PlannedFields
 pub mod PlannedPairs
