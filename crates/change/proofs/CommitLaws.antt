@@ -12,7 +12,7 @@ use lib.Pow.{pow-pos, shr-lt}
 use borrow.Author.Tests.{ltb-true, eqb-true, lt-ltb, le-ltb, eq-eqb, ne-eqb, not-false}
 use Rattle.refusal.specs.declared.Refusal.{Refusal}
 use Rattle.refusal.specs.Outcome.{Outcome, good, refused, _>>_, _>>=_, refuse_if_}
-use Rattle.refusal.specs.Rows.{noSuch, changedAlone, outOfRange}
+use Rattle.refusal.specs.Rows.{noSuch, changedAlone, outOfRange, otherCode}
 use Rattle.refusal.proofs.Outcomes.{good-bind, passed, both, bind-good, bind-refused, then-good, then-refused}
 use Rattle.memory.specs.declared.Sizes.{Sizes}
 use Rattle.memory.specs.Bits.{fieldAt, putAt}
@@ -38,7 +38,7 @@ use Rattle.layout.proofs.Standing.{Stands, field-stands}
 use Rattle.sheet.specs.declared.opening.Opened.{Opened}
 use Rattle.sheet.specs.Opened.{Opens}
 use Rattle.sheet.proofs.HeldLaws.{layout-is, held-whole, holding}
-use Rattle.change.specs.Change.{otherCode, changeable, recodedIn, rewritten, taken, mayStand, propose, mayCommit, commit}
+use Rattle.change.specs.Change.{changeable, recodedIn, rewritten, taken, mayStand, propose, mayCommit, commit}
 use Rattle.change.specs.Parts.{allowedIn, codeIn, proposedAt, mayFollow}
 use Rattle.change.proofs.Recoding.{Changeable, changeable-is}
 use Rattle.change.proofs.PartLaws.{code-known, coded}

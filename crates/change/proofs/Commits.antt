@@ -10,7 +10,7 @@ use lib.Ieee.{binary32, ofBits}
 use borrow.Author.Tests.{lt-ltb, eq-eqb, ne-eqb}
 use Rattle.refusal.specs.declared.Refusal.{Refusal}
 use Rattle.refusal.specs.Outcome.{Outcome, good, refused, _>>_, _>>=_, refuse_if_}
-use Rattle.refusal.specs.Rows.{outsideTable, notFinite}
+use Rattle.refusal.specs.Rows.{outsideTable, notFinite, otherCode}
 use Rattle.refusal.proofs.Outcomes.{good-same, good-bind, good-then, both, no-value, bind-good}
 use Rattle.memory.specs.declared.Sizes.{Sizes}
 use Rattle.memory.specs.Bits.{Bytes}
@@ -28,7 +28,7 @@ use Rattle.layout.specs.Image.{contents, field}
 use Rattle.layout.proofs.Fields.{recoded}
 use Rattle.layout.proofs.Accepted.{contents-accepted}
 use Rattle.layout.proofs.Puts.{withField}
-use Rattle.change.specs.Change.{otherCode, codeFor, recodedIn, taken, mayStand, proposedFor, propose, mayCommit, commit}
+use Rattle.change.specs.Change.{codeFor, recodedIn, taken, mayStand, proposedFor, propose, mayCommit, commit}
 use Rattle.change.proofs.Recoding.{Changeable, changeable-good, recoded-contents}
 use Rattle.change.proofs.CommitLaws.{stands-fits, commit-is, Committed, committed}
 

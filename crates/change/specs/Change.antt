@@ -5,9 +5,8 @@ use mathlib.Core.List.{List}
 use Prim.Native.Nat.{ℕ, _^_}
 use lib.Dec.{eqb, ltb}
 use lib.ListN.{length}
-use Rattle.refusal.specs.declared.Refusal.{Refusal}
 use Rattle.refusal.specs.Outcome.{Outcome, good, refused, _>>_, _>>=_, refuse_if_}
-use Rattle.refusal.specs.Rows.{changedAlone, outOfRange, returned}
+use Rattle.refusal.specs.Rows.{changedAlone, outOfRange, otherCode}
 use Rattle.memory.specs.declared.Sizes.{Sizes}
 use Rattle.memory.specs.Bits.{putAt}
 use Rattle.memory.specs.Image.{imageSizes, streamNumber, imageOf}
@@ -76,9 +75,6 @@ taken (refused r) = false
 
 unfoldable pub mayStand : Row → ℕ → Bool
 mayStand row code = ltb code (2 ^ row .width) && taken (decode row 0 code)
-
-abbrev pub otherCode : ℕ → Refusal
-otherCode field = returned 19 field
 
 -- Whether a new code may be put into field f in place of the present one. Order: 8, 12, 19, 10.
 unfoldable pub mayCommit : Contents → ℕ → ℕ → ℕ → Outcome (Unit {0})

@@ -3,7 +3,7 @@ use mathlib.Core.Bool.{not, _||_}
 use Prim.Native.Nat.{ℕ}
 use lib.Dec.{eqb, ltb}
 use Rattle.refusal.specs.Outcome.{Outcome, good, refused, _>>=_, _>>_, refuse_if_}
-use Rattle.refusal.specs.Rows.{noSuch, changedAlone, outOfRange}
+use Rattle.refusal.specs.Rows.{noSuch, changedAlone, outOfRange, otherCode}
 use Rattle.fields.specs.declared.Value.{Value}
 use Rattle.fields.specs.declared.Template.{Template}
 use Rattle.fields.specs.declared.Layout.{Layout}
@@ -13,7 +13,7 @@ use Rattle.fields.specs.Lines.{lastField, lineOf, rowOf}
 use Rattle.change.specs.declared.Proposal.{Proposal}
 use Rattle.change.specs.declared.changing.Allowed.{Allowed}
 use Rattle.change.specs.declared.changing.Allowed.the-variants.{Free, Refused}
-use Rattle.change.specs.Change.{otherCode, mayStand}
+use Rattle.change.specs.Change.{mayStand}
 
 -- Rows 8 and 12 of a field of a template.
 unfoldable pub allowedIn : Template → ℕ → Outcome (Unit {0})

@@ -6,7 +6,7 @@ ghost use Rattle.fields.specs.Answers.{judgedSaid};
 ghost use Rattle.fields.specs.Stored.{Sound};
 ghost use Rattle.layout.specs.Contents.{Contents};
 ghost use Rattle.sheet.specs.Opened.{Opens, Held};
-ghost use Rattle.change.specs.Change.{otherCode, mayStand, mayCommit, commit as commitOf};
+ghost use Rattle.change.specs.Change.{mayStand, mayCommit, commit as commitOf};
 ghost use Rattle.change.specs.Parts.{mayFollow};
 use crate::changing;
 use crate::changing::Allowed;
@@ -16,15 +16,6 @@ use fields::Row;
 use refusal::Written;
 use sheet::Opened;
 use sheet::OpenedAnswer;
-
-fn other_code(field: u64) -> refusal::Refusal
-    ensures { λ r. ⌜ r ≡ otherCode field ⌝ }
-{
-    refusal::Refusal {
-        number: 19,
-        place: field,
-    }
-}
 
 // Whether a code may stand in a field: it has no more bits than the field, and a check would take it.
 fn may_stand(row: Row, code: u64) -> bool
@@ -46,7 +37,7 @@ fn may_follow(row: Row, stands: u64, field: u64, present: u64, new: u64) -> Judg
     ensures { λ r. ⌜ judgedSaid r ≡ mayFollow row stands field present new ⌝ }
 {
     if stands != present {
-        return Judged::Refused(other_code(field));
+        return Judged::Refused(refusal::other_code(field));
     }
     if !may_stand(row, new) {
         return Judged::Refused(refusal::out_of_range(field));

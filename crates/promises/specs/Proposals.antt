@@ -3,13 +3,14 @@ use mathlib.Core.Path.{_≡_}
 use mathlib.Core.List.{List}
 use Prim.Native.Nat.{ℕ}
 use Rattle.refusal.specs.Outcome.{Outcome, good, refused, _>>=_}
+use Rattle.refusal.specs.Rows.{otherCode}
 use Rattle.memory.specs.Bits.{Bytes}
 use Rattle.fields.specs.declared.Value.{Value}
 use Rattle.fields.specs.Rules.{decode}
 use Rattle.fields.specs.Stored.{Real}
 use Rattle.layout.specs.Contents.{Contents}
 use Rattle.layout.specs.Image.{contents, field}
-use Rattle.change.specs.Change.{otherCode, codeFor, change, propose, commit}
+use Rattle.change.specs.Change.{codeFor, change, propose, commit}
 use Rattle.promises.specs.Alterations.{replaced}
 
 -- Proposal and immediate commit leave the bytes that a change would, and are refused as it would be.

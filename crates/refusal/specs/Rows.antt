@@ -72,3 +72,7 @@ wrongList length = returned 16 length
 -- 17 (Note 1): every page is blank.
 abbrev pub blankChip : Refusal
 blankChip = returned 17 0
+
+-- 19 (Note 5): commit: the present code is no longer there.
+abbrev pub otherCode : ℕ → Refusal
+otherCode field = returned 19 field

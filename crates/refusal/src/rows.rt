@@ -18,6 +18,7 @@ ghost use Rattle.refusal.specs.Rows.{
   singleSpan,
   wrongList,
   blankChip,
+  otherCode,
 };
 use crate::Refusal;
 
@@ -178,5 +179,14 @@ pub fn blank_chip() -> Refusal
     Refusal {
         number: crate::BLANK_CHIP,
         place: 0,
+    }
+}
+
+pub fn other_code(field: u64) -> Refusal
+    ensures { λ r. ⌜ r ≡ otherCode field ⌝ }
+{
+    Refusal {
+        number: crate::OTHER_CODE,
+        place: field,
     }
 }
