@@ -12,8 +12,8 @@ use compare::ffi::Product;
 use compare::plain::{self, Value};
 use compare::random::Random;
 use compare::structs::{
-    ByFlags, CharacterAnswer, CheckAnswer, CodeAnswer, FieldAnswer, Fields, PageAnswer, PairAnswer, ReadingAnswer,
-    SheetAnswer, TextAnswer, WriteAnswer,
+    ByFlags, CharacterAnswer, CheckAnswer, CodeAnswer, FieldAnswer, Fields, PageAnswer, PairAnswer, ProposalAnswer,
+    ReadingAnswer, SheetAnswer, TextAnswer, WriteAnswer,
 };
 
 #[path = "differ/images.rs"]
@@ -25,8 +25,10 @@ mod values;
 
 use layout::{get, image_length, pages};
 
-const CALLS: [&str; 12] =
-    ["check", "page", "field", "pair", "char", "build", "change", "reading", "text", "code", "sheet", "kind"];
+const CALLS: [&str; 14] = [
+    "check", "page", "field", "pair", "char", "build", "change", "reading", "text", "code", "sheet", "kind", "propose",
+    "commit",
+];
 const CHECK: usize = 0;
 const PAGE: usize = 1;
 const FIELD: usize = 2;
@@ -39,6 +41,11 @@ const TEXT: usize = 8;
 const CODE: usize = 9;
 const SHEET: usize = 10;
 const KIND: usize = 11;
+const PROPOSE: usize = 12;
+const COMMIT: usize = 13;
+
+/// Numbers from 0 to 19.
+const NUMBERS: usize = 20;
 
 const MOST_SHOWN: u64 = 10;
 
@@ -89,6 +96,7 @@ numbered!(
     PairAnswer,
     CharacterAnswer,
     WriteAnswer,
+    ProposalAnswer,
     ReadingAnswer,
     TextAnswer,
     CodeAnswer
@@ -107,7 +115,7 @@ struct Differ {
     calls: u64,
     differ: u64,
     /// By call and number.
-    numbers: [[u64; 18]; CALLS.len()],
+    numbers: [[u64; NUMBERS]; CALLS.len()],
     /// Accepted, by call and kind.
     kinds: [[u64; 3]; CALLS.len()],
 }
@@ -120,7 +128,7 @@ impl Differ {
             kind: 0,
             calls: 0,
             differ: 0,
-            numbers: [[0; 18]; CALLS.len()],
+            numbers: [[0; NUMBERS]; CALLS.len()],
             kinds: [[0; 3]; CALLS.len()],
         }
     }
@@ -282,11 +290,17 @@ impl Differ {
         );
     }
 
-    fn change(&mut self) {
+    /// A field number, and a value that mostly suits it.
+    fn field_and_value(&mut self) -> (u64, ByFlags) {
         let precision = self.precision();
         let field = self.field_number();
         let known = if (1..=21).contains(&field) { field as usize } else { 1 };
         let value = if self.random.percent(75) { self.good(known, precision) } else { self.bad(known, precision) };
+        (field, value)
+    }
+
+    fn change(&mut self) {
+        let (field, value) = self.field_and_value();
         let kind = self.chip();
         self.both(
             CHANGE,
@@ -294,6 +308,51 @@ impl Differ {
             |image| Command::Change(kind, image.to_vec(), field, value.value()),
             |calls, lent| calls.change(kind, lent.image_mut(), field, value),
         );
+    }
+
+    fn propose(&mut self) {
+        let (field, value) = self.field_and_value();
+        let kind = self.chip();
+        self.both(
+            PROPOSE,
+            kind,
+            |image| Command::Propose(kind, image.to_vec(), field, value.value()),
+            |calls, lent| calls.propose(kind, lent.image(), field, value),
+        );
+    }
+
+    /// What was proposed, or other codes: near, at the edges of the field's width, beyond it, any.
+    fn commit(&mut self) {
+        let (field, value) = self.field_and_value();
+        let (mut present, mut new) = plain::propose(self.kind, self.image(), field, value.value())
+            .map_or((0, self.random.below(64)), |proposal| (proposal.present, proposal.new));
+        if self.random.percent(10) {
+            present = self.other_code(present);
+        }
+        if self.random.percent(40) {
+            new = self.other_code(new);
+        }
+        let kind = self.chip();
+        self.both(
+            COMMIT,
+            kind,
+            |image| Command::Commit(kind, image.to_vec(), field, present, new),
+            |calls, lent| calls.commit(kind, lent.image_mut(), field, present, new),
+        );
+    }
+
+    fn other_code(&mut self, code: u64) -> u64 {
+        let width = self.random.below(34);
+        match self.random.below(8) {
+            0 => code.wrapping_add(1),
+            1 => code.wrapping_sub(1),
+            2 => code | 1 << 32,
+            3 => 1 << width,
+            4 => (1 << width) - 1,
+            5 => self.random.below(1 << width),
+            6 => self.random.word() & 0x807f_ffff | 0x7f80_0000,
+            _ => self.random.word(),
+        }
     }
 
     fn reading(&mut self) {
@@ -449,8 +508,10 @@ impl Differ {
             19..=36 => self.field(),
             37..=46 => self.pair(),
             47..=56 => self.character(),
-            57..=65 => self.change(),
-            66..=91 => self.reading(),
+            57..=63 => self.change(),
+            64..=68 => self.propose(),
+            69..=76 => self.commit(),
+            77..=91 => self.reading(),
             92..=95 => self.text(),
             _ => self.code(),
         }
@@ -486,14 +547,14 @@ impl Differ {
     fn report(&self, seed: u64) {
         println!("| Call | Calls | Accepted, kind 0 | kind 1 | kind 2 | Refused, number: times |");
         println!("|---|---|---|---|---|---|");
-        let times = |numbers: &[u64; 18]| {
-            let times: Vec<String> = (1..18)
+        let times = |numbers: &[u64; NUMBERS]| {
+            let times: Vec<String> = (1..NUMBERS)
                 .filter(|number| numbers[*number] > 0)
                 .map(|number| format!("{number}: {}", numbers[number]))
                 .collect();
             times.join(", ")
         };
-        let mut totals = [0; 18];
+        let mut totals = [0; NUMBERS];
         for (call, name) in CALLS.iter().enumerate() {
             let numbers = &self.numbers[call];
             for (total, number) in totals.iter_mut().zip(numbers) {

@@ -1,4 +1,4 @@
--- include/dartelm.h, call by call: which call of document 01 it is, and the struct that tells its outcome.
+-- include/dartelm.h, call by call: which call of documents 01 and 02 it is, and the struct that tells its outcome.
 use mathlib.Core.Bool.{Bool, true, false, cond}
 use mathlib.Core.List.{List, []}
 use Prim.Native.Nat.{ℕ}
@@ -10,7 +10,7 @@ use Rattle.fields.specs.declared.Value.the-variants.{Whole}
 use Rattle.texts.specs.Text.{textOf, codeOf}
 use Rattle.sheet.specs.Check.{check, readField, readPair, readCharacter}
 use Rattle.build.specs.Build.{build}
-use Rattle.change.specs.Change.{change}
+use Rattle.change.specs.Change.{change, propose, commit}
 use Rattle.reading.specs.Reading.{takeReading}
 use Rattle.dartelm.specs.declared.values.DartelmValue.{DartelmValue}
 use Rattle.dartelm.specs.declared.values.DartelmFields.{DartelmFields}
@@ -18,12 +18,13 @@ use Rattle.dartelm.specs.declared.answers.DartelmCheckAnswer.{DartelmChe
 use Rattle.dartelm.specs.declared.answers.DartelmFieldAnswer.{DartelmFieldAnswer}
 use Rattle.dartelm.specs.declared.answers.DartelmPairAnswer.{DartelmPairAnswer}
 use Rattle.dartelm.specs.declared.answers.DartelmCharacterAnswer.{DartelmCharacterAnswer}
+use Rattle.dartelm.specs.declared.answers.DartelmProposalAnswer.{DartelmProposalAnswer}
 use Rattle.dartelm.specs.declared.answers.DartelmReadingAnswer.{DartelmReadingAnswer}
 use Rattle.dartelm.specs.declared.answers.DartelmTextAnswer.{DartelmTextAnswer}
 use Rattle.dartelm.specs.declared.answers.DartelmCodeAnswer.{DartelmCodeAnswer}
 use Rattle.dartelm.specs.declared.answers.DartelmPageAnswer.{DartelmPageAnswer}
 use Rattle.dartelm.specs.Values.{valueOf, sheetOf}
-use Rattle.dartelm.specs.Answers.{told, checkAnswer, noSummary, fieldAnswer, pairAnswer, noPair, characterAnswer, readingAnswer, noReading, textAnswer, codeAnswer, pageAnswer}
+use Rattle.dartelm.specs.Answers.{told, checkAnswer, noSummary, fieldAnswer, pairAnswer, noPair, characterAnswer, proposalAnswer, noProposal, readingAnswer, noReading, textAnswer, codeAnswer, pageAnswer}
 
 -- The number of this archive and its header.
 abbrev pub version : ℕ
@@ -58,13 +59,21 @@ pairCall kind image index = told pairAnswer noPair (readPair kind image index)
 abbrev pub characterCall : ℕ → List ℕ → ℕ → DartelmCharacterAnswer
 characterCall kind image index = told characterAnswer 0 (readCharacter kind image index)
 
--- ---- build and change: the outcome, of which the answer and every byte of the image afterwards are told
+-- ---- build, change and commit: the outcome, of which the answer and every byte of the image afterwards are told
 
 abbrev pub buildCall : ℕ → List ℕ → DartelmFields → List ℕ → List ℤ → Outcome (List ℕ)
 buildCall kind image fields text points = build kind image (sheetOf fields) text points
 
 abbrev pub changeCall : ℕ → List ℕ → ℕ → DartelmValue → Outcome (List ℕ)
 changeCall kind image field value = change kind image field (valueOf value)
+
+abbrev pub commitCall : ℕ → List ℕ → ℕ → ℕ → ℕ → Outcome (List ℕ)
+commitCall kind image field present new = commit kind image field present new
+
+-- ---- a proposal
+
+abbrev pub proposeCall : ℕ → List ℕ → ℕ → DartelmValue → DartelmProposalAnswer
+proposeCall kind image field value = told proposalAnswer noProposal (propose kind image field (valueOf value))
 
 -- ---- a reading, texts, a page
 
