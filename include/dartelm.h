@@ -1,9 +1,9 @@
 /* Dartelm: the IEEE 1451.4 data sheet (TEDS) in a sender's memory chip, from its image to a reading. For C99 and C++.
  *
  * Every call returns one struct by value. Its number is 0 where the call is accepted; else it is a refusal's, DARTELM_WRONG_IMAGE
- * to DARTELM_SHORT_INDEX, with the refusal's place beside it, and every other member is 0. (0 as a float is +0.0. A Single that is
- * returned is finite.) A refused call writes nothing; no call writes anything but the image of a build or a change, and the buffer
- * of an index.
+ * to DARTELM_OTHER_CODE, with the refusal's place beside it, and every other member is 0. (0 as a float is +0.0. A Single that is
+ * returned is finite.) A refused call writes nothing; no call writes anything but the image of a build, a change or a commit, and
+ * the buffer of an index.
  *
  * Nothing is kept between calls, so any number of them may run at once, in interrupts too. No heap is used; the only functions
  * taken from outside are memcpy and memset. Every call returns, whatever it is handed.
@@ -55,7 +55,8 @@ enum {
     DARTELM_SINGLE_SPAN = 15,   /* A reading at precision 2. Place: 9. */
     DARTELM_WRONG_LIST = 16,    /* A list of points that is odd or longer than 254. Place: its length. */
     DARTELM_BLANK_CHIP = 17,    /* Every page is blank: nothing has been written to this chip. Place: 0. */
-    DARTELM_SHORT_INDEX = 18    /* A buffer too short for an index, or an index too short to be one. Place: the bytes needed. */
+    DARTELM_SHORT_INDEX = 18,   /* A buffer too short for an index, or an index too short to be one. Place: the bytes needed. */
+    DARTELM_OTHER_CODE = 19     /* A commit: another code stands in the field than the present one. Place: the field. */
 };
 
 /* Fields 1 to 21, and what a value counts. */
@@ -154,11 +155,20 @@ typedef struct dartelm_character_answer {
     char character; /* 1 to 127 */
 } dartelm_character_answer;
 
-/* What a build or a change answers. */
+/* What a build, a change or a commit answers. */
 typedef struct dartelm_write_answer {
     uint8_t number;
     uint64_t place;
 } dartelm_write_answer;
+
+/* What a field would become. Its codes may be handed to dartelm_commit. */
+typedef struct dartelm_proposal_answer {
+    uint8_t number;
+    uint64_t place;
+    uint64_t present_code; /* what stands in the field */
+    uint64_t new_code;     /* what a change would store */
+    dartelm_value value;   /* what that reads back */
+} dartelm_proposal_answer;
 
 /* A reading. */
 typedef struct dartelm_reading_answer {
@@ -233,6 +243,16 @@ dartelm_write_answer dartelm_build(uint8_t kind, uint8_t *image, size_t image_le
  * then the image keeps every byte. */
 dartelm_write_answer dartelm_change(uint8_t kind, uint8_t *image, size_t image_length, uint64_t field, dartelm_value value);
 
+/* Tells what a field would become by a change, and writes nothing. Refused as the change would be. */
+dartelm_proposal_answer dartelm_propose(uint8_t kind, const uint8_t *image, size_t image_length, uint64_t field,
+                                        dartelm_value value);
+
+/* Puts new_code into a field of an image, and rewrites the check bytes of its pages. Refused as a check is, and with 8, 12, 19
+ * where another code than present_code stands there, and 10 where new_code may not: then the image keeps every byte. A proposal
+ * and its commit leave the bytes that a change would. */
+dartelm_write_answer dartelm_commit(uint8_t kind, uint8_t *image, size_t image_length, uint64_t field,
+                                    uint64_t present_code, uint64_t new_code);
+
 /* Takes a reading at an input in nV/V. Refused as a check is, and with 13, 14 and 15. */
 dartelm_reading_answer dartelm_reading(uint8_t kind, const uint8_t *image, size_t image_length, int64_t input);
 
@@ -290,6 +310,10 @@ DARTELM_AT(dartelm_pair_answer, deviation, 24);
 DARTELM_ANSWER(dartelm_character_answer, 24);
 DARTELM_AT(dartelm_character_answer, character, 16);
 DARTELM_ANSWER(dartelm_write_answer, 16);
+DARTELM_ANSWER(dartelm_proposal_answer, 48);
+DARTELM_AT(dartelm_proposal_answer, present_code, 16);
+DARTELM_AT(dartelm_proposal_answer, new_code, 24);
+DARTELM_AT(dartelm_proposal_answer, value, 32);
 DARTELM_ANSWER(dartelm_reading_answer, 32);
 DARTELM_AT(dartelm_reading_answer, fraction, 16);
 DARTELM_AT(dartelm_reading_answer, figure, 24);

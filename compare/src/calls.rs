@@ -1,10 +1,10 @@
 //! The calls of `include/dartelm.h`: once for the product (`ffi::Product`), once for the plain implementation, so that both are
 //! handed the same and are compared in the same.
 
-use crate::plain::{self, Reading, Refusal, Summary, Text, Value};
+use crate::plain::{self, Proposal, Reading, Refusal, Summary, Text, Value};
 use crate::structs::{
-    ByFlags, CharacterAnswer, CheckAnswer, CodeAnswer, FieldAnswer, Fields, PageAnswer, PairAnswer, ReadingAnswer,
-    SheetAnswer, TextAnswer, WriteAnswer,
+    ByFlags, CharacterAnswer, CheckAnswer, CodeAnswer, FieldAnswer, Fields, PageAnswer, PairAnswer, ProposalAnswer,
+    ReadingAnswer, SheetAnswer, TextAnswer, WriteAnswer,
 };
 
 /// The calls of the header; the provided ones give the plain implementation's types.
@@ -17,6 +17,8 @@ pub trait Calls {
     fn character(&self, kind: u8, image: &[u8], index: u64) -> CharacterAnswer;
     fn build(&self, kind: u8, image: &mut [u8], fields: Fields, text: &[u8], points: &[i64]) -> WriteAnswer;
     fn change(&self, kind: u8, image: &mut [u8], field: u64, value: ByFlags) -> WriteAnswer;
+    fn propose(&self, kind: u8, image: &[u8], field: u64, value: ByFlags) -> ProposalAnswer;
+    fn commit(&self, kind: u8, image: &mut [u8], field: u64, present: u64, new: u64) -> WriteAnswer;
     fn reading(&self, kind: u8, image: &[u8], input: i64) -> ReadingAnswer;
     fn text(&self, field: u64, code: u64) -> TextAnswer;
     fn code(&self, field: u64, text: &[u8]) -> CodeAnswer;
@@ -75,6 +77,18 @@ pub trait Calls {
 
     fn changed(&self, kind: u8, image: &mut [u8], field: u64, value: Value) -> Result<(), Refusal> {
         let WriteAnswer { number, place } = self.change(kind, image, field, value.into());
+        accepted(number, place)
+    }
+
+    fn proposed(&self, kind: u8, image: &[u8], field: u64, value: Value) -> Result<Proposal, Refusal> {
+        let ProposalAnswer { number, place, present_code, new_code, value } =
+            self.propose(kind, image, field, value.into());
+        accepted(number, place)?;
+        Ok(Proposal { present: present_code, new: new_code, value: value.value() })
+    }
+
+    fn committed(&self, kind: u8, image: &mut [u8], field: u64, present: u64, new: u64) -> Result<(), Refusal> {
+        let WriteAnswer { number, place } = self.commit(kind, image, field, present, new);
         accepted(number, place)
     }
 
@@ -167,6 +181,22 @@ impl Calls for Plain {
 
     fn change(&self, kind: u8, image: &mut [u8], field: u64, value: ByFlags) -> WriteAnswer {
         wrote(plain::change(kind, image, field, value.value()))
+    }
+
+    fn propose(&self, kind: u8, image: &[u8], field: u64, value: ByFlags) -> ProposalAnswer {
+        match plain::propose(kind, image, field, value.value()) {
+            Ok(Proposal { present, new, value }) => ProposalAnswer {
+                present_code: present,
+                new_code: new,
+                value: value.into(),
+                ..ProposalAnswer::default()
+            },
+            Err(Refusal { number, place }) => ProposalAnswer { number, place, ..ProposalAnswer::default() },
+        }
+    }
+
+    fn commit(&self, kind: u8, image: &mut [u8], field: u64, present: u64, new: u64) -> WriteAnswer {
+        wrote(plain::commit(kind, image, field, present, new))
     }
 
     fn reading(&self, kind: u8, image: &[u8], input: i64) -> ReadingAnswer {

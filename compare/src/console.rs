@@ -15,6 +15,8 @@ pub enum Command {
     Char(u8, Vec<u8>, u64),
     Build { kind: u8, length: usize, values: Box<[Value; 21]>, end_bit: bool, text: Vec<u8>, points: Vec<i64> },
     Change(u8, Vec<u8>, u64, Value),
+    Propose(u8, Vec<u8>, u64, Value),
+    Commit(u8, Vec<u8>, u64, u64, u64),
     Reading(u8, Vec<u8>, i64),
     Text(u64, u64),
     Code(u64, Vec<u8>),
@@ -42,6 +44,12 @@ pub fn parse(line: &str) -> Option<Command> {
         ["char", kind, image, index] => Command::Char(unsigned(kind)?, bytes(image)?, unsigned(index)?),
         ["change", kind, image, field, given] => {
             Command::Change(unsigned(kind)?, bytes(image)?, unsigned(field)?, value(given)?)
+        }
+        ["propose", kind, image, field, given] => {
+            Command::Propose(unsigned(kind)?, bytes(image)?, unsigned(field)?, value(given)?)
+        }
+        ["commit", kind, image, field, present, new] => {
+            Command::Commit(unsigned(kind)?, bytes(image)?, unsigned(field)?, unsigned(present)?, unsigned(new)?)
         }
         ["reading", kind, image, input] => Command::Reading(unsigned(kind)?, bytes(image)?, signed(input)?),
         ["text", field, code] => Command::Text(unsigned(field)?, unsigned(code)?),
@@ -172,6 +180,12 @@ impl Display for Command {
             Command::Change(kind, image, field, value) => {
                 write!(to, "change {kind} {} {field} {value}", Hex(image))
             }
+            Command::Propose(kind, image, field, value) => {
+                write!(to, "propose {kind} {} {field} {value}", Hex(image))
+            }
+            Command::Commit(kind, image, field, present, new) => {
+                write!(to, "commit {kind} {} {field} {present} {new}", Hex(image))
+            }
             Command::Reading(kind, image, input) => {
                 write!(to, "reading {kind} {} {input}", Hex(image))
             }
@@ -222,6 +236,15 @@ impl Command {
                 calls.changed(*kind, &mut image, *field, *value)?;
                 format!("ok {}", Hex(&image))
             }
+            Command::Propose(kind, image, field, value) => {
+                let proposal = calls.proposed(*kind, image, *field, *value)?;
+                format!("{} {} {}", proposal.present, proposal.new, proposal.value)
+            }
+            Command::Commit(kind, image, field, present, new) => {
+                let mut image = image.clone();
+                calls.committed(*kind, &mut image, *field, *present, *new)?;
+                format!("ok {}", Hex(&image))
+            }
             Command::Reading(kind, image, input) => {
                 let reading = calls.reading_taken(*kind, image, *input)?;
                 format!("{} {:016x}", reading.fraction, reading.figure.to_bits())
@@ -269,6 +292,9 @@ mod tests {
             "change 0 - 1 s0000000",
             "change 0 - 1 s+0000000",
             "change 0 - 1 w",
+            "propose 0 - 1",
+            "commit 0 - 1 w2 3",
+            "commit 0 - 1 2 -3",
             "build 0 40 m",
             "index 0 -",
             "index 0 - 0",
@@ -290,6 +316,8 @@ mod tests {
             "char 0 - 1",
             "change 0 - 1 sffffffff",
             "change 0 - 1 w-9223372036854775808",
+            "propose 0 - 1 m",
+            "commit 0 - 1 18446744073709551615 0",
             "reading 0 - -9223372036854775808",
             "text 18 0",
             "code 18 -",

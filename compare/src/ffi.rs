@@ -2,8 +2,8 @@
 
 use crate::calls::Calls;
 use crate::structs::{
-    ByFlags, CharacterAnswer, CheckAnswer, CodeAnswer, FieldAnswer, Fields, PageAnswer, PairAnswer, ReadingAnswer,
-    SheetAnswer, TextAnswer, WriteAnswer,
+    ByFlags, CharacterAnswer, CheckAnswer, CodeAnswer, FieldAnswer, Fields, PageAnswer, PairAnswer, ProposalAnswer,
+    ReadingAnswer, SheetAnswer, TextAnswer, WriteAnswer,
 };
 
 mod dartelm {
@@ -28,6 +28,21 @@ mod dartelm {
         ) -> WriteAnswer;
         pub fn dartelm_change(kind: u8, image: *mut u8, image_length: usize, field: u64, value: ByFlags)
         -> WriteAnswer;
+        pub fn dartelm_propose(
+            kind: u8,
+            image: *const u8,
+            image_length: usize,
+            field: u64,
+            value: ByFlags,
+        ) -> ProposalAnswer;
+        pub fn dartelm_commit(
+            kind: u8,
+            image: *mut u8,
+            image_length: usize,
+            field: u64,
+            present_code: u64,
+            new_code: u64,
+        ) -> WriteAnswer;
         pub fn dartelm_reading(kind: u8, image: *const u8, image_length: usize, input: i64) -> ReadingAnswer;
         pub safe fn dartelm_text(field: u64, code: u64) -> TextAnswer;
         pub fn dartelm_code(field: u64, text: *const u8, text_length: usize) -> CodeAnswer;
@@ -88,6 +103,14 @@ impl Calls for Product {
 
     fn change(&self, kind: u8, image: &mut [u8], field: u64, value: ByFlags) -> WriteAnswer {
         unsafe { dartelm::dartelm_change(kind, image.as_mut_ptr(), image.len(), field, value) }
+    }
+
+    fn propose(&self, kind: u8, image: &[u8], field: u64, value: ByFlags) -> ProposalAnswer {
+        unsafe { dartelm::dartelm_propose(kind, image.as_ptr(), image.len(), field, value) }
+    }
+
+    fn commit(&self, kind: u8, image: &mut [u8], field: u64, present: u64, new: u64) -> WriteAnswer {
+        unsafe { dartelm::dartelm_commit(kind, image.as_mut_ptr(), image.len(), field, present, new) }
     }
 
     fn reading(&self, kind: u8, image: &[u8], input: i64) -> ReadingAnswer {

@@ -43,6 +43,14 @@ pub struct Reading {
     pub figure: f64,
 }
 
+/// What a field would become: the present code, the code to be stored, and its read-back value.
+#[derive(Clone, Copy, Debug, PartialEq)]
+pub struct Proposal {
+    pub present: u64,
+    pub new: u64,
+    pub value: Value,
+}
+
 /// A text of field 3, 18 or 19, with zeros behind it.
 #[derive(Clone, Copy, Debug, PartialEq, Eq)]
 pub struct Text {
@@ -696,28 +704,59 @@ pub fn build(
     Ok(())
 }
 
+impl Open {
+    /// The rule and the first bit of a field that may be changed alone.
+    fn changeable(&self, field: u64) -> Answer<(Rule, u64)> {
+        if !(1..=21).contains(&field) {
+            return refuse(8, field);
+        }
+        if field == 9 {
+            return refuse(12, 9);
+        }
+        Ok((rule(field as usize, self.precision), first_bit(field as usize, self.precision)))
+    }
+
+    /// Puts a code into a field, and the check bytes of its pages right.
+    fn store(&self, image: &mut [u8], bit: u64, width: u32, code: u32) {
+        self.chip.put(image, bit, width, code);
+        let first = self.chip.page_of((bit / 8) as usize);
+        let last = self.chip.page_of(((bit + u64::from(width) - 1) / 8) as usize);
+        for page in first..=last {
+            self.chip.seal(image, page);
+        }
+    }
+}
+
+fn coded(rule: Rule, field: u64, value: Value) -> Answer<u32> {
+    rule.code(value).or_else(|number| refuse(number, field))
+}
+
 pub fn change(kind: u8, image: &mut [u8], field: u64, value: Value) -> Answer<()> {
     let open = open(kind, image)?;
-    if !(1..=21).contains(&field) {
-        return refuse(8, field);
+    let (rule, bit) = open.changeable(field)?;
+    let code = coded(rule, field, value)?;
+    open.store(image, bit, rule.width(), code);
+    Ok(())
+}
+
+pub fn propose(kind: u8, image: &[u8], field: u64, value: Value) -> Answer<Proposal> {
+    let open = open(kind, image)?;
+    let (rule, bit) = open.changeable(field)?;
+    let new = coded(rule, field, value)?;
+    let present = open.chip.get(image, bit, rule.width());
+    Ok(Proposal { present: u64::from(present), new: u64::from(new), value: rule.value(new) })
+}
+
+pub fn commit(kind: u8, image: &mut [u8], field: u64, present: u64, new: u64) -> Answer<()> {
+    let open = open(kind, image)?;
+    let (rule, bit) = open.changeable(field)?;
+    if u64::from(open.chip.get(image, bit, rule.width())) != present {
+        return refuse(19, field);
     }
-    if field == 9 {
-        return refuse(12, 9);
+    if new > mask(rule.width()) || rule.judge(new as u32, bit).is_err() {
+        return refuse(10, field);
     }
-    let rule = rule(field as usize, open.precision);
-    let code = match rule.code(value) {
-        Ok(code) => code,
-        Err(number) => return refuse(number, field),
-    };
-    let bit = first_bit(field as usize, open.precision);
-    let width = rule.width();
-    let chip = open.chip;
-    chip.put(image, bit, width, code);
-    let first = chip.page_of((bit / 8) as usize);
-    let last = chip.page_of(((bit + u64::from(width) - 1) / 8) as usize);
-    for page in first..=last {
-        chip.seal(image, page);
-    }
+    open.store(image, bit, rule.width(), new as u32);
     Ok(())
 }
 

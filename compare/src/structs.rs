@@ -104,6 +104,16 @@ pub struct WriteAnswer {
     pub place: u64,
 }
 
+#[derive(Clone, Copy, Debug, Default, PartialEq)]
+#[repr(C)]
+pub struct ProposalAnswer {
+    pub number: u8,
+    pub place: u64,
+    pub present_code: u64,
+    pub new_code: u64,
+    pub value: ByFlags,
+}
+
 #[derive(Clone, Copy, Debug, Default)]
 #[repr(C)]
 pub struct ReadingAnswer {

@@ -12,8 +12,8 @@ use compare::ffi::Product;
 use compare::plain::{self, Value};
 use compare::random::Random;
 use compare::structs::{
-    ByFlags, CharacterAnswer, CheckAnswer, CodeAnswer, FieldAnswer, Fields, PageAnswer, PairAnswer, ReadingAnswer,
-    SheetAnswer, TextAnswer, WriteAnswer,
+    ByFlags, CharacterAnswer, CheckAnswer, CodeAnswer, FieldAnswer, Fields, PageAnswer, PairAnswer, ProposalAnswer,
+    ReadingAnswer, SheetAnswer, TextAnswer, WriteAnswer,
 };
 
 #[path = "differ/images.rs"]
@@ -27,7 +27,7 @@ use layout::{get, image_length, pages, stream_bits, width};
 
 const CALLS: [&str; 14] = [
     "check", "page", "field", "pair", "char", "build", "change", "reading", "text", "code", "sheet", "kind", "index",
-    "fetch",
+    "fetch", "propose", "commit",
 ];
 const CHECK: usize = 0;
 const PAGE: usize = 1;
@@ -43,9 +43,11 @@ const SHEET: usize = 10;
 const KIND: usize = 11;
 const INDEX: usize = 12;
 const FETCH: usize = 13;
+const PROPOSE: usize = 14;
+const COMMIT: usize = 15;
 
 /// Refusal numbers, and 0.
-const NUMBERS: usize = 19;
+const NUMBERS: usize = 20;
 
 const MOST_SHOWN: u64 = 10;
 
@@ -111,6 +113,7 @@ numbered!(
     PairAnswer,
     CharacterAnswer,
     WriteAnswer,
+    ProposalAnswer,
     ReadingAnswer,
     TextAnswer,
     CodeAnswer
@@ -304,11 +307,17 @@ impl Differ {
         );
     }
 
-    fn change(&mut self) {
+    /// A field number, and a value that mostly suits it.
+    fn field_and_value(&mut self) -> (u64, ByFlags) {
         let precision = self.precision();
         let field = self.field_number();
         let known = if (1..=21).contains(&field) { field as usize } else { 1 };
         let value = if self.random.percent(75) { self.good(known, precision) } else { self.bad(known, precision) };
+        (field, value)
+    }
+
+    fn change(&mut self) {
+        let (field, value) = self.field_and_value();
         let kind = self.chip();
         self.both(
             CHANGE,
@@ -375,6 +384,51 @@ impl Differ {
             |image| Command::Fetch(kind, image.to_vec(), index.clone(), field),
             |calls, lent| calls.fetch(kind, lent.image(), lent.index(), field),
         );
+    }
+
+    fn propose(&mut self) {
+        let (field, value) = self.field_and_value();
+        let kind = self.chip();
+        self.both(
+            PROPOSE,
+            kind,
+            |image| Command::Propose(kind, image.to_vec(), field, value.value()),
+            |calls, lent| calls.propose(kind, lent.image(), field, value),
+        );
+    }
+
+    /// What was proposed, or other codes: near, at the edges of the field's width, beyond it, any.
+    fn commit(&mut self) {
+        let (field, value) = self.field_and_value();
+        let (mut present, mut new) = plain::propose(self.kind, self.image(), field, value.value())
+            .map_or((0, self.random.below(64)), |proposal| (proposal.present, proposal.new));
+        if self.random.percent(10) {
+            present = self.other_code(present);
+        }
+        if self.random.percent(40) {
+            new = self.other_code(new);
+        }
+        let kind = self.chip();
+        self.both(
+            COMMIT,
+            kind,
+            |image| Command::Commit(kind, image.to_vec(), field, present, new),
+            |calls, lent| calls.commit(kind, lent.image_mut(), field, present, new),
+        );
+    }
+
+    fn other_code(&mut self, code: u64) -> u64 {
+        let width = self.random.below(34);
+        match self.random.below(8) {
+            0 => code.wrapping_add(1),
+            1 => code.wrapping_sub(1),
+            2 => code | 1 << 32,
+            3 => 1 << width,
+            4 => (1 << width) - 1,
+            5 => self.random.below(1 << width),
+            6 => self.random.word() & 0x807f_ffff | 0x7f80_0000,
+            _ => self.random.word(),
+        }
     }
 
     fn reading(&mut self) {
@@ -530,10 +584,12 @@ impl Differ {
             19..=36 => self.field(),
             37..=46 => self.pair(),
             47..=56 => self.character(),
-            57..=65 => self.change(),
-            66..=80 => self.reading(),
-            81..=83 => self.make_index(),
-            84..=91 => self.fetch(),
+            57..=62 => self.change(),
+            63..=67 => self.propose(),
+            68..=74 => self.commit(),
+            75..=82 => self.reading(),
+            83..=85 => self.make_index(),
+            86..=91 => self.fetch(),
             92..=95 => self.text(),
             _ => self.code(),
         }

@@ -11,10 +11,11 @@ use shown::put;
 use texts::equal;
 use words::Figure;
 use words::Number;
+use words::Worth;
 use words::front;
 use words::word;
 
-const HELP: [u8; 469] = *b"check KIND IMAGE\n\
+const HELP: [u8; 536] = *b"check KIND IMAGE\n\
     page KIND IMAGE PAGE\n\
     field KIND IMAGE FIELD\n\
     pair KIND IMAGE INDEX\n\
@@ -25,6 +26,8 @@ const HELP: [u8; 469] = *b"check KIND IMAGE\n\
     change KIND IMAGE FIELD VALUE\n\
     index KIND IMAGE BUFFER\n\
     fetch KIND IMAGE BUFFER FIELD\n\
+    propose KIND IMAGE FIELD VALUE\n\
+    commit KIND IMAGE FIELD PRESENT NEW\n\
     text FIELD CODE\n\
     code FIELD TEXT\n\
     help\n\
@@ -39,6 +42,7 @@ pub fn answer(line: &[u8]) {
         3 => of_two(line, name),
         4 => of_three(line, name),
         5 => of_four(line, name),
+        6 => writes::commit(line, name),
         27 => writes::build(line, name),
         _ => printing::unknown(),
     }
@@ -92,6 +96,9 @@ fn of_four(line: &[u8], name: &[u8]) {
     if equal(name, b"fetch") {
         return indexes::fetch(line);
     }
+    if equal(name, b"propose") {
+        return propose(line);
+    }
     writes::change(line, name);
 }
 
@@ -122,4 +129,19 @@ fn of_number(name: &[u8], kind: u8, image: &[u8], number: u64) {
         return reads::character(kind, image, number);
     }
     printing::unknown();
+}
+
+// The image, the field and the value, words 2 to 4.
+fn propose(line: &[u8]) {
+    let Number::Is(field) = words::number_of(word(line, 3)) else {
+        return printing::unknown();
+    };
+    let Worth::Is(value) = words::value_of(word(line, 4)) else {
+        return printing::unknown();
+    };
+    let mut room = [0u8; ROOM];
+    let Asked::Of(chip) = asked::lent(line, &mut room) else {
+        return printing::unknown();
+    };
+    reads::propose(chip.kind, front(&room, chip.length), field, value);
 }

@@ -8,6 +8,6 @@ mod printing; // printing.rt: what an answer is made of
 mod reads; // reads.rt: the commands that leave the image alone
 mod serving; // serving.rt: lines from standard input
 mod turned; // turned.rt: text and codes
-mod writes; // writes.rt: build and change
+mod writes; // writes.rt: build, change and commit
 
 pub use serving::serve;

@@ -1,4 +1,4 @@
-// Build and change.
+// Build, change and commit.
 use crate::asked;
 use crate::asked::Asked;
 use crate::asked::ROOM;
@@ -48,6 +48,38 @@ pub fn change(line: &[u8], name: &[u8]) {
         return printing::unknown();
     };
     change_in(front_mut(&mut room, chip.length), chip.kind, field, value);
+}
+
+fn commit_in(image: &mut [u8], kind: u8, field: u64, present: u64, new: u64) {
+    let answer = change::commit(kind, image, field, present, new);
+    written(answer, image);
+}
+
+// The image, the field and the two codes, words 2 to 5.
+pub fn commit(line: &[u8], name: &[u8]) {
+    if !equal(name, b"commit") {
+        return printing::unknown();
+    }
+    let Number::Is(field) = words::number_of(word(line, 3)) else {
+        return printing::unknown();
+    };
+    let Number::Is(present) = words::number_of(word(line, 4)) else {
+        return printing::unknown();
+    };
+    let Number::Is(new) = words::number_of(word(line, 5)) else {
+        return printing::unknown();
+    };
+    let mut room = [0u8; ROOM];
+    let Asked::Of(chip) = asked::lent(line, &mut room) else {
+        return printing::unknown();
+    };
+    commit_in(
+        front_mut(&mut room, chip.length),
+        chip.kind,
+        field,
+        present,
+        new,
+    );
 }
 
 // The value of a field, word 3 on of a build.

@@ -1,2 +1,4 @@
 pub mod Recoding
 pub mod PartLaws
+pub mod CommitLaws
+pub mod Commits

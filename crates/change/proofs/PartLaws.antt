@@ -135,7 +135,7 @@ module _ {kind : ℕ} {image : List ℕ} {o : Opened} {c : Contents} (h : Opens 
   is-layout : o .layout ≡ layoutOf c
   is-layout = ap (λ u. u .layout) (h .is)
 
-  coded : codeFor c f v ≡ codeIn (o .layout) f v
+  pub coded : codeFor c f v ≡ codeIn (o .layout) f v
   coded =
       code-parts c f v (fields-count (holding .formed)) (λ lo hi. row-is (field-at (holding .formed) f lo hi))
       ∙ ap (λ l. codeIn l f v) (sym is-layout)

@@ -1,18 +1,24 @@
--- Document 01: change one field. Order: check, 8, 12, 9, 10. A change is told in its parts: the field that may be changed, the code that is to be
--- stored, and the rewriting.
+-- Document 01: change one field; document 02, Note 5: propose a change, and commit it. They share their parts: the field that may be changed, the
+-- code that is to be stored, and the rewriting.
+use mathlib.Core.Bool.{Bool, true, false, not, _&&_}
 use mathlib.Core.List.{List}
-use Prim.Native.Nat.{ℕ}
+use Prim.Native.Nat.{ℕ, _^_}
+use lib.Dec.{eqb, ltb}
 use lib.ListN.{length}
-use Rattle.refusal.specs.Outcome.{Outcome, good, _>>_, _>>=_, refuse_if_}
-use Rattle.refusal.specs.Rows.{changedAlone}
+use Rattle.refusal.specs.Outcome.{Outcome, good, refused, _>>_, _>>=_, refuse_if_}
+use Rattle.refusal.specs.Rows.{changedAlone, outOfRange, otherCode}
 use Rattle.memory.specs.declared.Sizes.{Sizes}
 use Rattle.memory.specs.Bits.{putAt}
 use Rattle.memory.specs.Image.{imageSizes, streamNumber, imageOf}
 use Rattle.fields.specs.declared.Value.{Value}
-use Rattle.fields.specs.Rules.{encode}
+use Rattle.fields.specs.declared.Row.{Row}
+use Rattle.fields.specs.Rules.{decode, encode}
 use Rattle.fields.specs.Lines.{lineOf}
 use Rattle.layout.specs.Contents.{Found, Contents}
 use Rattle.layout.specs.Image.{contents, field, numbered}
+use Rattle.change.specs.declared.Proposal.{Proposal}
+use Rattle.change.specs.declared.ProposalAnswer.{ProposalAnswer}
+use Rattle.change.specs.declared.ProposalAnswer.the-variants.{Proposed, Refused}
 
 -- ---- its parts
 
@@ -40,9 +46,52 @@ rewritten kind image x code = do
 
 -- ---- the change
 
--- The image with field f at a value.
+-- The image with field f at a value. Order: check, 8, 12, 9, 10.
 unfoldable pub change : ℕ → List ℕ → ℕ → Value → Outcome (List ℕ)
 change kind image f value = do
   c ← contents kind image
   code ← codeFor c f value
   rewritten kind image (field c f) code
+
+-- ---- proposal and commit
+
+-- What a field at a code would become: the present code, the code to be stored and its read-back value.
+abbrev pub proposedFor : Found → ℕ → Outcome Proposal
+proposedFor x code = do
+  back ← decode (x .row) (x .at) code
+  good (record { present = x .code; new = code; value = back })
+
+-- A proposal is refused as the change would be, and writes nothing.
+unfoldable pub propose : ℕ → List ℕ → ℕ → Value → Outcome Proposal
+propose kind image f value = do
+  c ← contents kind image
+  code ← codeFor c f value
+  proposedFor (field c f) code
+
+-- A code may stand in a field of a row if it has no more bits than the field, and a check would take it.
+abbrev pub taken : {A : Type 0} → Outcome A → Bool
+taken (good a) = true
+taken (refused r) = false
+
+unfoldable pub mayStand : Row → ℕ → Bool
+mayStand row code = ltb code (2 ^ row .width) && taken (decode row 0 code)
+
+-- Whether a new code may be put into field f in place of the present one. Order: 8, 12, 19, 10.
+unfoldable pub mayCommit : Contents → ℕ → ℕ → ℕ → Outcome (Unit {0})
+mayCommit c f present new = do
+  x ← changeable c f
+  refuse otherCode f if not (eqb (x .code) present)
+  refuse outOfRange f if not (mayStand (x .row) new)
+
+-- The image with field f at a new code, if the present one is still there. Order: check, 8, 12, 19, 10.
+unfoldable pub commit : ℕ → List ℕ → ℕ → ℕ → ℕ → Outcome (List ℕ)
+commit kind image f present new = do
+  c ← contents kind image
+  mayCommit c f present new
+  rewritten kind image (field c f) new
+
+-- ---- the answer of a proposal
+
+abbrev pub proposalSaid : ProposalAnswer → Outcome Proposal
+proposalSaid (Proposed p) = good p
+proposalSaid (Refused r) = refused r

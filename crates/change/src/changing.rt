@@ -13,13 +13,13 @@ use refusal::Written;
 use sheet::OpenedAnswer;
 
 // Whether a field may be changed alone.
-enum Allowed {
+pub enum Allowed {
     Free,
     Refused(Refusal),
 }
 
 // 8 where the template has no such field, 12 for a field that sets the widths of others.
-fn may_change(template: Template, field: u64) -> Allowed
+pub fn may_change(template: Template, field: u64) -> Allowed
     ensures { λ r. ⌜ allowedSaid r ≡ allowedIn template field ⌝ }
 {
     if field < 1 {
@@ -36,7 +36,7 @@ fn may_change(template: Template, field: u64) -> Allowed
 
 // The code that a value is to be stored at in a field; or 8, 12, 9 where the field takes no value of this sort, 10 where it has
 // no code for it.
-fn code_for(layout: Layout, field: u64, value: Value) -> Encoded
+pub fn code_for(layout: Layout, field: u64, value: Value) -> Encoded
     ensures { λ r. ⌜ encodedSaid r ≡ codeIn layout field value ⌝ }
 {
     let template = layout.template;

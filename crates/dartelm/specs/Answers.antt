@@ -11,6 +11,7 @@ use Rattle.fields.specs.declared.Value.the-variants.{Whole}
 use Rattle.sheet.specs.declared.Summary.{Summary}
 use Rattle.fields.specs.declared.Pair.{Pair}
 use Rattle.layout.specs.Pieces.{endCode}
+use Rattle.change.specs.declared.Proposal.{Proposal}
 use Rattle.reading.specs.declared.Reading.{Reading}
 use Rattle.dartelm.specs.declared.answers.DartelmCheckAnswer.{DartelmCheckAnswer}
 use Rattle.dartelm.specs.declared.answers.DartelmFieldAnswer.{DartelmFieldAnswer}
@@ -18,6 +19,7 @@ use Rattle.dartelm.specs.declared.answers.DartelmSheetAnswer.{DartelmShe
 use Rattle.dartelm.specs.declared.answers.DartelmPairAnswer.{DartelmPairAnswer}
 use Rattle.dartelm.specs.declared.answers.DartelmCharacterAnswer.{DartelmCharacterAnswer}
 use Rattle.dartelm.specs.declared.answers.DartelmWriteAnswer.{DartelmWriteAnswer}
+use Rattle.dartelm.specs.declared.answers.DartelmProposalAnswer.{DartelmProposalAnswer}
 use Rattle.dartelm.specs.declared.answers.DartelmReadingAnswer.{DartelmReadingAnswer}
 use Rattle.dartelm.specs.declared.answers.DartelmTextAnswer.{DartelmTextAnswer}
 use Rattle.dartelm.specs.declared.answers.DartelmCodeAnswer.{DartelmCodeAnswer}
@@ -57,6 +59,12 @@ characterAnswer n p c = record { number = n; place = p; character = c }
 -- The bytes of an image that was written stand in the image.
 abbrev pub writeAnswer : ℕ → ℕ → List ℕ → DartelmWriteAnswer
 writeAnswer n p image = record { number = n; place = p }
+
+abbrev pub proposalAnswer : ℕ → ℕ → Proposal → DartelmProposalAnswer
+proposalAnswer n p q = record { number = n; place = p; «present_code» = q .present; «new_code» = q .new; value = byFlags (q .value) }
+
+abbrev pub noProposal : Proposal
+noProposal = record { present = 0; new = 0; value = Whole (pos 0) }
 
 abbrev pub readingAnswer : ℕ → ℕ → Reading → DartelmReadingAnswer
 readingAnswer n p r = record { number = n; place = p; fraction = r .fraction; figure = r .figure }

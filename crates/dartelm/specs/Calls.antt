@@ -11,7 +11,7 @@ use Rattle.texts.specs.Text.{textOf, codeOf}
 use Rattle.sheet.specs.Check.{check, readField, readPair, readCharacter}
 use Rattle.index.specs.Index.{index, fetch}
 use Rattle.build.specs.Build.{build}
-use Rattle.change.specs.Change.{change}
+use Rattle.change.specs.Change.{change, propose, commit}
 use Rattle.reading.specs.Reading.{takeReading}
 use Rattle.dartelm.specs.declared.values.DartelmValue.{DartelmValue}
 use Rattle.dartelm.specs.declared.values.DartelmFields.{DartelmFields}
@@ -19,12 +19,13 @@ use Rattle.dartelm.specs.declared.answers.DartelmCheckAnswer.{DartelmChe
 use Rattle.dartelm.specs.declared.answers.DartelmFieldAnswer.{DartelmFieldAnswer}
 use Rattle.dartelm.specs.declared.answers.DartelmPairAnswer.{DartelmPairAnswer}
 use Rattle.dartelm.specs.declared.answers.DartelmCharacterAnswer.{DartelmCharacterAnswer}
+use Rattle.dartelm.specs.declared.answers.DartelmProposalAnswer.{DartelmProposalAnswer}
 use Rattle.dartelm.specs.declared.answers.DartelmReadingAnswer.{DartelmReadingAnswer}
 use Rattle.dartelm.specs.declared.answers.DartelmTextAnswer.{DartelmTextAnswer}
 use Rattle.dartelm.specs.declared.answers.DartelmCodeAnswer.{DartelmCodeAnswer}
 use Rattle.dartelm.specs.declared.answers.DartelmPageAnswer.{DartelmPageAnswer}
 use Rattle.dartelm.specs.Values.{valueOf, sheetOf}
-use Rattle.dartelm.specs.Answers.{told, checkAnswer, noSummary, fieldAnswer, pairAnswer, noPair, characterAnswer, readingAnswer, noReading, textAnswer, codeAnswer, pageAnswer}
+use Rattle.dartelm.specs.Answers.{told, checkAnswer, noSummary, fieldAnswer, pairAnswer, noPair, characterAnswer, proposalAnswer, noProposal, readingAnswer, noReading, textAnswer, codeAnswer, pageAnswer}
 
 -- The number of this archive and its header.
 abbrev pub version : ℕ
@@ -62,7 +63,7 @@ pairCall kind image index = told pairAnswer noPair (readPair kind image index)
 abbrev pub characterCall : ℕ → List ℕ → ℕ → DartelmCharacterAnswer
 characterCall kind image index = told characterAnswer 0 (readCharacter kind image index)
 
--- ---- build, change and index: the outcome, of which the answer and every byte of the image or the buffer afterwards are told
+-- ---- build, change, commit and index: the outcome, of which the answer and every byte of the image or the buffer afterwards are told
 
 abbrev pub buildCall : ℕ → List ℕ → DartelmFields → List ℕ → List ℤ → Outcome (List ℕ)
 buildCall kind image fields text points = build kind image (sheetOf fields) text points
@@ -72,6 +73,14 @@ changeCall kind image field value = change kind image field (valueOf value)
 
 abbrev pub indexCall : ℕ → List ℕ → List ℕ → Outcome (List ℕ)
 indexCall kind image buffer = index kind image buffer
+
+abbrev pub commitCall : ℕ → List ℕ → ℕ → ℕ → ℕ → Outcome (List ℕ)
+commitCall kind image field present new = commit kind image field present new
+
+-- ---- a proposal
+
+abbrev pub proposeCall : ℕ → List ℕ → ℕ → DartelmValue → DartelmProposalAnswer
+proposeCall kind image field value = told proposalAnswer noProposal (propose kind image field (valueOf value))
 
 -- ---- a reading, texts, a page
 

@@ -52,11 +52,21 @@ pub struct DartelmCharacterAnswer {
     pub character: u8,
 }
 
-// An image that was built or changed.
+// An image that was built or changed, or a code committed to it.
 #[repr(C)]
 pub struct DartelmWriteAnswer {
     pub number: u8,
     pub place: u64,
+}
+
+// What a field would become: the code that stands there, the code that would be stored, and the value that this one reads back.
+#[repr(C)]
+pub struct DartelmProposalAnswer {
+    pub number: u8,
+    pub place: u64,
+    pub present_code: u64,
+    pub new_code: u64,
+    pub value: DartelmValue,
 }
 
 // A reading: the fraction q in billionths of the span, and the physical figure.

@@ -20,6 +20,8 @@ ghost use Rattle.dartelm.specs.Calls.{
   buildCall,
   changeCall,
   indexCall,
+  proposeCall,
+  commitCall,
   readingCall,
   textCall,
   codeCall,
@@ -37,10 +39,12 @@ use answers::DartelmCodeAnswer;
 use answers::DartelmFieldAnswer;
 use answers::DartelmPageAnswer;
 use answers::DartelmPairAnswer;
+use answers::DartelmProposalAnswer;
 use answers::DartelmReadingAnswer;
 use answers::DartelmSheetAnswer;
 use answers::DartelmTextAnswer;
 use answers::DartelmWriteAnswer;
+use change::ProposalAnswer;
 use reading::ReadingAnswer;
 use refusal::Written;
 use sheet::CharacterAnswer;
@@ -189,7 +193,7 @@ pub extern "C" fn dartelm_character(kind: u8, image: &[u8], index: u64) -> Darte
     }
 }
 
-// What a build, a change or an index answers.
+// What a build, a change, a commit or an index answers.
 fn wrote(written: Written) -> DartelmWriteAnswer
     ensures { λ r. ⌜ ((image : List ℕ) → r ≡ told writeAnswer [] (writtenSaid written image)) ⌝ }
 {
@@ -241,6 +245,52 @@ pub extern "C" fn dartelm_index(kind: u8, image: &[u8], buffer: &mut [u8]) -> Da
         (r ≡ told writeAnswer [] outcome) × (now (buffer .exit) ≡ afterwards (now (buffer .entry)) outcome)) ⌝ }
 {
     wrote(index::make_index(kind, image, buffer))
+}
+
+// Tells what a field would become if it were changed to a value, and writes nothing.
+#[no_mangle]
+pub extern "C" fn dartelm_propose(
+    kind: u8,
+    image: &[u8],
+    field: u64,
+    value: DartelmValue,
+) -> DartelmProposalAnswer
+    ensures { λ r. ⌜ r ≡ proposeCall kind (now (image .entry)) field value ⌝ }
+{
+    match change::propose(kind, image, field, values::value_of(value)) {
+        ProposalAnswer::Refused(r) => DartelmProposalAnswer {
+            number: r.number,
+            place: r.place,
+            present_code: 0,
+            new_code: 0,
+            value: values::no_value(),
+        },
+        ProposalAnswer::Proposed(proposal) => {
+            let back = proposal.value;
+            DartelmProposalAnswer {
+                number: 0,
+                place: 0,
+                present_code: proposal.present,
+                new_code: proposal.new,
+                value: values::by_flags(back),
+            }
+        }
+    }
+}
+
+// Puts a code into a field, if the present one is still there and the new one may stand.
+#[no_mangle]
+pub extern "C" fn dartelm_commit(
+    kind: u8,
+    image: &mut [u8],
+    field: u64,
+    present_code: u64,
+    new_code: u64,
+) -> DartelmWriteAnswer
+    ensures { λ r. ⌜ (let outcome = commitCall kind (now (image .entry)) field «present_code» «new_code» in
+        (r ≡ told writeAnswer [] outcome) × (now (image .exit) ≡ afterwards (now (image .entry)) outcome)) ⌝ }
+{
+    wrote(change::commit(kind, image, field, present_code, new_code))
 }
 
 // Takes a reading at an input in nV/V.

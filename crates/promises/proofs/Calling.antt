@@ -13,7 +13,7 @@ use Rattle.reading.specs.Reading.{takeReading, readingSaid}
 use Rattle.promises.specs.declared.Change.{Change}
 use Rattle.promises.specs.declared.Answers.{Answers}
 use Rattle.promises.specs.Lent.{Lendable}
-use Rattle.promises.specs.Changes.{changedBy}
+use Rattle.promises.specs.Alterations.{changes, changedBy}
 use Rattle.promises.specs.Calls.{ChangeSaid, made, Answered}
 use Rattle.promises.proofs.Distance.{certificate-distance}
 
@@ -34,7 +34,7 @@ module _ (kind : ℕ) (buffer : List ℕ) (sheet : Sheet) (text : List ℕ) (poi
     bytes = refl;
     shown = t;
     distance = λ q K built shows.
-        certificate-distance kind buffer sheet text points done (first ∷ second ∷ []) readingKind v q K lendable (real, (other, tt))
+        certificate-distance kind buffer sheet text points done (changes first ∷ changes second ∷ []) readingKind v q K lendable (real, (other, tt))
         (sym b ∙ ap (λ w. writtenSaid w done) built) (sym t ∙ ap readingSaid shows);
   }
 

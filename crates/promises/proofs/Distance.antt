@@ -1,4 +1,4 @@
--- Demand 3: what was built holds points near those lent, no change moves them, and a reading of them stays within the distance.
+-- Demand 3: what was built holds points near those lent, no change or commit moves them, and a reading of them stays within the distance.
 use mathlib.Core.Path.{_≡_, refl, sym, ap, _∙_, subst}
 use mathlib.Core.List.{List, [], _∷_, map}
 use mathlib.Core.Option.{none}
@@ -28,11 +28,11 @@ use Rattle.line.proofs.Bound.{bound}
 use Rattle.reading.specs.Reading.{least, greatest, position, fraction}
 use Rattle.reading.proofs.Orders.{shown}
 use Rattle.promises.specs.Again.{keptPair}
-use Rattle.promises.specs.Changes.{changed, held}
+use Rattle.promises.specs.Alterations.{altered, held}
 use Rattle.promises.specs.Certificate.{whole, CertificateDistance}
 use Rattle.promises.proofs.PlannedSheet.{plan-parts}
 use Rattle.promises.proofs.Written.{built, written-and-read-again}
-use Rattle.promises.proofs.AfterChanges.{same-kind, after-changes, held-calibration}
+use Rattle.promises.proofs.AfterAlterations.{same-kind, after-alterations, held-calibration}
 use Rattle.promises.proofs.StoredPoints.{stored-close, stored-rises}
 
 -- The pairs of a table that was planned.
@@ -65,18 +65,18 @@ distance-of lent stored ps q v e f low high K h span slopes p r l g = rw (r, p, 
 
 -- Demand 3.
 pub certificate-distance : CertificateDistance
-certificate-distance kind buffer sheet text lentPoints image changes readingKind v r K lendable real made taken slopes =
+certificate-distance kind buffer sheet text lentPoints image alterations readingKind v r K lendable real made taken slopes =
     let b = built kind buffer sheet text lentPoints image made in
     let (ps, pairs) = planned-pairs (pairsLent lentPoints) _ (plan-parts sheet text lentPoints (b .pieces) (b .plans) .tablePlanned) in
     let bytes : Bytes image = subst Bytes (b .made) (image-bytes (b .sizes) (pack (b .pieces))) in
     let w = written-and-read-again kind buffer sheet text lentPoints image lendable made in
-    let last : List ℕ = changed image changes in
-    let after : contents kind last ≡ good (held kind (w .0) changes) = after-changes kind image (w .0) changes bytes real (w .1) in
+    let last : List ℕ = altered image alterations in
+    let after : contents kind last ≡ good (held kind (w .0) alterations) = after-alterations kind image (w .0) alterations bytes real (w .1) in
     let s = shown readingKind last v r taken in
-    let k : readingKind ≡ kind = same-kind kind readingKind last (held kind (w .0) changes) (s .holds) after (s .accepted) in
-    let c : s .holds ≡ held kind (w .0) changes = good-same (sym (s .accepted) ∙ ap (λ (n : ℕ). contents n last) k ∙ after) in
+    let k : readingKind ≡ kind = same-kind kind readingKind last (held kind (w .0) alterations) (s .holds) after (s .accepted) in
+    let c : s .holds ≡ held kind (w .0) alterations = good-same (sym (s .accepted) ∙ ap (λ (n : ℕ). contents n last) k ∙ after) in
     let read = accepted-reads readingKind last (s .holds) (s .accepted) .fields in
     let listed = ends-listed (s .holds .template) in
     distance-of (pairsLent lentPoints) (points (s .holds)) ps (r .fraction) v (least (s .holds)) (greatest (s .holds)) _ _ K pairs (s .rises) slopes
-    (ap points c ∙ ap (λ q. map pairIn (pairsIn q)) (held-calibration kind (w .0) changes) ∙ w .2 .samePoints) (s .shows)
+    (ap points c ∙ ap (λ q. map pairIn (pairsIn q)) (held-calibration kind (w .0) alterations) ∙ w .2 .samePoints) (s .shows)
     (ap whole (read 10 (omega arith) (omega (arith, listed)))) (ap whole (read 11 (omega arith) listed))

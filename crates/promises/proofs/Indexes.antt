@@ -18,12 +18,15 @@ use Rattle.fields.specs.declared.Template.the-variants.{Bridge}
 use Rattle.fields.specs.declared.Layout.{Layout}
 use Rattle.fields.specs.Lines.{basic, template33, linesOf, lastField, bitsBefore}
 use Rattle.layout.specs.Contents.{Contents}
-use Rattle.layout.specs.Image.{contents, nothing, layoutOf, pairsIn}
+use Rattle.layout.specs.Image.{contents, nothing, field, layoutOf, pairsIn}
 use Rattle.layout.proofs.Accepted.{contents-accepted}
 use Rattle.sheet.specs.Check.{readField}
 use Rattle.sheet.proofs.PlaceSteps.{fields-end}
 use Rattle.sheet.proofs.ReadLaws.{refused-reads}
-use Rattle.change.specs.Change.{codeFor}
+use Rattle.fields.specs.declared.Value.{Value}
+use Rattle.fields.specs.Rules.{decode}
+use Rattle.fields.specs.Stored.{kept}
+use Rattle.change.specs.Change.{codeFor, mayCommit}
 use Rattle.index.specs.declared.Entry.{Entry}
 use Rattle.index.specs.Index.{fieldEntry, pairEntry, entries, entryBytes, entryAt, index, fetch}
 use Rattle.index.specs.Laid.{entryOf}
@@ -32,10 +35,9 @@ use Rattle.index.proofs.EntryLaws.{of-pair, lies, entry-rises}
 use Rattle.index.proofs.IndexLaws.{index-unread, index-of, index-same}
 use Rattle.index.proofs.FetchLaws.{fetch-unsized, fetch-turned}
 use Rattle.index.proofs.Fetched.{read-back, fetched-own}
-use Rattle.promises.specs.declared.Change.{Change}
-use Rattle.promises.specs.Changes.{changed, stores, heldBy, held}
+use Rattle.promises.specs.Alterations.{Alteration, changes, commits, altered, replaced, left, heldBy, held}
 use Rattle.promises.specs.Index.{FetchedAsRead, RefusedAlike, IndexSorted, IndexFits, IndexKept, FetchedAfterChanges}
-use Rattle.promises.proofs.AfterChanges.{after-changes, refused-after}
+use Rattle.promises.proofs.AfterAlterations.{after-alterations, refused-after}
 
 -- ---- fetched as read
 
@@ -112,26 +114,44 @@ index-fits kind image c e = go (decLt (lastField (c .template)) (length (entries
           chip .most,
         )
 
--- ---- after changes
+-- ---- after changes and commits
 
--- A change keeps rows and places, and with them the entries.
-held-entries : (kind : ℕ) (c : Contents) (changes : List Change) → entries (held kind c changes) ≡ entries c
+-- Both leave rows and places as they are, and with them the entries.
+module _ (c : Contents) where
+  recoded-entries : (f code : ℕ) (v : Value) → entries (replaced c f code v) ≡ entries c
+  recoded-entries f code v = ap (λ (es : List Entry). es ++ map pairEntry (pairsIn (c .calibration))) (map-set-same fieldEntry (c .fields) (f - 1) _ nothing refl)
+
+  change-entries : (f : ℕ) (v : Value) (t : Bool) (o : Outcome ℕ) →
+      entries (cond t (left c (o >>= λ code. good (replaced c f code (kept (field c f .row) v)))) c) ≡ entries c
+  change-entries f v false o = refl
+  change-entries f v true (refused r) = refl
+  change-entries f v true (good code) = recoded-entries f code _
+
+  commit-entries : (f new : ℕ) (t : Bool) (o : Outcome (Unit {0})) (d : Outcome Value) →
+      entries (cond t (left c (o >> (d >>= λ v. good (replaced c f new v)))) c) ≡ entries c
+  commit-entries f new false o d = refl
+  commit-entries f new true (refused r) d = refl
+  commit-entries f new true (good u) (refused r) = refl
+  commit-entries f new true (good u) (good v) = recoded-entries f new v
+
+  one-entries : (kind : ℕ) (a : Alteration) → entries (heldBy kind c a) ≡ entries c
+  one-entries kind (changes ch) = change-entries (ch .field) (ch .value) (eqb (ch .kind) kind) (codeFor c (ch .field) (ch .value))
+  one-entries kind (commits co) =
+      let x = field c (co .field) in
+      commit-entries (co .field) (co .new) (eqb (co .kind) kind) (mayCommit c (co .field) (co .present) (co .new)) (decode (x .row) (x .at) (co .new))
+
+held-entries : (kind : ℕ) (c : Contents) (alterations : List Alteration) → entries (held kind c alterations) ≡ entries c
 held-entries kind c [] = refl
-held-entries kind c (ch ∷ changes) = held-entries kind (heldBy kind c ch) changes ∙ go (eqb (ch .kind) kind) (codeFor c (ch .field) (ch .value))
-  where
-    go : (b : Bool) (o : Outcome ℕ) → entries (cond b (stores c (ch .field) (ch .value) o) c) ≡ entries c
-    go false o = refl
-    go true (refused r) = refl
-    go true (good code) = ap (λ (es : List Entry). es ++ map pairEntry (pairsIn (c .calibration))) (map-set-same fieldEntry (c .fields) (ch .field - 1) _ nothing refl)
+held-entries kind c (a ∷ alterations) = held-entries kind (heldBy kind c a) alterations ∙ one-entries c kind a
 
 pub index-kept : IndexKept
-index-kept kind image buffer changes bytes real = go (contents kind image) refl
+index-kept kind image buffer alterations bytes real = go (contents kind image) refl
   where
-    go : (o : Outcome Contents) → contents kind image ≡ o → index kind (changed image changes) buffer ≡ index kind image buffer
-    go (refused r) e = index-unread kind (changed image changes) buffer r (refused-after kind r image changes e) ∙ sym (index-unread kind image buffer r e)
+    go : (o : Outcome Contents) → contents kind image ≡ o → index kind (altered image alterations) buffer ≡ index kind image buffer
+    go (refused r) e = index-unread kind (altered image alterations) buffer r (refused-after kind r image alterations e) ∙ sym (index-unread kind image buffer r e)
     go (good c) e =
-        index-same kind (changed image changes) image buffer (held kind c changes) c (after-changes kind image c changes bytes real e) e (held-entries kind c changes)
+        index-same kind (altered image alterations) image buffer (held kind c alterations) c (after-alterations kind image c alterations bytes real e) e (held-entries kind c alterations)
 
 pub fetched-after-changes : FetchedAfterChanges
-fetched-after-changes kind image buffer made changes f bytes real e =
-    fetched-as-read kind (changed image changes) buffer made f (index-kept kind image buffer changes bytes real ∙ e)
+fetched-after-changes kind image buffer made alterations f bytes real e =
+    fetched-as-read kind (altered image alterations) buffer made f (index-kept kind image buffer alterations bytes real ∙ e)

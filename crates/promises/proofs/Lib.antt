@@ -1,7 +1,8 @@
 pub mod Blanks
-pub mod AfterChanges
+pub mod AfterAlterations
 pub mod Indexes
 pub mod Altering
+pub mod Proposing
 pub mod ByIndex
 pub mod PlannedFields
 pub mod PlannedPairs

@@ -17,7 +17,7 @@ use Rattle.reading.specs.declared.ReadingAnswer.the-variants.{Shows}
 use Rattle.reading.specs.Reading.{takeReading, readingSaid}
 use Rattle.promises.specs.declared.Change.{Change}
 use Rattle.promises.specs.declared.Answers.{Answers}
-use Rattle.promises.specs.Changes.{changedBy, changed}
+use Rattle.promises.specs.Alterations.{changes, changedBy, altered}
 use Rattle.promises.specs.Certificate.{leastIn, greatestIn, lineFor}
 
 -- What a change of an image answered.
@@ -35,7 +35,7 @@ module _ (kind : ℕ) (buffer : List ℕ) (sheet : Sheet) (text : List ℕ) (poi
     pub buildSaid : writtenSaid (r .built) made ≡ build kind buffer sheet text points
     pub firstSaid : ChangeSaid made first (r .first)
     pub secondSaid : ChangeSaid (changedBy made first) second (r .second)
-    pub bytes : image ≡ changed made (first ∷ second ∷ [])
+    pub bytes : image ≡ altered made (changes first ∷ changes second ∷ [])
     pub shown : readingSaid (r .reading) ≡ takeReading readingKind image v
     pub distance : (q : Reading) (K : ℕ) → r .built ≡ Done → r .reading ≡ Shows q → Slopes K (pairsLent points) →
         Within D R K (q .fraction) (lineFor points v (leastIn readingKind image) (greatestIn readingKind image))

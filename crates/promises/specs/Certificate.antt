@@ -17,8 +17,7 @@ use Rattle.line.specs.Certificate.{Slopes, Within}
 use Rattle.line.specs.Line.{certificateLine}
 use Rattle.reading.specs.Reading.{takeReading}
 use Rattle.promises.specs.Lent.{Lendable}
-use Rattle.promises.specs.declared.Change.{Change}
-use Rattle.promises.specs.Changes.{RealChanges, changed}
+use Rattle.promises.specs.Alterations.{Alteration, RealAlterations, altered}
 
 -- The figure of a field as it is read; an accepted reading has both ends as whole numbers.
 abbrev pub whole : Outcome Value → ℤ
@@ -36,15 +35,15 @@ greatestIn kind image = whole (readField kind image 11)
 abbrev pub lineFor : List ℤ → ℤ → ℤ → ℤ → Fraction
 lineFor points v e f = certificateLine (pairsLent points) ((v -ℤ e) *ℤ pos billion) (natAbs (f -ℤ e))
 
--- Whatever the points, fields, kind of chip, buffer and input: if the build is accepted and, after any list of one-field changes, accepted or
--- refused, a reading of that image is accepted, then q lies within the distance of the certificate line.
+-- Whatever the points, fields, kind of chip, buffer and input: if the build is accepted and, after any list of one-field changes and commits,
+-- accepted or refused, a reading of that image is accepted, then q lies within the distance of the certificate line.
 abbrev pub CertificateDistance : Type 0
 CertificateDistance =
     (kind : ℕ) (buffer : List ℕ) (sheet : Sheet) (text : List ℕ) (points : List ℤ) (built : List ℕ) →
-    (changes : List Change) (readingKind : ℕ) (v : ℤ) (r : Reading) (K : ℕ) →
-    Lendable sheet → RealChanges changes →
+    (alterations : List Alteration) (readingKind : ℕ) (v : ℤ) (r : Reading) (K : ℕ) →
+    Lendable sheet → RealAlterations alterations →
     build kind buffer sheet text points ≡ good built →
-    let image = changed built changes in
+    let image = altered built alterations in
     takeReading readingKind image v ≡ good r →
     Slopes K (pairsLent points) →
     Within D R K (r .fraction) (lineFor points v (leastIn readingKind image) (greatestIn readingKind image))

@@ -22,8 +22,7 @@ use Rattle.build.specs.declared.Sheet.{Sheet}
 use Rattle.build.specs.Build.{slot, linePieces, pairsLent, build}
 use Rattle.line.specs.Line.{deviation}
 use Rattle.reading.specs.Reading.{position, takeReading}
-use Rattle.promises.specs.declared.Change.{Change}
-use Rattle.promises.specs.Changes.{changed}
+use Rattle.promises.specs.Alterations.{Alteration, changes, commits, altered}
 
 -- A sheet at a precision, with the ends of its span.
 abbrev pub sheetAt : ℕ → ℤ → ℤ → Sheet
@@ -51,8 +50,8 @@ pub data Case : Type 0 where
   placed : ℤ → ℤ → ℤ → ℤ → Case
   -- Points by turns, a place and the deviation there.
   deviates : List ℤ → ℤ → ℤ → Case
-  -- A kind and its image's length, a sheet, points, changes, v and q: built, changed and read.
-  reads : ℕ → ℕ → Sheet → List ℤ → List Change → ℤ → ℤ → Case
+  -- A kind and its image's length, a sheet, points, alterations, v and q: built, altered and read.
+  reads : ℕ → ℕ → Sheet → List ℤ → List Alteration → ℤ → ℤ → Case
 
 abbrev pub Holds : Case → Type 0
 Holds (basicIs figures bytes) =
@@ -63,8 +62,8 @@ Holds (scaled progression code value) = geometricValue progression code ≡ valu
 Holds (dated code year month day) = dateOf code ≡ record { year = year; month = month; day = day }
 Holds (placed e f v p) = position v e f ≡ p
 Holds (deviates points p d) = deviation (pairsLent points) p ≡ d
-Holds (reads kind bytes sheet points changes v q) =
-    (build kind (replicate bytes 0) sheet [] points >>= λ image. takeReading kind (changed image changes) v >>= λ r. good (r .fraction)) ≡ good q
+Holds (reads kind bytes sheet points alterations v q) =
+    (build kind (replicate bytes 0) sheet [] points >>= λ image. takeReading kind (altered image alterations) v >>= λ r. good (r .fraction)) ≡ good q
 
 -- The cases that document 01 stars.
 abbrev pub starred : List Case
@@ -100,17 +99,25 @@ printed =
     []
 
 -- A change of field 11, and one of field 9, which is refused.
-abbrev pub twoChanges : ℕ → ℤ → List Change
-twoChanges kind f = record { kind = kind; field = 11; value = Whole f } ∷ record { kind = kind; field = 9; value = Whole (pos 1) } ∷ []
+abbrev pub twoChanges : ℕ → ℤ → List Alteration
+twoChanges kind f = changes (record { kind = kind; field = 11; value = Whole f }) ∷ changes (record { kind = kind; field = 9; value = Whole (pos 1) }) ∷ []
+
+-- A commit of field 11 from 2,000,000 to 3,000,000 at precision 0, and another that still expects the former, which is refused.
+abbrev pub twoCommits : ℕ → List Alteration
+twoCommits kind =
+    commits (record { kind = kind; field = 11; present = 1_002; new = 1_003 }) ∷
+    commits (record { kind = kind; field = 11; present = 1_002; new = 1_004 }) ∷
+    []
 
 -- Points half a step and deviations half a step off what a chip can hold, on a steep fall.
 abbrev pub steep : List ℤ
 steep = pos 7_650 ∷ pos 500 ∷ pos 22_950 ∷ negℤ (pos 152_500) ∷ []
 
--- Demand 3 can be met: a build, changes and an accepted reading for each kind, at precisions 0 and 1.
+-- Demand 3 can be met: a build, changes or commits and an accepted reading for each kind, at precisions 0 and 1.
 abbrev pub met : List Case
 met =
     reads 0 40 (sheetAt 0 (pos 0) (pos 2_000_000)) [] (twoChanges 0 (pos 3_000_000)) (pos 1_000_000) (pos 333_333_333) ∷
+    reads 0 40 (sheetAt 0 (pos 0) (pos 2_000_000)) [] (twoCommits 0) (pos 1_000_000) (pos 333_333_333) ∷
     reads 0 40 (sheetAt 1 (pos 0) (pos 2_000_000)) [] (twoChanges 0 (pos 3_000_000)) (pos 2_000_000) (pos 666_666_667) ∷
     reads 1 128 (sheetAt 0 (pos 0) (pos 2_000_000)) (pos 0 ∷ pos 5_000 ∷ []) (twoChanges 1 (pos 3_000_000)) (pos 1_000_000) (pos 333_338_333) ∷
     reads 1 128 (sheetAt 1 (pos 0) (pos 2_000_000)) (pos 0 ∷ pos 5_000 ∷ []) (twoChanges 1 (pos 3_000_000)) (pos 1_000_000) (pos 333_338_333) ∷

@@ -1,5 +1,5 @@
--- Document 02, Note 2: an index beside the image. A field fetched through it is the field read straight, its offsets rise, and no one-field change
--- makes it wrong.
+-- Document 02, Note 2: an index beside the image. A field fetched through it is the field read straight, its offsets rise, and no one-field change or
+-- commit makes it wrong.
 use mathlib.Core.Path.{_≡_}
 use mathlib.Core.List.{List}
 use Prim.Native.Nat.{ℕ, suc, _≤_, _<_}
@@ -12,8 +12,7 @@ use Rattle.layout.specs.Contents.{Contents}
 use Rattle.layout.specs.Image.{contents}
 use Rattle.sheet.specs.Check.{readField}
 use Rattle.index.specs.Index.{entries, entryBytes, entryAt, index, fetch}
-use Rattle.promises.specs.declared.Change.{Change}
-use Rattle.promises.specs.Changes.{RealChanges, changed}
+use Rattle.promises.specs.Alterations.{Alteration, RealAlterations, altered}
 
 -- ---- fetched as read
 
@@ -51,18 +50,18 @@ IndexSorted =
 abbrev pub IndexFits : Type 0
 IndexFits = (kind : ℕ) (image : List ℕ) (c : Contents) → contents kind image ≡ good c → length (entryBytes (entries c)) ≤ 480
 
--- ---- after changes
+-- ---- after changes and commits
 
--- After any list of one-field changes, accepted or refused, the index that would be made is the one that was made before, byte for byte; and where none
+-- After any list of one-field changes and commits, accepted or refused, the index that would be made is the one that was made before, byte for byte; and where none
 -- could be made, none can, for the same reason.
 abbrev pub IndexKept : Type 0
 IndexKept =
-    (kind : ℕ) (image buffer : List ℕ) (changes : List Change) → Bytes image → RealChanges changes →
-    index kind (changed image changes) buffer ≡ index kind image buffer
+    (kind : ℕ) (image buffer : List ℕ) (alterations : List Alteration) → Bytes image → RealAlterations alterations →
+    index kind (altered image alterations) buffer ≡ index kind image buffer
 
 -- So a field fetched through the old index is the field read straight from the changed image.
 abbrev pub FetchedAfterChanges : Type 0
 FetchedAfterChanges =
-    (kind : ℕ) (image buffer made : List ℕ) (changes : List Change) (f : ℕ) → Bytes image → RealChanges changes →
+    (kind : ℕ) (image buffer made : List ℕ) (alterations : List Alteration) (f : ℕ) → Bytes image → RealAlterations alterations →
     index kind image buffer ≡ good made →
-    fetch kind (changed image changes) made f ≡ readField kind (changed image changes) f
+    fetch kind (altered image alterations) made f ≡ readField kind (altered image alterations) f

@@ -3,7 +3,8 @@ pub mod Stream
 pub mod Blank
 pub mod Reads
 pub mod Again
-pub mod Changes
+pub mod Alterations
+pub mod Proposals
 pub mod Index
 pub mod Certificate
 pub mod Calls

@@ -76,3 +76,7 @@ blankChip = returned 17 0
 -- 18 (Note 2): the lent buffer is too short for an index, or an index too short to be one.
 abbrev pub shortIndex : ℕ → Refusal
 shortIndex needed = returned 18 needed
+
+-- 19 (Note 5): commit: the present code is no longer there.
+abbrev pub otherCode : ℕ → Refusal
+otherCode field = returned 19 field

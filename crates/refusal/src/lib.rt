@@ -9,6 +9,7 @@ pub use rows::no_span;
 pub use rows::no_such;
 pub use rows::not_finite;
 pub use rows::not_rising;
+pub use rows::other_code;
 pub use rows::out_of_range;
 pub use rows::outside_span;
 pub use rows::outside_table;
@@ -70,3 +71,5 @@ pub const WRONG_LIST: u8 = 16;
 pub const BLANK_CHIP: u8 = 17;
 
 pub const SHORT_INDEX: u8 = 18;
+
+pub const OTHER_CODE: u8 = 19;

@@ -19,6 +19,7 @@ ghost use Rattle.refusal.specs.Rows.{
   wrongList,
   blankChip,
   shortIndex,
+  otherCode,
 };
 use crate::Refusal;
 
@@ -188,5 +189,14 @@ pub fn short_index(bytes: u64) -> Refusal
     Refusal {
         number: crate::SHORT_INDEX,
         place: bytes,
+    }
+}
+
+pub fn other_code(field: u64) -> Refusal
+    ensures { λ r. ⌜ r ≡ otherCode field ⌝ }
+{
+    Refusal {
+        number: crate::OTHER_CODE,
+        place: field,
     }
 }

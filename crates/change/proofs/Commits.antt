@@ -1,0 +1,126 @@
+-- Codes that may stand; a proposal and a commit by their parts, and what an accepted commit leaves.
+use mathlib.Core.Path.{_≡_, refl, sym, ap, _∙_, subst}
+use mathlib.Core.Bool.{Bool, true, false, not, _||_, _&&_, cond, true≢false}
+use mathlib.Core.List.{List}
+use Prim.Native.Nat.{ℕ, _-_, _^_, _<_}
+use lib.Dec.{eqb, ltb}
+use lib.ListN.{length}
+use lib.IntN.{pos}
+use lib.Ieee.{binary32, ofBits}
+use borrow.Author.Tests.{lt-ltb, eq-eqb, ne-eqb}
+use Rattle.refusal.specs.declared.Refusal.{Refusal}
+use Rattle.refusal.specs.Outcome.{Outcome, good, refused, _>>_, _>>=_, refuse_if_}
+use Rattle.refusal.specs.Rows.{outsideTable, notFinite, otherCode}
+use Rattle.refusal.proofs.Outcomes.{good-same, good-bind, good-then, both, no-value, bind-good}
+use Rattle.memory.specs.declared.Sizes.{Sizes}
+use Rattle.memory.specs.Bits.{Bytes}
+use Rattle.memory.specs.Image.{imageSizes}
+use Rattle.memory.proofs.Chips.{sizes-chip}
+use Rattle.memory.proofs.Images.{image-length, image-bytes}
+use Rattle.fields.specs.declared.Value.{Value}
+use Rattle.fields.specs.declared.Value.the-variants.{Whole, Single, Missing}
+use Rattle.fields.specs.declared.Row.{Row}
+use Rattle.fields.specs.declared.Rule.{Rule}
+use Rattle.fields.specs.declared.Rule.the-variants.{Plain, Stepped, Geometric, Single as Ieee}
+use Rattle.fields.specs.Rules.{allOnes, topCode, steppedValue, progression, geometricValue, finite, meaning, decode}
+use Rattle.layout.specs.Contents.{Contents}
+use Rattle.layout.specs.Image.{contents, field}
+use Rattle.layout.proofs.Fields.{recoded}
+use Rattle.layout.proofs.Accepted.{contents-accepted}
+use Rattle.layout.proofs.Puts.{withField}
+use Rattle.change.specs.Change.{codeFor, recodedIn, taken, mayStand, proposedFor, propose, mayCommit, commit}
+use Rattle.change.proofs.Recoding.{Changeable, changeable-good, recoded-contents}
+use Rattle.change.proofs.CommitLaws.{stands-fits, commit-is, Committed, committed}
+
+-- ---- a code that may stand
+
+-- What a code means does not go by the place of its field: only a refusal has that.
+module _ (at other : ℕ) where
+  test-anywhere : {A : Type 0} (r s : Refusal) (t : Bool) (a v : A) → ((refuse r if t) >> good a) ≡ good v → ((refuse s if t) >> good a) ≡ good v
+  test-anywhere r s true a v e = no-value e
+  test-anywhere r s false a v e = e
+
+  meaning-anywhere : (rule : Rule) (w code : ℕ) (v : Value) → meaning rule w at code ≡ good v → meaning rule w other code ≡ good v
+  meaning-anywhere (Plain least greatest) w code v e =
+      test-anywhere (outsideTable at) (outsideTable other) (ltb code least || ltb greatest code) (Whole (pos code)) v e
+  meaning-anywhere (Stepped start step) w code v e =
+      test-anywhere (outsideTable at) (outsideTable other) (ltb (topCode w) code) (Whole (steppedValue start step code)) v e
+  meaning-anywhere (Geometric scale) w code v e =
+      test-anywhere (outsideTable at) (outsideTable other) (ltb (topCode w) code) (Whole (pos (geometricValue (progression scale) code))) v e
+  meaning-anywhere Ieee w code v e =
+      test-anywhere (notFinite at) (notFinite other) (not (finite (ofBits binary32 code))) (Single (ofBits binary32 code)) v e
+
+  pub decode-anywhere : (row : Row) (code : ℕ) (v : Value) → decode row at code ≡ good v → decode row other code ≡ good v
+  unfolding decode
+  decode-anywhere row code v e = go (row .missing && eqb code (allOnes (row .width))) e
+    where
+      go : (t : Bool) → cond t (good Missing) (meaning (row .rule) (row .width) at code) ≡ good v → cond t (good Missing) (meaning (row .rule) (row .width) other code) ≡ good v
+      go true e = e
+      go false e = meaning-anywhere (row .rule) (row .width) code v e
+
+module _ (row : Row) (code : ℕ) where
+  -- A code that may stand means something, and the other way about.
+  pub stands-means : mayStand row code ≡ true → (at : ℕ) → (v : Value) × (decode row at code ≡ good v)
+  unfolding mayStand
+  stands-means e at = go (decode row 0 code) refl (both (ltb code (2 ^ row .width)) (taken (decode row 0 code)) e .1)
+    where
+      go : (o : Outcome Value) → decode row 0 code ≡ o → taken o ≡ true → (v : Value) × (decode row at code ≡ good v)
+      go (good v) h t = (v, decode-anywhere 0 at row code v h)
+      go (refused r) h t = absurd (true≢false (sym t))
+
+  pub means-stands : (at : ℕ) (v : Value) → code < 2 ^ row .width → decode row at code ≡ good v → mayStand row code ≡ true
+  unfolding mayStand
+  means-stands at v fits e = rw (lt-ltb code (2 ^ row .width) fits, decode-anywhere at 0 row code v e)
+
+-- ---- by their parts
+
+pub propose-is : (kind : ℕ) (image : List ℕ) (c : Contents) → contents kind image ≡ good c → (f : ℕ) (v : Value) →
+    propose kind image f v ≡ (codeFor c f v >>= proposedFor (field c f))
+unfolding propose
+propose-is kind image c e f v = bind-good _ e
+
+module _ (c : Contents) (f : ℕ) (h : Changeable c f) (new : ℕ) where
+  pub commit-allowed : mayStand (field c f .row) new ≡ true → mayCommit c f (field c f .code) new ≡ good tt
+  unfolding mayCommit
+  commit-allowed s = rw (changeable-good c f h, eq-eqb (field c f .code) (field c f .code) refl, s)
+
+  pub commit-other : (present : ℕ) → (field c f .code ≡ present → ⊥) → mayCommit c f present new ≡ refused (otherCode f)
+  unfolding mayCommit
+  commit-other present n = rw (changeable-good c f h, ne-eqb (field c f .code) present n)
+
+-- ---- an accepted commit
+
+-- What it was made of: the sheet that the image held, which was tested.
+pub record CommitMade (kind : ℕ) (image : List ℕ) (f present new : ℕ) (after : List ℕ) : Type 0 where
+  pub held : Contents
+  pub sizes : Sizes
+  pub accepted : contents kind image ≡ good held
+  pub sized : imageSizes kind (length image) ≡ good sizes
+  pub tested : Committed held f present new
+  pub is : after ≡ recodedIn sizes image (field held f) new
+
+module _ (kind : ℕ) (image : List ℕ) (f present new : ℕ) (after : List ℕ) (made : commit kind image f present new ≡ good after) where
+  pub commit-made : CommitMade kind image f present new after
+  unfolding commit
+  commit-made =
+      let (c, e, g) = good-bind (contents kind image) _ after made in
+      let a = contents-accepted kind image c e in
+      let (t, k) = good-then (mayCommit c f present new) (good (recodedIn (a .sizes) image (field c f) new)) after
+      (sym (commit-is kind image f present new c (a .sizes) e (a .sized)) ∙ made) in
+      record { held = c; sizes = a .sizes; accepted = e; sized = a .sized; tested = committed c f present new t; is = sym (good-same k) }
+
+  -- It has the bytes of an image, as many as before.
+  pub commit-length : length after ≡ length image
+  commit-length =
+      let m = commit-made in
+      ap length (m .is) ∙ image-length (m .sizes) _ ∙ sym (sizes-chip kind (length image) (m .sizes) (m .sized) .long)
+
+  pub commit-bytes : Bytes after
+  commit-bytes = let m = commit-made in subst Bytes (sym (m .is)) (image-bytes (m .sizes) _)
+
+-- The new code with the value that it means, all else as it was.
+pub committed-contents : (kind : ℕ) (image : List ℕ) (c : Contents) (z : Sizes) → Bytes image → contents kind image ≡ good c →
+    imageSizes kind (length image) ≡ good z → (f present new : ℕ) → Committed c f present new → (v : Value) → decode (field c f .row) (field c f .at) new ≡ good v →
+    contents kind (recodedIn z image (field c f) new) ≡ good (withField c (f - 1) (recoded (field c f) new v))
+committed-contents kind image c z bytes e hz f present new t v means =
+    recoded-contents kind image c z bytes e hz f (t .free) new v (stands-fits (field c f .row) new (t .stands)) means

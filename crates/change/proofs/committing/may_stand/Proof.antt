@@ -1,0 +1,32 @@
+-- `committing::may_stand` meets its contract.
+use borrow.Author.Needs.{needs}
+use native.Mathlib.Omega.{arith}
+use Rattle.refusal.proofs.Outcomes.{told}
+use Rattle.fields.specs.Answers.{judgedSaid}
+use Rattle.change.proofs.CommitLaws.{stands-not, stands-by, taken-judged}
+use Rattle.change.proofs.committing.may_stand.Statement.{statement}
+use Rattle.change.proofs.committing.may_stand.Tie as tie
+
+shr-if1 : tie.Need-shr-if1
+shr-if1 c = omega (arith, c .before .pre .most)
+
+returns : tie.Need-returns
+returns c =
+    let a = c .before .before .args in
+    stands-not (a .row) (a .code) (c .if1 .taken)
+
+returns-2 : tie.Need-returns-2
+returns-2 c =
+    let j = c .before .before in
+    let a = j .before .before .before .args in
+    stands-by (a .row) (a .code) (omega (arith, j .before .if1 .left)) (taken-judged (a .row) (a .code) (told judgedSaid (c .enum-told .given .1) (j .judge .ensures)))
+
+returns-3 : tie.Need-returns-3
+returns-3 c =
+    let j = c .before .before in
+    let a = j .before .before .before .args in
+    stands-by (a .row) (a .code) (omega (arith, j .before .if1 .left)) (taken-judged (a .row) (a .code) (told judgedSaid (c .enum-told2 .given .1) (j .judge .ensures)))
+
+pub may-stand-spec : {M : Type 1} → statement M
+may-stand-spec =
+    tie.close (tie.spec shr-if1 returns (λ c κs. search needs) (λ c. search needs) (λ c. search needs) returns-2 returns-3)

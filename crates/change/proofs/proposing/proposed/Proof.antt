@@ -1,0 +1,41 @@
+-- `proposing::proposed` meets its contract.
+use borrow.Author.Needs.{needs}
+use mathlib.Core.Path.{sym, ap₂, _∙_, subst}
+use Prim.Native.Nat.{_^_, _<_}
+use native.Mathlib.Omega.{arith}
+use Rattle.refusal.proofs.Outcomes.{told, bind-good, bind-refused}
+use Rattle.fields.specs.Answers.{decodedSaid}
+use Rattle.fields.specs.Rules.{decode}
+use Rattle.fields.specs.Stored.{Sound}
+use Rattle.fields.proofs.RowLaws.{row-sound}
+use Rattle.change.proofs.proposing.proposed.Statement.{statement}
+use Rattle.change.proofs.proposing.proposed.Tie as tie
+
+row-of-requires : tie.Need-row-of-requires
+row-of-requires c κs = (c .pre .0, c .pre .1)
+
+locate-requires : tie.Need-locate-requires
+locate-requires c κs = (c .before .pre .0, omega (arith, c .before .pre .1))
+
+decode-requires : tie.Need-decode-requires
+decode-requires c κs =
+    let b = c .before .before in
+    let a = b .args in
+    let e = sym (c .before .row-of .ensures) in
+    (subst Sound e (row-sound (a .layout) (a .field) (b .pre .0) (b .pre .1)), subst (λ r. a .new < 2 ^ r .width) e (b .pre .2))
+
+returns : tie.Need-returns
+returns c =
+    let d = c .before .before .before in
+    let a = d .before .before .before .args in
+    sym (bind-refused _ (sym (told decodedSaid (c .before .r .given .1) (d .decode .ensures) ∙ ap₂ (λ r n. decode r n (a .new)) (d .before .before .row-of .ensures) (d .before .locate .ensures))))
+
+returns-2 : tie.Need-returns-2
+returns-2 c =
+    let d = c .before .before .before in
+    let a = d .before .before .before .args in
+    sym (bind-good _ (sym (told decodedSaid (c .before .value .given .1) (d .decode .ensures) ∙ ap₂ (λ r n. decode r n (a .new)) (d .before .before .row-of .ensures) (d .before .locate .ensures))))
+
+pub proposed-spec : {M : Type 1} → statement M
+proposed-spec =
+    tie.close (tie.spec row-of-requires locate-requires decode-requires (λ c. search needs) (λ c. search needs) returns returns-2)

@@ -1,0 +1,93 @@
+// Document 02, Note 5: a code put into a field, if the present one is still there. Order: check, 8, 12, 19, 10.
+ghost use mathlib.Core.Path.{_≡_};
+ghost use Prim.Native.Nat.{ℕ};
+ghost use Rattle.refusal.specs.Written.{writtenSaid, afterwards};
+ghost use Rattle.fields.specs.Answers.{judgedSaid};
+ghost use Rattle.fields.specs.Stored.{Sound};
+ghost use Rattle.layout.specs.Contents.{Contents};
+ghost use Rattle.sheet.specs.Opened.{Opens, Held};
+ghost use Rattle.change.specs.Change.{mayStand, mayCommit, commit as commitOf};
+ghost use Rattle.change.specs.Parts.{mayFollow};
+use crate::changing;
+use crate::changing::Allowed;
+use crate::standing;
+use fields::Judged;
+use fields::Row;
+use refusal::Written;
+use sheet::Opened;
+use sheet::OpenedAnswer;
+
+// Whether a code may stand in a field: it has no more bits than the field, and a check would take it.
+fn may_stand(row: Row, code: u64) -> bool
+    requires { ⌜ Sound row ⌝ }
+    ensures { λ r. ⌜ r ≡ mayStand row code ⌝ }
+{
+    if 0 < code >> row.width {
+        return false;
+    }
+    match fields::judge(row, 0, code) {
+        Judged::Refused(_) => false,
+        Judged::Stands => true,
+    }
+}
+
+// 19 where another code stands in the field than the present one, 10 where the new one may not.
+fn may_follow(row: Row, stands: u64, field: u64, present: u64, new: u64) -> Judged
+    requires { ⌜ Sound row ⌝ }
+    ensures { λ r. ⌜ judgedSaid r ≡ mayFollow row stands field present new ⌝ }
+{
+    if stands != present {
+        return Judged::Refused(refusal::other_code(field));
+    }
+    if !may_stand(row, new) {
+        return Judged::Refused(refusal::out_of_range(field));
+    }
+    Judged::Stands
+}
+
+// Whether a new code may be put into a field of an opened sheet: 8, 12, 19, 10.
+fn may_commit(sheet: Opened, image: &[u8], field: u64, present: u64, new: u64) -> Judged
+    requires { ⌜ Held sheet (now image) ⌝ }
+    ensures { λ r. ⌜ ((kind : ℕ) (c : Contents) → Opens kind (now (image .entry)) sheet c → judgedSaid r ≡ mayCommit c field present new) ⌝ }
+{
+    let layout = sheet.layout;
+    let template = layout.template;
+    match changing::may_change(template, field) {
+        Allowed::Refused(r) => Judged::Refused(r),
+        Allowed::Free => may_follow(
+            fields::row_of(layout, field),
+            standing::code_in(sheet, image, field),
+            field,
+            present,
+            new,
+        ),
+    }
+}
+
+// Puts a code into a field, counted from 1, of an image: the field's bits and the check bytes of its pages are rewritten, and no
+// other bit. Or the check's refusal; 8 where the template has no such field; 12 for a field that sets the widths of others; 19
+// where another code stands there than the present one; 10 where the new one may not. A refusal writes nothing.
+pub fn commit(kind: u8, image: &mut [u8], field: u64, present: u64, new: u64) -> Written
+    ensures { λ r. ⌜ (writtenSaid r (now (image .exit)) ≡ commitOf kind (now (image .entry)) field present new)
+        × (now (image .exit) ≡ afterwards (now (image .entry)) (commitOf kind (now (image .entry)) field present new)) ⌝ }
+{
+    match sheet::open(kind, image) {
+        OpenedAnswer::Refused(r) => Written::Refused(r),
+        OpenedAnswer::Sheet(opened) => match may_commit(opened, image, field, present, new) {
+            Judged::Refused(r) => Written::Refused(r),
+            Judged::Stands => {
+                let sizes = opened.sizes;
+                let layout = opened.layout;
+                let row = fields::row_of(layout, field);
+                memory::rewrite(
+                    sizes,
+                    image,
+                    sheet::locate(layout, field),
+                    row.width as usize,
+                    new,
+                );
+                Written::Done
+            }
+        },
+    }
+}

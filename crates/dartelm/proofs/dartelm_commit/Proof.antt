@@ -1,0 +1,16 @@
+-- `dartelm_commit` meets its contract.
+use borrow.Author.Needs.{needs}
+use mathlib.Core.Path.{refl}
+use Rattle.dartelm.proofs.Telling.{tells-written}
+use Rattle.dartelm.proofs.dartelm_commit.Statement.{statement}
+use Rattle.dartelm.proofs.dartelm_commit.Tie as tie
+
+returns : tie.Need-returns
+returns c =
+    let m = c .before .before .before in
+    let a = m .before .before .before .args in
+    tells-written (a .image .now) _ (m .commit .result) (c .wrote .ensures) (m .commit .ensures .0) (m .commit .ensures .1) refl
+
+pub dartelm-commit-spec : {M : Type 1} → statement M
+dartelm-commit-spec =
+    tie.close (tie.spec (λ c κs. search needs) (λ c κs. search needs) (λ c. search needs) returns)

@@ -1,0 +1,130 @@
+-- Demand 2 after each change: any list of one-field changes and commits, accepted or refused. What the image holds afterwards is told on the
+-- contents, so that it can be held against what a check of the altered image finds.
+use mathlib.Core.Path.{_≡_}
+use mathlib.Core.Bool.{cond}
+use mathlib.Core.List.{List, [], _∷_}
+use mathlib.Core.Logic.{_⊎_}
+use Prim.Native.Nat.{ℕ, _+_, _-_, _≤_, _<_}
+use lib.Dec.{eqb}
+use lib.ListN.{length, getD, set}
+use Rattle.refusal.specs.Outcome.{Outcome, good, refused, _>>_, _>>=_}
+use Rattle.refusal.specs.Written.{afterwards}
+use Rattle.memory.specs.declared.Sizes.{Sizes}
+use Rattle.memory.specs.Bits.{Bytes, bit}
+use Rattle.memory.specs.Image.{imageSizes, pageAt, streamNumber, pageOf}
+use Rattle.fields.specs.declared.Value.{Value}
+use Rattle.fields.specs.Rules.{decode}
+use Rattle.fields.specs.Stored.{kept, Real}
+use Rattle.layout.specs.Contents.{Found, Contents}
+use Rattle.layout.specs.Image.{contents, field}
+use Rattle.change.specs.Change.{codeFor, change, mayCommit, commit}
+use Rattle.promises.specs.declared.Change.{Change}
+
+-- A commit as a caller can hand it in: its own kind, field and codes.
+pub record Commit : Type 0 where
+  pub kind : ℕ
+  pub field : ℕ
+  pub present : ℕ
+  pub new : ℕ
+
+pub data Alteration : Type 0 where
+  changes : Change → Alteration
+  commits : Commit → Alteration
+
+-- What a caller can hand in: changes whose Singles are f32.
+abbrev pub RealAlteration : Alteration → Type 0
+RealAlteration (changes ch) = Real (ch .value)
+RealAlteration (commits co) = Unit {0}
+
+abbrev pub RealAlterations : List Alteration → Type 0
+RealAlterations [] = Unit {0}
+RealAlterations (a ∷ alterations) = RealAlteration a × RealAlterations alterations
+
+-- The image after one of them, and after a list: a refused one leaves the image.
+abbrev pub changedBy : List ℕ → Change → List ℕ
+changedBy image ch = afterwards image (change (ch .kind) image (ch .field) (ch .value))
+
+abbrev pub committedBy : List ℕ → Commit → List ℕ
+committedBy image co = afterwards image (commit (co .kind) image (co .field) (co .present) (co .new))
+
+abbrev pub alteredBy : List ℕ → Alteration → List ℕ
+alteredBy image (changes ch) = changedBy image ch
+alteredBy image (commits co) = committedBy image co
+
+abbrev pub altered : List ℕ → List Alteration → List ℕ
+altered image [] = image
+altered image (a ∷ alterations) = altered (alteredBy image a) alterations
+
+-- ---- the same on what the image holds
+
+-- Field f at a code and a value, all else as it was.
+abbrev pub replaced : Contents → ℕ → ℕ → Value → Contents
+replaced c f code v =
+    let x = field c f in
+    record {
+      template = c .template;
+      fields = set (c .fields) (f - 1) (record { row = x .row; at = x .at; code = code; value = v });
+      calibration = c .calibration;
+      endBit = c .endBit;
+      text = c .text;
+      bits = c .bits;
+    }
+
+-- A change stores the value as its rule keeps it.
+abbrev pub changeIn : Contents → ℕ → Value → Outcome Contents
+changeIn c f v = do
+  code ← codeFor c f v
+  good (replaced c f code (kept (field c f .row) v))
+
+-- A commit stores its new code, with the value that this means.
+abbrev pub commitIn : Contents → ℕ → ℕ → ℕ → Outcome Contents
+commitIn c f present new = do
+  mayCommit c f present new
+  v ← decode (field c f .row) (field c f .at) new
+  good (replaced c f new v)
+
+-- What a sheet holds after a step: a refused one leaves it.
+abbrev pub left : Contents → Outcome Contents → Contents
+left c (good d) = d
+left c (refused r) = c
+
+-- What a sheet of a kind holds afterwards: nothing else where the kind is another.
+abbrev pub heldBy : ℕ → Contents → Alteration → Contents
+heldBy kind c (changes ch) = cond (eqb (ch .kind) kind) (left c (changeIn c (ch .field) (ch .value))) c
+heldBy kind c (commits co) = cond (eqb (co .kind) kind) (left c (commitIn c (co .field) (co .present) (co .new))) c
+
+abbrev pub held : ℕ → Contents → List Alteration → Contents
+held kind c [] = c
+held kind c (a ∷ alterations) = held kind (heldBy kind c a) alterations
+
+-- After each of a list the image is accepted, and holds what those so far make of it.
+abbrev pub AfterAlterations : Type 0
+AfterAlterations =
+    (kind : ℕ) (image : List ℕ) (c : Contents) (alterations : List Alteration) → Bytes image → RealAlterations alterations →
+    contents kind image ≡ good c →
+    contents kind (altered image alterations) ≡ good (held kind c alterations)
+
+-- A change to what already stands there leaves every byte.
+abbrev pub ChangedToTheSame : Type 0
+ChangedToTheSame =
+    (kind : ℕ) (image after : List ℕ) (c : Contents) (f : ℕ) → Bytes image →
+    contents kind image ≡ good c → change kind image f (field c f .value) ≡ good after → after ≡ image
+
+-- A change or a commit rewrites the field and the check bytes of its pages, no other bit: no bit of the stream outside the field, and the check byte of no page
+-- but those of the field's first and last bit.
+pub record AltersNoOther (z : Sizes) (x : Found) (image after : List ℕ) : Type 0 where
+  pub stream : (n : ℕ) → (n < x .at) ⊎ (x .at + x .row .width ≤ n) → bit (streamNumber z after) n ≡ bit (streamNumber z image) n
+  pub checks : (q : ℕ) → (q ≡ pageOf z (x .at) → ⊥) → (q ≡ pageOf z (x .at + x .row .width - 1) → ⊥) →
+      getD after (pageAt z q) 0 ≡ getD image (pageAt z q) 0
+
+abbrev pub ChangeAltersNoOther : Type 0
+ChangeAltersNoOther =
+    (kind : ℕ) (image after : List ℕ) (z : Sizes) (c : Contents) (f : ℕ) (v : Value) → Bytes image → Real v →
+    imageSizes kind (length image) ≡ good z → contents kind image ≡ good c → change kind image f v ≡ good after →
+    AltersNoOther z (field c f) image after
+
+abbrev pub CommitAltersNoOther : Type 0
+CommitAltersNoOther =
+    (kind : ℕ) (image after : List ℕ) (z : Sizes) (c : Contents) (f present new : ℕ) → Bytes image →
+    imageSizes kind (length image) ≡ good z → contents kind image ≡ good c → commit kind image f present new ≡ good after →
+    AltersNoOther z (field c f) image after
