@@ -73,6 +73,6 @@ wrongList length = returned 16 length
 abbrev pub blankChip : Refusal
 blankChip = returned 17 0
 
--- 18 (Note 2): the lent buffer is too short for an index, or an index too short to be one.
+-- 18 (Note 2): the lent buffer is too short. The place is the bytes needed.
 abbrev pub shortIndex : ℕ → Refusal
-shortIndex needed = returned 18 needed
+shortIndex bytes = returned 18 bytes

@@ -182,11 +182,11 @@ pub fn blank_chip() -> Refusal
     }
 }
 
-pub fn short_index(needed: u64) -> Refusal
-    ensures { λ r. ⌜ r ≡ shortIndex needed ⌝ }
+pub fn short_index(bytes: u64) -> Refusal
+    ensures { λ r. ⌜ r ≡ shortIndex bytes ⌝ }
 {
     Refusal {
         number: crate::SHORT_INDEX,
-        place: needed,
+        place: bytes,
     }
 }
