@@ -214,9 +214,10 @@ dartelm_check_answer dartelm_check(uint8_t kind, const uint8_t *image, size_t im
 dartelm_field_answer dartelm_field(uint8_t kind, const uint8_t *image, size_t image_length, uint64_t field);
 
 /* Makes the index of an image in a buffer: for each field in order, then for each calibration point, its first bit in the stream
- * and its bits, 16 bits each, low byte first. DARTELM_INDEX_LENGTH gives the bytes; those beyond stay. Refused as a check is, and with 18: then the
- * buffer keeps every byte. An index stays right when a field is changed. */
-dartelm_write_answer dartelm_index(uint8_t kind, const uint8_t *image, size_t image_length, uint8_t *buffer, size_t buffer_length);
+ * and how many bits it has, 16 bits each, low byte first. DARTELM_INDEX_LENGTH gives the bytes; those beyond stay. Refused as a
+ * check is, and with 18: then the buffer keeps every byte. An index stays right when a field is changed. */
+dartelm_write_answer dartelm_index(uint8_t kind, const uint8_t *image, size_t image_length, uint8_t *buffer,
+                                   size_t buffer_length);
 
 /* Fetches field 1 to 21 where an index says that it stands: through the image's own index it is what dartelm_field gives. Only the
  * page sums and this field are looked at. Refused with 1, 2 and 17 for the image, 8 for another field, 18 for an index of fewer
