@@ -25,7 +25,7 @@ mod values;
 
 use layout::{get, image_length, pages, stream_bits, width};
 
-const CALLS: [&str; 14] = [
+const CALLS: [&str; 16] = [
     "check", "page", "field", "pair", "char", "build", "change", "reading", "text", "code", "sheet", "kind", "index",
     "fetch", "propose", "commit",
 ];
