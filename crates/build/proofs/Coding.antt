@@ -23,10 +23,9 @@ use Rattle.fields.specs.declared.Encoded.{Encoded}
 use Rattle.fields.specs.declared.Encoded.the-variants.{Code, Refused as NoCode}
 use Rattle.fields.specs.declared.Judged.the-variants.{Stands, Refused}
 use Rattle.fields.specs.declared.Template.{Template}
-use Rattle.fields.specs.declared.Template.the-variants.{Bridge}
 use Rattle.fields.specs.Rules.{encode}
 use Rattle.fields.specs.Rows.{any}
-use Rattle.fields.specs.Lines.{Line, line, chose, basic, template33, templateLines, linesOf, numberOf, lastField, lineOf, rowOf}
+use Rattle.fields.specs.Lines.{Line, line, chose, basic, templateLines, linesOf, numberOf, lastField, lineOf, rowOf}
 use Rattle.fields.specs.Stored.{Sound, Real}
 use Rattle.fields.specs.Answers.{encodedSaid}
 use Rattle.fields.proofs.StoredLaws.{reads-back}
@@ -37,6 +36,7 @@ use Rattle.build.specs.declared.plan.CodedField.{CodedField}
 use Rattle.build.specs.Build.{slot, lent, templateIn, linePieces}
 use Rattle.build.specs.Tested.{Encodes, Fitting, FieldsFit, fieldPiece, codedFields, FieldsPlanned}
 use Rattle.build.proofs.LinePlans.{bind-good-last}
+use Rattle.fields.proofs.TemplateFacts.{last-most}
 use Rattle.build.proofs.FieldPlans.{withBlock, block-needed, fields-listed}
 
 -- ---- one value
@@ -51,10 +51,6 @@ pub seen : (row : Row) (place : ℕ) {figure : ℤ} → SFits w64 figure → enc
 seen row place f = ap (λ (z : ℤ). encode row place (Whole z)) (toZ-ofZ f)
 
 -- ---- the fields that have their codes
-
-pub room : (template : Template) → lastField template ≤ 21
-unfolding linesOf basic template33
-room Bridge = omega arith
 
 pub basic-fewer : (template : Template) → length basic ≤ lastField template
 unfolding linesOf
@@ -169,7 +165,7 @@ module _ (sheet : Sheet) where
         said = sym (fields-listed sheet ∙ bind-good _ planned ∙ ap good are);
         fit = d .fit;
         count = λ a. d .count ∙ omega (arith, block-needed t all, ap needed are, ap (λ (n : ℕ). needed (take n (map fieldPiece fields))) last);
-        small = omega (arith, d .few, d .inside, room t);
+        small = omega (arith, d .few, d .inside, last-most t);
       }
 
   -- A turn, in the words of the code.
@@ -185,7 +181,7 @@ module _ (sheet : Sheet) where
     heard =
         let k : i ≡ suc i - 1 = omega arith in
         c .said
-        ∙ ap₂ (λ (v : Slot) (n : ℕ). encode row n (v .value)) (inside-same (sheet .fields) i none (slot Missing) (omega (arith, room t)) ∙ ap (λ (n : ℕ). getD (sheet .fields) n (slot Missing)) k) (add-one i)
+        ∙ ap₂ (λ (v : Slot) (n : ℕ). encode row n (v .value)) (inside-same (sheet .fields) i none (slot Missing) (omega (arith, last-most t)) ∙ ap (λ (n : ℕ). getD (sheet .fields) n (slot Missing)) k) (add-one i)
         ∙ ap (λ r. encode r (suc i) (lent sheet (suc i))) row-here
 
     pub turn-refused : {r : Refusal} → e ≡ NoCode r → FieldsPlanned sheet (record { answer = Refused r; fields = fields; bits = bits })
@@ -193,14 +189,14 @@ module _ (sheet : Sheet) where
       said = sym (fields-listed sheet ∙ bind-refused _ (sym (d .rest) ∙ field-refused fields latest i h (sym heard ∙ ap encodedSaid a)));
       fit = d .fit;
       count = λ s. absurd (let z : _≡_ {A = ℕ} 0 1 = cc in omega arith);
-      small = omega (arith, d .few, d .inside, room t);
+      small = omega (arith, d .few, d .inside, last-most t);
     }
 
     pub turn-coded : {code next : ℕ} → e ≡ Code code → next ≡ chose (lineOf t (i + 1) .sets) code latest → Sound row →
         FieldsDone (set fields i (record { width = row .width; code = code })) next (bits + row .width) (i + 1)
     turn-coded {code} {next} a n s =
         let x : CodedField = record { width = row .width; code = code } in
-        let k : i < length fields = omega (arith, d .fit .long, room t) in
+        let k : i < length fields = omega (arith, d .fit .long, last-most t) in
         let more : needed (take (i + 1) (map fieldPiece (set fields i x))) ≡ row .width + needed (take i (map fieldPiece fields)) =
         rw (add-one i) (omega (arith, ap needed (taken fields i x k), needed-append (take i (map fieldPiece fields)) (fieldPiece x ∷ []))) in
         record {

@@ -7,13 +7,10 @@ use native.Mathlib.Omega.{arith}
 use lib.ListN.{length, getD, take, drop, set, length-map, List·getD-map}
 use lib.Seq.{drop-cons, take-length}
 use borrow.Author.Tests.{ne-eqb, le-ltb}
-use Rattle.refusal.specs.Outcome.{Outcome, good, refused}
+use Rattle.refusal.specs.Outcome.{good, refused}
 use Rattle.refusal.specs.declared.Refusal.{Refusal}
 use Rattle.layout.specs.Contents.{Contents}
 use Rattle.fields.specs.declared.Value.{Value}
-use Rattle.fields.specs.declared.Template.{Template}
-use Rattle.fields.specs.declared.Template.the-variants.{Bridge}
-use Rattle.fields.specs.Lines.{basic, template33, linesOf, lastField}
 use Rattle.sheet.specs.declared.Summary.{Summary}
 use Rattle.layout.specs.Image.{contents, nothing, field}
 use Rattle.sheet.specs.Check.{summary, readField}
@@ -46,11 +43,6 @@ unfolding readFields
 sheet-refused kind image r e = rw e
 
 -- ---- the fields of an opened sheet, one after the other
-
--- The struct has room for the fields of every template.
-pub fields-listed : (t : Template) → lastField t ≡ 21
-unfolding linesOf basic template33
-fields-listed Bridge = refl
 
 module _ (c : Contents) (many : length (c .fields) ≡ 21) where
   pub one-more : (i : ℕ) (array : List DartelmValue) (b : DartelmValue) (v : Value) → i < 21 → array ≡ filled byFlags 21 noValue (foundFields c .values) i

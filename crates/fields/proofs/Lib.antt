@@ -1,4 +1,5 @@
 pub mod RowLaws
+pub mod TemplateFacts
 pub mod CodeLaws
 pub mod StepLaws
 pub mod Table

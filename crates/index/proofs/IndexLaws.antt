@@ -17,7 +17,7 @@ use Rattle.layout.specs.Contents.{Contents}
 use Rattle.layout.specs.Image.{contents, layoutOf, pairsIn, pairIn}
 use Rattle.sheet.specs.declared.opening.Opened.{Opened}
 use Rattle.sheet.specs.Opened.{Opens}
-use Rattle.sheet.proofs.PlaceSteps.{last-few}
+use Rattle.fields.proofs.TemplateFacts.{last-most}
 use Rattle.sheet.proofs.HeldLaws.{layout-is, points-are, holding}
 use Rattle.index.specs.declared.Entry.{Entry}
 use Rattle.index.specs.Index.{entryBytes, entries, index}
@@ -77,13 +77,13 @@ module _ {kind : ℕ} {image : List ℕ} {o : Opened} {c : Contents} (h : Opens 
   opened-few = go (decLt (lastField (c .template)) (length (entries c)))
     where
       go : Dec (lastField (c .template) < length (entries c)) → count < 2 ^ 32
-      go (no l) = omega (arith, counted, last-few (c .template))
+      go (no l) = omega (arith, counted, last-most (c .template))
       go (yes l) =
           let i : ℕ = length (entries c) - 1 in
           omega (
             arith,
             counted,
-            last-few (c .template),
+            last-most (c .template),
             ap (λ x. x .offset) (of-pair (layoutOf c) i (omega arith)),
             lies (holding h) i (omega arith) .inside,
             sizes-chip kind (length image) (o .sizes) (h .sized) .most,

@@ -3,6 +3,7 @@ use mathlib.Core.Path.{_≡_, refl, sym, ap, _∙_, subst}
 use mathlib.Core.List.{List, [], _∷_, map}
 use mathlib.Core.Option.{none}
 use Prim.Native.Nat.{ℕ, _+_, _≤_}
+use native.Mathlib.Nat.{le-refl}
 use native.Mathlib.Omega.{arith}
 use lib.IntN.{ℤ, pos, natAbs, _-ℤ_, _*ℤ_}
 use lib.Signed.{_<ℤ_}
@@ -13,12 +14,10 @@ use Rattle.memory.specs.Bits.{Bytes}
 use Rattle.memory.specs.Pieces.{Piece, pack}
 use Rattle.memory.proofs.Images.{image-bytes}
 use Rattle.fields.specs.declared.Pair.{Pair}
-use Rattle.fields.specs.declared.Template.{Template}
-use Rattle.fields.specs.declared.Template.the-variants.{Bridge}
-use Rattle.fields.specs.Lines.{basic, template33, linesOf, lastField}
+use Rattle.fields.specs.Lines.{lastField}
+use Rattle.fields.proofs.TemplateFacts.{span-listed}
 use Rattle.fields.specs.Calibration.{D, R}
 use Rattle.fields.specs.Figure.{billion}
-use Rattle.layout.specs.Contents.{Contents}
 use Rattle.layout.specs.Image.{contents, pairIn, pairsIn, points}
 use Rattle.sheet.proofs.ReadLaws.{accepted-reads}
 use Rattle.build.specs.Build.{pairsLent, pairPieces, tablePieces}
@@ -40,11 +39,6 @@ planned-pairs : (pairs : List Pair) (ts : List Piece) → tablePieces pairs ≡ 
 unfolding tablePieces pairPieces
 planned-pairs [] ts e = ([], refl)
 planned-pairs (p ∷ pairs) ts e = let (ps, e1, e2) = good-bind (pairPieces none 0 (p ∷ pairs)) _ ts e in (ps, e1)
-
--- The ends of the span are fields of every template.
-ends-listed : (t : Template) → 11 ≤ lastField t
-unfolding linesOf basic template33
-ends-listed Bridge = omega arith
 
 -- ---- the distance
 
@@ -76,7 +70,7 @@ certificate-distance kind buffer sheet text lentPoints image alterations reading
     let k : readingKind ≡ kind = same-kind kind readingKind last (held kind (w .0) alterations) (s .holds) after (s .accepted) in
     let c : s .holds ≡ held kind (w .0) alterations = good-same (sym (s .accepted) ∙ ap (λ (n : ℕ). contents n last) k ∙ after) in
     let read = accepted-reads readingKind last (s .holds) (s .accepted) .fields in
-    let listed = ends-listed (s .holds .template) in
+    let listed : 11 ≤ lastField (s .holds .template) = span-listed (s .holds .template) (le-refl 11) in
     distance-of (pairsLent lentPoints) (points (s .holds)) ps (r .fraction) v (least (s .holds)) (greatest (s .holds)) _ _ K pairs (s .rises) slopes
     (ap points c ∙ ap (λ q. map pairIn (pairsIn q)) (held-calibration kind (w .0) alterations) ∙ w .2 .samePoints) (s .shows)
     (ap whole (read 10 (omega arith) (omega (arith, listed)))) (ap whole (read 11 (omega arith) listed))

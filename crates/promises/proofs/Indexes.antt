@@ -2,7 +2,7 @@
 use mathlib.Core.Path.{_≡_, refl, sym, ap, _∙_}
 use mathlib.Core.Bool.{Bool, true, false, cond}
 use mathlib.Core.List.{List, [], _∷_, _++_, map}
-use Prim.Native.Nat.{ℕ, zero, suc, _-_, _≤_, _<_}
+use Prim.Native.Nat.{ℕ, suc, _-_, _≤_, _<_}
 use native.Mathlib.Omega.{arith}
 use native.Mathlib.Decide.{decLt}
 use lib.Dec.{eqb}
@@ -13,10 +13,9 @@ use Rattle.refusal.proofs.Outcomes.{good-same}
 use Rattle.memory.specs.declared.Sizes.{Sizes}
 use Rattle.memory.specs.Image.{imageSizes, sums}
 use Rattle.memory.proofs.Chips.{sizes-chip}
-use Rattle.fields.specs.declared.Template.{Template}
-use Rattle.fields.specs.declared.Template.the-variants.{Bridge}
 use Rattle.fields.specs.declared.Layout.{Layout}
-use Rattle.fields.specs.Lines.{basic, template33, linesOf, lastField, bitsBefore}
+use Rattle.fields.specs.Lines.{lastField}
+use Rattle.fields.proofs.TemplateFacts.{last-full, bits-least}
 use Rattle.layout.specs.Contents.{Contents}
 use Rattle.layout.specs.Image.{contents, nothing, field, layoutOf, pairsIn}
 use Rattle.layout.proofs.Accepted.{contents-accepted}
@@ -78,16 +77,6 @@ index-sorted kind image buffer made c i e h l =
 
 -- ---- its bytes
 
-fields-are : (t : Template) → lastField t ≡ 21
-unfolding basic template33 linesOf
-fields-are Bridge = refl
-
-fields-least : (t : Template) (p : ℕ) → 265 ≤ bitsBefore (linesOf t) p (lastField t)
-unfolding basic template33 linesOf
-fields-least Bridge zero = omega arith
-fields-least Bridge (suc zero) = omega arith
-fields-least Bridge (suc (suc p)) = omega arith
-
 pub index-fits : IndexFits
 index-fits kind image c e = go (decLt (lastField (c .template)) (length (entries c)))
   where
@@ -95,7 +84,7 @@ index-fits kind image c e = go (decLt (lastField (c .template)) (length (entries
     layout = layoutOf c
 
     go : Dec (lastField (c .template) < length (entries c)) → length (entryBytes (entries c)) ≤ 480
-    go (no l) = omega (arith, bytes-count (entries c), fields-are (c .template))
+    go (no l) = omega (arith, bytes-count (entries c), last-full (c .template))
     go (yes l) =
         let a = contents-accepted kind image c e in
         let i : ℕ = length (entries c) - 1 in
@@ -104,8 +93,8 @@ index-fits kind image c e = go (decLt (lastField (c .template)) (length (entries
         omega (
           arith,
           bytes-count (entries c),
-          fields-are (c .template),
-          fields-least (c .template) (layout .precision),
+          last-full (c .template),
+          bits-least (c .template) (layout .precision),
           fields-end layout,
           ap (λ (x : Entry). x .offset) at,
           ap (λ (x : Entry). x .length) at,

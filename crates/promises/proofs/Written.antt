@@ -17,9 +17,7 @@ use Rattle.memory.specs.declared.Sizes.{Sizes}
 use Rattle.memory.specs.Image.{imageSizes, streamBits, imageOf}
 use Rattle.memory.specs.Pieces.{Piece, pack, needed}
 use Rattle.memory.proofs.PieceLaws.{Holds, pack-lt, holds-pack}
-use Rattle.fields.specs.declared.Template.{Template}
-use Rattle.fields.specs.declared.Template.the-variants.{Bridge}
-use Rattle.fields.specs.Lines.{basic, template33, linesOf, lastField}
+use Rattle.fields.proofs.TemplateFacts.{last-most}
 use Rattle.fields.specs.Stored.{kept, Real}
 use Rattle.layout.specs.Contents.{Found, Contents, sheetOf}
 use Rattle.layout.specs.Image.{contents}
@@ -60,11 +58,6 @@ kept-values sheet f (x ∷ xs) [] h few k = absurd (omega arith)
 kept-values sheet f (x ∷ xs) (s ∷ slots) h few k =
     ap₂ (λ v vs. v ∷ vs) (k .0 ∙ ap (kept (x .row)) (slot-first sheet f s slots h))
     (kept-values sheet (suc f) xs slots (slots-others sheet f s slots h) (omega arith) (k .1))
-
--- No template has more fields than the sheet record has room for.
-pub room-for : (t : Template) → lastField t ≤ 21
-unfolding linesOf basic template33
-room-for Bridge = omega arith
 
 -- ---- a build's parts
 
@@ -117,7 +110,7 @@ read-again kind buffer sheet text points z pieces lendable sizes plans inside =
     let t : Bool = sheet .«end_bit» && leb (needed pieces + 7) S in
     let p = plan-stands S sheet text points pieces (λ f. real-at (sheet .fields) (lendable .singles) (f - 1)) plans inside in
     let c : Contents = p .contents in
-    let few : length (c .fields) ≤ length (sheet .fields) = omega (arith, fields-count (p .formed), room-for (c .template), lendable .fields) in
+    let few : length (c .fields) ≤ length (sheet .fields) = omega (arith, fields-count (p .formed), last-most (c .template), lendable .fields) in
     record {
       found = c;
       reads =

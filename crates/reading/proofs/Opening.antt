@@ -1,5 +1,5 @@
 -- What an opened sheet holds: the sorts and sizes of the values that a reading is taken from.
-use mathlib.Core.Path.{_≡_, refl, sym, ap, _∙_, subst}
+use mathlib.Core.Path.{_≡_, refl, ap, _∙_, subst}
 use mathlib.Core.Bool.{Bool, true, false, not, _&&_, cond}
 use mathlib.Core.List.{List, [], _∷_, map}
 use mathlib.Core.Option.{Option, none, some}
@@ -19,13 +19,12 @@ use Rattle.fields.specs.declared.Value.{Value}
 use Rattle.fields.specs.declared.Value.the-variants.{Whole, Single, Missing}
 use Rattle.fields.specs.declared.Rule.the-variants.{Stepped, Single as Ieee}
 use Rattle.fields.specs.declared.Row.{Row}
-use Rattle.fields.specs.declared.Template.{Template}
-use Rattle.fields.specs.declared.Template.the-variants.{Bridge}
 use Rattle.fields.specs.declared.Codes.{Codes}
 use Rattle.fields.specs.Rules.{allOnes, topCode, steppedValue, finite, meaning, decode}
-use Rattle.fields.specs.Rows.{physical, precision, electrical}
-use Rattle.fields.specs.Lines.{Line, line, choice, chosen, basic, template33, linesOf, lastField, lineOf}
+use Rattle.fields.specs.Rows.{precision, electrical}
+use Rattle.fields.specs.Lines.{Line, lineOf}
 use Rattle.fields.specs.Calibration.{D, calPoint}
+use Rattle.fields.proofs.TemplateFacts.{span-listed, span-lines}
 use Rattle.fields.proofs.FloatLaws.{no-nan}
 use Rattle.fields.proofs.RuleLaws.{stepped-whole, plain-bounds}
 use Rattle.fields.proofs.CalibrationLaws.{follows-rises}
@@ -137,21 +136,12 @@ electrical-figured zero l n h = figured h (2 ^ 32) refl (omega arith)
 electrical-figured (suc zero) l n h = figured h (2 ^ 32) refl (omega arith)
 electrical-figured (suc (suc p)) l n h = absurd (n (omega arith))
 
--- The lines of fields 7 to 11, in every template.
-pub enough : (t : Template) {f : ℕ} → f ≤ 11 → f ≤ lastField t
-unfolding linesOf basic template33
-enough Bridge h = omega arith
-
-span-lines : (t : Template) → (lineOf t 7 ≡ line physical) × (lineOf t 8 ≡ line physical) × (lineOf t 9 ≡ choice precision) × (lineOf t 10 ≡ chosen electrical) × (lineOf t 11 ≡ chosen electrical)
-unfolding linesOf basic template33
-span-lines Bridge = (refl, refl, refl, refl, refl)
-
 module _ {kind : ℕ} {image : List ℕ} {o : Opened} {c : Contents} (h : Opens kind image o c) where
   pub opened-table : Table (points c)
   opened-table = calibration-table _ (c .calibration) (holding h .formed .calibrated)
 
   stands : (f : ℕ) → 1 ≤ f → f ≤ 11 → {l : Line} → lineOf (c .template) f ≡ l → FieldAt (l .rowAt (layoutOf c .precision)) (fieldPlace (layoutOf c) f) (field c f)
-  stands f lo hi e = subst (λ (l : Line). FieldAt (l .rowAt (layoutOf c .precision)) (fieldPlace (layoutOf c) f) (field c f)) e (field-at (holding h .formed) f lo (enough (c .template) hi))
+  stands f lo hi e = subst (λ (l : Line). FieldAt (l .rowAt (layoutOf c .precision)) (fieldPlace (layoutOf c) f) (field c f)) e (field-at (holding h .formed) f lo (span-listed (c .template) hi))
 
   pub opened-low : Floated (field c 7 .value)
   opened-low = floated (stands 7 (omega arith) (omega arith) (span-lines (c .template) .0)) refl
@@ -162,7 +152,7 @@ module _ {kind : ℕ} {image : List ℕ} {o : Opened} {c : Contents} (h : Opens 
   precision-most : layoutOf c .precision ≤ 2
   precision-most =
       let l = span-lines (c .template) .2 in
-      rw (choice-is-code (holding h .formed) 9 (omega arith) (enough (c .template) (omega arith)) (ap (λ (y : Line). y .sets) l))
+      rw (choice-is-code (holding h .formed) 9 (omega arith) (span-listed (c .template) (omega arith)) (ap (λ (y : Line). y .sets) l))
       (plain-bounds 2 0 2 _ (field c 9 .code) (field c 9 .value) (stands 9 (omega arith) (omega arith) l .means) .1)
 
   module _ (n : layoutOf c .precision ≡ 2 → ⊥) where

@@ -6,10 +6,9 @@ use Prim.Native.Nat.{ℕ, zero, suc, _+_, _-_, _*_, _^_, _≤_, _<_}
 use native.Mathlib.Omega.{arith}
 use lib.ListN.{length, length-append}
 use borrow.Author.Tests.{lt-ltb, le-ltb}
-use Rattle.fields.specs.declared.Template.{Template}
-use Rattle.fields.specs.declared.Template.the-variants.{Bridge}
 use Rattle.fields.specs.declared.Layout.{Layout}
-use Rattle.fields.specs.Lines.{Line, basic, template33, templateLines, linesOf, lastField, ending, bitsBefore}
+use Rattle.fields.specs.Lines.{Line, basic, templateLines, linesOf, lastField, ending, bitsBefore}
+use Rattle.fields.proofs.TemplateFacts.{bits-few}
 use Rattle.layout.specs.Places.{blockBits, fieldPlace, behindFields, tableBits}
 
 bits-most : (lines : List Line) (p i : ℕ) → bitsBefore lines p i ≤ bitsBefore lines p (length lines)
@@ -17,23 +16,12 @@ bits-most [] p i = omega arith
 bits-most (l ∷ lines) p zero = omega arith
 bits-most (l ∷ lines) p (suc i) = omega (arith, bits-most lines p i)
 
--- No template has many fields or bits.
-pub last-few : (t : Template) → lastField t < 2 ^ 16
-unfolding basic template33 linesOf
-last-few Bridge = omega arith
-
-fields-few : (t : Template) (p : ℕ) → bitsBefore (linesOf t) p (lastField t) < 2 ^ 16
-unfolding basic template33 linesOf
-fields-few Bridge zero = omega arith
-fields-few Bridge (suc zero) = omega arith
-fields-few Bridge (suc (suc p)) = omega arith
-
 module _ (layout : Layout) where
   abbrev lines : List Line
   lines = linesOf (layout .template)
 
   pub place-few : (i : ℕ) → bitsBefore lines (layout .precision) i < 2 ^ 16
-  place-few i = omega (arith, bits-most lines (layout .precision) i, fields-few (layout .template) (layout .precision))
+  place-few i = omega (arith, bits-most lines (layout .precision) i, bits-few (layout .template) (layout .precision))
 
   pub in-basic : (f : ℕ) → f ≤ length basic → fieldPlace layout f ≡ bitsBefore lines (layout .precision) (f - 1)
   unfolding fieldPlace

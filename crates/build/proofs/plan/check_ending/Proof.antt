@@ -2,7 +2,7 @@
 use borrow.Author.Needs.{needs}
 use native.Mathlib.Numerals.{add-one}
 use native.Mathlib.Omega.{arith}
-use Rattle.build.proofs.Coding.{room}
+use Rattle.fields.proofs.TemplateFacts.{last-most}
 use Rattle.build.proofs.TextTurns.{open-ending, shut-ending, no-ending}
 use Rattle.build.proofs.plan.check_ending.Statement.{statement}
 use Rattle.build.proofs.plan.check_ending.Tie as tie
@@ -18,7 +18,7 @@ check-ending-spec =
     tie.close
     (tie.spec
     (λ c κs. search needs)
-    (λ c. omega (arith, c .last-field .ensures, room (c .before .before .args .template)))
+    (λ c. omega (arith, c .last-field .ensures, last-most (c .before .before .args .template)))
     (λ c κs. search needs)
     returns
     (λ c κs. search needs)

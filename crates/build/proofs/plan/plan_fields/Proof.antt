@@ -8,7 +8,8 @@ use Rattle.fields.specs.Lines.{lastField}
 use Rattle.fields.specs.Stored.{Sound}
 use Rattle.fields.proofs.RowLaws.{row-sound}
 use Rattle.build.specs.Build.{templateIn}
-use Rattle.build.proofs.Coding.{room, FieldsDone, done-none, done-all, turn-refused, turn-coded}
+use Rattle.fields.proofs.TemplateFacts.{last-most}
+use Rattle.build.proofs.Coding.{FieldsDone, done-none, done-all, turn-refused, turn-coded}
 use Rattle.build.proofs.plan.plan_fields.Statement.{statement}
 use Rattle.build.proofs.plan.plan_fields.Tie as tie
 
@@ -19,7 +20,7 @@ abbrev μ-loop : tie.MeasureT-loop
 μ-loop sheet template last fields₀ precision₀ bits₀ i₀ fields precision bits i = 21 - i
 
 loop-holds : tie.Need-loop-holds Inv-loop μ-loop
-loop-holds c = (omega (arith, c .last-field .ensures, ap lastField (c .before .template-in .ensures), room (templateIn (c .before .before .args .t1))), done-none _)
+loop-holds c = (omega (arith, c .last-field .ensures, ap lastField (c .before .template-in .ensures), last-most (templateIn (c .before .before .args .t1))), done-none _)
 
 returns : tie.Need-returns Inv-loop μ-loop
 returns c =

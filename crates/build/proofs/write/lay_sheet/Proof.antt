@@ -3,7 +3,8 @@ use mathlib.Core.Path.{refl, sym}
 use mathlib.Core.List.{[], append-nil}
 use borrow.Author.Needs.{needs}
 use native.Mathlib.Omega.{arith}
-use Rattle.build.proofs.Coding.{room, basic-fewer}
+use Rattle.fields.proofs.TemplateFacts.{last-most}
+use Rattle.build.proofs.Coding.{basic-fewer}
 use Rattle.build.proofs.BuiltIn.{number-lt, sheet-filling}
 use Rattle.build.proofs.Filling.{room-first, filling-more, filled}
 use Rattle.build.proofs.write.lay_sheet.Statement.{statement}
@@ -15,7 +16,7 @@ lay-fields-requires c κs =
     let a = s .args in
     let z = a .sizes in
     let start = sheet-filling z (a .template) (a .fields) (a .end-bit) (a .text .now) (a .points .now) (s .pre .0) in
-    rw (c .before .before .basic-fields .ensures) (room-first z _ _ refl start, (omega arith, omega (arith, basic-fewer (a .template), room (a .template)), s .pre .1 .fit))
+    rw (c .before .before .basic-fields .ensures) (room-first z _ _ refl start, (omega arith, omega (arith, basic-fewer (a .template), last-most (a .template)), s .pre .1 .fit))
 
 lay-block-requires : tie.Need-lay-block-requires
 lay-block-requires c κs =
@@ -34,7 +35,7 @@ lay-fields-requires-2 c κs =
     let start = sheet-filling z (a .template) (a .fields) (a .end-bit) (a .text .now) (a .points .now) (s .pre .0) in
     let basics = filling-more z _ _ refl start (rw (c .before .before .before .before .before .before .before .before .before .before .before .basic-fields .ensures) at (c .before .before .before .before .before .before .before .before .lay-fields .ensures)) in
     let block = filling-more z _ _ refl basics (rw (c .before .before .before .before .template-number .ensures) at (c .before .before .before .lay-block .ensures)) in
-    rw (c .before .before .before .before .before .before .before .before .before .before .before .basic-fields .ensures, c .before .before .before .before .before .before .before .before .before .before .last-field .ensures) (room-first z _ _ refl block, (basic-fewer (a .template), room (a .template), s .pre .1 .fit))
+    rw (c .before .before .before .before .before .before .before .before .before .before .before .basic-fields .ensures, c .before .before .before .before .before .before .before .before .before .before .last-field .ensures) (room-first z _ _ refl block, (basic-fewer (a .template), last-most (a .template), s .pre .1 .fit))
 
 lay-table-requires : tie.Need-lay-table-requires
 lay-table-requires c κs =

@@ -12,7 +12,8 @@ use Rattle.dartelm.specs.Values.{byFlags, noValue}
 use Rattle.dartelm.specs.Found.{foundFields}
 use Rattle.dartelm.proofs.Filling.{filled}
 use Rattle.build.proofs.BuiltIn.{end-byte}
-use Rattle.dartelm.proofs.SheetReads.{fields-listed, one-more, all-told}
+use Rattle.fields.proofs.TemplateFacts.{last-full}
+use Rattle.dartelm.proofs.SheetReads.{one-more, all-told}
 use Rattle.dartelm.proofs.sheets.sheet_in.Statement.{statement}
 use Rattle.dartelm.proofs.sheets.sheet_in.Tie as tie
 
@@ -33,7 +34,7 @@ add-value-in : tie.Need-add-value-in Inv-loop μ-loop
 add-value-in c = search needs
 
 value-in-requires : tie.Need-value-in-requires Inv-loop μ-loop
-value-in-requires c κs = (c .before .before .before .before .pre, omega arith, omega (arith, fields-listed (c .before .before .before .before .args .sheet .layout .template)))
+value-in-requires c κs = (c .before .before .before .before .pre, omega arith, omega (arith, last-full (c .before .before .before .before .args .sheet .layout .template)))
 
 by-flags-requires : tie.Need-by-flags-requires Inv-loop μ-loop
 by-flags-requires c κs = search needs
@@ -55,7 +56,7 @@ loop-again c =
     let a = c .before .before .before .before .before .before .args in (
       omega arith,
       λ k x h.
-          one-more x (fields-are k (a .image .now) x (h .accepted) ∙ fields-listed (x .template)) _ _ _ _ (c .before .before .loop-test .taken) (c .before .before .before .loop .inv .1 k x h) (c .before .value-in .ensures k x h) (c .by-flags .ensures),
+          one-more x (fields-are k (a .image .now) x (h .accepted) ∙ last-full (x .template)) _ _ _ _ (c .before .before .loop-test .taken) (c .before .before .before .loop .inv .1 k x h) (c .before .value-in .ensures k x h) (c .by-flags .ensures),
     )
 
 cast-t17 : tie.Need-cast-t17 Inv-loop μ-loop
@@ -66,7 +67,7 @@ returns c =
     let a = c .before .before .before .before .before .before .args in
     λ k x h.
     rw (end-byte (a .sheet .summary .«end_bit»))
-    (all-told x (fields-are k (a .image .now) x (h .accepted) ∙ fields-listed (x .template)) _ _ (a .sheet .summary) (c .before .before .loop-test .left) (c .before .before .before .loop .inv .1 k x h) (ap (λ (o : Opened). o .summary) (h .is)))
+    (all-told x (fields-are k (a .image .now) x (h .accepted) ∙ last-full (x .template)) _ _ (a .sheet .summary) (c .before .before .loop-test .left) (c .before .before .before .loop .inv .1 k x h) (ap (λ (o : Opened). o .summary) (h .is)))
 
 pub sheet-in-spec : {M : Type 1} → statement M
 sheet-in-spec =

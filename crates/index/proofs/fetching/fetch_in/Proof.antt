@@ -8,7 +8,7 @@ use Rattle.refusal.specs.Rows.{shortIndex}
 use Rattle.refusal.proofs.Outcomes.{told}
 use Rattle.memory.specs.Image.{streamNumber}
 use Rattle.fields.specs.Lines.{lastField}
-use Rattle.sheet.proofs.PlaceSteps.{last-few}
+use Rattle.fields.proofs.TemplateFacts.{last-most}
 use Rattle.index.specs.Index.{templateAt}
 use Rattle.index.specs.Laid.{rowSaid}
 use Rattle.index.proofs.FetchLaws.{length-sound, in-none, in-past, in-short, in-refused, in-bits}
@@ -31,13 +31,13 @@ mul-if3 : tie.Need-mul-if3
 mul-if3 c =
     let t = c .before .before .before in
     let a = t .before .before .before .args in
-    omega (arith, c .before .before .last-field .ensures ∙ ap lastField (t .template-at .ensures), last-few (templateAt (streamNumber (a .sizes) (a .image .now))))
+    omega (arith, c .before .before .last-field .ensures ∙ ap lastField (t .template-at .ensures), last-most (templateAt (streamNumber (a .sizes) (a .image .now))))
 
 mul-short-index : tie.Need-mul-short-index
 mul-short-index c =
     let t = c .before .before .before .before in
     let a = t .before .before .before .args in
-    omega (arith, c .before .before .before .last-field .ensures ∙ ap lastField (t .template-at .ensures), last-few (templateAt (streamNumber (a .sizes) (a .image .now))))
+    omega (arith, c .before .before .before .last-field .ensures ∙ ap lastField (t .template-at .ensures), last-most (templateAt (streamNumber (a .sizes) (a .image .now))))
 
 returns-3 : tie.Need-returns-3
 returns-3 c =

@@ -3,7 +3,7 @@ use mathlib.Core.Path.{_≡_, sym, ap, _∙_}
 use native.Mathlib.Omega.{arith}
 use mir.Facts.{toZ-ofZ}
 use Rattle.refusal.specs.Outcome.{refused}
-use Rattle.reading.proofs.Opening.{enough}
+use Rattle.fields.proofs.TemplateFacts.{span-listed}
 use Rattle.reading.proofs.Spans.{is-single, no-low, no-high, no-least, no-greatest, crossed, spans}
 use Rattle.reading.proofs.span.span_in.Statement.{statement}
 use Rattle.reading.proofs.span.span_in.Tie as tie
@@ -71,19 +71,19 @@ span-in-spec =
     (tie.spec
     (λ c κs. search needs)
     returns
-    (λ c κs. (search needs, search needs, enough _ (omega arith)))
+    (λ c κs. (search needs, search needs, span-listed _ (omega arith)))
     (λ c. search needs)
     (λ c κs. search needs)
     returns-2
-    (λ c κs. (search needs, search needs, enough _ (omega arith)))
+    (λ c κs. (search needs, search needs, span-listed _ (omega arith)))
     (λ c. search needs)
     (λ c κs. search needs)
     returns-3
-    (λ c κs. (search needs, search needs, enough _ (omega arith)))
+    (λ c κs. (search needs, search needs, span-listed _ (omega arith)))
     (λ c. search needs)
     (λ c κs. search needs)
     returns-4
-    (λ c κs. (search needs, search needs, enough _ (omega arith)))
+    (λ c κs. (search needs, search needs, span-listed _ (omega arith)))
     (λ c. search needs)
     (λ c κs. search needs)
     returns-5

@@ -1,7 +1,7 @@
 use borrow.Author.Needs.{needs}
 use native.Mathlib.Omega.{arith}
 use Rattle.fields.specs.declared.Template.the-variants.{Bridge}
-use Rattle.sheet.proofs.PlaceSteps.{last-few}
+use Rattle.fields.proofs.TemplateFacts.{last-most}
 use Rattle.sheet.proofs.WalkSteps.{basic-most}
 use Rattle.sheet.proofs.SheetSteps.{basics-halt, block-halts, own-halts, calibration-halts, ending-halts, sheet-opens}
 use Rattle.sheet.proofs.opening.walk_sheet.Statement.{statement}
@@ -12,7 +12,7 @@ take-fields-requires c κs = (c .before .before .before .pre, search needs, omeg
 
 add-take-fields : tie.Need-add-take-fields
 add-take-fields c =
-    omega (arith, c .before .before .before .before .before .before .before .before .before .basic-fields .ensures, basic-most Bridge, last-few Bridge)
+    omega (arith, c .before .before .before .before .before .before .before .before .before .basic-fields .ensures, basic-most Bridge, last-most Bridge)
 
 take-fields-requires-2 : tie.Need-take-fields-requires-2
 take-fields-requires-2 c κs =

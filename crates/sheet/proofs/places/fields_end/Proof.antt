@@ -4,7 +4,7 @@ use Prim.Native.Nat.{_+_}
 use native.Mathlib.Omega.{arith}
 use Rattle.fields.specs.Lines.{ending}
 use Rattle.layout.specs.Places.{fieldPlace}
-use Rattle.sheet.proofs.PlaceSteps.{last-few}
+use Rattle.fields.proofs.TemplateFacts.{last-most}
 use Rattle.sheet.proofs.places.fields_end.Statement.{statement}
 use Rattle.sheet.proofs.places.fields_end.Tie as tie
 
@@ -19,6 +19,6 @@ fields-end-spec =
     tie.close
     (tie.spec
     (λ c κs. search needs)
-    (λ c. omega (arith, c .last-field .ensures, last-few (c .before .args .layout .template)))
+    (λ c. omega (arith, c .last-field .ensures, last-most (c .before .args .layout .template)))
     (λ c κs. omega (arith, c .last-field .ensures))
     returns)

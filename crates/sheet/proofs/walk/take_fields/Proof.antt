@@ -3,7 +3,7 @@ use mathlib.Core.Path.{_≡_, refl, sym, _∙_}
 use Prim.Native.Nat.{suc, _-_, _≤_}
 use native.Mathlib.Omega.{arith}
 use Rattle.layout.specs.Image.{streamIn}
-use Rattle.sheet.proofs.PlaceSteps.{last-few}
+use Rattle.fields.proofs.TemplateFacts.{last-most}
 use Rattle.sheet.proofs.WalkSteps.{fieldsLeft, fields-done, fields-halt, fields-next}
 use Rattle.sheet.proofs.walk.take_fields.Statement.{statement}
 use Rattle.sheet.proofs.walk.take_fields.Tie as tie
@@ -56,7 +56,7 @@ take-fields-spec =
     (λ c. search needs)
     (λ c κs. omega arith)
     (λ c κs. search needs)
-    (λ c. omega (arith, last-few (c .before .before .before .before .before .before .before .before .before .args .template)))
+    (λ c. omega (arith, last-most (c .before .before .before .before .before .before .before .before .before .args .template)))
     (λ c. omega arith)
     loop-again
     returns-2)
