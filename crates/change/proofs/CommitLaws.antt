@@ -26,7 +26,6 @@ use Rattle.fields.specs.Rules.{decode}
 use Rattle.fields.specs.Judgement.{judge}
 use Rattle.fields.specs.Lines.{lastField, lineOf, rowOf}
 use Rattle.fields.proofs.DecodeLaws.{tested}
-use Rattle.fields.proofs.RowLaws.{row-sound}
 use Rattle.layout.specs.Contents.{Found, Contents}
 use Rattle.layout.specs.Format.{bits, parse}
 use Rattle.layout.specs.Image.{streamIn, contents, field}
@@ -34,14 +33,13 @@ use Rattle.layout.specs.Places.{fieldPlace}
 use Rattle.layout.proofs.Fields.{row-is, at-is, width-is}
 use Rattle.layout.proofs.Formats.{parsed}
 use Rattle.layout.proofs.Places.{fields-count}
-use Rattle.layout.proofs.Standing.{Stands, field-stands}
 use Rattle.sheet.specs.declared.opening.Opened.{Opened}
 use Rattle.sheet.specs.Opened.{Opens}
-use Rattle.sheet.proofs.HeldLaws.{layout-is, held-whole, holding}
+use Rattle.sheet.proofs.HeldLaws.{layout-is, holding}
 use Rattle.change.specs.Change.{changeable, recodedIn, rewritten, taken, mayStand, propose, mayCommit, commit}
 use Rattle.change.specs.Parts.{allowedIn, codeIn, proposedAt, mayFollow}
 use Rattle.change.proofs.Recoding.{Changeable, changeable-is}
-use Rattle.change.proofs.PartLaws.{code-known, coded}
+use Rattle.change.proofs.PartLaws.{stands-here, in-stream, code-known, coded}
 
 -- ---- a field that may be changed
 
@@ -106,25 +104,14 @@ module _ {kind : ℕ} {image : List ℕ} {o : Opened} {c : Contents} (h : Opens 
   changeable-here : changeable c f ≡ (allowedIn (o .layout .template) f >> good (field c f))
   changeable-here = changeable-parts c f (fields-count (holding h .formed)) ∙ ap (λ (t : Template). allowedIn t f >> good (field c f)) (sym same-template)
 
-  stands-here : 1 ≤ f → f ≤ lastField (o .layout .template) → Stands (streamIn (o .sizes) image) (rowOf (o .layout) f) (fieldPlace (o .layout) f) (field c f)
-  stands-here lo hi =
-      subst (λ (l : Layout). f ≤ lastField (l .template) → Stands (streamIn (o .sizes) image) (rowOf l f) (fieldPlace l f) (field c f)) (sym (layout-is h))
-      (λ m. field-stands (holding h) f lo m) hi
-
   -- The bits of a field, as they are taken.
   pub field-taken : (lo : 1 ≤ f) (hi : f ≤ lastField (o .layout .template)) {at w : ℕ} → at ≡ fieldPlace (o .layout) f → w ≡ rowOf (o .layout) f .width →
       parse (streamIn (o .sizes) image) (bits w) at ≡ good (parsed (field c f .code) (at + w))
   field-taken lo hi {at} {w} ea ew =
-      let s = stands-here lo hi in
+      let s = stands-here h f lo hi in
       let N : ℕ = streamNumber (o .sizes) image in
       let code : fieldAt N at w ≡ field c f .code = ap₂ (λ (n k : ℕ). fieldAt N n k) ea ew ∙ s .code in
       rw (le-ltb (streamIn (o .sizes) image .bits) (at + w) (omega (arith, ea, ew, s .inside)), code)
-
-  pub in-stream : (lo : 1 ≤ f) (hi : f ≤ lastField (o .layout .template)) {at w : ℕ} → at ≡ fieldPlace (o .layout) f → w ≡ rowOf (o .layout) f .width →
-      InStream (o .sizes) image at w
-  in-stream lo hi ea ew =
-      let s = row-sound (o .layout) f lo hi in
-      record { whole = held-whole h; inside = omega (arith, ea, ew, stands-here lo hi .inside); some = omega (arith, ew, s .some); most = omega (arith, ew, s .most) }
 
   -- ---- a proposal
 
@@ -137,7 +124,7 @@ module _ {kind : ℕ} {image : List ℕ} {o : Opened} {c : Contents} (h : Opens 
   unfolding propose
   propose-coded v {code} e {present} p =
       let (lo, hi, _) = code-known (o .layout) f v code e in
-      let s = stands-here lo hi .field in
+      let s = stands-here h f lo hi .field in
       bind-good _ (h .accepted) ∙ bind-good _ (coded h f v ∙ e)
       ∙ ap (λ (n : ℕ). proposedAt (field c f .row) (field c f .at) n code) (sym p)
       ∙ ap₂ (λ (r : Row) (n : ℕ). proposedAt r n present code) (row-is s) (at-is s)
@@ -154,7 +141,7 @@ module _ {kind : ℕ} {image : List ℕ} {o : Opened} {c : Contents} (h : Opens 
     unfolding mayCommit
     commit-free e lo hi =
         bind-good _ (changeable-here ∙ then-good _ e)
-        ∙ ap (λ (r : Row). mayFollow r (field c f .code) f present new) (row-is (stands-here lo hi .field))
+        ∙ ap (λ (r : Row). mayFollow r (field c f .code) f present new) (row-is (stands-here h f lo hi .field))
 
 pub propose-unread : (kind : ℕ) (image : List ℕ) (f : ℕ) (v : Value) (r : Refusal) → contents kind image ≡ refused r → propose kind image f v ≡ refused r
 unfolding propose

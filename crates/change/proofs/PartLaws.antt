@@ -18,7 +18,7 @@ use Rattle.memory.specs.declared.Sizes.{Sizes}
 use Rattle.memory.specs.Bits.{putAt}
 use Rattle.memory.specs.Image.{SumsRight, streamNumber, imageOf}
 use Rattle.memory.specs.Answers.{InStream}
-use Rattle.memory.proofs.Chips.{sizes-chip, sizes-whole}
+use Rattle.memory.proofs.Chips.{sizes-chip}
 use Rattle.memory.proofs.SumLaws.{sums-right}
 use Rattle.fields.specs.declared.Value.{Value}
 use Rattle.fields.specs.declared.Value.the-variants.{Whole, Single, Missing}
@@ -36,10 +36,11 @@ use Rattle.layout.specs.Image.{streamIn, field, layoutOf}
 use Rattle.layout.specs.Places.{fieldPlace}
 use Rattle.layout.proofs.Fields.{row-is, at-is, width-is}
 use Rattle.layout.proofs.Places.{fields-count, field-at}
-use Rattle.layout.proofs.Accepted.{Holding, accepted-at}
+use Rattle.layout.proofs.Accepted.{accepted-at}
 use Rattle.layout.proofs.Standing.{Stands, field-stands}
 use Rattle.sheet.specs.declared.opening.Opened.{Opened}
 use Rattle.sheet.specs.Opened.{Opens}
+use Rattle.sheet.proofs.HeldLaws.{layout-is, held-whole, holding}
 use Rattle.change.specs.Change.{changeable, codeFor, change}
 use Rattle.change.specs.Parts.{allowedIn, codeIn}
 use Rattle.change.proofs.Recoding.{change-is}
@@ -117,6 +118,20 @@ module _ (layout : Layout) (f : ℕ) (v : Value) where
   unfolding codeIn
   code-allowed e k = k ∙ sym (then-good (encode (rowOf layout f) f v) (sym e))
 
+-- ---- a field of an opened sheet
+
+module _ {kind : ℕ} {image : List ℕ} {o : Opened} {c : Contents} (h : Opens kind image o c) (f : ℕ) where
+  pub stands-here : 1 ≤ f → f ≤ lastField (o .layout .template) → Stands (streamIn (o .sizes) image) (rowOf (o .layout) f) (fieldPlace (o .layout) f) (field c f)
+  stands-here lo hi =
+      subst (λ (l : Layout). f ≤ lastField (l .template) → Stands (streamIn (o .sizes) image) (rowOf l f) (fieldPlace l f) (field c f)) (sym (layout-is h))
+      (λ m. field-stands (holding h) f lo m) hi
+
+  pub in-stream : (lo : 1 ≤ f) (hi : f ≤ lastField (o .layout .template)) {at w : ℕ} → at ≡ fieldPlace (o .layout) f → w ≡ rowOf (o .layout) f .width →
+      InStream (o .sizes) image at w
+  in-stream lo hi ea ew =
+      let s = row-sound (o .layout) f lo hi in
+      record { whole = held-whole h; inside = omega (arith, ea, ew, stands-here lo hi .inside); some = omega (arith, ew, s .some); most = omega (arith, ew, s .most) }
+
 -- ---- a change of an opened sheet
 
 -- What owning a value tells: an f32 in it is one.
@@ -129,16 +144,10 @@ module _ {kind : ℕ} {image : List ℕ} {o : Opened} {c : Contents} (h : Opens 
   abbrev z : Sizes
   z = o .sizes
 
-  holding : Holding (streamIn z image) c
-  holding = accepted-at kind image c z (h .accepted) (h .sized) .1
-
-  is-layout : o .layout ≡ layoutOf c
-  is-layout = ap (λ u. u .layout) (h .is)
-
   pub coded : codeFor c f v ≡ codeIn (o .layout) f v
   coded =
-      code-parts c f v (fields-count (holding .formed)) (λ lo hi. row-is (field-at (holding .formed) f lo hi))
-      ∙ ap (λ l. codeIn l f v) (sym is-layout)
+      code-parts c f v (fields-count (holding h .formed)) (λ lo hi. row-is (field-at (holding h .formed) f lo hi))
+      ∙ ap (λ l. codeIn l f v) (sym (layout-is h))
 
   pub change-refused : {r : Refusal} → codeIn (o .layout) f v ≡ refused r → change kind image f v ≡ refused r
   change-refused e = change-is kind image c z (h .accepted) (h .sized) f v ∙ bind-refused _ (coded ∙ e)
@@ -148,9 +157,7 @@ module _ {kind : ℕ} {image : List ℕ} {o : Opened} {c : Contents} (h : Opens 
     known = code-known (o .layout) f v code e
 
     stands : Stands (streamIn z image) (rowOf (o .layout) f) (fieldPlace (o .layout) f) (field c f)
-    stands =
-        subst (λ l. f ≤ lastField (l .template) → Stands (streamIn z image) (rowOf l f) (fieldPlace l f) (field c f)) (sym is-layout)
-        (λ hi. field-stands holding f (known .0) hi) (known .1)
+    stands = stands-here h f (known .0) (known .1)
 
     pub change-stored : {at w : ℕ} → at ≡ fieldPlace (o .layout) f → w ≡ rowOf (o .layout) f .width →
         change kind image f v ≡ good (imageOf z (putAt (streamNumber z image) at w code))
@@ -161,15 +168,8 @@ module _ {kind : ℕ} {image : List ℕ} {o : Opened} {c : Contents} (h : Opens 
     pub change-place : Real v → {at w : ℕ} → at ≡ fieldPlace (o .layout) f → w ≡ rowOf (o .layout) f .width → InStream z image at w × (code < 2 ^ w)
     change-place real ea ew =
         let s = row-sound (o .layout) f (known .0) (known .1) in
-        let fits = reads-back (rowOf (o .layout) f) f 0 code v s real (known .2) .0 in (
-          record {
-            whole = sizes-whole kind image z (h .sized);
-            inside = omega (arith, ea, ew, stands .inside);
-            some = omega (arith, ew, s .some);
-            most = omega (arith, ew, s .most);
-          },
-          subst (λ (n : ℕ). code < 2 ^ n) (sym ew) fits,
-        )
+        let fits = reads-back (rowOf (o .layout) f) f 0 code v s real (known .2) .0 in
+        (in-stream h f (known .0) (known .1) ea ew, subst (λ (n : ℕ). code < 2 ^ n) (sym ew) fits)
 
   -- The image that was opened has a page, and right sums.
   pub opened-right : (1 ≤ z .pages) × SumsRight z image
