@@ -24,8 +24,7 @@ use Rattle.fields.specs.declared.Encoded.the-variants.{Code, Refused as NoCode}
 use Rattle.fields.specs.declared.Judged.the-variants.{Stands, Refused}
 use Rattle.fields.specs.declared.Template.{Template}
 use Rattle.fields.specs.Rules.{encode}
-use Rattle.fields.specs.Rows.{any}
-use Rattle.fields.specs.Lines.{Line, line, chose, basic, templateLines, linesOf, numberOf, lastField, lineOf, rowOf}
+use Rattle.fields.specs.Lines.{Line, line, chose, basic, templateLines, linesOf, numberOf, lastField, lineOf, rowOf, noLine}
 use Rattle.fields.specs.Stored.{Sound, Real}
 use Rattle.fields.specs.Answers.{encodedSaid}
 use Rattle.fields.proofs.StoredLaws.{reads-back}
@@ -116,12 +115,12 @@ module _ (sheet : Sheet) where
 
   module _ (fields : List CodedField) (latest i : ℕ) (h : i < lastField t) where
     abbrev here : Line
-    here = getD lines i (line (any 0))
+    here = getD lines i noLine
 
     step : linePieces sheet (drop i lines) latest (suc i) ≡ (encode (here .rowAt latest) (suc i) (lent sheet (suc i)) >>= λ code.
         linePieces sheet (drop (suc i) lines) (chose (here .sets) code latest) (suc (suc i)) >>= λ rest. good (piece (here .rowAt latest .width) code ∷ rest))
     unfolding linePieces
-    step = ap (λ l. linePieces sheet l latest (suc i)) (drop-cons lines i (line (any 0)) h)
+    step = ap (λ l. linePieces sheet l latest (suc i)) (drop-cons lines i noLine h)
 
     pub field-refused : {r : Refusal} → encode (here .rowAt latest) (suc i) (lent sheet (suc i)) ≡ refused r → fromHere fields latest i ≡ refused r
     field-refused e = ap (λ o. o >>= λ rest. good (take i (map fieldPiece fields) ++ rest)) (step ∙ bind-refused _ e)
@@ -171,13 +170,13 @@ module _ (sheet : Sheet) where
   -- A turn, in the words of the code.
   module _ {fields : List CodedField} {latest bits i : ℕ} (d : FieldsDone fields latest bits i) (h : i < lastField t) (none : Slot) (row : Row) (e : Encoded) (full : length (sheet .fields) ≡ 21)
       (er : row ≡ rowOf (record { template = t; precision = latest }) (i + 1)) (c : Encodes row (i + 1) (getD (sheet .fields) i none .value) e) where
-    is-here : lineOf t (i + 1) ≡ getD lines i (line (any 0))
-    is-here = let k : i + 1 - 1 ≡ i = omega arith in ap (λ (n : ℕ). getD lines n (line (any 0))) k
+    is-here : lineOf t (i + 1) ≡ getD lines i noLine
+    is-here = let k : i + 1 - 1 ≡ i = omega arith in ap (λ (n : ℕ). getD lines n noLine) k
 
-    row-here : row ≡ getD lines i (line (any 0)) .rowAt latest
+    row-here : row ≡ getD lines i noLine .rowAt latest
     row-here = er ∙ ap (λ l. l .rowAt latest) is-here
 
-    heard : encodedSaid e ≡ encode (getD lines i (line (any 0)) .rowAt latest) (suc i) (lent sheet (suc i))
+    heard : encodedSaid e ≡ encode (getD lines i noLine .rowAt latest) (suc i) (lent sheet (suc i))
     heard =
         let k : i ≡ suc i - 1 = omega arith in
         c .said

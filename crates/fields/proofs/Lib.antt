@@ -12,3 +12,4 @@ pub mod FloatLaws
 pub mod DecodeLaws
 pub mod EncodeLaws
 pub mod StoredLaws
+pub mod MarkLaws

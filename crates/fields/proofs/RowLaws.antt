@@ -13,8 +13,8 @@ use Rattle.fields.specs.declared.Row.{Row}
 use Rattle.fields.specs.declared.Template.{Template}
 use Rattle.fields.specs.declared.Template.the-variants.{Bridge}
 use Rattle.fields.specs.declared.Layout.{Layout}
-use Rattle.fields.specs.Rows.{any, optional, electrical}
-use Rattle.fields.specs.Lines.{Line, line, basic, template33, templateLines, linesOf, lastField, lineOf, rowOf, rowsOf}
+use Rattle.fields.specs.Rows.{optional, electrical}
+use Rattle.fields.specs.Lines.{Line, basic, template33, templateLines, linesOf, lastField, lineOf, rowOf, rowsOf, noLine}
 use Rattle.fields.specs.Calibration.{domain, pointCount, calPoint, calDeviation}
 use Rattle.fields.specs.Stored.{Sound, SoundRule, AllSound, RowsSound}
 use Rattle.fields.proofs.CodeLaws.{below-2^32}
@@ -91,7 +91,7 @@ sound-at (x ∷ xs) d latest all (suc i) h = sound-at xs d latest (all .1) i (le
 
 pub row-sound : (layout : Layout) (f : ℕ) → 1 ≤ f → f ≤ lastField (layout .template) → Sound (rowOf layout f)
 row-sound layout f low high =
-    sound-at (linesOf (layout .template)) (line (any 0)) (layout .precision) (all-lines (layout .template) (layout .precision)) (f - 1) (omega arith)
+    sound-at (linesOf (layout .template)) noLine (layout .precision) (all-lines (layout .template) (layout .precision)) (f - 1) (omega arith)
 
 -- ---- the calibration table
 

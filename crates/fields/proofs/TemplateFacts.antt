@@ -2,6 +2,7 @@
 use mathlib.Core.Path.{_≡_, refl}
 use Prim.Native.Nat.{ℕ, zero, suc, _+_, _^_, _≤_, _<_}
 use native.Mathlib.Omega.{arith}
+use Rattle.fields.specs.declared.Mark.the-variants.{Cal}
 use Rattle.fields.specs.declared.Template.{Template}
 use Rattle.fields.specs.declared.Template.the-variants.{Bridge}
 use Rattle.fields.specs.Rows.{physical, precision, electrical}
@@ -22,7 +23,7 @@ pub span-listed : (t : Template) {f : ℕ} → f ≤ 11 → f ≤ lastField t
 unfolding linesOf basic template33
 span-listed Bridge h = omega arith
 
-pub span-lines : (t : Template) → (lineOf t 7 ≡ line physical) × (lineOf t 8 ≡ line physical) × (lineOf t 9 ≡ choice precision) × (lineOf t 10 ≡ chosen electrical) × (lineOf t 11 ≡ chosen electrical)
+pub span-lines : (t : Template) → (lineOf t 7 ≡ line Cal physical) × (lineOf t 8 ≡ line Cal physical) × (lineOf t 9 ≡ choice Cal precision) × (lineOf t 10 ≡ chosen Cal electrical) × (lineOf t 11 ≡ chosen Cal electrical)
 unfolding linesOf basic template33
 span-lines Bridge = (refl, refl, refl, refl, refl)
 

@@ -1,6 +1,7 @@
 pub mod Rules
 pub mod Rows
 pub mod Lines
+pub mod Levels
 pub mod Calibration
 pub mod Stored
 pub mod Figure

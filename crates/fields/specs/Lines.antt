@@ -1,5 +1,6 @@
--- Document 01, "Layout": the order of the table of fields. Basic comes first, then the lines of the template that the first block names. How many
--- fields there are, which one sets the widths of others and what number it has all come from these lists.
+-- Document 01, "Layout": the order of the table of fields, with the marks of document 000's template lines (document 02, Note 6). Basic comes first,
+-- then the lines of the template that the first block names. How many fields there are, which one sets the widths of others, what number it has and
+-- how it is marked all come from these lists.
 use mathlib.Core.Bool.{Bool, true, false, cond}
 use mathlib.Core.List.{List, [], _∷_, _++_, map}
 use mathlib.Core.Option.{Option, none, some}
@@ -7,6 +8,8 @@ use Prim.Native.Nat.{ℕ, zero, suc, _+_, _-_}
 use lib.Dec.{eqb}
 use lib.ListN.{length, getD}
 use Rattle.fields.specs.declared.Row.{Row}
+use Rattle.fields.specs.declared.Mark.{Mark}
+use Rattle.fields.specs.declared.Mark.the-variants.{Id, Cal, Usr}
 use Rattle.fields.specs.declared.Template.{Template}
 use Rattle.fields.specs.declared.Template.the-variants.{Bridge}
 use Rattle.fields.specs.declared.Layout.{Layout}
@@ -33,19 +36,24 @@ use Rattle.fields.specs.Rows.{
 
 -- ---- a line
 
--- Whether the field's code sets the widths of later ones, and its row, which may go by the latest code that does.
+-- Document 000's mark, whether the field's code sets the widths of later ones, and its row, which may go by the latest code that does.
 pub record Line : Type 0 where
+  pub mark : Mark
   pub sets : Bool
   pub rowAt : ℕ → Row
 
-abbrev pub line : Row → Line
-line row = record { sets = false; rowAt = λ latest. row }
+abbrev pub line : Mark → Row → Line
+line mark row = record { mark = mark; sets = false; rowAt = λ latest. row }
 
-abbrev pub choice : Row → Line
-choice row = record { sets = true; rowAt = λ latest. row }
+abbrev pub choice : Mark → Row → Line
+choice mark row = record { mark = mark; sets = true; rowAt = λ latest. row }
 
-abbrev pub chosen : (ℕ → Row) → Line
-chosen rowAt = record { sets = false; rowAt = rowAt }
+abbrev pub chosen : Mark → (ℕ → Row) → Line
+chosen mark rowAt = record { mark = mark; sets = false; rowAt = rowAt }
+
+-- What is not there.
+abbrev pub noLine : Line
+noLine = line Id (any 0)
 
 -- The latest choice behind a field.
 abbrev pub chose : Bool → ℕ → ℕ → ℕ
@@ -56,14 +64,14 @@ chose false code latest = latest
 
 -- Basic: fields 1 to 5.
 unfoldable pub basic : List Line
-basic = map line (manufacturerId ∷ modelNumber ∷ versionLetter ∷ versionNumber ∷ serialNumber ∷ [])
+basic = map (line Id) (manufacturerId ∷ modelNumber ∷ versionLetter ∷ versionNumber ∷ serialNumber ∷ [])
 
 -- Template 33: fields 6 to 21.
 unfoldable pub template33 : List Line
 template33 =
-    line measurand ∷ line physical ∷ line physical ∷ choice precision ∷ chosen electrical ∷ chosen electrical ∷
-    line bridgeType ∷ line impedance ∷ line responseTime ∷ line excitation ∷ line excitation ∷ line excitation ∷
-    line calDate ∷ line calInitials ∷ line calPeriod ∷ line locationId ∷ []
+    line Id measurand ∷ line Cal physical ∷ line Cal physical ∷ choice Cal precision ∷ chosen Cal electrical ∷ chosen Cal electrical ∷
+    line Id bridgeType ∷ line Id impedance ∷ line Id responseTime ∷ line Id excitation ∷ line Id excitation ∷ line Id excitation ∷
+    line Cal calDate ∷ line Cal calInitials ∷ line Cal calPeriod ∷ line Usr locationId ∷ []
 
 abbrev pub templateLines : Template → List Line
 templateLines Bridge = template33
@@ -88,7 +96,7 @@ abbrev pub ending : Template → ℕ
 ending template = suc (lastField template)
 
 abbrev pub lineOf : Template → ℕ → Line
-lineOf template f = getD (linesOf template) (f - 1) (line (any 0))
+lineOf template f = getD (linesOf template) (f - 1) noLine
 
 -- The row of field f.
 abbrev pub rowOf : Layout → ℕ → Row

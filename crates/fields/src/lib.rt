@@ -9,6 +9,7 @@ mod decoding; // decoding.rt: what a code means
 mod encoding; // encoding.rt: the code that a value is stored at
 mod figure; // figure.rt: the physical figure
 mod judging; // judging.rt: whether a code may stand
+mod levels; // levels.rt: who may write a field
 mod limits; // limits.rt: the last codes of a field's bits
 mod rows; // rows.rt: the rows of the table of fields
 mod scales; // scales.rt: geometric codes
@@ -30,11 +31,13 @@ pub use encoding::encode_whole;
 pub use figure::float_fraction;
 pub use figure::physical_figure;
 pub use judging::judge;
+pub use levels::may_write;
 pub use scales::scale_value;
 pub use templates::basic_fields;
 pub use templates::bits_before;
 pub use templates::is_choice;
 pub use templates::last_field;
+pub use templates::mark_of;
 pub use templates::row_of;
 pub use templates::template_number;
 pub use templates::template_of;
@@ -68,6 +71,20 @@ pub struct Row {
     pub width: u64,
     pub rule: Rule,
     pub missing: bool,
+}
+
+// Document 000's marks: a field of the transducer's identity, of its calibration, or of its user.
+pub enum Mark {
+    Id,
+    Cal,
+    Usr,
+}
+
+// A writer's level, the least first.
+pub enum Level {
+    Owner,
+    CalibrationRoom,
+    Maker,
 }
 
 // The templates that the first block can name.

@@ -1,6 +1,7 @@
 // Document 01, "Layout": the order of the table of fields. Basic comes first, then the lines of the template that the first
 // block names. The numbers of fields and templates stand here and nowhere else.
 use crate::Layout;
+use crate::Mark;
 use crate::Row;
 use crate::Rule;
 use crate::Scale;
@@ -58,6 +59,36 @@ pub fn is_choice(template: Template, field: u64) -> bool
 {
     match template {
         Template::Bridge => field == 9,
+    }
+}
+
+// The marks of template 33.
+fn bridge_mark(field: u64) -> Mark
+    requires { ⌜ (1 ≤ field) × (field ≤ 21) ⌝ }
+    ensures { λ r. ⌜ r ≡ lineOf Template.Bridge field .mark ⌝ }
+{
+    if field < 7 {
+        return Mark::Id;
+    }
+    if field < 12 {
+        return Mark::Cal; // least physical to greatest electrical
+    }
+    if field < 18 {
+        return Mark::Id;
+    }
+    if field < 21 {
+        return Mark::Cal; // date, initials, period
+    }
+    Mark::Usr // location
+}
+
+// The mark of a field, counted from 1.
+pub fn mark_of(template: Template, field: u64) -> Mark
+    requires { ⌜ (1 ≤ field) × (field ≤ lastField template) ⌝ }
+    ensures { λ r. ⌜ r ≡ lineOf template field .mark ⌝ }
+{
+    match template {
+        Template::Bridge => bridge_mark(field),
     }
 }
 

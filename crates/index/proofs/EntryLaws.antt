@@ -8,8 +8,7 @@ use lib.ListN.{length, getD, length-append, length-map, List·getD-map}
 use lib.Seq.{ext-getD, getD-at}
 use borrow.Author.Tests.{lt-ltb, le-ltb}
 use Rattle.fields.specs.declared.Layout.{Layout}
-use Rattle.fields.specs.Rows.{any}
-use Rattle.fields.specs.Lines.{Line, line, basic, linesOf, lastField, rowOf, bitsBefore}
+use Rattle.fields.specs.Lines.{Line, line, basic, linesOf, lastField, rowOf, bitsBefore, noLine}
 use Rattle.fields.proofs.RowLaws.{row-sound}
 use Rattle.layout.specs.Format.{Stream}
 use Rattle.layout.specs.Contents.{FoundPair, Contents}
@@ -137,7 +136,7 @@ module _ {s : Stream} {c : Contents} (h : Holding s c) where
 -- ---- sorted by offset
 
 -- The bits of one line more.
-bits-next : (lines : List Line) (p i : ℕ) → i < length lines → bitsBefore lines p (suc i) ≡ bitsBefore lines p i + getD lines i (line (any 0)) .rowAt p .width
+bits-next : (lines : List Line) (p i : ℕ) → i < length lines → bitsBefore lines p (suc i) ≡ bitsBefore lines p i + getD lines i noLine .rowAt p .width
 bits-next [] p i h = absurd (omega arith)
 bits-next (l ∷ lines) p zero h = omega (arith, bits-front [] lines p 0 (omega arith))
 bits-next (l ∷ lines) p (suc i) h = omega (arith, bits-next lines p i (omega arith))

@@ -19,8 +19,8 @@ use Rattle.fields.specs.declared.Template.{Template}
 use Rattle.fields.specs.declared.Template.the-variants.{Bridge}
 use Rattle.fields.specs.declared.Layout.{Layout}
 use Rattle.fields.specs.Rules.{decode}
-use Rattle.fields.specs.Rows.{any, electrical}
-use Rattle.fields.specs.Lines.{Line, line, chosen, basic, template33, templateLines, linesOf, lastField, lineOf, rowOf}
+use Rattle.fields.specs.Rows.{electrical}
+use Rattle.fields.specs.Lines.{Line, chosen, basic, template33, templateLines, linesOf, lastField, lineOf, rowOf, noLine}
 use Rattle.fields.proofs.RowLaws.{bridge}
 use Rattle.layout.specs.Contents.{Contents}
 use Rattle.layout.specs.Image.{streamIn, contents, field, layoutOf}
@@ -97,7 +97,7 @@ told-lines : (t : Template) → Tolds (linesOf t)
 unfolding Tolds linesOf basic
 told-lines t = (one _ _, (one _ _, (one _ _, (one _ _, (one _ _, told-template t)))))
 
-told-at : (lines : List Line) → Tolds lines → (i : ℕ) → Told (getD lines i (line (any 0)))
+told-at : (lines : List Line) → Tolds lines → (i : ℕ) → Told (getD lines i noLine)
 unfolding Tolds
 told-at [] h i = one _ _
 told-at (l ∷ lines) h zero = h .0

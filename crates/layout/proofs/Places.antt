@@ -12,8 +12,7 @@ use borrow.Author.Tests.{lt-ltb, le-ltb}
 use Rattle.memory.specs.Pieces.{needed}
 use Rattle.fields.specs.declared.Row.{Row}
 use Rattle.fields.specs.declared.Template.{Template}
-use Rattle.fields.specs.Rows.{any}
-use Rattle.fields.specs.Lines.{Line, line, basic, templateLines, linesOf, lastField, lineOf, rowOf, rowsOf, bitsBefore}
+use Rattle.fields.specs.Lines.{Line, basic, templateLines, linesOf, lastField, lineOf, rowOf, rowsOf, bitsBefore, noLine}
 use Rattle.layout.specs.Contents.{Found, Contents}
 use Rattle.layout.specs.Image.{nothing, field, lastChoice, layoutOf}
 use Rattle.layout.specs.Places.{blockBits, fieldPlace, behindFields}
@@ -45,7 +44,7 @@ module _ {S : ℕ} {c : Contents} (h : Formed S c) where
   t = c .template
 
   abbrev none : Line
-  none = line (any 0)
+  none = noLine
 
   basics-count : length (h .basics) ≡ length basic
   basics-count = laid-length basic 0 0 (h .basics) (h .basicsLaid)

@@ -12,8 +12,7 @@ use Rattle.memory.specs.Bits.{fieldAt, putAt}
 use Rattle.memory.proofs.PieceLaws.{Fit, Holds, needed-append, holds-piece, holds-put}
 use Rattle.fields.specs.declared.Value.{Value}
 use Rattle.fields.specs.Rules.{decode}
-use Rattle.fields.specs.Rows.{any}
-use Rattle.fields.specs.Lines.{Line, line, basic, templateLines, numberOf, linesOf}
+use Rattle.fields.specs.Lines.{Line, basic, templateLines, numberOf, linesOf, noLine}
 use Rattle.layout.specs.Format.{Stream}
 use Rattle.layout.specs.Contents.{Found, Contents}
 use Rattle.layout.specs.Image.{nothing, field}
@@ -46,7 +45,7 @@ withField c i x = withFields c (set (c .fields) i x)
 
 -- Its line.
 abbrev pub lineAt : Contents → ℕ → Line
-lineAt c i = getD (linesOf (c .template)) i (line (any 0))
+lineAt c i = getD (linesOf (c .template)) i noLine
 
 -- Other fields of the same widths.
 reformed : {S : ℕ} {c : Contents} (h : Formed S c) (bs os xs : List Found) → xs ≡ bs ++ os → Laid basic 0 0 bs → Laid (templateLines (c .template)) 0 (h .ownAt) os →

@@ -18,8 +18,7 @@ use Rattle.fields.specs.declared.Template.{Template}
 use Rattle.fields.specs.declared.TemplateAnswer.{TemplateAnswer}
 use Rattle.fields.specs.declared.TemplateAnswer.the-variants.{Is, Unknown}
 use Rattle.fields.specs.Answers.{templateSaid}
-use Rattle.fields.specs.Rows.{any}
-use Rattle.fields.specs.Lines.{Line, line, chose, basic, templateLines, templateOf, linesOf, lastField, lineOf}
+use Rattle.fields.specs.Lines.{Line, line, chose, basic, templateLines, templateOf, linesOf, lastField, lineOf, noLine}
 use Rattle.layout.specs.Format.{Format, ends, _>>=_, bits, refuse_if_, Stream, Parsed, parse}
 use Rattle.layout.specs.Contents.{Found, fieldOf, fieldsOf, selectorOf, named, firstBlock}
 use Rattle.layout.proofs.Formats.{parsed, parse-next, parse-refused}
@@ -74,7 +73,7 @@ module _ (s : Stream) (template : Template) (f last latest at : ℕ) (lo : 1 ≤
   first-line =
       let n : suc last - f ≡ suc (suc last - (f + 1)) = omega arith in
       let i : suc (f - 1) ≡ f + 1 - 1 = omega arith in
-      ap₂ (λ (k : ℕ) (ls : List Line). take k ls) n (drop-cons (linesOf template) (f - 1) (line (any 0)) (omega arith))
+      ap₂ (λ (k : ℕ) (ls : List Line). take k ls) n (drop-cons (linesOf template) (f - 1) noLine (omega arith))
       ∙ ap (λ (k : ℕ). here ∷ take (suc last - (f + 1)) (drop k (linesOf template))) i
 
   abbrev others : Found → Format (List Found)

@@ -1,0 +1,19 @@
+-- `templates::bridge_mark` meets its contract: each run of fields has its mark.
+use native.Mathlib.Omega.{arith}
+use Rattle.fields.specs.declared.Mark.the-variants.{Id, Cal, Usr}
+use Rattle.fields.specs.declared.Template.the-variants.{Bridge}
+use Rattle.fields.specs.Lines.{basic, template33, linesOf}
+use Rattle.fields.proofs.MarkLaws.{mark-in}
+use Rattle.fields.proofs.templates.bridge_mark.Statement.{statement}
+use Rattle.fields.proofs.templates.bridge_mark.Tie as tie
+
+pub bridge-mark-spec : {M : Type 1} → statement M
+unfolding basic template33 linesOf
+bridge-mark-spec =
+    tie.close
+    (tie.spec
+    (λ c. mark-in Bridge Id 1 5 tt (c .before .args .field) (omega arith) (omega arith))
+    (λ c. mark-in Bridge Cal 7 4 tt (c .before .before .args .field) (omega arith) (omega arith))
+    (λ c. mark-in Bridge Id 12 5 tt (c .before .before .before .args .field) (omega arith) (omega arith))
+    (λ c. mark-in Bridge Cal 18 2 tt (c .before .before .before .before .args .field) (omega arith) (omega arith))
+    (λ c. mark-in Bridge Usr 21 0 tt (c .before .before .before .before .args .field) (omega arith) (omega arith)))
