@@ -80,3 +80,7 @@ shortIndex bytes = returned 18 bytes
 -- 19 (Note 5): commit: the present code is no longer there.
 abbrev pub otherCode : ℕ → Refusal
 otherCode field = returned 19 field
+
+-- 20 (Note 6): the writer's level may not write the field.
+abbrev pub levelTooLow : ℕ → Refusal
+levelTooLow field = returned 20 field

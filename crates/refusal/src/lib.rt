@@ -5,6 +5,7 @@ mod rows;
 
 pub use rows::blank_chip;
 pub use rows::changed_alone;
+pub use rows::level_too_low;
 pub use rows::no_span;
 pub use rows::no_such;
 pub use rows::not_finite;
@@ -73,3 +74,5 @@ pub const BLANK_CHIP: u8 = 17;
 pub const SHORT_INDEX: u8 = 18;
 
 pub const OTHER_CODE: u8 = 19;
+
+pub const LEVEL_TOO_LOW: u8 = 20;
