@@ -18,7 +18,8 @@ returns-2 c =
 returns-3 : tie.Need-returns-3
 returns-3 c =
     let a = c .before .before .before .before .before .before .args in
-    ap refused (c .changed-alone .ensures) ∙ allowed-choice (a .template) (a .level) (a .field) (sym (c .before .before .is-choice .ensures) ∙ c .before .if3 .taken) (search needs) (search needs)
+    let choice = sym (c .before .before .is-choice .ensures) ∙ c .before .if3 .taken in
+    cc (allowed-choice (a .template) (a .level) (a .field) choice (search needs) (search needs))
 
 returns-4 : tie.Need-returns-4
 returns-4 c =
