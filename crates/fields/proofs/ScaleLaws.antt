@@ -11,16 +11,12 @@ use lib.ListN.{length, getD}
 use mir.Facts.{and-yes}
 use Rattle.integers.proofs.NearestLaws.{nearest-natural}
 use Rattle.fields.specs.declared.Scale.{Scale}
-use Rattle.fields.specs.declared.Scale.the-variants.{ResponseTime}
+use Rattle.fields.specs.declared.Scale.the-variants.{ResponseTime, Current}
 use Rattle.fields.specs.Rules.{Progression, progression, scaleWidth, topCode, geometricValue, storedAt}
 use Rattle.fields.specs.Stored.{Rising, ValuesRise}
 use Rattle.fields.specs.Tables.{listed, RisingList}
 use Rattle.fields.proofs.Table.{each, at}
 use Rattle.fields.proofs.StoringLaws.{stored-same}
-
--- There is one scale.
-pub response : (scale : Scale) → scale ≡ ResponseTime
-response ResponseTime = refl
 
 -- The value of a code, as naturals are divided.
 abbrev size : Progression → ℕ → ℕ
@@ -45,6 +41,7 @@ rising g n t =
 
 pub values-rise : ValuesRise
 values-rise ResponseTime = rising (progression ResponseTime) _ tt
+values-rise Current = rising (progression Current) _ tt
 
 -- ---- a list of a scale's values
 

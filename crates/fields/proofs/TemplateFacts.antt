@@ -4,38 +4,44 @@ use Prim.Native.Nat.{ℕ, zero, suc, _+_, _^_, _≤_, _<_}
 use native.Mathlib.Omega.{arith}
 use Rattle.fields.specs.declared.Mark.the-variants.{Cal}
 use Rattle.fields.specs.declared.Template.{Template}
-use Rattle.fields.specs.declared.Template.the-variants.{Bridge}
-use Rattle.fields.specs.Rows.{physical, precision, electrical}
-use Rattle.fields.specs.Lines.{line, choice, chosen, basic, template33, linesOf, lastField, lineOf, bitsBefore}
+use Rattle.fields.specs.declared.Template.the-variants.{Bridge, Resistance}
+use Rattle.fields.specs.Rows.{physical, bridgePrecision, bridgeEnd}
+use Rattle.fields.specs.Lines.{line, choice, chosen, basic, template33, template32, linesOf, lastField, lineOf, bitsBefore}
 
 -- The sheet record has room for the fields of each.
 pub last-most : (t : Template) → lastField t ≤ 21
-unfolding linesOf basic template33
+unfolding linesOf basic template33 template32
 last-most Bridge = omega arith
+last-most Resistance = omega arith
 
--- So far each fills it.
-pub last-full : (t : Template) → lastField t ≡ 21
-unfolding linesOf basic template33
-last-full Bridge = refl
-
--- The ends of the span are fields of each, and their lines are the same.
+-- Each has the ends of the span.
 pub span-listed : (t : Template) {f : ℕ} → f ≤ 11 → f ≤ lastField t
-unfolding linesOf basic template33
+unfolding linesOf basic template33 template32
 span-listed Bridge h = omega arith
+span-listed Resistance h = omega arith
 
-pub span-lines : (t : Template) → (lineOf t 7 ≡ line Cal physical) × (lineOf t 8 ≡ line Cal physical) × (lineOf t 9 ≡ choice Cal precision) × (lineOf t 10 ≡ chosen Cal electrical) × (lineOf t 11 ≡ chosen Cal electrical)
+-- The lines of template 33's.
+pub span-lines : (lineOf Bridge 7 ≡ line Cal physical) × (lineOf Bridge 8 ≡ line Cal physical) × (lineOf Bridge 9 ≡ choice Cal bridgePrecision) × (lineOf Bridge 10 ≡ chosen Cal bridgeEnd) × (lineOf Bridge 11 ≡ chosen Cal bridgeEnd)
 unfolding linesOf basic template33
-span-lines Bridge = (refl, refl, refl, refl, refl)
+span-lines = (refl, refl, refl, refl, refl)
 
 -- The bits of all fields.
 pub bits-few : (t : Template) (p : ℕ) → bitsBefore (linesOf t) p (lastField t) < 2 ^ 16
-unfolding linesOf basic template33
+unfolding linesOf basic template33 template32
 bits-few Bridge zero = omega arith
 bits-few Bridge (suc zero) = omega arith
 bits-few Bridge (suc (suc p)) = omega arith
+bits-few Resistance zero = omega arith
+bits-few Resistance (suc zero) = omega arith
+bits-few Resistance (suc (suc zero)) = omega arith
+bits-few Resistance (suc (suc (suc p))) = omega arith
 
-pub bits-least : (t : Template) (p : ℕ) → 265 ≤ bitsBefore (linesOf t) p (lastField t)
-unfolding linesOf basic template33
+pub bits-least : (t : Template) (p : ℕ) → 228 ≤ bitsBefore (linesOf t) p (lastField t)
+unfolding linesOf basic template33 template32
 bits-least Bridge zero = omega arith
 bits-least Bridge (suc zero) = omega arith
 bits-least Bridge (suc (suc p)) = omega arith
+bits-least Resistance zero = omega arith
+bits-least Resistance (suc zero) = omega arith
+bits-least Resistance (suc (suc zero)) = omega arith
+bits-least Resistance (suc (suc (suc p))) = omega arith
