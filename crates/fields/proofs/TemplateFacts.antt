@@ -1,12 +1,33 @@
 -- What holds of every template, worked out from its lines. The crates above cite these, and look at no template's lines themselves.
 use mathlib.Core.Path.{_≡_, refl}
-use Prim.Native.Nat.{ℕ, zero, suc, _+_, _^_, _≤_, _<_}
+use mathlib.Core.Bool.{Bool, true, false, cond}
+use mathlib.Core.Option.{none, some}
+use Prim.Native.Nat.{ℕ, zero, suc, _^_, _≤_, _<_}
 use native.Mathlib.Omega.{arith}
+use borrow.Author.Tests.{eqb-true}
+use lib.Dec.{eqb}
 use Rattle.fields.specs.declared.Mark.the-variants.{Cal}
 use Rattle.fields.specs.declared.Template.{Template}
 use Rattle.fields.specs.declared.Template.the-variants.{Bridge, Resistance}
 use Rattle.fields.specs.Rows.{physical, bridgePrecision, bridgeEnd}
-use Rattle.fields.specs.Lines.{line, choice, chosen, basic, template33, template32, linesOf, lastField, lineOf, bitsBefore}
+use Rattle.fields.specs.Lines.{line, choice, chosen, basic, template33, template32, numberOf, templateOf, linesOf, lastField, lineOf, bitsBefore}
+
+-- Their numbers: of eight bits, and each of one template.
+pub number-lt : (t : Template) → numberOf t < 2 ^ 8
+number-lt Bridge = omega arith
+number-lt Resistance = omega arith
+
+pub number-known : (t : Template) → templateOf (numberOf t) ≡ some t
+number-known Bridge = refl
+number-known Resistance = refl
+
+pub known-number : (n : ℕ) (t : Template) → templateOf n ≡ some t → n ≡ numberOf t
+known-number n t e = go (eqb n 33) (eqb n 32) refl refl e
+  where
+    go : (a b : Bool) → eqb n 33 ≡ a → eqb n 32 ≡ b → cond a (some Bridge) (cond b (some Resistance) none) ≡ some t → n ≡ numberOf t
+    go true b p q e = let same : Bridge ≡ t = cc in rw (← same) (eqb-true n 33 p)
+    go false true p q e = let same : Resistance ≡ t = cc in rw (← same) (eqb-true n 32 q)
+    go false false p q e = absurd (let z : _≡_ {A = ℕ} 0 1 = cc in omega arith)
 
 -- The sheet record has room for the fields of each.
 pub last-most : (t : Template) → lastField t ≤ 21

@@ -1,7 +1,6 @@
 -- `templates::bits_before` meets its contract: of each template the bits of the electrical values are added to the others.
 use mathlib.Core.Path.{_≡_}
 use Prim.Native.Nat.{ℕ, _+_, _*_}
-use native.Mathlib.Omega.{arith}
 use borrow.Author.Needs.{needs}
 use Rattle.fields.specs.declared.Row.{Row}
 use Rattle.fields.specs.Lines.{basic, template33, template32, linesOf}

@@ -1,5 +1,4 @@
 use borrow.Author.Needs.{needs}
-use Rattle.fields.specs.declared.Template.the-variants.{Bridge, Resistance}
 use Rattle.fields.proofs.RowLaws.{sets-at}
 use Rattle.fields.proofs.templates.is_choice.Statement.{statement}
 use Rattle.fields.proofs.templates.is_choice.Tie as tie

@@ -1,4 +1,3 @@
-use native.Mathlib.Omega.{arith}
 use borrow.Author.Needs.{needs}
 use Rattle.fields.specs.Lines.{basic, template33, template32, linesOf}
 use Rattle.fields.proofs.templates.mark_of.Statement.{statement}
