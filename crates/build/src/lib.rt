@@ -5,6 +5,7 @@ mod plan; // plan.rt: what a build tests before it writes
 mod write; // write.rt: what a build writes
 
 pub use building::build;
+use fields::Template;
 use fields::Value;
 
 // A field's value in the sheet record: a struct's array holds no enum, but it holds structs that do.
@@ -12,9 +13,10 @@ pub struct Slot {
     pub value: Value,
 }
 
-// The sheet record: the values of the fields, with room for as many as any template has, and the end bit. The text of the
-// ending is lent beside it.
+// The sheet record: the template of the first block, the values of its fields, with room for as many as any template has, and
+// the end bit. Slots behind the template's last field are not looked at. The text of the ending is lent beside it.
 pub struct Sheet {
+    pub template: Template,
     pub fields: [Slot; 21],
     pub end_bit: bool,
 }
