@@ -21,7 +21,6 @@ use Rattle.memory.specs.Pieces.{Piece, pack, needed}
 use Rattle.memory.proofs.PieceLaws.{needed-append}
 use Rattle.fields.specs.declared.Judged.the-variants.{Stands, Refused}
 use Rattle.fields.specs.declared.Template.{Template}
-use Rattle.fields.specs.declared.Template.the-variants.{Bridge}
 use Rattle.fields.specs.Lines.{basic, numberOf, lastField, ending}
 use Rattle.fields.specs.Answers.{judgedSaid}
 use Rattle.layout.specs.Pieces.{blockPieces, endCode}
@@ -80,9 +79,6 @@ module _ (template : Template) (fields : List CodedField) (endBit : Bool) (text 
     fits h = rw (le-ltb (streamBits z) (needed pieces) (inside h))
 
 -- ---- the pieces in order
-
-pub number-lt : (template : Template) → numberOf template < 256
-number-lt Bridge = omega arith
 
 module _ (z : Sizes) (template : Template) (fields : List CodedField) (endBit : Bool) (text : List ℕ) (points : List ℤ) where
   abbrev inOrder : List Piece

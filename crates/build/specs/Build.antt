@@ -1,5 +1,5 @@
--- Document 01: build an image. Order: 1, 16, the fields each 9 then 10, the ending 9 then 10, points each 10 for point, 10 for deviation, then 7; last
--- 11. What is to be written is a list of pieces, widths and codes one after the other.
+-- Document 01, and document 02, Note 7: build an image. Order: 1, 16, the fields each 9 then 10, the ending 9 then 10, points each 10 for point, 10
+-- for deviation, then 7; last 11. What is to be written is a list of pieces, widths and codes one after the other.
 use mathlib.Core.Bool.{Bool, false, not, _||_, _&&_}
 use mathlib.Core.List.{List, [], _∷_, _++_, map}
 use mathlib.Core.Option.{Option, none, some}
@@ -15,7 +15,6 @@ use Rattle.memory.specs.Pieces.{Piece, piece, pack, needed}
 use Rattle.fields.specs.declared.Value.{Value}
 use Rattle.fields.specs.declared.Value.the-variants.{Whole, Missing}
 use Rattle.fields.specs.declared.Template.{Template}
-use Rattle.fields.specs.declared.Template.the-variants.{Bridge}
 use Rattle.fields.specs.declared.Pair.{Pair}
 use Rattle.fields.specs.declared.Codes.{Codes}
 use Rattle.fields.specs.Rules.{encode}
@@ -36,7 +35,7 @@ lent sheet f = getD (sheet .fields) (f - 1) (slot Missing) .value
 
 -- The template of the first block.
 abbrev pub templateIn : Sheet → Template
-templateIn sheet = Bridge
+templateIn sheet = sheet .template
 
 -- Lines from field f on, with the latest choice.
 unfoldable pub linePieces : Sheet → List Line → ℕ → ℕ → Outcome (List Piece)

@@ -6,6 +6,7 @@ mod write; // write.rt: what a build writes
 
 pub use building::build;
 use fields::Level;
+use fields::Template;
 use fields::Value;
 
 // A field's value in the sheet record: a struct's array holds no enum, but it holds structs that do.
@@ -13,9 +14,11 @@ pub struct Slot {
     pub value: Value,
 }
 
-// The sheet record: the values of the fields, with room for as many as any template has, the end bit, and the writer's level,
-// which a build neither tests nor stores. The text of the ending is lent beside it.
+// The sheet record: the template of the first block, the values of its fields, with room for as many as any template has, the
+// end bit, and the writer's level, which a build neither tests nor stores. Slots behind the template's last field are not looked
+// at. The text of the ending is lent beside it.
 pub struct Sheet {
+    pub template: Template,
     pub fields: [Slot; 21],
     pub end_bit: bool,
     pub level: Level,

@@ -44,7 +44,7 @@ pub enum PairAnswer {
 pub fn template_in(sheet: Sheet) -> Template
     ensures { λ r. ⌜ r ≡ templateIn sheet ⌝ }
 {
-    Template::Bridge
+    sheet.template
 }
 
 // The code of a field's value, which fits its row's bits: a Single that is lent has 32.

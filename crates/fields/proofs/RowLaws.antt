@@ -11,10 +11,10 @@ use Rattle.fields.specs.declared.Rule.{Rule}
 use Rattle.fields.specs.declared.Rule.the-variants.{Plain, Single as Ieee}
 use Rattle.fields.specs.declared.Row.{Row}
 use Rattle.fields.specs.declared.Template.{Template}
-use Rattle.fields.specs.declared.Template.the-variants.{Bridge}
+use Rattle.fields.specs.declared.Template.the-variants.{Bridge, Resistance}
 use Rattle.fields.specs.declared.Layout.{Layout}
-use Rattle.fields.specs.Rows.{optional, electrical}
-use Rattle.fields.specs.Lines.{Line, basic, template33, templateLines, linesOf, lastField, lineOf, rowOf, rowsOf, noLine}
+use Rattle.fields.specs.Rows.{optional, bridgeEnd, resistanceEnd}
+use Rattle.fields.specs.Lines.{Line, basic, template33, template32, templateLines, linesOf, lastField, lineOf, rowOf, rowsOf, noLine}
 use Rattle.fields.specs.Calibration.{domain, pointCount, calPoint, calDeviation}
 use Rattle.fields.specs.Stored.{Sound, SoundRule, AllSound, RowsSound}
 use Rattle.fields.proofs.CodeLaws.{below-2^32}
@@ -29,26 +29,29 @@ pub past : (first n : ℕ) {f : ℕ} → first ≤ f → None first n f → firs
 past first zero h none = omega arith
 past first (suc n) h none = omega (arith, past first n h (none .0), none .1)
 
--- There is one template.
-pub bridge : (template : Template) → template ≡ Bridge
-bridge Bridge = refl
-
 -- The one field whose code sets widths.
-pub sets-at : (f : ℕ) → f ≤ 21 → eqb f 9 ≡ lineOf Bridge f .sets
-unfolding basic template33 linesOf
-sets-at f h = agree (eqb f 9) (lineOf Bridge f .sets) (at (λ f. Bool·beq (eqb f 9) (lineOf Bridge f .sets)) 21 f tt h)
-  where
-    agree : (a b : Bool) → T (Bool·beq a b) → a ≡ b
-    agree true true t = refl
-    agree false false t = refl
-    agree true false t = absurd t
-    agree false true t = absurd t
+agree : (a b : Bool) → T (Bool·beq a b) → a ≡ b
+agree true true t = refl
+agree false false t = refl
+agree true false t = absurd t
+agree false true t = absurd t
 
--- A precision that is neither 0 nor 1 has the row of 2.
-pub single-row : (p : ℕ) → (p ≡ 0 → ⊥) → (p ≡ 1 → ⊥) → optional 32 Ieee ≡ electrical p
-single-row zero a b = absurd (a refl)
-single-row (suc zero) a b = absurd (b refl)
-single-row (suc (suc p)) a b = refl
+pub sets-at : (t : Template) (f : ℕ) → f ≤ lastField t → eqb f 9 ≡ lineOf t f .sets
+unfolding basic template33 template32 linesOf
+sets-at Bridge f h = agree _ _ (at (λ f. Bool·beq (eqb f 9) (lineOf Bridge f .sets)) 21 f tt h)
+sets-at Resistance f h = agree _ _ (at (λ f. Bool·beq (eqb f 9) (lineOf Resistance f .sets)) 19 f tt h)
+
+-- The precisions past the last that a row names have its row.
+pub bridge-single : (p : ℕ) → None 0 2 p → optional 32 Ieee ≡ bridgeEnd p
+bridge-single zero none = absurd (none .0 .1 refl)
+bridge-single (suc zero) none = absurd (none .1 refl)
+bridge-single (suc (suc p)) none = refl
+
+pub resistance-single : (p : ℕ) → None 0 3 p → optional 32 Ieee ≡ resistanceEnd p
+resistance-single zero none = absurd (none .0 .0 .1 refl)
+resistance-single (suc zero) none = absurd (none .0 .1 refl)
+resistance-single (suc (suc zero)) none = absurd (none .1 refl)
+resistance-single (suc (suc (suc p))) none = refl
 
 -- What a sound row is under the rule that it has.
 pub sound-rule : {row : Row} {rule : Rule} → Sound row → row .rule ≡ rule → SoundRule rule row
@@ -65,15 +68,24 @@ pub basic-sound : (latest : ℕ) → AllSound (rowsOf basic latest)
 unfolding basic
 basic-sound latest = omega arith
 
-pub electrical-sound : (p : ℕ) → Sound (electrical p)
-electrical-sound zero = omega arith
-electrical-sound (suc zero) = omega arith
-electrical-sound (suc (suc p)) = omega arith
+pub bridge-sound : (p : ℕ) → Sound (bridgeEnd p)
+bridge-sound zero = omega arith
+bridge-sound (suc zero) = omega arith
+bridge-sound (suc (suc p)) = omega arith
+
+pub resistance-sound : (p : ℕ) → Sound (resistanceEnd p)
+resistance-sound zero = omega arith
+resistance-sound (suc zero) = omega arith
+resistance-sound (suc (suc zero)) = omega arith
+resistance-sound (suc (suc (suc p))) = omega arith
 
 pub lines-sound : (template : Template) (latest : ℕ) → AllSound (rowsOf (templateLines template) latest)
-unfolding template33
+unfolding template33 template32
 lines-sound Bridge latest =
-    let ends = electrical-sound latest in
+    let ends = bridge-sound latest in
+    (omega arith, (omega arith, (omega arith, (omega arith, (ends, (ends, (omega arith, (omega arith, omega arith))))))))
+lines-sound Resistance latest =
+    let ends = resistance-sound latest in
     (omega arith, (omega arith, (omega arith, (omega arith, (ends, (ends, (omega arith, (omega arith, omega arith))))))))
 
 joined : (xs ys : List Line) (latest : ℕ) → AllSound (rowsOf xs latest) → AllSound (rowsOf ys latest) → AllSound (rowsOf (xs ++ ys) latest)

@@ -1,5 +1,5 @@
 -- The values of the scales, and the tables that code holds. What goes entry by entry is a test that antt computes, where code lends the table.
-use mathlib.Core.Path.{_≡_, refl, ap}
+use mathlib.Core.Path.{_≡_, ap}
 use mathlib.Core.Bool.{Bool, _&&_}
 use mathlib.Core.List.{List}
 use Prim.Native.Nat.{ℕ, suc, _+_, _*_, _-_, _/_, _^_, _≤_}
@@ -11,16 +11,12 @@ use lib.ListN.{length, getD}
 use mir.Facts.{and-yes}
 use Rattle.integers.proofs.NearestLaws.{nearest-natural}
 use Rattle.fields.specs.declared.Scale.{Scale}
-use Rattle.fields.specs.declared.Scale.the-variants.{ResponseTime}
+use Rattle.fields.specs.declared.Scale.the-variants.{ResponseTime, Current}
 use Rattle.fields.specs.Rules.{Progression, progression, scaleWidth, topCode, geometricValue, storedAt}
 use Rattle.fields.specs.Stored.{Rising, ValuesRise}
 use Rattle.fields.specs.Tables.{listed, RisingList}
 use Rattle.fields.proofs.Table.{each, at}
 use Rattle.fields.proofs.StoringLaws.{stored-same}
-
--- There is one scale.
-pub response : (scale : Scale) → scale ≡ ResponseTime
-response ResponseTime = refl
 
 -- The value of a code, as naturals are divided.
 abbrev size : Progression → ℕ → ℕ
@@ -45,6 +41,7 @@ rising g n t =
 
 pub values-rise : ValuesRise
 values-rise ResponseTime = rising (progression ResponseTime) _ tt
+values-rise Current = rising (progression Current) _ tt
 
 -- ---- a list of a scale's values
 

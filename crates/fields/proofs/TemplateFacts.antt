@@ -1,41 +1,68 @@
 -- What holds of every template, worked out from its lines. The crates above cite these, and look at no template's lines themselves.
 use mathlib.Core.Path.{_≡_, refl}
-use Prim.Native.Nat.{ℕ, zero, suc, _+_, _^_, _≤_, _<_}
+use mathlib.Core.Bool.{Bool, true, false, cond}
+use mathlib.Core.Option.{none, some}
+use Prim.Native.Nat.{ℕ, zero, suc, _^_, _≤_, _<_}
 use native.Mathlib.Omega.{arith}
+use borrow.Author.Tests.{eqb-true}
+use lib.Dec.{eqb}
 use Rattle.fields.specs.declared.Mark.the-variants.{Cal}
 use Rattle.fields.specs.declared.Template.{Template}
-use Rattle.fields.specs.declared.Template.the-variants.{Bridge}
-use Rattle.fields.specs.Rows.{physical, precision, electrical}
-use Rattle.fields.specs.Lines.{line, choice, chosen, basic, template33, linesOf, lastField, lineOf, bitsBefore}
+use Rattle.fields.specs.declared.Template.the-variants.{Bridge, Resistance}
+use Rattle.fields.specs.Rows.{physical, bridgePrecision, bridgeEnd}
+use Rattle.fields.specs.Lines.{line, choice, chosen, basic, template33, template32, numberOf, templateOf, linesOf, lastField, lineOf, bitsBefore}
+
+-- Their numbers: of eight bits, and each of one template.
+pub number-lt : (t : Template) → numberOf t < 2 ^ 8
+number-lt Bridge = omega arith
+number-lt Resistance = omega arith
+
+pub number-known : (t : Template) → templateOf (numberOf t) ≡ some t
+number-known Bridge = refl
+number-known Resistance = refl
+
+pub known-number : (n : ℕ) (t : Template) → templateOf n ≡ some t → n ≡ numberOf t
+known-number n t e = go (eqb n 33) (eqb n 32) refl refl e
+  where
+    go : (a b : Bool) → eqb n 33 ≡ a → eqb n 32 ≡ b → cond a (some Bridge) (cond b (some Resistance) none) ≡ some t → n ≡ numberOf t
+    go true b p q e = let same : Bridge ≡ t = cc in rw (← same) (eqb-true n 33 p)
+    go false true p q e = let same : Resistance ≡ t = cc in rw (← same) (eqb-true n 32 q)
+    go false false p q e = absurd (let z : _≡_ {A = ℕ} 0 1 = cc in omega arith)
 
 -- The sheet record has room for the fields of each.
 pub last-most : (t : Template) → lastField t ≤ 21
-unfolding linesOf basic template33
+unfolding linesOf basic template33 template32
 last-most Bridge = omega arith
+last-most Resistance = omega arith
 
--- So far each fills it.
-pub last-full : (t : Template) → lastField t ≡ 21
-unfolding linesOf basic template33
-last-full Bridge = refl
-
--- The ends of the span are fields of each, and their lines are the same.
+-- Each has the ends of the span.
 pub span-listed : (t : Template) {f : ℕ} → f ≤ 11 → f ≤ lastField t
-unfolding linesOf basic template33
+unfolding linesOf basic template33 template32
 span-listed Bridge h = omega arith
+span-listed Resistance h = omega arith
 
-pub span-lines : (t : Template) → (lineOf t 7 ≡ line Cal physical) × (lineOf t 8 ≡ line Cal physical) × (lineOf t 9 ≡ choice Cal precision) × (lineOf t 10 ≡ chosen Cal electrical) × (lineOf t 11 ≡ chosen Cal electrical)
+-- The lines of template 33's.
+pub span-lines : (lineOf Bridge 7 ≡ line Cal physical) × (lineOf Bridge 8 ≡ line Cal physical) × (lineOf Bridge 9 ≡ choice Cal bridgePrecision) × (lineOf Bridge 10 ≡ chosen Cal bridgeEnd) × (lineOf Bridge 11 ≡ chosen Cal bridgeEnd)
 unfolding linesOf basic template33
-span-lines Bridge = (refl, refl, refl, refl, refl)
+span-lines = (refl, refl, refl, refl, refl)
 
 -- The bits of all fields.
 pub bits-few : (t : Template) (p : ℕ) → bitsBefore (linesOf t) p (lastField t) < 2 ^ 16
-unfolding linesOf basic template33
+unfolding linesOf basic template33 template32
 bits-few Bridge zero = omega arith
 bits-few Bridge (suc zero) = omega arith
 bits-few Bridge (suc (suc p)) = omega arith
+bits-few Resistance zero = omega arith
+bits-few Resistance (suc zero) = omega arith
+bits-few Resistance (suc (suc zero)) = omega arith
+bits-few Resistance (suc (suc (suc p))) = omega arith
 
-pub bits-least : (t : Template) (p : ℕ) → 265 ≤ bitsBefore (linesOf t) p (lastField t)
-unfolding linesOf basic template33
+pub bits-least : (t : Template) (p : ℕ) → 228 ≤ bitsBefore (linesOf t) p (lastField t)
+unfolding linesOf basic template33 template32
 bits-least Bridge zero = omega arith
 bits-least Bridge (suc zero) = omega arith
 bits-least Bridge (suc (suc p)) = omega arith
+bits-least Resistance zero = omega arith
+bits-least Resistance (suc zero) = omega arith
+bits-least Resistance (suc (suc zero)) = omega arith
+bits-least Resistance (suc (suc (suc p))) = omega arith

@@ -1,5 +1,5 @@
--- Document 01, "Layout": the order of the table of fields, with the marks of document 000's template lines (document 02, Note 6). Basic comes first,
--- then the lines of the template that the first block names. How many fields there are, which one sets the widths of others, what number it has and
+-- Document 01, "Layout", and document 02, Note 7: the order of the table of fields, with the marks of document 000's template lines (document 02,
+-- Note 6). Basic comes first, then the lines of the template that the first block names. How many fields there are, which one sets the widths of others, what number it has and
 -- how it is marked all come from these lists.
 use mathlib.Core.Bool.{Bool, true, false, cond}
 use mathlib.Core.List.{List, [], _∷_, _++_, map}
@@ -11,7 +11,7 @@ use Rattle.fields.specs.declared.Row.{Row}
 use Rattle.fields.specs.declared.Mark.{Mark}
 use Rattle.fields.specs.declared.Mark.the-variants.{Id, Cal, Usr}
 use Rattle.fields.specs.declared.Template.{Template}
-use Rattle.fields.specs.declared.Template.the-variants.{Bridge}
+use Rattle.fields.specs.declared.Template.the-variants.{Bridge, Resistance}
 use Rattle.fields.specs.declared.Layout.{Layout}
 use Rattle.fields.specs.Rows.{
   any,
@@ -22,16 +22,20 @@ use Rattle.fields.specs.Rows.{
   serialNumber,
   measurand,
   physical,
-  precision,
-  electrical,
-  bridgeType,
-  impedance,
   responseTime,
-  excitation,
   calDate,
   calInitials,
   calPeriod,
   locationId,
+  bridgePrecision,
+  bridgeEnd,
+  bridgeType,
+  impedance,
+  excitation,
+  resistancePrecision,
+  resistanceEnd,
+  mappingMethod,
+  current,
 }
 
 -- ---- a line
@@ -69,26 +73,36 @@ basic = map (line Id) (manufacturerId ∷ modelNumber ∷ versionLetter ∷ vers
 -- Template 33: fields 6 to 21.
 unfoldable pub template33 : List Line
 template33 =
-    line Id measurand ∷ line Cal physical ∷ line Cal physical ∷ choice Cal precision ∷ chosen Cal electrical ∷ chosen Cal electrical ∷
+    line Id measurand ∷ line Cal physical ∷ line Cal physical ∷ choice Cal bridgePrecision ∷ chosen Cal bridgeEnd ∷ chosen Cal bridgeEnd ∷
     line Id bridgeType ∷ line Id impedance ∷ line Id responseTime ∷ line Id excitation ∷ line Id excitation ∷ line Id excitation ∷
+    line Cal calDate ∷ line Cal calInitials ∷ line Cal calPeriod ∷ line Usr locationId ∷ []
+
+-- Template 32: fields 6 to 19. The nominal current's line is marked CAL, the greatest's ID.
+unfoldable pub template32 : List Line
+template32 =
+    line Id measurand ∷ line Cal physical ∷ line Cal physical ∷ choice Cal resistancePrecision ∷ chosen Cal resistanceEnd ∷ chosen Cal resistanceEnd ∷
+    line Id mappingMethod ∷ line Id responseTime ∷ line Cal current ∷ line Id current ∷
     line Cal calDate ∷ line Cal calInitials ∷ line Cal calPeriod ∷ line Usr locationId ∷ []
 
 abbrev pub templateLines : Template → List Line
 templateLines Bridge = template33
+templateLines Resistance = template32
 
 abbrev pub numberOf : Template → ℕ
 numberOf Bridge = 33
+numberOf Resistance = 32
 
 -- The template of a number, if it is one of them.
 abbrev pub templateOf : ℕ → Option Template
-templateOf number = cond (eqb number (numberOf Bridge)) (some Bridge) none
+templateOf number =
+    cond (eqb number (numberOf Bridge)) (some Bridge) (cond (eqb number (numberOf Resistance)) (some Resistance) none)
 
 -- ---- all fields, counted from 1
 
 unfoldable pub linesOf : Template → List Line
 linesOf template = basic ++ templateLines template
 
--- The template's own last number; the ending is the next.
+-- The template's own last number, 21 or 19; the ending is the next.
 abbrev pub lastField : Template → ℕ
 lastField template = length (linesOf template)
 

@@ -1,9 +1,9 @@
--- Document 01, "Layout": the rows of the table of fields, one after the other. Starts and steps are those of the template lines of document 000,
--- Annex A. `Lines` puts the rows in the order of the stream.
+-- Document 01, "Layout", and document 02, Note 7: the rows of the table of fields, one after the other. Starts and steps are those of the template
+-- lines of document 000, Annex A. `Lines` puts the rows in the order of the stream.
 use mathlib.Core.Bool.{true, false}
 use Prim.Native.Nat.{ℕ, zero, suc}
 use lib.IntN.{pos, negℤ}
-use Rattle.fields.specs.declared.Scale.the-variants.{ResponseTime}
+use Rattle.fields.specs.declared.Scale.the-variants.{ResponseTime, Current}
 use Rattle.fields.specs.declared.Rule.{Rule}
 use Rattle.fields.specs.declared.Rule.the-variants.{Plain, Stepped, Geometric, Single as Ieee}
 use Rattle.fields.specs.declared.Row.{Row}
@@ -42,7 +42,7 @@ versionNumber = any 6
 abbrev pub serialNumber : Row
 serialNumber = any 24
 
--- ---- template 33
+-- ---- both templates
 
 -- 6 measurand: physical measurand.
 abbrev pub measurand : Row
@@ -52,15 +52,37 @@ measurand = always 6 (Plain 0 45)
 abbrev pub physical : Row
 physical = optional 32 Ieee
 
+-- Response, 10 ns: response time.
+abbrev pub responseTime : Row
+responseTime = optional 6 (Geometric ResponseTime)
+
+-- Date: calibration date, days since 1 January 1998.
+abbrev pub calDate : Row
+calDate = optional 16 (Plain 0 65_534)
+
+-- Initials: calibration initials, three letters, first lowest.
+abbrev pub calInitials : Row
+calInitials = any 15
+
+-- Period, days: calibration period.
+abbrev pub calPeriod : Row
+calPeriod = any 12
+
+-- Location: measurement location ID.
+abbrev pub locationId : Row
+locationId = any 11
+
+-- ---- template 33
+
 -- 9 precision: full-scale electrical value precision.
-abbrev pub precision : Row
-precision = always 2 (Plain 0 2)
+abbrev pub bridgePrecision : Row
+bridgePrecision = always 2 (Plain 0 2)
 
 -- 10, 11 least and greatest electrical, nV/V: min_elec_val, max_elec_val, at precision 0, 1 and 2 (a Single in V/V).
-abbrev pub electrical : ℕ → Row
-electrical zero = optional 11 (Stepped (negℤ (pos 1_000_000_000)) 1_000_000)
-electrical (suc zero) = optional 19 (Stepped (negℤ (pos 6_550_000)) 25)
-electrical (suc (suc p)) = optional 32 Ieee
+abbrev pub bridgeEnd : ℕ → Row
+bridgeEnd zero = optional 11 (Stepped (negℤ (pos 1_000_000_000)) 1_000_000)
+bridgeEnd (suc zero) = optional 19 (Stepped (negℤ (pos 6_550_000)) 25)
+bridgeEnd (suc (suc p)) = optional 32 Ieee
 
 -- 12 bridge: bridge type; 0 quarter, 1 half, 2 full.
 abbrev pub bridgeType : Row
@@ -70,26 +92,27 @@ bridgeType = always 2 (Plain 0 2)
 abbrev pub impedance : Row
 impedance = optional 18 (Stepped (pos 10) 1)
 
--- 14 response, 10 ns: response time.
-abbrev pub responseTime : Row
-responseTime = optional 6 (Geometric ResponseTime)
-
 -- 15, 16, 17 excitation nominal, least, greatest, 0.1 V: excitation level.
 abbrev pub excitation : Row
 excitation = optional 9 (Stepped (pos 1) 1)
 
--- 18 date: calibration date, days since 1 January 1998.
-abbrev pub calDate : Row
-calDate = optional 16 (Plain 0 65_534)
+-- ---- template 32
 
--- 19 initials: calibration initials, three letters, first lowest.
-abbrev pub calInitials : Row
-calInitials = any 15
+-- 9 precision: full-scale electrical value precision; all four codes.
+abbrev pub resistancePrecision : Row
+resistancePrecision = any 2
 
--- 20 period, days: calibration period.
-abbrev pub calPeriod : Row
-calPeriod = any 12
+-- 10, 11 least and greatest electrical, Ω: min_elec_val, max_elec_val, at precision 0, 1, 2 and 3 (a Single).
+abbrev pub resistanceEnd : ℕ → Row
+resistanceEnd zero = optional 7 (Stepped (pos 0) 10)
+resistanceEnd (suc zero) = optional 10 (Stepped (pos 0) 1_000)
+resistanceEnd (suc (suc zero)) = optional 16 (Stepped (pos 0) 1)
+resistanceEnd (suc (suc (suc p))) = optional 32 Ieee
 
--- 21 location: measurement location ID.
-abbrev pub locationId : Row
-locationId = any 11
+-- 12 mapping: mapping method, a numbered choice; all four codes.
+abbrev pub mappingMethod : Row
+mappingMethod = any 2
+
+-- 14, 15 current nominal, greatest, tenths of a nanoampere: excitation current.
+abbrev pub current : Row
+current = optional 8 (Geometric Current)

@@ -1,4 +1,4 @@
--- Document 01, "Layout": stepped, geometric, Single. What a code means, and the code that a value is stored at, for any width, start and step.
+-- Document 01, "Layout", and document 02, Notes 4 and 7: stepped, geometric, Single. What a code means, and the code that a value is stored at, for any width, start and step.
 use mathlib.Core.Bool.{Bool, true, false, not, _||_, _&&_, cond}
 use Prim.Native.Nat.{ℕ, zero, suc, _+_, _-_, _*_, _^_}
 use lib.Dec.{eqb, leb, ltb}
@@ -11,7 +11,7 @@ use Rattle.refusal.specs.Rows.{outsideTable, notFinite, wrongSort, outOfRange}
 use Rattle.fields.specs.declared.Value.{Value}
 use Rattle.fields.specs.declared.Value.the-variants.{Whole, Single, Missing}
 use Rattle.fields.specs.declared.Scale.{Scale}
-use Rattle.fields.specs.declared.Scale.the-variants.{ResponseTime}
+use Rattle.fields.specs.declared.Scale.the-variants.{ResponseTime, Current}
 use Rattle.fields.specs.declared.Rule.{Rule}
 use Rattle.fields.specs.declared.Rule.the-variants.{Plain, Stepped, Geometric, Single as Ieee}
 use Rattle.fields.specs.declared.Row.{Row}
@@ -34,13 +34,16 @@ pub record Progression : Type 0 where
   pub tolerance : ℕ
   pub parts : ℕ
 
--- Response time: start 1E-6 s in 10 ns, tolerance 0.146 (document 000, template 33).
+-- Response time: start 1E-6 s in 10 ns, tolerance 0.146 (document 000, templates 33 and 32).
+-- Excitation current: start 1e-6 A in tenths of a nanoampere, tolerance 0.02356427402545 (document 000, template 32).
 abbrev pub progression : Scale → Progression
 progression ResponseTime = record { start = 100; tolerance = 146; parts = 1_000 }
+progression Current = record { start = 10_000; tolerance = 2_356_427_402_545; parts = 100_000_000_000_000 }
 
 -- The bits of a scale's codes.
 abbrev pub scaleWidth : Scale → ℕ
 scaleWidth ResponseTime = 6
+scaleWidth Current = 8
 
 -- Geometric: start × (1 + 2 × tolerance)^code to the nearest unit, halves upward.
 unfoldable pub geometricValue : Progression → ℕ → ℕ

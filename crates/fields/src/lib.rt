@@ -51,8 +51,10 @@ pub enum Value {
 
 // The progressions that geometric fields count in.
 pub enum Scale {
-    // Field 14's, in 10 ns.
+    // Response times, in 10 ns.
     ResponseTime,
+    // Excitation currents, in tenths of a nanoampere.
+    Current,
 }
 
 // How a code is understood.
@@ -91,6 +93,8 @@ pub enum Level {
 pub enum Template {
     // 33.
     Bridge,
+    // 32.
+    Resistance,
 }
 
 // What the rows of a sheet go by: its template, and the code of the field that sets widths.

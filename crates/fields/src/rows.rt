@@ -1,4 +1,4 @@
-// Document 01, "Layout": rows of the table of fields.
+// Document 01, "Layout", and document 02, Note 7: rows of the table of fields.
 use crate::Row;
 use crate::Rule;
 use crate::Scale;
@@ -45,12 +45,24 @@ pub fn scaled(scale: Scale) -> Row
 }
 
 // Least and greatest electrical of template 33, at a precision.
-pub fn electrical(precision: u64) -> Row
-    ensures { λ r. ⌜ r ≡ spec.electrical precision ⌝ }
+pub fn bridge_end(precision: u64) -> Row
+    ensures { λ r. ⌜ r ≡ spec.bridgeEnd precision ⌝ }
 {
     match precision {
         0 => optional(11, Rule::Stepped(-1_000_000_000, 1_000_000)),
         1 => optional(19, Rule::Stepped(-6_550_000, 25)),
+        _ => optional(32, Rule::Single),
+    }
+}
+
+// The same of template 32.
+pub fn resistance_end(precision: u64) -> Row
+    ensures { λ r. ⌜ r ≡ spec.resistanceEnd precision ⌝ }
+{
+    match precision {
+        0 => optional(7, Rule::Stepped(0, 10)),
+        1 => optional(10, Rule::Stepped(0, 1_000)),
+        2 => optional(16, Rule::Stepped(0, 1)),
         _ => optional(32, Rule::Single),
     }
 }

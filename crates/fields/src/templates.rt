@@ -1,5 +1,5 @@
-// Document 01, "Layout": the order of the table of fields. Basic comes first, then the lines of the template that the first
-// block names. The numbers of fields and templates stand here and nowhere else.
+// Document 01, "Layout", and document 02, Note 7: the order of the table of fields. Basic comes first, then the lines of the
+// template that the first block names. The numbers of fields and templates stand here and nowhere else.
 use crate::Layout;
 use crate::Mark;
 use crate::Row;
@@ -9,13 +9,14 @@ use crate::Template;
 use crate::TemplateAnswer;
 use crate::rows::always;
 use crate::rows::any;
-use crate::rows::electrical;
+use crate::rows::bridge_end;
 use crate::rows::optional;
+use crate::rows::resistance_end;
 use crate::rows::scaled;
 ghost use mathlib.Core.Path.{_≡_};
 ghost use Prim.Native.Nat.{ℕ, min, _+_, _-_, _*_, _≤_, _<_};
 ghost use lib.ListN.{length};
-ghost use Rattle.fields.specs.Rows.{electrical as electricalRow};
+ghost use Rattle.fields.specs.Rows.{bridgeEnd, resistanceEnd};
 ghost use Rattle.fields.specs.Lines.{basic, linesOf, lineOf, lastField, ending, numberOf, templateOf, rowOf, bitsBefore};
 ghost use Rattle.fields.specs.Answers.{templateSaid};
 
@@ -31,6 +32,7 @@ pub fn template_number(template: Template) -> u64
 {
     match template {
         Template::Bridge => 33,
+        Template::Resistance => 32,
     }
 }
 
@@ -39,6 +41,9 @@ pub fn template_of(number: u64) -> TemplateAnswer
 {
     if number == template_number(Template::Bridge) {
         return TemplateAnswer::Is(Template::Bridge);
+    }
+    if number == template_number(Template::Resistance) {
+        return TemplateAnswer::Is(Template::Resistance);
     }
     TemplateAnswer::Unknown
 }
@@ -49,6 +54,7 @@ pub fn last_field(template: Template) -> u64
 {
     match template {
         Template::Bridge => 21,
+        Template::Resistance => 19,
     }
 }
 
@@ -59,6 +65,7 @@ pub fn is_choice(template: Template, field: u64) -> bool
 {
     match template {
         Template::Bridge => field == 9,
+        Template::Resistance => field == 9,
     }
 }
 
@@ -82,6 +89,32 @@ fn bridge_mark(field: u64) -> Mark
     Mark::Usr // location
 }
 
+// The marks of template 32.
+fn resistance_mark(field: u64) -> Mark
+    requires { ⌜ (1 ≤ field) × (field ≤ 19) ⌝ }
+    ensures { λ r. ⌜ r ≡ lineOf Template.Resistance field .mark ⌝ }
+{
+    if field < 7 {
+        return Mark::Id;
+    }
+    if field < 12 {
+        return Mark::Cal; // least physical to greatest electrical
+    }
+    if field < 14 {
+        return Mark::Id;
+    }
+    if field < 15 {
+        return Mark::Cal; // current nominal
+    }
+    if field < 16 {
+        return Mark::Id;
+    }
+    if field < 19 {
+        return Mark::Cal; // date, initials, period
+    }
+    Mark::Usr // location
+}
+
 // The mark of a field, counted from 1.
 pub fn mark_of(template: Template, field: u64) -> Mark
     requires { ⌜ (1 ≤ field) × (field ≤ lastField template) ⌝ }
@@ -89,6 +122,7 @@ pub fn mark_of(template: Template, field: u64) -> Mark
 {
     match template {
         Template::Bridge => bridge_mark(field),
+        Template::Resistance => resistance_mark(field),
     }
 }
 
@@ -116,8 +150,8 @@ fn bridge_row(precision: u64, field: u64) -> Row
         7 => optional(32, Rule::Single), // least physical
         8 => optional(32, Rule::Single), // greatest physical
         9 => always(2, Rule::Plain(0, 2)), // precision
-        10 => electrical(precision), // least electrical
-        11 => electrical(precision), // greatest electrical
+        10 => bridge_end(precision), // least electrical
+        11 => bridge_end(precision), // greatest electrical
         12 => always(2, Rule::Plain(0, 2)), // bridge
         13 => optional(18, Rule::Stepped(10, 1)), // impedance
         14 => scaled(Scale::ResponseTime), // response
@@ -127,6 +161,29 @@ fn bridge_row(precision: u64, field: u64) -> Row
         18 => optional(16, Rule::Plain(0, 65_534)), // date
         19 => any(15), // initials
         20 => any(12), // period
+        _ => any(11), // location
+    }
+}
+
+// The rows of template 32.
+fn resistance_row(precision: u64, field: u64) -> Row
+    requires { ⌜ (5 < field) × (field ≤ 19) ⌝ }
+    ensures { λ r. ⌜ r ≡ lineOf Template.Resistance field .rowAt precision ⌝ }
+{
+    match field {
+        6 => always(6, Rule::Plain(0, 45)), // measurand
+        7 => optional(32, Rule::Single), // least physical
+        8 => optional(32, Rule::Single), // greatest physical
+        9 => any(2), // precision
+        10 => resistance_end(precision), // least electrical
+        11 => resistance_end(precision), // greatest electrical
+        12 => any(2), // mapping
+        13 => scaled(Scale::ResponseTime), // response
+        14 => scaled(Scale::Current), // current nominal
+        15 => scaled(Scale::Current), // current greatest
+        16 => optional(16, Rule::Plain(0, 65_534)), // date
+        17 => any(15), // initials
+        18 => any(12), // period
         _ => any(11), // location
     }
 }
@@ -142,6 +199,7 @@ pub fn row_of(layout: Layout, field: u64) -> Row
     let template = layout.template;
     match template {
         Template::Bridge => bridge_row(layout.precision, field),
+        Template::Resistance => resistance_row(layout.precision, field),
     }
 }
 
@@ -149,7 +207,7 @@ pub fn row_of(layout: Layout, field: u64) -> Row
 // that a field is found without going over those before it.
 fn bridge_bits(field: u64) -> u64
     requires { ⌜ (1 ≤ field) × (field ≤ 22) ⌝ }
-    ensures { λ r. ⌜ ((precision : ℕ) → bitsBefore (linesOf Template.Bridge) precision (field - 1) ≡ r + min (field - 10) 2 * electricalRow precision .width) × (r ≤ 243) ⌝ }
+    ensures { λ r. ⌜ ((precision : ℕ) → bitsBefore (linesOf Template.Bridge) precision (field - 1) ≡ r + min (field - 10) 2 * bridgeEnd precision .width) × (r ≤ 243) ⌝ }
 {
     match field {
         1 => 0,
@@ -177,20 +235,47 @@ fn bridge_bits(field: u64) -> u64
     }
 }
 
-// The same of all rows.
-fn bridge_place(precision: u64, field: u64) -> u64
-    requires { ⌜ (1 ≤ field) × (field ≤ 22) ⌝ }
-    ensures { λ r. ⌜ r ≡ bitsBefore (linesOf Template.Bridge) precision (field - 1) ⌝ }
+// The same of template 32.
+fn resistance_bits(field: u64) -> u64
+    requires { ⌜ (1 ≤ field) × (field ≤ 20) ⌝ }
+    ensures { λ r. ⌜ ((precision : ℕ) → bitsBefore (linesOf Template.Resistance) precision (field - 1) ≡ r + min (field - 10) 2 * resistanceEnd precision .width) × (r ≤ 214) ⌝ }
 {
-    let others = bridge_bits(field);
+    match field {
+        1 => 0,
+        2 => 14,
+        3 => 29,
+        4 => 34,
+        5 => 40,
+        6 => 64,
+        7 => 70,
+        8 => 102,
+        9 => 134,
+        10 => 136,
+        11 => 136,
+        12 => 136,
+        13 => 138,
+        14 => 144,
+        15 => 152,
+        16 => 160,
+        17 => 176,
+        18 => 191,
+        19 => 203,
+        _ => 214,
+    }
+}
+
+// The bits of the electrical values, fields 10 and 11 of each template, that stand before a field.
+fn ends_before(width: u64, field: u64) -> u64
+    requires { ⌜ width ≤ 32 ⌝ }
+    ensures { λ r. ⌜ (r ≡ min (field - 10) 2 * width) × (r ≤ 64) ⌝ }
+{
     if field < 11 {
-        return others;
+        return 0;
     }
-    let width = electrical(precision).width;
     if field < 12 {
-        return others + width;
+        return width;
     }
-    others + 2 * width
+    2 * width
 }
 
 // The bits of the fields before a field, counted from 1, or before the ending.
@@ -200,6 +285,9 @@ pub fn bits_before(layout: Layout, field: u64) -> u64
 {
     let template = layout.template;
     match template {
-        Template::Bridge => bridge_place(layout.precision, field),
+        Template::Bridge => bridge_bits(field)
+            + ends_before(bridge_end(layout.precision).width, field),
+        Template::Resistance => resistance_bits(field)
+            + ends_before(resistance_end(layout.precision).width, field),
     }
 }

@@ -1,6 +1,6 @@
 -- What an accepted check says: the image's sizes and sums, the sheet that may stand there, and that its stream holds it.
 use mathlib.Core.Path.{_≡_, refl, sym, ap, _∙_, subst}
-use mathlib.Core.List.{List, map}
+use mathlib.Core.List.{List, [], _∷_, _++_, map, append-assoc}
 use Prim.Native.Nat.{ℕ, _+_, _^_, _≤_, _<_, _%_}
 use native.Mathlib.Omega.{arith}
 use lib.ListN.{length}
@@ -9,18 +9,20 @@ use Rattle.refusal.proofs.Outcomes.{good-same, good-bind, good-then}
 use Rattle.memory.specs.declared.Sizes.{Sizes}
 use Rattle.memory.specs.Bits.{bit, fieldAt}
 use Rattle.memory.specs.Image.{imageSizes, sums, streamBits, streamNumber, imageOf}
-use Rattle.memory.specs.Pieces.{piece, needed}
+use Rattle.memory.specs.Pieces.{Piece, piece, needed}
 use Rattle.memory.proofs.Chips.{sizes-chip}
 use Rattle.memory.proofs.FieldLaws.{field-bit}
 use Rattle.memory.proofs.Images.{image-length, image-number-lt, image-passes}
-use Rattle.memory.proofs.PieceLaws.{Fit, Holds, holds-piece}
+use Rattle.memory.proofs.PieceLaws.{Fit, Holds, needed-append, holds-piece}
+use Rattle.fields.specs.Lines.{numberOf}
 use Rattle.layout.specs.Format.{Stream, Parsed, parse}
 use Rattle.layout.specs.Contents.{Contents, sheetOf}
 use Rattle.layout.specs.Image.{streamIn, contents}
+use Rattle.layout.specs.Places.{firstNumber}
 use Rattle.layout.proofs.Formats.{parsed, parses-fit, parse-held, parsed-by, parse-agrees}
 use Rattle.layout.proofs.Fields.{pieceOf}
 use Rattle.layout.proofs.Places.{basic-is-64}
-use Rattle.layout.proofs.Sheets.{Formed, sheetPieces, sheet-needed, sheet-parses, sheet-formed}
+use Rattle.layout.proofs.Sheets.{Formed, restPieces, sheetPieces, sheet-needed, sheet-parses, sheet-formed}
 
 -- ---- the stream
 
@@ -54,6 +56,18 @@ selector-zero {s} {c} h =
     let at : 64 ≡ 0 + needed (map pieceOf (h .formed .basics)) = omega (arith, basic-is-64 (h .formed)) in
     let none : fieldAt (s .number) 64 2 ≡ 0 = ap (λ (n : ℕ). fieldAt (s .number) n 2) at ∙ selector in
     sym (field-bit (s .number) 64 2 0 (omega arith)) ∙ ap (λ (n : ℕ). bit n 0) none
+
+-- The first template's number stands behind it.
+pub number-stands : {s : Stream} {c : Contents} → Holding s c → fieldAt (s .number) firstNumber 8 ≡ numberOf (c .template)
+number-stands {s} {c} h =
+    let f = h .formed in
+    let number : Piece = piece 8 (numberOf (c .template)) in
+    let before : List Piece = map pieceOf (f .basics) ++ (piece 2 0 ∷ []) in
+    let after : List Piece = map pieceOf (f .own) ++ restPieces (s .bits) (f .endAt) c in
+    let e : sheetPieces f ≡ before ++ (number ∷ after) = simp append-assoc in
+    let at : firstNumber ≡ 0 + needed before = omega (arith, basic-is-64 f, needed-append (map pieceOf (f .basics)) (piece 2 0 ∷ [])) in
+    ap (λ (n : ℕ). fieldAt (s .number) n 8) at
+    ∙ holds-piece (s .number) 0 before number after (subst Fit e (holding-fit h)) (subst (Holds (s .number) 0) e (h .holds))
 
 -- ---- the image
 

@@ -9,8 +9,8 @@ use lib.ListN.{length, getD}
 use Rattle.memory.specs.Pieces.{needed}
 use Rattle.fields.specs.declared.Row.{Row}
 use Rattle.fields.specs.declared.Template.{Template}
-use Rattle.fields.specs.declared.Template.the-variants.{Bridge}
-use Rattle.fields.specs.Lines.{Line, chose, basic, template33, templateLines, linesOf, rowsOf, bitsBefore}
+use Rattle.fields.specs.declared.Template.the-variants.{Bridge, Resistance}
+use Rattle.fields.specs.Lines.{Line, chose, basic, template33, template32, templateLines, linesOf, rowsOf, bitsBefore}
 use Rattle.layout.specs.Contents.{Found}
 use Rattle.layout.specs.Image.{nothing, lastChoice}
 use Rattle.layout.proofs.Fields.{pieceOf, FieldAt, row-is, width-is, Laid}
@@ -167,8 +167,9 @@ pub basic-last : (xs : List Found) (latest : ℕ) → lastChoice basic xs latest
 basic-last = settled-last basic basic-settled
 
 pub template-steady : (template : Template) → Steady false (templateLines template)
-unfolding template33
+unfolding template33 template32
 template-steady Bridge = (same, (same, (same, (same, (refl, (refl, (refl, (refl, (refl, (refl, (refl, (refl, (refl, (refl, (refl, (refl, tt))))))))))))))))
+template-steady Resistance = (same, (same, (same, (same, (refl, (refl, (refl, (refl, (refl, (refl, (refl, (refl, (refl, (refl, tt))))))))))))))
 
 pub template-met : (template : Template) (xs : List Found) (latest : ℕ) → MetAt (templateLines template) xs latest (lastChoice (templateLines template) xs latest)
 template-met template = steady-met (templateLines template) (template-steady template)

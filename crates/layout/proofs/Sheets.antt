@@ -1,19 +1,15 @@
 -- A whole sheet: what may stand in a stream, and the pieces that it is.
 use mathlib.Core.Path.{_≡_, refl, sym, ap, ap₂, _∙_, subst}
-use mathlib.Core.Bool.{Bool, true, false, not, cond}
 use mathlib.Core.List.{List, [], _∷_, _++_, map, append-nil}
 use mathlib.Core.Option.{Option, none, some}
-use Prim.Native.Nat.{ℕ, zero, suc, _+_, _-_, _^_, _≤_, _<_}
+use Prim.Native.Nat.{ℕ, _+_}
 use native.Mathlib.Omega.{arith}
-use lib.Dec.{eqb}
-use lib.ListN.{length}
-use borrow.Author.Tests.{eqb-true}
 use Rattle.refusal.specs.Rows.{wrongBlock}
 use Rattle.memory.specs.Pieces.{Piece, piece, needed}
 use Rattle.memory.proofs.PieceLaws.{needed-append}
 use Rattle.fields.specs.declared.Template.{Template}
-use Rattle.fields.specs.declared.Template.the-variants.{Bridge}
 use Rattle.fields.specs.Lines.{basic, templateLines, numberOf, templateOf}
+use Rattle.fields.proofs.TemplateFacts.{number-lt, number-known, known-number}
 use Rattle.layout.specs.Format.{Format, ends, _>>=_, bits, place}
 use Rattle.layout.specs.Contents.{Found, Calibration, Contents, Ending, fieldsOf, selectorOf, named, firstBlock, calibrationOf, endingOf, sheetOf}
 use Rattle.layout.specs.Pieces.{blockPieces}
@@ -24,21 +20,14 @@ use Rattle.layout.proofs.Endings.{endPieces, EndingAt, ending-parses, e
 
 -- ---- the first block
 
-template-number : (n : ℕ) (t : Template) → templateOf n ≡ some t → n ≡ numberOf t
-template-number n Bridge e = go (eqb n 33) refl e
-  where
-    go : (b : Bool) → eqb n 33 ≡ b → cond b (some Bridge) none ≡ some Bridge → n ≡ 33
-    go true q e = eqb-true n 33 q
-    go false q e = absurd (let z : _≡_ {A = ℕ} 0 1 = cc in omega arith)
-
 module _ (S at : ℕ) where
   block-parses : (t : Template) → Parses S firstBlock at (blockPieces (numberOf t)) t
   unfolding firstBlock selectorOf
-  block-parses Bridge = (refl, omega arith, (refl, omega arith, refl))
+  block-parses t = (refl, omega arith, (refl, number-lt t, rw (number-known t) refl))
 
   named-pieces : (n : ℕ) (o : Option Template) → templateOf n ≡ o → (ps : List Piece) (t : Template) → Parses S (named at o) (at + 2 + 8) ps t →
       (ps ≡ []) × (n ≡ numberOf t)
-  named-pieces n (some u) e ps t l = let (z, f) = ends-pieces S u _ ps t l in (z, template-number n t (e ∙ ap some f))
+  named-pieces n (some u) e ps t l = let (z, f) = ends-pieces S u _ ps t l in (z, known-number n t (e ∙ ap some f))
   named-pieces n none e ps t l = absurd l
 
   block-pieces : (ps : List Piece) (t : Template) → Parses S firstBlock at ps t → ps ≡ blockPieces (numberOf t)

@@ -10,6 +10,13 @@ use Rattle.fields.specs.Lines.{basic, linesOf, ending, bitsBefore}
 abbrev pub blockBits : ℕ
 blockBits = 10
 
+-- The first selector stands behind Basic's 64 bits, and the first template's number behind its two.
+abbrev pub firstSelector : ℕ
+firstSelector = 64
+
+abbrev pub firstNumber : ℕ
+firstNumber = 66
+
 -- The first bit of field f, counted from 1: the first block stands behind Basic.
 unfoldable pub fieldPlace : Layout → ℕ → ℕ
 fieldPlace layout f = bitsBefore (linesOf (layout .template)) (layout .precision) (f - 1) + cond (ltb (length basic) f) blockBits 0

@@ -1,6 +1,6 @@
 -- What an opened sheet holds: the sorts and sizes of the values that a reading is taken from.
 use mathlib.Core.Path.{_≡_, refl, ap, _∙_, subst}
-use mathlib.Core.Bool.{Bool, true, false, not, _&&_, cond}
+use mathlib.Core.Bool.{Bool, true, false, not, _&&_, cond, true≢false}
 use mathlib.Core.List.{List, [], _∷_, map}
 use mathlib.Core.Option.{Option, none, some}
 use Prim.Native.Nat.{ℕ, zero, suc, _+_, _*_, _^_, _≤_, _<_}
@@ -19,9 +19,11 @@ use Rattle.fields.specs.declared.Value.{Value}
 use Rattle.fields.specs.declared.Value.the-variants.{Whole, Single, Missing}
 use Rattle.fields.specs.declared.Rule.the-variants.{Stepped, Single as Ieee}
 use Rattle.fields.specs.declared.Row.{Row}
+use Rattle.fields.specs.declared.Template.{Template}
+use Rattle.fields.specs.declared.Template.the-variants.{Bridge, Resistance}
 use Rattle.fields.specs.declared.Codes.{Codes}
 use Rattle.fields.specs.Rules.{allOnes, topCode, steppedValue, finite, meaning, decode}
-use Rattle.fields.specs.Rows.{precision, electrical}
+use Rattle.fields.specs.Rows.{bridgeEnd}
 use Rattle.fields.specs.Lines.{Line, lineOf}
 use Rattle.fields.specs.Calibration.{D, calPoint}
 use Rattle.fields.proofs.TemplateFacts.{span-listed, span-lines}
@@ -39,7 +41,7 @@ use Rattle.line.proofs.Distances.{near-abs}
 use Rattle.sheet.specs.declared.opening.Opened.{Opened}
 use Rattle.sheet.specs.Opened.{Opens}
 use Rattle.sheet.proofs.HeldLaws.{holding}
-use Rattle.reading.specs.Reading.{float, isMissing}
+use Rattle.reading.specs.Reading.{isResistance, float, isMissing}
 
 -- ---- the sorts
 
@@ -131,33 +133,41 @@ calibration-table at (table pairs) h = pairs-table none (at + 18) pairs (h .stan
 -- ---- the sheet
 
 -- Fields 10 and 11 at precision 0 and 1.
-electrical-figured : (p : ℕ) {at : ℕ} {x : Found} → p ≤ 2 → (p ≡ 2 → ⊥) → FieldAt (electrical p) at x → Figured (2 ^ 32) (x .value)
-electrical-figured zero l n h = figured h (2 ^ 32) refl (omega arith)
-electrical-figured (suc zero) l n h = figured h (2 ^ 32) refl (omega arith)
-electrical-figured (suc (suc p)) l n h = absurd (n (omega arith))
+end-figured : (p : ℕ) {at : ℕ} {x : Found} → p ≤ 2 → (p ≡ 2 → ⊥) → FieldAt (bridgeEnd p) at x → Figured (2 ^ 32) (x .value)
+end-figured zero l n h = figured h (2 ^ 32) refl (omega arith)
+end-figured (suc zero) l n h = figured h (2 ^ 32) refl (omega arith)
+end-figured (suc (suc p)) l n h = absurd (n (omega arith))
 
-module _ {kind : ℕ} {image : List ℕ} {o : Opened} {c : Contents} (h : Opens kind image o c) where
-  pub opened-table : Table (points c)
-  opened-table = calibration-table _ (c .calibration) (holding h .formed .calibrated)
+pub opened-table : {kind : ℕ} {image : List ℕ} {o : Opened} {c : Contents} → Opens kind image o c → Table (points c)
+opened-table {c = c} h = calibration-table _ (c .calibration) (holding h .formed .calibrated)
 
-  stands : (f : ℕ) → 1 ≤ f → f ≤ 11 → {l : Line} → lineOf (c .template) f ≡ l → FieldAt (l .rowAt (layoutOf c .precision)) (fieldPlace (layoutOf c) f) (field c f)
-  stands f lo hi e = subst (λ (l : Line). FieldAt (l .rowAt (layoutOf c .precision)) (fieldPlace (layoutOf c) f) (field c f)) e (field-at (holding h .formed) f lo (span-listed (c .template) hi))
+-- Of template 33.
+bridge : (t : Template) → isResistance t ≡ false → t ≡ Bridge
+bridge Bridge e = refl
+bridge Resistance e = absurd (true≢false e)
+
+module _ {kind : ℕ} {image : List ℕ} {o : Opened} {c : Contents} (h : Opens kind image o c) (b : isResistance (c .template) ≡ false) where
+  line-is : (f : ℕ) → lineOf (c .template) f ≡ lineOf Bridge f
+  line-is f = ap (λ (t : Template). lineOf t f) (bridge (c .template) b)
+
+  stands : (f : ℕ) → 1 ≤ f → f ≤ 11 → {l : Line} → lineOf Bridge f ≡ l → FieldAt (l .rowAt (layoutOf c .precision)) (fieldPlace (layoutOf c) f) (field c f)
+  stands f lo hi e = subst (λ (l : Line). FieldAt (l .rowAt (layoutOf c .precision)) (fieldPlace (layoutOf c) f) (field c f)) (line-is f ∙ e) (field-at (holding h .formed) f lo (span-listed (c .template) hi))
 
   pub opened-low : Floated (field c 7 .value)
-  opened-low = floated (stands 7 (omega arith) (omega arith) (span-lines (c .template) .0)) refl
+  opened-low = floated (stands 7 (omega arith) (omega arith) (span-lines .0)) refl
 
   pub opened-high : Floated (field c 8 .value)
-  opened-high = floated (stands 8 (omega arith) (omega arith) (span-lines (c .template) .1)) refl
+  opened-high = floated (stands 8 (omega arith) (omega arith) (span-lines .1)) refl
 
   precision-most : layoutOf c .precision ≤ 2
   precision-most =
-      let l = span-lines (c .template) .2 in
-      rw (choice-is-code (holding h .formed) 9 (omega arith) (span-listed (c .template) (omega arith)) (ap (λ (y : Line). y .sets) l))
+      let l = span-lines .2 in
+      rw (choice-is-code (holding h .formed) 9 (omega arith) (span-listed (c .template) (omega arith)) (ap (λ (y : Line). y .sets) (line-is 9 ∙ l)))
       (plain-bounds 2 0 2 _ (field c 9 .code) (field c 9 .value) (stands 9 (omega arith) (omega arith) l .means) .1)
 
   module _ (n : layoutOf c .precision ≡ 2 → ⊥) where
     pub opened-least : Figured (2 ^ 32) (field c 10 .value)
-    opened-least = electrical-figured (layoutOf c .precision) precision-most n (stands 10 (omega arith) (omega arith) (span-lines (c .template) .3))
+    opened-least = end-figured (layoutOf c .precision) precision-most n (stands 10 (omega arith) (omega arith) (span-lines .3))
 
     pub opened-greatest : Figured (2 ^ 32) (field c 11 .value)
-    opened-greatest = electrical-figured (layoutOf c .precision) precision-most n (stands 11 (omega arith) (omega arith) (span-lines (c .template) .4))
+    opened-greatest = end-figured (layoutOf c .precision) precision-most n (stands 11 (omega arith) (omega arith) (span-lines .4))

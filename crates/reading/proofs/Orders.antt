@@ -1,4 +1,4 @@
--- A reading in the order of its rows: check, 15 and 13, 14, and what it shows.
+-- A reading in the order of its rows: check, 4, 15 and 13, 14, and what it shows.
 use mathlib.Core.Path.{_≡_, sym, ap, _∙_}
 use mathlib.Core.Bool.{true, false}
 use mathlib.Core.List.{List}
@@ -7,13 +7,14 @@ use lib.IntN.{ℤ}
 use lib.Signed.{_<ℤ_}
 use Rattle.refusal.specs.declared.Refusal.{Refusal}
 use Rattle.refusal.specs.Outcome.{good, refused}
-use Rattle.refusal.specs.Rows.{outsideSpan}
+use Rattle.refusal.specs.Rows.{wrongBlock, outsideSpan}
 use Rattle.refusal.proofs.Outcomes.{good-same, good-bind, passed}
 use Rattle.layout.specs.Contents.{Contents}
 use Rattle.layout.specs.Image.{contents, points}
+use Rattle.layout.specs.Places.{firstSelector}
 use Rattle.reading.specs.declared.Reading.{Reading}
 use Rattle.reading.specs.declared.span.Span.{Span}
-use Rattle.reading.specs.Reading.{least, greatest, spanOf, tooFar, position, fraction, readingAt, takeReading}
+use Rattle.reading.specs.Reading.{isResistance, least, greatest, spanOf, tooFar, position, fraction, readingAt, takeReading}
 use Rattle.reading.proofs.Spans.{spanned}
 
 module _ (kind : ℕ) (image : List ℕ) (v : ℤ) where
@@ -22,18 +23,23 @@ module _ (kind : ℕ) (image : List ℕ) (v : ℤ) where
   takes-refused e = rw e
 
   module _ {c : Contents} (e : contents kind image ≡ good c) where
-    pub takes-no-span : {r : Refusal} → spanOf c ≡ refused r → refused r ≡ takeReading kind image v
+    pub takes-none : isResistance (c .template) ≡ true → refused (wrongBlock firstSelector) ≡ takeReading kind image v
     unfolding takeReading
-    takes-no-span h = rw (e, h)
+    takes-none t = rw (e, t)
 
-    module _ {s : Span} (h : spanOf c ≡ good s) where
-      pub takes-far : tooFar v (s .least) (s .greatest) ≡ true → refused outsideSpan ≡ takeReading kind image v
+    module _ (b : isResistance (c .template) ≡ false) where
+      pub takes-no-span : {r : Refusal} → spanOf c ≡ refused r → refused r ≡ takeReading kind image v
       unfolding takeReading
-      takes-far t = rw (e, h, t)
+      takes-no-span h = rw (e, b, h)
 
-      pub takes-shown : tooFar v (s .least) (s .greatest) ≡ false → good (readingAt (points c) s v) ≡ takeReading kind image v
-      unfolding takeReading
-      takes-shown t = rw (e, h, t)
+      module _ {s : Span} (h : spanOf c ≡ good s) where
+        pub takes-far : tooFar v (s .least) (s .greatest) ≡ true → refused outsideSpan ≡ takeReading kind image v
+        unfolding takeReading
+        takes-far t = rw (e, b, h, t)
+
+        pub takes-shown : tooFar v (s .least) (s .greatest) ≡ false → good (readingAt (points c) s v) ≡ takeReading kind image v
+        unfolding takeReading
+        takes-shown t = rw (e, b, h, t)
 
 -- What an accepted reading shows: the fraction at the input's position in a span that rises.
 pub record Shown (kind : ℕ) (image : List ℕ) (v : ℤ) (r : Reading) : Type 0 where
@@ -46,7 +52,8 @@ pub shown : (kind : ℕ) (image : List ℕ) (v : ℤ) (r : Reading) → takeRead
 unfolding takeReading readingAt
 shown kind image v r e =
     let (c, accepted, f) = good-bind (contents kind image) _ r e in
-    let (s, found, g) = good-bind (spanOf c) _ r f in
+    let (b, h) = passed (wrongBlock firstSelector) (isResistance (c .template)) _ r f in
+    let (s, found, g) = good-bind (spanOf c) _ r h in
     let t = passed outsideSpan (tooFar v (s .least) (s .greatest)) _ r g in
     let k = spanned c s found in
     record {

@@ -1,5 +1,5 @@
 -- The span: rows 15 and 13 in their order, and what its ends are then.
-use mathlib.Core.Path.{_≡_, refl, ap, _∙_, subst}
+use mathlib.Core.Path.{_≡_, refl, sym, ap, _∙_, subst}
 use mathlib.Core.Bool.{true, false}
 use mathlib.Core.Logic.{⊎-elim}
 use mathlib.Core.List.{List, [], _∷_}
@@ -29,7 +29,7 @@ use Rattle.sheet.specs.declared.opening.Opened.{Opened}
 use Rattle.sheet.specs.Opened.{Opens}
 use Rattle.sheet.proofs.HeldLaws.{layout-is}
 use Rattle.reading.specs.declared.span.Span.{Span}
-use Rattle.reading.specs.Reading.{least, greatest, float, isMissing, noneMissing, spanOf}
+use Rattle.reading.specs.Reading.{isResistance, least, greatest, float, isMissing, noneMissing, spanOf}
 use Rattle.reading.specs.Steps.{Ready}
 use Rattle.reading.proofs.Opening.{Figured, Floated, figured-small, floated-real, opened-low, opened-high, opened-least, opened-greatest}
 
@@ -47,7 +47,14 @@ no-figure v Missing e h t = refl
 
 -- ---- the answers in their order
 
-module _ {kind : ℕ} {image : List ℕ} {o : Opened} {c : Contents} (h : Opens kind image o c) where
+pub resistance-is : {kind : ℕ} {image : List ℕ} {o : Opened} {c : Contents} → Opens kind image o c → isResistance (c .template) ≡ isResistance (o .layout .template)
+resistance-is h = ap (λ (l : Layout). isResistance (l .template)) (sym (layout-is h))
+
+-- Of template 33.
+module _ {kind : ℕ} {image : List ℕ} {o : Opened} {c : Contents} (h : Opens kind image o c) (t₀ : isResistance (o .layout .template) ≡ false) where
+  abbrev b : isResistance (c .template) ≡ false
+  b = resistance-is h ∙ t₀
+
   precision-is : o .layout .precision ≡ layoutOf c .precision
   precision-is = ap (λ (l : Layout). l .precision) (layout-is h)
 
@@ -64,22 +71,22 @@ module _ {kind : ℕ} {image : List ℕ} {o : Opened} {c : Contents} (h : Opens 
 
     pub no-low : {v : Value} → v ≡ field c 7 .value → OneOf (0 ∷ 2 ∷ []) (tagOf the-type v) → refused (noSpan 7) ≡ spanOf c
     unfolding spanOf
-    no-low e t = rw (not-single, no-float _ _ e (opened-low h) t)
+    no-low e t = rw (not-single, no-float _ _ e (opened-low h b) t)
 
     module _ {l : Float} (el : field c 7 .value ≡ Single l) where
       pub no-high : {v : Value} → v ≡ field c 8 .value → OneOf (0 ∷ 2 ∷ []) (tagOf the-type v) → refused (noSpan 8) ≡ spanOf c
       unfolding spanOf
-      no-high e t = rw (not-single, el, no-float _ _ e (opened-high h) t)
+      no-high e t = rw (not-single, el, no-float _ _ e (opened-high h b) t)
 
       module _ {g : Float} (eg : field c 8 .value ≡ Single g) where
         pub no-least : {v : Value} → v ≡ field c 10 .value → OneOf (1 ∷ 2 ∷ []) (tagOf the-type v) → refused (noSpan 10) ≡ spanOf c
         unfolding spanOf
-        no-least e t = rw (not-single, el, eg, no-figure _ _ e (opened-least h stepped) t)
+        no-least e t = rw (not-single, el, eg, no-figure _ _ e (opened-least h b stepped) t)
 
         module _ {e : ℤ} (ee : field c 10 .value ≡ Whole e) where
           pub no-greatest : {v : Value} → v ≡ field c 11 .value → OneOf (1 ∷ 2 ∷ []) (tagOf the-type v) → refused (noSpan 11) ≡ spanOf c
           unfolding spanOf
-          no-greatest w t = rw (not-single, el, eg, ee, no-figure _ _ w (opened-greatest h stepped) t)
+          no-greatest w t = rw (not-single, el, eg, ee, no-figure _ _ w (opened-greatest h b stepped) t)
 
           module _ {f : ℤ} (ef : field c 11 .value ≡ Whole f) (se : SFits w64 e) (sf : SFits w64 f) where
             pub crossed : leZ (toZ w64 (ofZ w64 f)) (toZ w64 (ofZ w64 e)) ≡ true → refused (noSpan 11) ≡ spanOf c
@@ -115,14 +122,15 @@ spanned c s e =
       is = good-same (t .1);
     }
 
-pub span-ready : {kind : ℕ} {image : List ℕ} {o : Opened} {c : Contents} {s : Span} → Opens kind image o c → spanOf c ≡ good s → Ready s
-span-ready {c = c} {s = s} h e =
+pub span-ready : {kind : ℕ} {image : List ℕ} {o : Opened} {c : Contents} {s : Span} → Opens kind image o c → isResistance (o .layout .template) ≡ false → spanOf c ≡ good s → Ready s
+span-ready {c = c} {s = s} h t e =
+    let b = resistance-is h ∙ t in
     let k = spanned c s e in
     subst Ready (k .is)
     (record {
       rises = k .rises;
-      least = figured-small (field c 10 .value) (opened-least h (k .stepped));
-      greatest = figured-small (field c 11 .value) (opened-greatest h (k .stepped));
-      low = floated-real (field c 7 .value) (opened-low h) (k .low);
-      high = floated-real (field c 8 .value) (opened-high h) (k .high);
+      least = figured-small (field c 10 .value) (opened-least h b (k .stepped));
+      greatest = figured-small (field c 11 .value) (opened-greatest h b (k .stepped));
+      low = floated-real (field c 7 .value) (opened-low h b) (k .low);
+      high = floated-real (field c 8 .value) (opened-high h b) (k .high);
     })

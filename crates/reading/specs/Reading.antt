@@ -1,5 +1,5 @@
--- Document 01, "Reading": take a reading. Order: check, 15, 13, 14. A reading is told in its steps: the span that its fields give, the position of the
--- input in it, the fraction, and the physical figure.
+-- Document 01, "Reading", and document 02, Note 7: take a reading. Order: check, 4, 15, 13, 14. A reading is told in its steps: the span that its
+-- fields give, the position of the input in it, the fraction, and the physical figure.
 use mathlib.Core.Bool.{Bool, true, false, _||_}
 use mathlib.Core.List.{List, [], _∷_}
 use Prim.Native.Nat.{ℕ}
@@ -9,18 +9,27 @@ use lib.Signed.{leZ, ltZ}
 use lib.Ieee.{Float, nan}
 use Rattle.integers.specs.Nearest.{_over_, nearest}
 use Rattle.refusal.specs.Outcome.{Outcome, good, refused, _>>_, _>>=_, refuse_if_}
-use Rattle.refusal.specs.Rows.{noSpan, outsideSpan, singleSpan}
+use Rattle.refusal.specs.Rows.{wrongBlock, noSpan, outsideSpan, singleSpan}
 use Rattle.fields.specs.declared.Value.{Value}
 use Rattle.fields.specs.declared.Value.the-variants.{Whole, Single, Missing}
+use Rattle.fields.specs.declared.Template.{Template}
+use Rattle.fields.specs.declared.Template.the-variants.{Bridge, Resistance}
 use Rattle.fields.specs.declared.Pair.{Pair}
 use Rattle.fields.specs.Figure.{billion, floatFraction, physicalFigure}
 use Rattle.layout.specs.Contents.{Contents}
 use Rattle.layout.specs.Image.{contents, field, layoutOf, figure, points}
+use Rattle.layout.specs.Places.{firstSelector}
 use Rattle.line.specs.Line.{deviation}
 use Rattle.reading.specs.declared.Reading.{Reading}
 use Rattle.reading.specs.declared.ReadingAnswer.{ReadingAnswer}
 use Rattle.reading.specs.declared.ReadingAnswer.the-variants.{Shows, Refused}
 use Rattle.reading.specs.declared.span.Span.{Span}
+
+-- ---- the template
+
+abbrev pub isResistance : Template → Bool
+isResistance Bridge = false
+isResistance Resistance = true
 
 -- ---- the span
 
@@ -84,6 +93,7 @@ readingAt pairs s v =
 unfoldable pub takeReading : ℕ → List ℕ → ℤ → Outcome Reading
 takeReading kind image v = do
   c ← contents kind image
+  refuse wrongBlock firstSelector if isResistance (c .template)
   s ← spanOf c
   refuse outsideSpan if tooFar v (s .least) (s .greatest)
   good (readingAt (points c) s v)

@@ -4,10 +4,11 @@ use refusal::Refusal;
 use sheet::Opened;
 use sheet::value_in;
 ghost use mathlib.Core.Path.{_≡_};
+ghost use mathlib.Core.Bool.{false};
 ghost use Prim.Native.Nat.{ℕ};
 ghost use Rattle.layout.specs.Contents.{Contents};
 ghost use Rattle.sheet.specs.Opened.{Opens, Held};
-ghost use Rattle.reading.specs.Reading.{spanOf};
+ghost use Rattle.reading.specs.Reading.{isResistance, spanOf};
 ghost use Rattle.reading.specs.Steps.{spanSaid};
 
 // Fields 7, 8, 10 and 11, none of them missing.
@@ -23,10 +24,10 @@ pub enum SpanAnswer {
     Refused(Refusal),
 }
 
-// The ends of the span of an opened sheet; or 15 for precision 2; or 13 with the first that is missing, or with 11 where
+// The ends of the span of an opened sheet of template 33; or 15 for precision 2; or 13 with the first that is missing, or with 11 where
 // the least is not below the greatest.
 pub fn span_in(sheet: Opened, image: &[u8]) -> SpanAnswer
-    requires { ⌜ Held sheet (now image) ⌝ }
+    requires { ⌜ Held sheet (now image) × (isResistance (sheet .layout .template) ≡ false) ⌝ }
     ensures { λ r. ⌜ ((kind : ℕ) (c : Contents) → Opens kind (now (image .entry)) sheet c → spanSaid r ≡ spanOf c) ⌝ }
 {
     if sheet.layout.precision == 2 {

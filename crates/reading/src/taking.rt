@@ -7,6 +7,7 @@ use crate::position::position;
 use crate::span::Span;
 use crate::span::SpanAnswer;
 use crate::span::span_in;
+use fields::Template;
 use sheet::Opened;
 use sheet::OpenedAnswer;
 ghost use mathlib.Core.Path.{_≡_};
@@ -15,8 +16,11 @@ ghost use Prim.Native.Nat.{ℕ};
 ghost use Rattle.layout.specs.Contents.{Contents};
 ghost use Rattle.layout.specs.Image.{points};
 ghost use Rattle.sheet.specs.Opened.{Opens, Held};
-ghost use Rattle.reading.specs.Reading.{tooFar, readingAt, takeReading, readingSaid};
+ghost use Rattle.reading.specs.Reading.{isResistance, tooFar, readingAt, takeReading, readingSaid};
 ghost use Rattle.reading.specs.Steps.{Ready};
+
+// The first selector's bit: Basic's 64 stand before it.
+const FIRST_SELECTOR: u64 = 64;
 
 // The reading of an input that no row turns down: q = p + deviation, and the physical figure.
 fn shown(sheet: Opened, image: &[u8], span: Span, input: i64) -> Reading
@@ -31,9 +35,19 @@ fn shown(sheet: Opened, image: &[u8], span: Span, input: i64) -> Reading
     }
 }
 
-// A reading of an opened sheet: 15, then 13, then 14.
-fn reading_in(sheet: Opened, image: &[u8], input: i64) -> ReadingAnswer
-    requires { ⌜ Held sheet (now image) ⌝ }
+// Whether the first block's template is 32, which no reading is taken from.
+fn is_resistance(template: Template) -> bool
+    ensures { λ r. ⌜ r ≡ isResistance template ⌝ }
+{
+    match template {
+        Template::Bridge => false,
+        Template::Resistance => true,
+    }
+}
+
+// A reading of an opened sheet of template 33: 15, then 13, then 14.
+fn bridge_reading(sheet: Opened, image: &[u8], input: i64) -> ReadingAnswer
+    requires { ⌜ Held sheet (now image) × (isResistance (sheet .layout .template) ≡ false) ⌝ }
     ensures { λ r. ⌜ ((kind : ℕ) (c : Contents) → Opens kind (now (image .entry)) sheet c → readingSaid r ≡ takeReading kind (now (image .entry)) input) ⌝ }
 {
     match span_in(sheet, image) {
@@ -47,8 +61,22 @@ fn reading_in(sheet: Opened, image: &[u8], input: i64) -> ReadingAnswer
     }
 }
 
-// A reading of an image at an input in nV/V: the fraction q and the physical figure. Else the check's refusal; 15 for
-// precision 2; 13 where field 7, 8, 10 or 11 is missing or e is not below f; 14 for an input too far outside the span.
+// A reading of an opened sheet: 4 at the first selector for template 32, else as of template 33.
+fn reading_in(sheet: Opened, image: &[u8], input: i64) -> ReadingAnswer
+    requires { ⌜ Held sheet (now image) ⌝ }
+    ensures { λ r. ⌜ ((kind : ℕ) (c : Contents) → Opens kind (now (image .entry)) sheet c → readingSaid r ≡ takeReading kind (now (image .entry)) input) ⌝ }
+{
+    let layout = sheet.layout;
+    let template = layout.template;
+    if is_resistance(template) {
+        return ReadingAnswer::Refused(refusal::wrong_block(FIRST_SELECTOR));
+    }
+    bridge_reading(sheet, image, input)
+}
+
+// A reading of an image at an input in nV/V: the fraction q and the physical figure. Else the check's refusal; 4 for template
+// 32; 15 for precision 2; 13 where field 7, 8, 10 or 11 is missing or e is not below f; 14 for an input too far outside the
+// span.
 pub fn take_reading(kind: u8, image: &[u8], input: i64) -> ReadingAnswer
     ensures { λ r. ⌜ readingSaid r ≡ takeReading kind (now (image .entry)) input ⌝ }
 {

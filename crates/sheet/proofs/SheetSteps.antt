@@ -61,7 +61,7 @@ abbrev pub opens : Sizes → Template → ℕ → ℕ → EndCount → ℕ → O
 opens z template precision points ending end = record {
   sizes = z;
   layout = record { template = template; precision = precision };
-  summary = record { bits = end; points = points; «end_bit» = ending .endBit; characters = ending .characters };
+  summary = record { bits = end; points = points; «end_bit» = ending .endBit; characters = ending .characters; template = template };
 }
 
 -- The latest choice of a sheet is that behind its template's own fields.

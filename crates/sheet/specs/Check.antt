@@ -1,4 +1,4 @@
--- Document 01: check an image; read a field, a pair, a character. Each starts from what the image holds (layout, `contents`), and a read then looks up
+-- Document 01, and document 02, Note 7: check an image; read a field, a pair, a character. Each starts from what the image holds (layout, `contents`), and a read then looks up
 -- one thing by its number.
 use mathlib.Core.List.{List}
 use Prim.Native.Nat.{ℕ}
@@ -21,9 +21,15 @@ use Rattle.sheet.specs.declared.PairAnswer.the-variants.{Holds as HoldsP
 use Rattle.sheet.specs.declared.CharacterAnswer.{CharacterAnswer}
 use Rattle.sheet.specs.declared.CharacterAnswer.the-variants.{Holds as HoldsCharacter, Refused as NoCharacter}
 
--- An accepted check gives the bits up to the end, n, the end bit and the number of characters.
+-- An accepted check gives the bits up to the end, n, the end bit, the number of characters and the first template.
 abbrev pub summary : Contents → Summary
-summary c = record { bits = c .bits; points = length (points c); «end_bit» = c .endBit; characters = length (c .text) }
+summary c = record {
+  bits = c .bits;
+  points = length (points c);
+  «end_bit» = c .endBit;
+  characters = length (c .text);
+  template = c .template;
+}
 
 unfoldable pub check : ℕ → List ℕ → Outcome Summary
 check kind image = do

@@ -1,5 +1,6 @@
-// Document 01, "Layout" and "Turning down": check an image, and read a field, a calibration point with its deviation, or a
-// character of the closing text. No call of a dash asks anything of its caller: any kind, any slice, any number.
+// Document 01, "Layout" and "Turning down", and document 02, Note 7: check an image, and read a field, a calibration point
+// with its deviation, or a character of the closing text. No call of a dash asks anything of its caller: any kind, any slice,
+// any number.
 mod calls; // calls.rt: the calls of a dash
 mod ending; // ending.rt: the end bit and the text
 mod held; // held.rt: what an opened sheet holds
@@ -13,6 +14,7 @@ pub use calls::read_character;
 pub use calls::read_field;
 pub use calls::read_pair;
 pub use fields::Pair;
+use fields::Template;
 use fields::Value;
 pub use held::character_in;
 pub use held::pair_in;
@@ -26,12 +28,13 @@ pub use places::locate_pair;
 use refusal::Refusal;
 
 // What an accepted check gives: the bits up to the end (a zero that ends the text counted), the calibration points, the
-// end bit and the characters of the text.
+// end bit, the characters of the text and the first block's template.
 pub struct Summary {
     pub bits: u64,
     pub points: u64,
     pub end_bit: bool,
     pub characters: u64,
+    pub template: Template,
 }
 
 pub enum Checked {

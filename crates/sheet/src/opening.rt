@@ -72,6 +72,7 @@ fn walk_sheet(sizes: Sizes, image: &[u8]) -> OpenedAnswer
                                 points,
                                 end_bit,
                                 characters,
+                                template,
                             };
                             OpenedAnswer::Sheet(Opened {
                                 sizes,

@@ -30,7 +30,7 @@ returns c =
     let row = c .before .before .before .before .row-of in
     let template = c .before .before .before .before .before .before .before .before .before .template-in .ensures in
     let h : l .i < lastField (templateIn sheet) = omega (arith, c .before .before .before .before .before .before .loop-test .taken, c .before .before .before .before .before .before .before .before .last-field .ensures, ap lastField template) in
-    let full : length (sheet .fields) ≡ 21 = simp length-map at (s .good .0 .1 .1 .0 .1 .0 .1) in
+    let full : length (sheet .fields) ≡ 21 = simp length-map at (s .good .0 .1 .1 .1 .0 .1 .0 .1) in
     turn-refused sheet (l .inv .1) h _ (row .result) _ full (rw template at (row .ensures)) (rw (← row .ensures) at (c .before .before .before .code-of .ensures)) (c .before .r .given .1)
 
 add-bits : tie.Need-add-bits Inv-loop μ-loop
@@ -46,7 +46,7 @@ loop-again c =
     let row = c .before .before .before .before .before .before .row-of in
     let template = c .before .before .before .before .before .before .before .before .before .before .before .template-in .ensures in
     let h : l .i < lastField (templateIn sheet) = omega (arith, c .before .before .before .before .before .before .before .before .loop-test .taken, c .before .before .before .before .before .before .before .before .before .before .last-field .ensures, ap lastField template) in
-    let full : length (sheet .fields) ≡ 21 = simp length-map at (s .good .0 .1 .1 .0 .1 .0 .1) in (
+    let full : length (sheet .fields) ≡ 21 = simp length-map at (s .good .0 .1 .1 .1 .0 .1 .0 .1) in (
       l .inv .0,
       turn-coded sheet (l .inv .1) h _ (row .result) _ full (rw template at (row .ensures)) (rw (← row .ensures) at (c .before .before .before .before .before .code-of .ensures)) (c .before .before .before .code .given .1) (rw template at (c .before .choice-behind .ensures))
           (rw (c .before .before .before .before .before .before .row-of .ensures) (row-sound _ _ (omega arith) (omega (arith, c .before .before .before .before .before .before .before .before .before .before .last-field .ensures)))),

@@ -3,9 +3,9 @@ use mathlib.Core.Path.{refl, sym}
 use mathlib.Core.List.{[], append-nil}
 use borrow.Author.Needs.{needs}
 use native.Mathlib.Omega.{arith}
-use Rattle.fields.proofs.TemplateFacts.{last-most}
+use Rattle.fields.proofs.TemplateFacts.{number-lt, last-most}
 use Rattle.build.proofs.Coding.{basic-fewer}
-use Rattle.build.proofs.BuiltIn.{number-lt, sheet-filling}
+use Rattle.build.proofs.BuiltIn.{sheet-filling}
 use Rattle.build.proofs.Filling.{room-first, filling-more, filled}
 use Rattle.build.proofs.write.lay_sheet.Statement.{statement}
 use Rattle.build.proofs.write.lay_sheet.Tie as tie

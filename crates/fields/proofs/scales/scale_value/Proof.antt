@@ -2,9 +2,9 @@ use mathlib.Core.Path.{ap, _∙_}
 use native.Mathlib.Omega.{arith}
 use borrow.Author.Needs.{needs}
 use lib.IntN.{pos}
-use Rattle.fields.specs.declared.Scale.the-variants.{ResponseTime}
+use Rattle.fields.specs.declared.Scale.the-variants.{ResponseTime, Current}
 use Rattle.fields.proofs.EncodeLaws.{handed-on}
-use Rattle.fields.proofs.ScaleLaws.{response, entry}
+use Rattle.fields.proofs.ScaleLaws.{entry}
 use Rattle.fields.proofs.scales.scale_value.Statement.{statement}
 use Rattle.fields.proofs.scales.scale_value.Tie as tie
 
@@ -13,7 +13,14 @@ scale-value-spec =
     tie.close
     (tie.spec
     (λ c. search needs)
-    (λ c κs. omega (arith, rw (response (c .before .args .scale)) at (c .before .pre)))
+    (λ c. search needs)
+    (λ c κs. omega (arith, rw (c .before .enum-told .given .1) at (c .before .before .before .pre)))
+    (λ c. search needs)
+    (λ c. search needs)
+    (λ c κs. omega (arith, rw (c .before .enum-told2 .given .1) at (c .before .before .before .pre)))
     (λ c.
-    let same = response (c .before .before .args .scale) in
-    rw same (handed-on (record { sfits = c .value-in .ok }) (c .value-in .ensures ∙ ap pos (entry ResponseTime _ tt _ (rw same at (c .before .before .pre)))))))
+    let same = c .before .before .enum-told .given .1 in
+    rw same (handed-on (record { sfits = c .value-in .ok }) (c .value-in .ensures ∙ ap pos (entry ResponseTime _ tt _ (rw same at (c .before .before .before .before .pre))))))
+    (λ c.
+    let same = c .before .before .enum-told2 .given .1 in
+    rw same (handed-on (record { sfits = c .value-in2 .ok }) (c .value-in2 .ensures ∙ ap pos (entry Current _ tt _ (rw same at (c .before .before .before .before .pre)))))))

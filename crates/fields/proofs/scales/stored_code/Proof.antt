@@ -1,7 +1,7 @@
 use mathlib.Core.Path.{_∙_}
 use borrow.Author.Needs.{needs}
-use Rattle.fields.specs.declared.Scale.the-variants.{ResponseTime}
-use Rattle.fields.proofs.ScaleLaws.{response, list-rises, within-list, stored-by}
+use Rattle.fields.specs.declared.Scale.the-variants.{ResponseTime, Current}
+use Rattle.fields.proofs.ScaleLaws.{list-rises, within-list, stored-by}
 use Rattle.fields.proofs.scales.stored_code.Statement.{statement}
 use Rattle.fields.proofs.scales.stored_code.Tie as tie
 
@@ -10,5 +10,10 @@ stored-code-spec =
     tie.close
     (tie.spec
     (λ c. search needs)
-    (λ c κs. (list-rises ResponseTime _ tt, within-list ResponseTime _ tt _ (rw (response (c .before .args .scale)) at (c .before .pre))))
-    (λ c. rw (response (c .before .before .args .scale)) (c .stored-in .ensures ∙ stored-by ResponseTime _ tt _)))
+    (λ c. search needs)
+    (λ c κs. (list-rises ResponseTime _ tt, within-list ResponseTime _ tt _ (rw (c .before .enum-told .given .1) at (c .before .before .before .pre))))
+    (λ c. search needs)
+    (λ c. search needs)
+    (λ c κs. (list-rises Current _ tt, within-list Current _ tt _ (rw (c .before .enum-told2 .given .1) at (c .before .before .before .pre))))
+    (λ c. rw (c .before .before .enum-told .given .1) (c .stored-in .ensures ∙ stored-by ResponseTime _ tt _))
+    (λ c. rw (c .before .before .enum-told2 .given .1) (c .stored-in2 .ensures ∙ stored-by Current _ tt _)))

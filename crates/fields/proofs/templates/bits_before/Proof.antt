@@ -1,12 +1,34 @@
-use Rattle.fields.specs.Lines.{basic, template33, linesOf}
-use Rattle.fields.proofs.RowLaws.{bridge}
+-- `templates::bits_before` meets its contract: of each template the bits of the electrical values are added to the others.
+use mathlib.Core.Path.{_≡_}
+use Prim.Native.Nat.{ℕ, _+_, _*_}
+use borrow.Author.Needs.{needs}
+use Rattle.fields.specs.declared.Row.{Row}
+use Rattle.fields.specs.Lines.{basic, template33, template32, linesOf}
+use Rattle.fields.proofs.RowLaws.{bridge-sound, resistance-sound}
 use Rattle.fields.proofs.templates.bits_before.Statement.{statement}
 use Rattle.fields.proofs.templates.bits_before.Tie as tie
 
+placed : {at ends : ℕ} (others k : ℕ) {row end : Row} → at ≡ others + k * end .width → row ≡ end → ends ≡ k * row .width → others + ends ≡ at
+placed others k e r n = rw (e, n, r)
+
 pub bits-before-spec : {M : Type 1} → statement M
-unfolding basic template33 linesOf
+unfolding basic template33 template32 linesOf
 bits-before-spec =
     tie.close
     (tie.spec
-    (λ c κs. (c .pre .0, rw (bridge (c .args .layout .template)) at (c .pre .1)))
-    (λ c. rw (bridge (c .before .args .layout .template)) (c .bridge-place .ensures)))
+    (λ c. search needs)
+    (λ c κs. (c .before .before .pre .0, rw (c .enum-told .given .1) at (c .before .before .pre .1)))
+    (λ c κs. search needs)
+    (λ c κs. rw (c .bridge-end .ensures) (bridge-sound (c .before .before .before .before .args .layout .precision) .most))
+    (λ c. search needs)
+    (λ c. search needs)
+    (λ c κs. (c .before .before .pre .0, rw (c .enum-told2 .given .1) at (c .before .before .pre .1)))
+    (λ c κs. search needs)
+    (λ c κs. rw (c .resistance-end .ensures) (resistance-sound (c .before .before .before .before .args .layout .precision) .most))
+    (λ c. search needs)
+    (λ c.
+    rw (c .before .before .before .enum-told .given .1)
+    (placed _ _ (c .before .before .bridge-bits .ensures .0 _) (c .before .bridge-end .ensures) (c .ends-before .ensures .0)))
+    (λ c.
+    rw (c .before .before .before .enum-told2 .given .1)
+    (placed _ _ (c .before .before .resistance-bits .ensures .0 _) (c .before .resistance-end .ensures) (c .ends-before2 .ensures .0))))

@@ -1,8 +1,14 @@
-use Rattle.fields.specs.Lines.{basic, template33, linesOf}
-use Rattle.fields.proofs.RowLaws.{bridge}
+use borrow.Author.Needs.{needs}
+use Rattle.fields.specs.Lines.{basic, template33, template32, linesOf}
 use Rattle.fields.proofs.templates.last_field.Statement.{statement}
 use Rattle.fields.proofs.templates.last_field.Tie as tie
 
 pub last-field-spec : {M : Type 1} → statement M
-unfolding basic template33 linesOf
-last-field-spec = tie.close (tie.spec (λ c. rw (bridge (c .args .template))))
+unfolding basic template33 template32 linesOf
+last-field-spec =
+    tie.close
+    (tie.spec
+    (λ c. search needs)
+    (λ c. search needs)
+    (λ c. rw (c .enum-told .given .1))
+    (λ c. rw (c .enum-told2 .given .1)))

@@ -1,13 +1,16 @@
-use native.Mathlib.Omega.{arith}
-use Rattle.fields.specs.Lines.{basic, template33, linesOf}
-use Rattle.fields.proofs.RowLaws.{bridge}
+use borrow.Author.Needs.{needs}
+use Rattle.fields.specs.Lines.{basic, template33, template32, linesOf}
 use Rattle.fields.proofs.templates.mark_of.Statement.{statement}
 use Rattle.fields.proofs.templates.mark_of.Tie as tie
 
 pub mark-of-spec : {M : Type 1} → statement M
-unfolding basic template33 linesOf
+unfolding basic template33 template32 linesOf
 mark-of-spec =
     tie.close
     (tie.spec
-    (λ c κs. omega (arith, rw (bridge (c .args .template)) at (c .pre .1)))
-    (λ c. rw (bridge (c .before .args .template)) (c .bridge-mark .ensures)))
+    (λ c. search needs)
+    (λ c κs. (c .before .before .pre .0, rw (c .enum-told .given .1) at (c .before .before .pre .1)))
+    (λ c. search needs)
+    (λ c κs. (c .before .before .pre .0, rw (c .enum-told2 .given .1) at (c .before .before .pre .1)))
+    (λ c. rw (c .before .enum-told .given .1) (c .bridge-mark .ensures))
+    (λ c. rw (c .before .enum-told2 .given .1) (c .resistance-mark .ensures)))

@@ -1,58 +1,32 @@
 use borrow.Author.Needs.{needs}
-use mathlib.Core.Path.{_≡_, sym, ap, _∙_}
-use Prim.Native.Nat.{ℕ}
+use mathlib.Core.Path.{sym, ap, _∙_}
 use mir.Facts.{toZ-ofZ}
-use Rattle.refusal.specs.Outcome.{good, refused}
-use Rattle.refusal.proofs.Outcomes.{told}
-use Rattle.layout.specs.Contents.{Contents}
-use Rattle.sheet.specs.Opened.{Opens}
-use Rattle.reading.specs.Reading.{spanOf}
-use Rattle.reading.specs.Steps.{Ready, spanSaid}
-use Rattle.reading.proofs.Spans.{span-ready}
-use Rattle.reading.proofs.Orders.{takes-no-span, takes-far, takes-shown}
+use Rattle.refusal.specs.Outcome.{refused}
+use Rattle.reading.proofs.Spans.{resistance-is}
+use Rattle.reading.proofs.Orders.{takes-none}
 use Rattle.reading.proofs.taking.reading_in.Statement.{statement}
 use Rattle.reading.proofs.taking.reading_in.Tie as tie
 
--- The span that was found, whatever the image holds.
-found : (c : tie.After-known-told2) →
-    let a = c .before .before .before .before .before .args in
-    (kind : ℕ) (x : Contents) → Opens kind (a .image .now) (a .sheet) x → spanOf x ≡ good (c .before .span .given .0 .0)
-found c kind x h = sym (told spanSaid (c .before .span .given .1) (c .before .before .before .span-in .ensures kind x h))
-
-ready : (c : tie.After-known-told2) → Ready (c .before .span .given .0 .0)
-ready c = let k = c .before .before .before .before .before .pre in span-ready (k .opens) (found c _ _ (k .opens))
-
 returns : tie.Need-returns
 returns c =
-    let m = c .before .before in
-    let s = m .before .before .before .before .before .before in
+    let t = c .before .before in
+    let s = t .before .before .before in
     λ kind x h.
-    ap refused (c .outside-span .ensures)
-    ∙ takes-far kind (s .args .image .now) (s .args .input) (h .accepted) (found (m .before) kind x h) (rw (toZ-ofZ (s .fits .input)) at (sym (m .is-too-far .ensures) ∙ c .before .if1 .taken))
+    ap refused (c .wrong-block .ensures)
+    ∙ takes-none kind (s .args .image .now) (s .args .input) (h .accepted)
+    (resistance-is h ∙ sym (t .is-resistance .ensures) ∙ c .before .if1 .taken)
 
 returns-2 : tie.Need-returns-2
 returns-2 c =
     let s = c .before .before .before .before .before in
-    λ kind x h. takes-no-span kind (s .args .image .now) (s .args .input) (h .accepted) (sym (told spanSaid (c .before .r .given .1) (c .before .before .before .span-in .ensures kind x h)))
-
-returns-3 : tie.Need-returns-3
-returns-3 c =
-    let m = c .before .before in
-    let s = m .before .before .before .before .before .before in
-    λ kind x h.
-    ap good (rw (toZ-ofZ (s .fits .input)) at (c .shown .ensures kind x h))
-    ∙ takes-shown kind (s .args .image .now) (s .args .input) (h .accepted) (found (m .before) kind x h) (rw (toZ-ofZ (s .fits .input)) at (sym (m .is-too-far .ensures) ∙ c .before .if1 .left))
+    λ kind x h. rw (toZ-ofZ (s .fits .input)) at (c .bridge-reading .ensures kind x h)
 
 pub reading-in-spec : {M : Type 1} → statement M
 reading-in-spec =
     tie.close
     (tie.spec
     (λ c κs. search needs)
-    (λ c. search needs)
-    (λ c. search needs)
-    (λ c κs. ready c)
     (λ c κs. search needs)
     returns
-    (λ c κs. let m = c .before in (m .before .before .before .before .before .before .pre, ready (m .before), sym (m .is-too-far .ensures) ∙ c .if1 .left))
-    returns-2
-    returns-3)
+    (λ c κs. (c .before .before .before .before .pre, sym (c .before .is-resistance .ensures) ∙ c .if1 .left))
+    returns-2)
