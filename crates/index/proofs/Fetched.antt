@@ -15,23 +15,24 @@ use Rattle.memory.specs.Bits.{number, fieldAt}
 use Rattle.memory.specs.Image.{streamBits, streamNumber}
 use Rattle.memory.proofs.Chips.{sizes-chip}
 use Rattle.fields.specs.declared.Row.{Row}
-use Rattle.fields.specs.declared.Mark.{Mark}
 use Rattle.fields.specs.declared.Template.{Template}
-use Rattle.fields.specs.declared.Template.the-variants.{Bridge}
+use Rattle.fields.specs.declared.Template.the-variants.{Bridge, Resistance}
+use Rattle.fields.specs.declared.Mark.{Mark}
+use Rattle.fields.specs.declared.Mark.the-variants.{Cal}
 use Rattle.fields.specs.declared.Layout.{Layout}
 use Rattle.fields.specs.Rules.{decode}
-use Rattle.fields.specs.Rows.{electrical}
-use Rattle.fields.specs.Lines.{Line, chosen, basic, template33, templateLines, linesOf, lastField, lineOf, rowOf, noLine}
-use Rattle.fields.proofs.RowLaws.{bridge}
+use Rattle.fields.specs.Rows.{bridgeEnd, resistanceEnd}
+use Rattle.fields.specs.Lines.{Line, chosen, basic, template33, template32, templateLines, numberOf, linesOf, lastField, lineOf, rowOf, noLine}
+use Rattle.layout.specs.Format.{Stream}
 use Rattle.layout.specs.Contents.{Contents}
 use Rattle.layout.specs.Image.{streamIn, contents, field, layoutOf}
 use Rattle.layout.specs.Places.{fieldPlace}
-use Rattle.layout.proofs.Accepted.{Accepted, contents-accepted}
+use Rattle.layout.proofs.Accepted.{Holding, number-stands, Accepted, contents-accepted}
 use Rattle.layout.proofs.Standing.{Stands, field-stands}
 use Rattle.sheet.specs.Check.{readField}
 use Rattle.sheet.proofs.ReadLaws.{accepted-reads}
 use Rattle.index.specs.declared.Entry.{Entry}
-use Rattle.index.specs.Index.{entry, entries, entryBytes, templateAt, entryAt, rowOfLength, bitsAt, fetchIn, fetch}
+use Rattle.index.specs.Index.{entry, entries, entryBytes, takenAs, templateAt, entryAt, rowOfLength, bitsAt, fetchIn, fetch}
 use Rattle.index.specs.Laid.{entryOf}
 use Rattle.index.proofs.Laying.{bytes-count}
 use Rattle.index.proofs.EntryLaws.{noEntry, of-field, entries-count, lies}
@@ -84,15 +85,25 @@ one : (mark : Mark) (sets : Bool) (row : Row) → Told (record { mark = mark; se
 unfolding Told
 one mark sets row at p = rw (eq-eqb (row .width) (row .width) refl)
 
-ends : (mark : Mark) → Told (chosen mark electrical)
+bridge-ends : Told (chosen Cal bridgeEnd)
 unfolding Told
-ends mark at zero = refl
-ends mark at (suc zero) = refl
-ends mark at (suc (suc p)) = refl
+bridge-ends at zero = refl
+bridge-ends at (suc zero) = refl
+bridge-ends at (suc (suc p)) = refl
+
+resistance-ends : Told (chosen Cal resistanceEnd)
+unfolding Told
+resistance-ends at zero = refl
+resistance-ends at (suc zero) = refl
+resistance-ends at (suc (suc zero)) = refl
+resistance-ends at (suc (suc (suc p))) = refl
 
 told-template : (t : Template) → Tolds (templateLines t)
-unfolding Tolds template33
-told-template Bridge = (one _ _ _, (one _ _ _, (one _ _ _, (one _ _ _, (ends _, (ends _, (one _ _ _, (one _ _ _, (one _ _ _, (one _ _ _, (one _ _ _, (one _ _ _, (one _ _ _, (one _ _ _, (one _ _ _, (one _ _ _, tt))))))))))))))))
+unfolding Tolds template33 template32
+told-template Bridge =
+    (one _ _ _, (one _ _ _, (one _ _ _, (one _ _ _, (bridge-ends, (bridge-ends, (one _ _ _, (one _ _ _, (one _ _ _, (one _ _ _, (one _ _ _, (one _ _ _, (one _ _ _, (one _ _ _, (one _ _ _, (one _ _ _, tt))))))))))))))))
+told-template Resistance =
+    (one _ _ _, (one _ _ _, (one _ _ _, (one _ _ _, (resistance-ends, (resistance-ends, (one _ _ _, (one _ _ _, (one _ _ _, (one _ _ _, (one _ _ _, (one _ _ _, (one _ _ _, (one _ _ _, tt))))))))))))))
 
 told-lines : (t : Template) → Tolds (linesOf t)
 unfolding Tolds linesOf basic
@@ -111,8 +122,13 @@ row-told layout f at = told-at (linesOf (layout .template)) (told-lines (layout 
 -- ---- the fetch
 
 -- A fetch takes the template that the sheet has.
-pub template-told : (stream : ℕ) (c : Contents) → templateAt stream ≡ c .template
-template-told stream c = sym (bridge (c .template))
+number-told : (t : Template) → takenAs (numberOf t) ≡ t
+number-told Bridge = refl
+number-told Resistance = refl
+
+template-told : {s : Stream} {c : Contents} → Holding s c → templateAt (s .number) ≡ c .template
+unfolding templateAt
+template-told {c = c} h = ap takenAs (number-stands h) ∙ number-told (c .template)
 
 module _ (kind : ℕ) (image made : List ℕ) (c : Contents) (e : contents kind image ≡ good c) (rest : List ℕ) (is : made ≡ entryBytes (entries c) ++ rest) where
   accepted : Accepted kind image c
@@ -125,7 +141,7 @@ module _ (kind : ℕ) (image made : List ℕ) (c : Contents) (e : contents kind 
   N = streamNumber z image
 
   last-is : lastField (templateAt N) ≡ lastField (c .template)
-  last-is = ap lastField (template-told N c)
+  last-is = ap lastField (template-told (accepted .holding))
 
   long : 4 * lastField (templateAt N) ≤ length made
   long =
@@ -157,7 +173,7 @@ module _ (kind : ℕ) (image made : List ℕ) (c : Contents) (e : contents kind 
       ∙ of-field layout (f - 1) (omega arith)
       ∙ ap (λ (n : ℕ). entry (fieldPlace layout n) (rowOf layout n .width)) next in
       in-entry z image made f lo (omega (arith, last-is)) long
-      ∙ ap₂ (λ (t : Template) (x : Entry). rowOfLength (lineOf t f) x >>= λ r. bitsAt z image r x) (template-told N c) here
+      ∙ ap₂ (λ (t : Template) (x : Entry). rowOfLength (lineOf t f) x >>= λ r. bitsAt z image r x) (template-told (accepted .holding)) here
       ∙ ap (λ o. o >>= λ r. bitsAt z image r (entry at (row .width))) (row-told layout f at)
       ∙ stands-here row at (field c f .code) (st .inside) (st .code)
       ∙ st .field .means

@@ -1,4 +1,4 @@
--- Document 02, Note 2: an index beside the image, and a field fetched through it.
+-- Document 02, Notes 2 and 7: an index beside the image, and a field fetched through it.
 use mathlib.Core.Bool.{_||_, cond}
 use mathlib.Core.List.{List, [], _∷_, _++_, map}
 use Prim.Native.Nat.{ℕ, _+_, _-_, _*_}
@@ -12,12 +12,12 @@ use Rattle.memory.specs.Image.{imageSizes, sums, streamBits, streamNumber}
 use Rattle.fields.specs.declared.Value.{Value}
 use Rattle.fields.specs.declared.Row.{Row}
 use Rattle.fields.specs.declared.Template.{Template}
-use Rattle.fields.specs.declared.Template.the-variants.{Bridge}
+use Rattle.fields.specs.declared.Template.the-variants.{Bridge, Resistance}
 use Rattle.fields.specs.Rules.{decode}
-use Rattle.fields.specs.Lines.{Line, lastField, lineOf}
+use Rattle.fields.specs.Lines.{Line, numberOf, lastField, lineOf}
 use Rattle.layout.specs.Contents.{Found, FoundPair, Contents}
 use Rattle.layout.specs.Image.{contents, pairsIn}
-use Rattle.layout.specs.Places.{pairBits}
+use Rattle.layout.specs.Places.{firstNumber, pairBits}
 use Rattle.index.specs.declared.Entry.{Entry}
 
 -- ---- the index
@@ -33,7 +33,7 @@ fieldEntry x = entry (x .at) (x .row .width)
 abbrev pub pairEntry : FoundPair → Entry
 pairEntry p = entry (p .point .at) pairBits
 
--- Fields 1 to 21 come first, then the points.
+-- The template's fields come first, from 1 to its own last number, then the points.
 abbrev pub entries : Contents → List Entry
 entries c = map fieldEntry (c .fields) ++ map pairEntry (pairsIn (c .calibration))
 
@@ -52,9 +52,13 @@ index kind image buffer = do
 
 -- ---- a fetch
 
--- It does not walk the stream, and takes any first template as 33.
-abbrev pub templateAt : ℕ → Template
-templateAt stream = Bridge
+-- Any first template but 32 is taken as 33.
+abbrev pub takenAs : ℕ → Template
+takenAs number = cond (eqb number (numberOf Resistance)) Resistance Bridge
+
+-- It does not walk the stream: the eight bits of the first template's number are taken, whatever the selector before them holds.
+unfoldable pub templateAt : ℕ → Template
+templateAt stream = takenAs (fieldAt stream firstNumber 8)
 
 -- Entry i of an index, counted from 0.
 abbrev pub entryAt : List ℕ → ℕ → Entry
@@ -72,7 +76,8 @@ ofLength e (row ∷ rows) = cond (eqb (row .width) (e .length)) (good row) (ofLe
 abbrev pub choices : List ℕ
 choices = 0 ∷ 1 ∷ 2 ∷ 3 ∷ []
 
--- A field is understood by its entry's length: 10 and 11 have rows of 11, 19 and 32 bits, every other field has one.
+-- A field is understood by its entry's length: 10 and 11 have rows of 11, 19 and 32 bits, in template 32 of 7, 10, 16 and 32; every other field has
+-- one.
 abbrev pub rowOfLength : Line → Entry → Outcome Row
 rowOfLength line e = ofLength e (map (line .rowAt) choices)
 

@@ -6,7 +6,7 @@ ghost use Rattle.memory.specs.Answers.{Whole};
 ghost use Rattle.fields.specs.Lines.{lastField, lineOf};
 ghost use Rattle.fields.specs.Stored.{Sound};
 ghost use Rattle.sheet.specs.Check.{fieldSaid};
-ghost use Rattle.index.specs.Index.{templateAt, rowOfLength, bitsAt, fetchIn, fetch as fetchOf};
+ghost use Rattle.index.specs.Index.{takenAs, templateAt, rowOfLength, bitsAt, fetchIn, fetch as fetchOf};
 ghost use Rattle.index.specs.Laid.{rowSaid};
 use crate::Entry;
 use crate::entries;
@@ -31,11 +31,31 @@ enum RowAnswer {
 // How many codes a field that sets widths has at most.
 const CHOICES: u64 = 4;
 
-// The template whose fields are fetched: any first template is taken as 33.
+// The first bit of the first template's number, and its bits.
+const FIRST_NUMBER: usize = 66;
+
+const NUMBER_BITS: usize = 8;
+
+// The template that a number is taken as: any but 32 as 33.
+fn taken_as(number: u64) -> Template
+    ensures { λ r. ⌜ r ≡ takenAs number ⌝ }
+{
+    if number == fields::template_number(Template::Resistance) {
+        return Template::Resistance;
+    }
+    Template::Bridge
+}
+
+// The template whose fields are fetched, by the first template's number alone. Every stream has its bits.
 fn template_at(sizes: Sizes, image: &[u8]) -> Template
+    requires { ⌜ Whole sizes (now image) × (1 ≤ sizes .pages) ⌝ }
     ensures { λ r. ⌜ r ≡ templateAt (streamNumber sizes (now (image .entry))) ⌝ }
 {
-    Template::Bridge
+    let cursor = Cursor { at: FIRST_NUMBER };
+    match cursor.take(sizes, image, NUMBER_BITS) {
+        Taken::Refused(_) => Template::Bridge,
+        Taken::Field(number, _) => taken_as(number),
+    }
 }
 
 // Of a field's rows the one that is as long as its entry; 5 at the offset where there is none.
@@ -78,7 +98,7 @@ fn bits_at(sizes: Sizes, image: &[u8], row: Row, entry: Entry) -> FieldAnswer
 
 // A field of an image whose page sums are right: 8, then 18, then 5 and 6.
 fn fetch_in(sizes: Sizes, image: &[u8], index: &[u8], field: u64) -> FieldAnswer
-    requires { ⌜ Whole sizes (now image) ⌝ }
+    requires { ⌜ Whole sizes (now image) × (1 ≤ sizes .pages) ⌝ }
     ensures { λ r. ⌜ fieldSaid r ≡ fetchIn sizes (now (image .entry)) (now (index .entry)) field ⌝ }
 {
     let template = template_at(sizes, image);

@@ -1,4 +1,4 @@
-// Document 02, Note 2: an index beside the image, and a field fetched through it. An index is pairs of offset and length, which
+// Document 02, Notes 2 and 7: an index beside the image, and a field fetched through it. An index is pairs of offset and length, which
 // are called entries here. No call asks anything of its caller: any kind, any slices, any number.
 mod entries; // entries.rt: an entry in an index's bytes
 mod fetching; // fetching.rt: a field fetched

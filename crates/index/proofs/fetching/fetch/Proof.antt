@@ -4,6 +4,7 @@ use mathlib.Core.Path.{sym, ap, _∙_}
 use Rattle.refusal.specs.Outcome.{refused}
 use Rattle.refusal.proofs.Outcomes.{told}
 use Rattle.memory.specs.Answers.{sizesSaid, sumsSaid}
+use Rattle.memory.proofs.Chips.{sizes-chip}
 use Rattle.sheet.proofs.OpenLaws.{sized}
 use Rattle.index.proofs.FetchLaws.{fetch-unsized, fetch-turned, fetch-right}
 use Rattle.index.proofs.fetching.fetch.Statement.{statement}
@@ -19,7 +20,8 @@ fetch-in-requires : tie.Need-fetch-in-requires
 fetch-in-requires c κs =
     let z = c .before .before .before .before .before .before in
     let a = z .before .before .before .args in
-    sized (a .kind) (a .image .now) _ (z .image-sizes .ensures) (c .before .before .before .before .sizes .given .1)
+    let are = c .before .before .before .before .sizes .given .1 in
+    (sized (a .kind) (a .image .now) _ (z .image-sizes .ensures) are, sizes-chip (a .kind) _ _ (sym (told sizesSaid are (z .image-sizes .ensures))) .paged)
 
 returns : tie.Need-returns
 returns c =

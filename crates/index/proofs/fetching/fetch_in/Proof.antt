@@ -54,7 +54,7 @@ bits-at-requires c κs =
     let a = t .before .before .before .args in
     let last = r .before .before .before .before .before .last-field .ensures in
     let (sound, width) = length-sound _ (a .field) _ _ (omega arith) (omega arith) (sym (told rowSaid (c .before .row .given .1) (r .row-of-length .ensures))) in
-    (t .before .before .before .pre, sound, width)
+    (t .before .before .before .pre .0, sound, width)
 
 returns-4 : tie.Need-returns-4
 returns-4 c =
