@@ -1,12 +1,13 @@
 -- What is told may be handed in again, and a kind goes by the image's length.
 -- Assumes nothing.
-use mathlib.Core.Path.{_≡_, refl}
+use mathlib.Core.Path.{_≡_, refl, ap}
 use mathlib.Core.Bool.{Bool, true, false, not}
-use mathlib.Core.List.{List, [], _∷_, map, append-nil}
-use Prim.Native.Nat.{ℕ, zero, suc, _-_}
+use mathlib.Core.List.{List, [], _∷_, map, map-append}
+use Prim.Native.Nat.{ℕ, zero, suc, _-_, _<_}
 use native.Mathlib.Omega.{arith}
+use lib.IntN.{pos}
 use lib.Dec.{eqb}
-use lib.ListN.{length, length-map}
+use lib.ListN.{length, replicate, length-map}
 use borrow.Author.Tests.{eqb-true}
 use Rattle.refusal.specs.Outcome.{good, _>>_, refuse_if_}
 use Rattle.refusal.specs.Rows.{wrongImage}
@@ -14,12 +15,16 @@ use Rattle.memory.specs.declared.Sizes.{Sizes}
 use Rattle.memory.specs.Image.{imageSizes}
 use Rattle.fields.specs.declared.Value.{Value}
 use Rattle.fields.specs.declared.Value.the-variants.{Whole, Single, Missing}
+use Rattle.fields.specs.declared.Template.{Template}
+use Rattle.fields.specs.declared.Template.the-variants.{Bridge, Resistance}
+use Rattle.fields.specs.Lines.{numberOf}
 use Rattle.fields.specs.declared.Level.the-variants.{Owner}
 use Rattle.build.specs.Build.{slot}
 use Rattle.layout.specs.Pieces.{endCode}
-use Rattle.dartelm.specs.Values.{yes, valueOf, byFlags, slotOf, sheetOf}
+use Rattle.dartelm.specs.Values.{yes, templateBy, valueOf, byFlags, noValue, slotOf, sheetOf}
+use Rattle.dartelm.specs.Answers.{padded}
 use Rattle.dartelm.specs.Calls.{kindOf}
-use Rattle.dartelm.specs.Sheets.{AllFields, fieldsTold}
+use Rattle.dartelm.specs.Sheets.{AllFields, fieldNumbers, fieldsTold}
 
 pub value-again : (v : Value) → valueOf (byFlags v) ≡ v
 value-again (Whole z) = refl
@@ -34,11 +39,29 @@ flag-again : (b : Bool) → yes (endCode b) ≡ b
 flag-again true = refl
 flag-again false = refl
 
--- The fields of a sheet that was read are the sheet record that a build of them wants.
-pub sheet-again : (s : AllFields) → length (s .values) ≡ 21 → sheetOf (fieldsTold s) ≡ record { fields = map slot (s .values); «end_bit» = s .summary .«end_bit»; level = Owner }
-sheet-again s e =
-    let none : 21 - length (map byFlags (s .values)) ≡ 0 = rw length-map (omega arith) in
-    rw (none, append-nil, values-again (s .values), flag-again (s .summary .«end_bit»))
+zeros-again : (n : ℕ) → map slotOf (replicate n noValue) ≡ replicate n (slot (Whole (pos 0)))
+zeros-again zero = refl
+zeros-again (suc n) = ap (λ l. slot (Whole (pos 0)) ∷ l) (zeros-again n)
+
+template-again : (t : Template) → templateBy (numberOf t) ≡ t
+template-again Bridge = refl
+template-again Resistance = refl
+
+-- A template's number is a byte.
+pub number-small : (t : Template) {n : ℕ} → n ≡ numberOf t → n < 256
+number-small Bridge e = omega arith
+number-small Resistance e = omega arith
+
+-- The fields of a sheet that was read are the sheet record that a build of them wants: behind the template's last field there are zeros, which it does not look at.
+pub sheet-again : (s : AllFields) → sheetOf (fieldsTold (fieldNumbers s)) ≡
+    record {
+      template = s .summary .template;
+      fields = padded 21 (slot (Whole (pos 0))) (map slot (s .values));
+      «end_bit» = s .summary .«end_bit»;
+      level = Owner;
+    }
+sheet-again s =
+    rw (template-again (s .summary .template), map-append, values-again (s .values), zeros-again, flag-again (s .summary .«end_bit»), length-map (s .values) byFlags, length-map (s .values) slot)
 
 -- ---- kinds
 

@@ -11,14 +11,15 @@ use Rattle.refusal.specs.Outcome.{good, refused}
 use Rattle.refusal.specs.declared.Refusal.{Refusal}
 use Rattle.layout.specs.Contents.{Contents}
 use Rattle.fields.specs.declared.Value.{Value}
+use Rattle.fields.specs.Lines.{numberOf}
 use Rattle.sheet.specs.declared.Summary.{Summary}
 use Rattle.layout.specs.Image.{contents, nothing, field}
 use Rattle.sheet.specs.Check.{summary, readField}
 use Rattle.layout.specs.Pieces.{endCode}
 use Rattle.dartelm.specs.declared.values.DartelmValue.{DartelmValue}
 use Rattle.dartelm.specs.Values.{byFlags, noValue}
-use Rattle.dartelm.specs.Answers.{told}
-use Rattle.dartelm.specs.Sheets.{fieldReads, readFields, sheetAnswer, noFields}
+use Rattle.dartelm.specs.Answers.{toldAs}
+use Rattle.dartelm.specs.Sheets.{fieldReads, readFields, sheetAnswer, fieldNumbers, noFields}
 use Rattle.dartelm.specs.Found.{valueIn, foundFields}
 use Rattle.dartelm.proofs.Filling.{filled, filled-more, filled-whole}
 
@@ -44,17 +45,27 @@ sheet-refused kind image r e = rw e
 
 -- ---- the fields of an opened sheet, one after the other
 
-module _ (c : Contents) (many : length (c .fields) ≡ 21) where
-  pub one-more : (i : ℕ) (array : List DartelmValue) (b : DartelmValue) (v : Value) → i < 21 → array ≡ filled byFlags 21 noValue (foundFields c .values) i
-      → v ≡ field c (i + 1) .value → b ≡ byFlags v → set array i b ≡ filled byFlags 21 noValue (foundFields c .values) (i + 1)
-  one-more i array b v h e f g =
+module _ (c : Contents) where
+  pub one-more : (i : ℕ) (array : List DartelmValue) (b : DartelmValue) (v : Value) → i < 21 → i < length (c .fields)
+      → array ≡ filled byFlags 21 noValue (foundFields c .values) i → v ≡ field c (i + 1) .value → b ≡ byFlags v
+      → set array i b ≡ filled byFlags 21 noValue (foundFields c .values) (i + 1)
+  one-more i array b v h k e f g =
       let this : i + 1 - 1 ≡ i = omega arith in
       let held : v ≡ getD (map valueIn (c .fields)) i (valueIn nothing) = rw this at f ∙ sym (List·getD-map valueIn (c .fields) i nothing) in
       filled-more byFlags 21 noValue (map valueIn (c .fields)) i b (valueIn nothing) array h (rw length-map (omega arith)) e (g ∙ ap byFlags held)
 
-  pub all-told : (i : ℕ) (array : List DartelmValue) (s : Summary) → 21 ≤ i → array ≡ filled byFlags 21 noValue (foundFields c .values) i → s ≡ summary c
-      → record { number = 0; place = 0; bits = s .bits; points = s .points; characters = s .characters; «field_count» = 21; fields = record { values = array; «end_bit» = endCode (s .«end_bit»); level = 0 } }
-      ≡ told sheetAnswer noFields (good (foundFields c))
-  all-told i array s h e f =
-      let count : length (map valueIn (c .fields)) ≡ 21 = length-map (c .fields) valueIn ∙ many in
-      rw (f, filled-whole byFlags 21 noValue (map valueIn (c .fields)) i array (omega arith) e, count)
+  pub all-told : (i n : ℕ) (array : List DartelmValue) (s : Summary) (number : ℕ) → n ≤ i → n ≡ length (c .fields) → number ≡ numberOf (s .template)
+      → array ≡ filled byFlags 21 noValue (foundFields c .values) i → s ≡ summary c
+      → record {
+        number = 0;
+        place = 0;
+        bits = s .bits;
+        points = s .points;
+        characters = s .characters;
+        «field_count» = n;
+        fields = record { values = array; «end_bit» = endCode (s .«end_bit»); level = 0; template = number };
+      }
+      ≡ toldAs sheetAnswer fieldNumbers noFields (good (foundFields c))
+  all-told i n array s number h many t e f =
+      let count : n ≡ length (map valueIn (c .fields)) = many ∙ sym (length-map (c .fields) valueIn) in
+      rw (t, f, filled-whole byFlags 21 noValue (map valueIn (c .fields)) i array (omega arith) e, count)

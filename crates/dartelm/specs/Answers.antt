@@ -1,5 +1,4 @@
 -- include/dartelm.h: the struct that a call answers, from its outcome. Each struct is made of a number, a place and the call's values.
-use mathlib.Core.Bool.{false}
 use mathlib.Core.List.{List, [], _++_, map}
 use Prim.Native.Nat.{ℕ, _-_}
 use lib.IntN.{pos}
@@ -8,6 +7,7 @@ use lib.ListN.{length, replicate}
 use Rattle.refusal.specs.Outcome.{Outcome, good, refused}
 use Rattle.fields.specs.declared.Value.{Value}
 use Rattle.fields.specs.declared.Value.the-variants.{Whole}
+use Rattle.fields.specs.Lines.{numberOf}
 use Rattle.sheet.specs.declared.Summary.{Summary}
 use Rattle.fields.specs.declared.Pair.{Pair}
 use Rattle.layout.specs.Pieces.{endCode}
@@ -26,10 +26,13 @@ use Rattle.dartelm.specs.declared.answers.DartelmCodeAnswer.{DartelmCode
 use Rattle.dartelm.specs.declared.answers.DartelmPageAnswer.{DartelmPageAnswer}
 use Rattle.dartelm.specs.Values.{plusZero, byFlags}
 
--- What is accepted is told with number 0 and place 0; a refusal with its number and place, and with zeros for values.
+-- What is accepted is told with number 0 and place 0, its values as the struct has them; a refusal with its number and place, and with zeros for values.
+abbrev pub toldAs : {A B S : Type 0} → (ℕ → ℕ → B → S) → (A → B) → B → Outcome A → S
+toldAs answer inNumbers zeros (good a) = answer 0 0 (inNumbers a)
+toldAs answer inNumbers zeros (refused r) = answer (r .number) (r .place) zeros
+
 abbrev pub told : {A S : Type 0} → (ℕ → ℕ → A → S) → A → Outcome A → S
-told answer zeros (good a) = answer 0 0 a
-told answer zeros (refused r) = answer (r .number) (r .place) zeros
+told answer zeros o = toldAs answer (λ a. a) zeros o
 
 -- A list at the start of an array of n elements, with its zero in those behind.
 abbrev pub padded : {A : Type 0} → ℕ → A → List A → List A
@@ -37,12 +40,29 @@ padded n zero list = list ++ replicate (n - length list) zero
 
 -- ---- the structs, and their zeros
 
-abbrev pub checkAnswer : ℕ → ℕ → Summary → DartelmCheckAnswer
-checkAnswer n p s =
-    record { number = n; place = p; bits = s .bits; points = s .points; characters = s .characters; «end_bit» = endCode (s .«end_bit») }
+-- What a check gives, as numbers.
+pub record Numbers : Type 0 where
+  pub bits : ℕ
+  pub points : ℕ
+  pub characters : ℕ
+  pub endBit : ℕ
+  pub template : ℕ
 
-abbrev pub noSummary : Summary
-noSummary = record { bits = 0; points = 0; «end_bit» = false; characters = 0 }
+abbrev pub numbers : Summary → Numbers
+numbers s = record {
+  bits = s .bits;
+  points = s .points;
+  characters = s .characters;
+  endBit = endCode (s .«end_bit»);
+  template = numberOf (s .template);
+}
+
+abbrev pub noNumbers : Numbers
+noNumbers = record { bits = 0; points = 0; characters = 0; endBit = 0; template = 0 }
+
+abbrev pub checkAnswer : ℕ → ℕ → Numbers → DartelmCheckAnswer
+checkAnswer n p s =
+    record { number = n; place = p; bits = s .bits; points = s .points; characters = s .characters; «end_bit» = s .endBit; template = s .template }
 
 abbrev pub fieldAnswer : ℕ → ℕ → Value → DartelmFieldAnswer
 fieldAnswer n p v = record { number = n; place = p; value = byFlags v }

@@ -25,11 +25,11 @@ use Rattle.dartelm.specs.declared.answers.DartelmTextAnswer.{DartelmText
 use Rattle.dartelm.specs.declared.answers.DartelmCodeAnswer.{DartelmCodeAnswer}
 use Rattle.dartelm.specs.declared.answers.DartelmPageAnswer.{DartelmPageAnswer}
 use Rattle.dartelm.specs.Values.{levelOf, valueOf, sheetOf}
-use Rattle.dartelm.specs.Answers.{told, checkAnswer, noSummary, fieldAnswer, pairAnswer, noPair, characterAnswer, proposalAnswer, noProposal, readingAnswer, noReading, textAnswer, codeAnswer, pageAnswer}
+use Rattle.dartelm.specs.Answers.{toldAs, told, numbers, noNumbers, checkAnswer, fieldAnswer, pairAnswer, noPair, characterAnswer, proposalAnswer, noProposal, readingAnswer, noReading, textAnswer, codeAnswer, pageAnswer}
 
 -- The number of this archive and its header.
 abbrev pub version : ℕ
-version = 2
+version = 3
 
 -- ---- kinds
 
@@ -49,7 +49,7 @@ kindOf bytes =
 -- ---- check and read
 
 abbrev pub checkCall : ℕ → List ℕ → DartelmCheckAnswer
-checkCall kind image = told checkAnswer noSummary (check kind image)
+checkCall kind image = toldAs checkAnswer numbers noNumbers (check kind image)
 
 abbrev pub fieldCall : ℕ → List ℕ → ℕ → DartelmFieldAnswer
 fieldCall kind image field = told fieldAnswer (Whole (pos 0)) (readField kind image field)

@@ -7,11 +7,10 @@ use Rattle.fields.specs.declared.Value.{Value}
 use Rattle.sheet.specs.declared.Summary.{Summary}
 use Rattle.layout.specs.Image.{contents}
 use Rattle.sheet.specs.Check.{summary, readField}
-use Rattle.layout.specs.Pieces.{endCode}
 use Rattle.dartelm.specs.declared.values.DartelmFields.{DartelmFields}
 use Rattle.dartelm.specs.declared.answers.DartelmSheetAnswer.{DartelmSheetAnswer}
 use Rattle.dartelm.specs.Values.{byFlags, noValue}
-use Rattle.dartelm.specs.Answers.{told, padded, noSummary}
+use Rattle.dartelm.specs.Answers.{toldAs, padded, Numbers, numbers, noNumbers}
 
 -- What a check gives, and the values of all fields.
 pub record AllFields : Type 0 where
@@ -35,24 +34,33 @@ readFields kind image = do
 
 -- ---- the struct
 
--- Field f stands at index f − 1. A level is not stored: the owner's number is told.
-abbrev pub fieldsTold : AllFields → DartelmFields
-fieldsTold s = record { values = padded 21 noValue (map byFlags (s .values)); «end_bit» = endCode (s .summary .«end_bit»); level = 0 }
+-- What a check gives, as numbers, and the values of all fields.
+pub record FieldNumbers : Type 0 where
+  pub numbers : Numbers
+  pub values : List Value
 
-abbrev pub sheetAnswer : ℕ → ℕ → AllFields → DartelmSheetAnswer
+abbrev pub fieldNumbers : AllFields → FieldNumbers
+fieldNumbers s = record { numbers = numbers (s .summary); values = s .values }
+
+abbrev pub noFields : FieldNumbers
+noFields = record { numbers = noNumbers; values = [] }
+
+-- Field f stands at index f − 1. A level is not stored: the owner's number is told.
+abbrev pub fieldsTold : FieldNumbers → DartelmFields
+fieldsTold s =
+    record { values = padded 21 noValue (map byFlags (s .values)); «end_bit» = s .numbers .endBit; level = 0; template = s .numbers .template }
+
+abbrev pub sheetAnswer : ℕ → ℕ → FieldNumbers → DartelmSheetAnswer
 sheetAnswer n p s =
     record {
       number = n;
       place = p;
-      bits = s .summary .bits;
-      points = s .summary .points;
-      characters = s .summary .characters;
+      bits = s .numbers .bits;
+      points = s .numbers .points;
+      characters = s .numbers .characters;
       «field_count» = length (s .values);
       fields = fieldsTold s;
     }
 
-abbrev pub noFields : AllFields
-noFields = record { summary = noSummary; values = [] }
-
 abbrev pub sheetCall : ℕ → List ℕ → DartelmSheetAnswer
-sheetCall kind image = told sheetAnswer noFields (readFields kind image)
+sheetCall kind image = toldAs sheetAnswer fieldNumbers noFields (readFields kind image)

@@ -7,6 +7,9 @@ use lib.IntN.{pos}
 use lib.Ieee.{Float, Format, binary32, ofBits}
 use Rattle.fields.specs.declared.Value.{Value}
 use Rattle.fields.specs.declared.Value.the-variants.{Whole, Single, Missing}
+use Rattle.fields.specs.declared.Template.{Template}
+use Rattle.fields.specs.declared.Template.the-variants.{Bridge, Resistance}
+use Rattle.fields.specs.Lines.{numberOf}
 use Rattle.fields.specs.declared.Level.{Level}
 use Rattle.fields.specs.declared.Level.the-variants.{Owner, CalibrationRoom, Maker}
 use Rattle.build.specs.declared.Slot.{Slot}
@@ -29,6 +32,10 @@ levelOf (suc zero) = CalibrationRoom
 levelOf (suc (suc zero)) = Maker
 levelOf (suc (suc (suc n))) = Owner
 
+-- A template by its number: 32 is template 32, any other is taken as 33.
+abbrev pub templateBy : ℕ → Template
+templateBy number = cond (eqb number (numberOf Resistance)) Resistance Bridge
+
 -- The float of a format whose bits are 0: +0.0.
 abbrev pub plusZero : Format → Float
 plusZero format = ofBits format 0
@@ -48,4 +55,4 @@ abbrev pub slotOf : DartelmValue → Slot
 slotOf v = slot (valueOf v)
 
 abbrev pub sheetOf : DartelmFields → Sheet
-sheetOf f = record { fields = map slotOf (f .values); «end_bit» = yes (f .«end_bit»); level = levelOf (f .level) }
+sheetOf f = record { template = templateBy (f .template); fields = map slotOf (f .values); «end_bit» = yes (f .«end_bit»); level = levelOf (f .level) }

@@ -3,8 +3,8 @@
 use crate::values::DartelmFields;
 use crate::values::DartelmValue;
 
-// An image that was checked: the bits up to the end (a zero that ends the text counted), the calibration points, the end
-// bit and the characters of the closing text.
+// An image that was checked: the bits up to the end (a zero that ends the text counted), the calibration points, the
+// characters of the closing text, the end bit and the first template's number.
 #[repr(C)]
 pub struct DartelmCheckAnswer {
     pub number: u8,
@@ -13,6 +13,7 @@ pub struct DartelmCheckAnswer {
     pub points: u64,
     pub characters: u64,
     pub end_bit: u8,
+    pub template: u8,
 }
 
 // A field's value.

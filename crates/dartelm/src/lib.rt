@@ -62,7 +62,7 @@ use values::DartelmValue;
 pub extern "C" fn dartelm_version() -> u32
     ensures { λ r. ⌜ r ≡ version ⌝ }
 {
-    2
+    3
 }
 
 // The kind of the images that have so many bytes: 0, 1 or 2; 255 where no kind has.
@@ -91,15 +91,20 @@ pub extern "C" fn dartelm_check(kind: u8, image: &[u8]) -> DartelmCheckAnswer
             points: 0,
             characters: 0,
             end_bit: 0,
+            template: 0,
         },
-        Checked::Accepted(summary) => DartelmCheckAnswer {
-            number: 0,
-            place: 0,
-            bits: summary.bits,
-            points: summary.points,
-            characters: summary.characters,
-            end_bit: summary.end_bit as u8,
-        },
+        Checked::Accepted(summary) => {
+            let template = summary.template;
+            DartelmCheckAnswer {
+                number: 0,
+                place: 0,
+                bits: summary.bits,
+                points: summary.points,
+                characters: summary.characters,
+                end_bit: summary.end_bit as u8,
+                template: fields::template_number(template) as u8,
+            }
+        }
     }
 }
 

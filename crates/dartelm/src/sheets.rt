@@ -11,18 +11,21 @@ ghost use Prim.Native.Nat.{ℕ};
 ghost use Rattle.refusal.specs.Outcome.{good, refused};
 ghost use Rattle.layout.specs.Contents.{Contents};
 ghost use Rattle.sheet.specs.Opened.{Opens, Held};
-ghost use Rattle.dartelm.specs.Answers.{told};
-ghost use Rattle.dartelm.specs.Sheets.{sheetAnswer, noFields};
+ghost use Rattle.dartelm.specs.Answers.{toldAs};
+ghost use Rattle.dartelm.specs.Sheets.{sheetAnswer, fieldNumbers, noFields};
 ghost use Rattle.dartelm.specs.Found.{foundFields};
 
 // What a check gives, and the values of all fields, one after the other.
 pub fn sheet_in(sheet: Opened, image: &[u8]) -> DartelmSheetAnswer
     requires { ⌜ Held sheet (now image) ⌝ }
-    ensures { λ r. ⌜ ((kind : ℕ) (c : Contents) → Opens kind (now (image .entry)) sheet c → r ≡ told sheetAnswer noFields (good (foundFields c))) ⌝ }
+    ensures { λ r. ⌜ ((kind : ℕ) (c : Contents) → Opens kind (now (image .entry)) sheet c → r ≡ toldAs sheetAnswer fieldNumbers noFields (good (foundFields c))) ⌝ }
 {
+    let layout = sheet.layout;
+    let template = layout.template;
+    let count = fields::last_field(template);
     let mut values = [no_value(); 21];
     let mut at: usize = 0;
-    while at < 21 {
+    while at < count as usize {
         values[at] = by_flags(value_in(sheet, image, at as u64 + 1));
         at += 1;
     }
@@ -31,6 +34,7 @@ pub fn sheet_in(sheet: Opened, image: &[u8]) -> DartelmSheetAnswer
         values,
         end_bit: summary.end_bit as u8,
         level: 0,
+        template: fields::template_number(template) as u8,
     };
     DartelmSheetAnswer {
         number: 0,
@@ -38,19 +42,20 @@ pub fn sheet_in(sheet: Opened, image: &[u8]) -> DartelmSheetAnswer
         bits: summary.bits,
         points: summary.points,
         characters: summary.characters,
-        field_count: 21,
+        field_count: count,
         fields,
     }
 }
 
 // A refusal, and zeros.
 pub fn no_sheet(r: Refusal) -> DartelmSheetAnswer
-    ensures { λ s. ⌜ s ≡ told sheetAnswer noFields (refused r) ⌝ }
+    ensures { λ s. ⌜ s ≡ toldAs sheetAnswer fieldNumbers noFields (refused r) ⌝ }
 {
     let fields = DartelmFields {
         values: [no_value(); 21],
         end_bit: 0,
         level: 0,
+        template: 0,
     };
     DartelmSheetAnswer {
         number: r.number,

@@ -1,9 +1,10 @@
 // A field's value by two flags, and the values of a sheet: what C hands in and is handed. A flag is yes where it is not 0.
 ghost use mathlib.Core.Path.{_≡_};
-ghost use Rattle.dartelm.specs.Values.{levelOf, valueOf, byFlags, noValue, sheetOf};
+ghost use Rattle.dartelm.specs.Values.{levelOf, templateBy, valueOf, byFlags, noValue, sheetOf};
 use build::Sheet;
 use build::Slot;
 use fields::Level;
+use fields::Template;
 use fields::Value;
 
 // Missing where `is_missing` is yes, else a Single where `is_single` is, else a whole number. What is told has 0 in every
@@ -16,12 +17,14 @@ pub struct DartelmValue {
     pub is_missing: u8,
 }
 
-// The values of fields 1 to 21, field 22's end bit, a flag, and the writer's level, which a build neither tests nor stores.
+// The values of a template's fields from 1 on, the end bit, a flag, the writer's level, which a build neither tests nor stores,
+// and the template's number. Values behind the template's last field are not looked at.
 #[repr(C)]
 pub struct DartelmFields {
     pub values: [DartelmValue; 21],
     pub end_bit: u8,
     pub level: u8,
+    pub template: u8,
 }
 
 // A level as C hands it in: 0 owner, 1 calibration room, 2 maker; any other is taken as the owner, the least of them.
@@ -33,6 +36,16 @@ pub fn level_of(given: u8) -> Level
         2 => Level::Maker,
         _ => Level::Owner,
     }
+}
+
+// A template as C hands it in: 32 is template 32, any other is taken as 33.
+pub fn template_of(given: u8) -> Template
+    ensures { λ r. ⌜ r ≡ templateBy given ⌝ }
+{
+    if given == 32 {
+        return Template::Resistance;
+    }
+    Template::Bridge
 }
 
 // The value that C hands in.
@@ -103,6 +116,7 @@ pub fn sheet_of(given: DartelmFields) -> Sheet
         at += 1;
     }
     Sheet {
+        template: template_of(given.template),
         fields,
         end_bit: given.end_bit != 0,
         level: level_of(given.level),

@@ -3,8 +3,8 @@
 use borrow.Author.Needs.{needs}
 use mathlib.Core.Path.{sym, ap, _∙_}
 use Rattle.sheet.proofs.OpenLaws.{opens, held, not-opened}
-use Rattle.dartelm.specs.Answers.{told}
-use Rattle.dartelm.specs.Sheets.{sheetAnswer, noFields}
+use Rattle.dartelm.specs.Answers.{toldAs}
+use Rattle.dartelm.specs.Sheets.{sheetAnswer, fieldNumbers, noFields}
 use Rattle.dartelm.proofs.SheetReads.{sheet-read, sheet-refused}
 use Rattle.dartelm.proofs.dartelm_sheet.Statement.{statement}
 use Rattle.dartelm.proofs.dartelm_sheet.Tie as tie
@@ -30,13 +30,13 @@ returns : tie.Need-returns
 returns c =
     let a = c .before .before .before .before .before .before .args in
     let r = not-opened (a .kind) (a .image .now) _ (c .before .before .before .before .«open» .ensures) (c .before .before .r .given .1) in
-    c .no-sheet .ensures ∙ sym (ap (told sheetAnswer noFields) (sheet-refused (a .kind) (a .image .now) _ r))
+    c .no-sheet .ensures ∙ sym (ap (toldAs sheetAnswer fieldNumbers noFields) (sheet-refused (a .kind) (a .image .now) _ r))
 
 returns-2 : tie.Need-returns-2
 returns-2 c =
     let a = c .before .before .before .before .before .before .args in
     let (x, p) = opens (a .kind) (a .image .now) _ (c .before .before .before .before .«open» .ensures) (c .before .before .opened .given .1) in
-    c .sheet-in .ensures (a .kind) x p ∙ sym (ap (told sheetAnswer noFields) (sheet-read (a .kind) (a .image .now) x (p .accepted)))
+    c .sheet-in .ensures (a .kind) x p ∙ sym (ap (toldAs sheetAnswer fieldNumbers noFields) (sheet-read (a .kind) (a .image .now) x (p .accepted)))
 
 pub dartelm-sheet-spec : {M : Type 1} → statement M
 dartelm-sheet-spec =
