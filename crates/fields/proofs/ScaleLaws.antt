@@ -2,8 +2,8 @@
 use mathlib.Core.Path.{_≡_, ap}
 use mathlib.Core.Bool.{Bool, _&&_}
 use mathlib.Core.List.{List}
-use Prim.Native.Nat.{ℕ, suc, _+_, _*_, _-_, _/_, _^_, _≤_}
-use native.Mathlib.Nat.{le-refl, le-of-lt}
+use Prim.Native.Nat.{ℕ, suc, _+_, _*_, _-_, _/_, _^_, _≤_, _<_}
+use native.Mathlib.Nat.{le-refl, le-of-lt, div-mul-le-self, lt-div-mul-add, one-le-pow}
 use native.Mathlib.Omega.{arith}
 use lib.Dec.{T, eqb, eqb→eq, ltb, ltb→lt}
 use lib.IntN.{natAbs}
@@ -13,7 +13,7 @@ use Rattle.integers.proofs.NearestLaws.{nearest-natural}
 use Rattle.fields.specs.declared.Scale.{Scale}
 use Rattle.fields.specs.declared.Scale.the-variants.{ResponseTime, Current}
 use Rattle.fields.specs.Rules.{Progression, progression, scaleWidth, topCode, geometricValue, storedAt}
-use Rattle.fields.specs.Stored.{Rising, ValuesRise}
+use Rattle.fields.specs.Stored.{Rising, ValuesRise, NearestUnit, ValuesNearest}
 use Rattle.fields.specs.Tables.{listed, RisingList}
 use Rattle.fields.proofs.Table.{each, at}
 use Rattle.fields.proofs.StoringLaws.{stored-same}
@@ -42,6 +42,24 @@ rising g n t =
 pub values-rise : ValuesRise
 values-rise ResponseTime = rising (progression ResponseTime) _ tt
 values-rise Current = rising (progression Current) _ tt
+
+-- ---- each is the nearest unit to the exact power
+
+nearest-unit : (num den : ℕ) → 0 < den → NearestUnit num den ((2 * num + den) / (2 * den))
+nearest-unit num den some =
+    record {
+      low = omega (arith, div-mul-le-self (2 * num + den) (2 * den));
+      high = omega (arith, lt-div-mul-add {a = 2 * num + den} {b = 2 * den} (omega arith));
+    }
+
+some-parts : (scale : Scale) → 1 ≤ progression scale .parts
+some-parts ResponseTime = omega arith
+some-parts Current = omega arith
+
+pub values-nearest : ValuesNearest
+values-nearest scale code =
+    let g : Progression = progression scale in
+    rw (size-is g code) (nearest-unit (g .start * (g .parts + 2 * g .tolerance) ^ code) (g .parts ^ code) (one-le-pow code (g .parts) (some-parts scale)))
 
 -- ---- a list of a scale's values
 

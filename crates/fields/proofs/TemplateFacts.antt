@@ -2,7 +2,7 @@
 use mathlib.Core.Path.{_≡_, refl}
 use mathlib.Core.Bool.{Bool, true, false, cond}
 use mathlib.Core.Option.{none, some}
-use Prim.Native.Nat.{ℕ, zero, suc, _^_, _≤_, _<_}
+use Prim.Native.Nat.{ℕ, zero, suc, _+_, _*_, _^_, _≤_, _<_}
 use native.Mathlib.Omega.{arith}
 use borrow.Author.Tests.{eqb-true}
 use lib.Dec.{eqb}
@@ -57,7 +57,8 @@ bits-few Resistance (suc zero) = omega arith
 bits-few Resistance (suc (suc zero)) = omega arith
 bits-few Resistance (suc (suc (suc p))) = omega arith
 
-pub bits-least : (t : Template) (p : ℕ) → 228 ≤ bitsBefore (linesOf t) p (lastField t)
+-- A template of fewer fields does not leave room for so many more points, of 37 bits each, that an index grows.
+pub bits-least : (t : Template) (p : ℕ) → 37 * lastField t ≤ bitsBefore (linesOf t) p (lastField t) + 512
 unfolding linesOf basic template33 template32
 bits-least Bridge zero = omega arith
 bits-least Bridge (suc zero) = omega arith

@@ -112,6 +112,16 @@ pub record Rising (value : ℕ → ℕ) (n : ℕ) : Type 0 where
 abbrev pub ValuesRise : Type 0
 ValuesRise = (scale : Scale) → Rising (geometricValue (progression scale)) (topCode (scaleWidth scale))
 
+-- And each is the unit nearest to the exact power, num / den: v − 1/2 ≤ num / den < v + 1/2, multiplied out.
+pub record NearestUnit (num den v : ℕ) : Type 0 where
+  pub low : 2 * (v * den) ≤ 2 * num + den
+  pub high : 2 * num < 2 * (v * den) + den
+
+abbrev pub ValuesNearest : Type 0
+ValuesNearest =
+    (scale : Scale) (code : ℕ) →
+    let g = progression scale in NearestUnit (g .start * (g .parts + 2 * g .tolerance) ^ code) (g .parts ^ code) (geometricValue g code)
+
 -- A figure between two neighbours goes to one of them, by the rule.
 abbrev pub GeometricBetween : Type 0
 GeometricBetween =

@@ -15,7 +15,7 @@ use Rattle.memory.specs.Image.{imageSizes, sums}
 use Rattle.memory.proofs.Chips.{sizes-chip}
 use Rattle.fields.specs.declared.Layout.{Layout}
 use Rattle.fields.specs.Lines.{lastField}
-use Rattle.fields.proofs.TemplateFacts.{last-full, bits-least}
+use Rattle.fields.proofs.TemplateFacts.{last-most, bits-least}
 use Rattle.layout.specs.Contents.{Contents}
 use Rattle.layout.specs.Image.{contents, nothing, field, layoutOf, pairsIn}
 use Rattle.layout.proofs.Accepted.{contents-accepted}
@@ -84,7 +84,7 @@ index-fits kind image c e = go (decLt (lastField (c .template)) (length (entries
     layout = layoutOf c
 
     go : Dec (lastField (c .template) < length (entries c)) → length (entryBytes (entries c)) ≤ 480
-    go (no l) = omega (arith, bytes-count (entries c), last-full (c .template))
+    go (no l) = omega (arith, bytes-count (entries c), last-most (c .template))
     go (yes l) =
         let a = contents-accepted kind image c e in
         let i : ℕ = length (entries c) - 1 in
@@ -93,7 +93,7 @@ index-fits kind image c e = go (decLt (lastField (c .template)) (length (entries
         omega (
           arith,
           bytes-count (entries c),
-          last-full (c .template),
+          last-most (c .template),
           bits-least (c .template) (layout .precision),
           fields-end layout,
           ap (λ (x : Entry). x .offset) at,

@@ -36,4 +36,4 @@ slots-real (s ∷ slots) [] h = absurd h
 slots-real (s ∷ slots) (u ∷ us) h = (value-real (s .value) (h .0 .0 .0) (h .0 .1 .1 .0), slots-real slots us (h .1))
 
 pub sheet-lendable : (s : Sheet) (vs : List Val) → Is (struct.row sheet.the-type) s vs → Lendable s
-sheet-lendable s vs h = record { fields = simp length-map at (h .1 .1 .0 .1 .0 .1); singles = slots-real (s .fields) (h .1 .1 .0 .0) (h .1 .1 .0 .1 .1) }
+sheet-lendable s vs h = record { fields = simp length-map at (h .1 .1 .1 .0 .1 .0 .1); singles = slots-real (s .fields) (h .1 .1 .1 .0 .0) (h .1 .1 .1 .0 .1 .1) }

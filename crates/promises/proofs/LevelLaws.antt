@@ -19,7 +19,7 @@ use Rattle.fields.specs.declared.Level.the-variants.{Owner, CalibrationRoom, Ma
 use Rattle.fields.specs.declared.Mark.{Mark}
 use Rattle.fields.specs.declared.Mark.the-variants.{Id, Cal, Usr}
 use Rattle.fields.specs.Rules.{encode}
-use Rattle.fields.specs.Lines.{Line, chose, basic, template33, templateLines, linesOf, lineOf, numberOf}
+use Rattle.fields.specs.Lines.{Line, chose, basic, template33, template32, templateLines, linesOf, lineOf, numberOf}
 use Rattle.fields.specs.Levels.{mayWrite, rank}
 use Rattle.memory.specs.Pieces.{Piece, piece}
 use Rattle.layout.specs.Pieces.{blockPieces}
@@ -34,8 +34,8 @@ use Rattle.change.proofs.Commits.{commit-allowed, commit-made}
 use Rattle.promises.specs.Levels.{FieldsOfLevels, changeAsBefore, MakerAsBefore, RefusedTo, LowerRefused, HigherMayToo, LevelsNest, atLevel, BuildAsksNoLevel}
 
 pub fields-of-levels : FieldsOfLevels
-unfolding linesOf basic template33
-fields-of-levels = record { owner = refl; calibrationRoom = refl; maker = refl }
+unfolding linesOf basic template33 template32
+fields-of-levels = record { owner = refl; calibrationRoom = refl; maker = refl; resistanceOwner = refl; resistanceRoom = refl; resistanceMaker = refl }
 
 -- ---- the maker
 

@@ -14,13 +14,14 @@ use Rattle.refusal.proofs.Outcomes.{good-same, good-bind, passed}
 use Rattle.memory.specs.Pieces.{Piece, piece, needed}
 use Rattle.memory.proofs.PieceLaws.{needed-append}
 use Rattle.fields.specs.declared.Value.the-variants.{Whole}
+use Rattle.fields.specs.declared.Rule.the-variants.{Plain}
 use Rattle.fields.specs.declared.Row.{Row}
 use Rattle.fields.specs.declared.Template.{Template}
-use Rattle.fields.specs.declared.Template.the-variants.{Bridge}
+use Rattle.fields.specs.declared.Template.the-variants.{Bridge, Resistance}
 use Rattle.fields.specs.declared.Layout.{Layout}
 use Rattle.fields.specs.Rules.{outside, encode}
-use Rattle.fields.specs.Rows.{precision as precisionRow}
-use Rattle.fields.specs.Lines.{Line, chose, basic, template33, templateLines, linesOf, numberOf, bitsBefore}
+use Rattle.fields.specs.Rows.{always, bridgePrecision, resistancePrecision}
+use Rattle.fields.specs.Lines.{Line, chose, basic, template33, template32, templateLines, linesOf, numberOf, bitsBefore}
 use Rattle.layout.specs.Image.{pairIn, pairsIn}
 use Rattle.layout.specs.Places.{blockBits, fieldPlace, behindFields, tableBits}
 use Rattle.layout.specs.Pieces.{blockPieces, endCode}
@@ -29,7 +30,7 @@ use Rattle.layout.proofs.Calibrations.{table-needed}
 use Rattle.layout.proofs.Endings.{text-needed}
 use Rattle.build.specs.declared.Sheet.{Sheet}
 use Rattle.build.specs.Build.{lent, templateIn, linePieces, pairsLent}
-use Rattle.promises.specs.Again.{keptPair, BitsNeeded, BridgeBits}
+use Rattle.promises.specs.Again.{keptPair, BitsNeeded, BridgeBits, ResistanceBits}
 use Rattle.promises.proofs.PlannedPairs.{table-stands}
 use Rattle.promises.proofs.PlannedSheet.{plan-parts, half}
 
@@ -85,11 +86,15 @@ unfolding basic
 basic-bits latest = refl
 
 -- The choice of a sheet is the precision that it lends.
+plain-choice : (least greatest precision choice : ℕ) → encode (always 2 (Plain least greatest)) 9 (Whole (pos precision)) ≡ good choice → precision ≡ choice
+unfolding encode
+plain-choice least greatest precision choice e =
+    good-same (passed (outOfRange 9) (outside (pos least) (pos greatest) (pos precision)) (good precision) choice e .1)
+
 lent-choice : (sheet : Sheet) (t : Template) (precision choice : ℕ) → lent sheet 9 ≡ Whole (pos precision) → Chose sheet (templateLines t) 0 (suc (length basic)) choice → precision ≡ choice
-unfolding basic template33 encode
-lent-choice sheet Bridge precision choice v c =
-    let e : encode precisionRow 9 (Whole (pos precision)) ≡ good choice = ap (encode precisionRow 9) (sym v) ∙ c in
-    good-same (passed (outOfRange 9) (outside (pos 0) (pos 2) (pos precision)) (good precision) choice e .1)
+unfolding basic template33 template32
+lent-choice sheet Bridge precision choice v c = plain-choice 0 2 precision choice (ap (encode bridgePrecision 9) (sym v) ∙ c)
+lent-choice sheet Resistance precision choice v c = plain-choice 0 3 precision choice (ap (encode resistancePrecision 9) (sym v) ∙ c)
 
 fields-needed : (t : Template) (choice : ℕ) → behindFields (record { template = t; precision = choice }) ≡ bitsBefore basic choice (length basic) + 10 + bitsBefore (templateLines t) choice (length (templateLines t))
 unfolding fieldPlace linesOf
@@ -137,3 +142,10 @@ unfolding fieldPlace linesOf basic template33
 bridge-bits zero = refl
 bridge-bits (suc zero) = refl
 bridge-bits (suc (suc precision)) = refl
+
+pub resistance-bits : ResistanceBits
+unfolding fieldPlace linesOf basic template32
+resistance-bits zero = refl
+resistance-bits (suc zero) = refl
+resistance-bits (suc (suc zero)) = refl
+resistance-bits (suc (suc (suc precision))) = refl

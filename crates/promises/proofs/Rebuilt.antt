@@ -19,8 +19,6 @@ use Rattle.memory.proofs.PieceLaws.{pack-unique, needed-append}
 use Rattle.memory.proofs.Chips.{sizes-chip}
 use Rattle.memory.proofs.SumLaws.{sums-right}
 use Rattle.memory.proofs.Images.{two-views}
-use Rattle.fields.specs.declared.Template.the-variants.{Bridge}
-use Rattle.fields.specs.declared.Template.{Template}
 use Rattle.fields.specs.declared.Pair.{Pair}
 use Rattle.fields.specs.Calibration.{noPair}
 use Rattle.layout.specs.Contents.{Found, Contents}
@@ -31,7 +29,7 @@ use Rattle.layout.proofs.Accepted.{accepted-at}
 use Rattle.sheet.proofs.ReadLaws.{fields-are, accepted-reads}
 use Rattle.build.specs.declared.Slot.{Slot}
 use Rattle.build.specs.declared.Sheet.{Sheet}
-use Rattle.build.specs.Build.{slot, lent, pairsLent, builtIn, build}
+use Rattle.build.specs.Build.{slot, lent, templateIn, pairsLent, builtIn, build}
 use Rattle.build.proofs.PairPlans.{pairs-length}
 use Rattle.promises.specs.Again.{sheetRead, turns, RebuiltSameBytes, RebuiltFromReads}
 use Rattle.promises.proofs.PlannedFields.{LentFrom, Slots, slots-all, slot-first, slots-others}
@@ -54,36 +52,32 @@ read-lent sheet f (x ∷ xs) more h =
     let slots : List Slot = map slot (map (λ y. y .value) xs) ++ more in
     (slot-first sheet f (slot (x .value)) slots h, read-lent sheet (suc f) xs more (slots-others sheet f (slot (x .value)) slots h))
 
--- There is one template.
-only : (t : Template) → Bridge ≡ t
-only Bridge = refl
-
 -- ---- the image
 
 -- From a sheet and points that hold what the image holds.
 rebuilt : (kind : ℕ) (image buffer : List ℕ) (z : Sizes) (c : Contents) (sheet : Sheet) (pts : List ℤ) → Bytes image → length buffer ≡ length image →
     imageSizes kind (length image) ≡ good z → contents kind image ≡ good c → streamNumber z image < 2 ^ c .bits →
-    LentFrom sheet 1 (c .fields) → sheet .«end_bit» ≡ c .endBit → pairsLent pts ≡ points c → length pts ≡ 2 * length (points c) →
+    LentFrom sheet 1 (c .fields) → templateIn sheet ≡ c .template → sheet .«end_bit» ≡ c .endBit → pairsLent pts ≡ points c → length pts ≡ 2 * length (points c) →
     build kind buffer sheet (c .text) pts ≡ good image
 unfolding build builtIn
-rebuilt kind image buffer z c sheet pts bytes long hz e zeros lents end pairs two =
+rebuilt kind image buffer z c sheet pts bytes long hz e zeros lents template end pairs two =
     let (summed, h) = accepted-at kind image c z e hz in
     let f = h .formed in
-    let ps : List Piece = again f sheet pts lents (only (c .template)) end pairs two in
+    let ps : List Piece = again f sheet pts lents template end pairs two in
     let t : Bool = c .endBit && leb (needed ps + 7) (streamBits z) in
-    let all : ps ++ zeroIf t ≡ sheetPieces f = zero-behind f sheet pts lents (only (c .template)) end pairs two in
+    let all : ps ++ zeroIf t ≡ sheetPieces f = zero-behind f sheet pts lents template end pairs two in
     let inside : needed ps ≤ streamBits z = omega (arith, needed-append ps (zeroIf t), ap needed all, sheet-needed f, h .inside) in
     let number : streamNumber z image ≡ pack ps =
     pack-unique (streamNumber z image) (sheetPieces f) (subst (λ (n : ℕ). streamNumber z image < 2 ^ n) (sym (sheet-needed f)) zeros) (h .holds)
     ∙ ap pack (sym all) ∙ zero-pack ps t in
     bind-good _ (ap (imageSizes kind) long ∙ hz)
-    ∙ bind-good _ (plan-again f sheet pts lents (only (c .template)) end pairs two)
+    ∙ bind-good _ (plan-again f sheet pts lents template end pairs two)
     ∙ rw (le-ltb (streamBits z) (needed ps) inside) (ap (λ (n : ℕ). good (imageOf z n)) (sym number)
     ∙ ap good (two-views z image (sizes-chip kind (length image) z hz .long) bytes (sums-right z image summed)))
 
 pub rebuilt-same-bytes : RebuiltSameBytes
 rebuilt-same-bytes kind image buffer level z c bytes long hz e zeros =
-    rebuilt kind image buffer z c (sheetRead c level) (turns (points c)) bytes long hz e zeros (read-lent (sheetRead c level) 1 (c .fields) _ (slots-all (sheetRead c level))) refl
+    rebuilt kind image buffer z c (sheetRead c level) (turns (points c)) bytes long hz e zeros (read-lent (sheetRead c level) 1 (c .fields) _ (slots-all (sheetRead c level))) refl refl
     (pairs-turned (points c)) (turns-length (points c))
 
 -- ---- through the calls
@@ -110,4 +104,4 @@ rebuilt-from-reads kind image buffer z s sheet text pts bytes long hz e r zeros 
     lent-from sheet 1 (c .fields)
     (λ i k. r .fields (1 + i) _ (l .fields (1 + i) (omega arith) (omega (arith, fields-are kind image c h))) ∙ ap (λ (n : ℕ). getD (c .fields) n nothing .value) (omega arith)) in
     subst (λ t. build kind buffer sheet t pts ≡ good image) (sym written)
-    (rebuilt kind image buffer z c sheet pts bytes long hz h (subst (λ y. streamNumber z image < 2 ^ y .bits) (sym g) zeros) lents (r .endBit ∙ sym (ap (λ y. y .«end_bit») g)) pairs two)
+    (rebuilt kind image buffer z c sheet pts bytes long hz h (subst (λ y. streamNumber z image < 2 ^ y .bits) (sym g) zeros) lents (r .template ∙ sym (ap (λ y. y .template) g)) (r .endBit ∙ sym (ap (λ y. y .«end_bit») g)) pairs two)

@@ -1,4 +1,4 @@
--- Demand 2: written and read again; read and rebuilt; and the bits that a build needs.
+-- Demand 2, for both templates: written and read again; read and rebuilt; and the bits that a build needs.
 use mathlib.Core.Path.{_≡_}
 use mathlib.Core.Bool.{_&&_, cond}
 use mathlib.Core.List.{List, [], _∷_, _++_, map}
@@ -16,7 +16,7 @@ use Rattle.fields.specs.declared.Value.the-variants.{Whole, Missing}
 use Rattle.fields.specs.declared.Row.{Row}
 use Rattle.fields.specs.declared.Level.{Level}
 use Rattle.fields.specs.declared.Template.{Template}
-use Rattle.fields.specs.declared.Template.the-variants.{Bridge}
+use Rattle.fields.specs.declared.Template.the-variants.{Bridge, Resistance}
 use Rattle.fields.specs.declared.Layout.{Layout}
 use Rattle.fields.specs.declared.Pair.{Pair}
 use Rattle.fields.specs.Lines.{linesOf, rowsOf}
@@ -73,7 +73,12 @@ ZeroEndsText =
 -- What an image reads, as a sheet and as points lent by turns. A template with fewer fields leaves the last slots missing; the level is not stored,
 -- and any is as good.
 abbrev pub sheetRead : Contents → Level → Sheet
-sheetRead c level = record { fields = map slot (values c) ++ replicate (21 - length (c .fields)) (slot Missing); «end_bit» = c .endBit; level = level }
+sheetRead c level = record {
+  template = c .template;
+  fields = map slot (values c) ++ replicate (21 - length (c .fields)) (slot Missing);
+  «end_bit» = c .endBit;
+  level = level;
+}
 
 abbrev pub turns : List Pair → List ℤ
 turns [] = []
@@ -88,9 +93,10 @@ RebuiltSameBytes =
     streamNumber z image < 2 ^ c .bits →
     build kind buffer (sheetRead c level) (c .text) (turns (points c)) ≡ good image
 
--- The same of whatever a caller hands in who read the image through the calls: the sheet has each field that is read, text and points have each
--- character and pair, as many as the check gives.
+-- The same of whatever a caller hands in who read the image through the calls: the sheet has the template that the check gives and each field that
+-- is read, text and points have each character and pair, as many as the check gives.
 pub record ReadOff (kind : ℕ) (image : List ℕ) (s : Summary) (sheet : Sheet) (text : List ℕ) (pointsLent : List ℤ) : Type 0 where
+  pub template : templateIn sheet ≡ s .template
   pub fields : (f : ℕ) (v : Value) → readField kind image f ≡ good v → lent sheet f ≡ v
   pub endBit : sheet .«end_bit» ≡ s .«end_bit»
   pub characters : length text ≡ s .characters
@@ -123,3 +129,13 @@ bridgeBits (suc (suc precision)) = 251
 
 abbrev pub BridgeBits : Type 0
 BridgeBits = (precision : ℕ) → behindFields (record { template = Bridge; precision = precision }) ≡ 64 + 2 + bridgeBits precision
+
+-- Template 32 with its number takes 172, 178, 190 or 222 bits for precision 0, 1, 2, 3.
+abbrev pub resistanceBits : ℕ → ℕ
+resistanceBits zero = 172
+resistanceBits (suc zero) = 178
+resistanceBits (suc (suc zero)) = 190
+resistanceBits (suc (suc (suc precision))) = 222
+
+abbrev pub ResistanceBits : Type 0
+ResistanceBits = (precision : ℕ) → behindFields (record { template = Resistance; precision = precision }) ≡ 64 + 2 + resistanceBits precision

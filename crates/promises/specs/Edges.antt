@@ -7,7 +7,9 @@ use Prim.Native.Nat.{ℕ, _+_, _*_, _≤_}
 use lib.ListN.{replicate}
 use lib.IntN.{ℤ, pos, negℤ, natAbs, _-ℤ_, _*ℤ_}
 use lib.Ieee.{binary32, ofInt}
-use Rattle.refusal.specs.Outcome.{Outcome, good, _>>=_}
+use Rattle.refusal.specs.declared.Refusal.{Refusal}
+use Rattle.refusal.specs.Outcome.{Outcome, good, refused, _>>=_}
+use Rattle.refusal.specs.Rows.{wrongBlock}
 use Rattle.memory.specs.Bits.{bytesOf}
 use Rattle.memory.specs.Pieces.{pack}
 use Rattle.fields.specs.declared.Value.{Value}
@@ -15,24 +17,41 @@ use Rattle.fields.specs.declared.Value.the-variants.{Whole, Single, Missing}
 use Rattle.fields.specs.declared.Row.{Row}
 use Rattle.fields.specs.declared.Level.the-variants.{CalibrationRoom, Maker}
 use Rattle.fields.specs.declared.Rule.the-variants.{Stepped}
+use Rattle.fields.specs.declared.Template.the-variants.{Bridge, Resistance}
 use Rattle.fields.specs.Rules.{Progression, decode, encode, geometricValue}
-use Rattle.fields.specs.Rows.{optional, electrical, excitation}
+use Rattle.fields.specs.Rows.{optional, bridgeEnd, excitation}
 use Rattle.fields.specs.Lines.{basic}
 use Rattle.texts.specs.Dates.{dateOf}
+use Rattle.layout.specs.Places.{firstSelector}
 use Rattle.build.specs.declared.Sheet.{Sheet}
 use Rattle.build.specs.Build.{slot, linePieces, pairsLent, build}
 use Rattle.line.specs.Line.{deviation}
 use Rattle.reading.specs.Reading.{position, takeReading}
 use Rattle.promises.specs.Alterations.{Alteration, changes, commits, altered}
 
--- A sheet at a precision, with the ends of its span.
+-- A sheet of template 33 at a precision, with the ends of its span.
 abbrev pub sheetAt : ℕ → ℤ → ℤ → Sheet
 sheetAt precision e f = record {
+  template = Bridge;
   fields =
       map (λ n. slot (Whole (pos n))) (17 ∷ 1 ∷ 1 ∷ 0 ∷ 1 ∷ 0 ∷ []) ++
       (slot (Single (ofInt binary32 (pos 0))) ∷ slot (Single (ofInt binary32 (pos 10))) ∷ slot (Whole (pos precision)) ∷ slot (Whole e) ∷ slot (Whole f) ∷ slot (Whole (pos 2)) ∷ []) ++
       map slot (replicate 6 Missing) ++
       map (λ n. slot (Whole (pos n))) (0 ∷ 0 ∷ 0 ∷ []);
+  «end_bit» = false;
+  level = Maker;
+}
+
+-- One of template 32.
+abbrev pub resistanceAt : ℕ → ℤ → ℤ → Sheet
+resistanceAt precision e f = record {
+  template = Resistance;
+  fields =
+      map (λ n. slot (Whole (pos n))) (17 ∷ 1 ∷ 1 ∷ 0 ∷ 1 ∷ 0 ∷ []) ++
+      (slot (Single (ofInt binary32 (pos 0))) ∷ slot (Single (ofInt binary32 (pos 10))) ∷ slot (Whole (pos precision)) ∷ slot (Whole e) ∷ slot (Whole f) ∷ slot (Whole (pos 2)) ∷ []) ++
+      map slot (replicate 4 Missing) ++
+      map (λ n. slot (Whole (pos n))) (0 ∷ 0 ∷ 0 ∷ []) ++
+      map slot (replicate 2 Missing);
   «end_bit» = false;
   level = Maker;
 }
@@ -54,10 +73,12 @@ pub data Case : Type 0 where
   deviates : List ℤ → ℤ → ℤ → Case
   -- A kind and its image's length, a sheet, points, alterations, v and q: built, altered and read.
   reads : ℕ → ℕ → Sheet → List ℤ → List Alteration → ℤ → ℤ → Case
+  -- A kind and its image's length, a sheet, v and a refusal: built, and its reading turned down.
+  unread : ℕ → ℕ → Sheet → ℤ → Refusal → Case
 
 abbrev pub Holds : Case → Type 0
 Holds (basicIs figures bytes) =
-    (linePieces (record { fields = map (λ n. slot (Whole n)) figures; «end_bit» = false; level = Maker }) basic 0 1 >>= λ pieces. good (bytesOf 8 (pack pieces))) ≡ good bytes
+    (linePieces (record { template = Bridge; fields = map (λ n. slot (Whole n)) figures; «end_bit» = false; level = Maker }) basic 0 1 >>= λ pieces. good (bytesOf 8 (pack pieces))) ≡ good bytes
 Holds (readsBack row figure value) = (encode row 0 (Whole figure) >>= decode row 0) ≡ good (Whole value)
 Holds (means row code value) = decode row 0 code ≡ good value
 Holds (scaled progression code value) = geometricValue progression code ≡ value
@@ -66,13 +87,14 @@ Holds (placed e f v p) = position v e f ≡ p
 Holds (deviates points p d) = deviation (pairsLent points) p ≡ d
 Holds (reads kind bytes sheet points alterations v q) =
     (build kind (replicate bytes 0) sheet [] points >>= λ image. takeReading kind (altered image alterations) v >>= λ r. good (r .fraction)) ≡ good q
+Holds (unread kind bytes sheet v r) = (build kind (replicate bytes 0) sheet [] [] >>= λ image. takeReading kind image v) ≡ refused r
 
 -- The cases that document 01 stars.
 abbrev pub starred : List Case
 starred =
     basicIs (pos 17 ∷ pos 1 ∷ pos 1 ∷ pos 0 ∷ pos 1 ∷ []) (0x11 ∷ 0x40 ∷ 0x00 ∷ 0x20 ∷ 0x00 ∷ 0x01 ∷ 0x00 ∷ 0x00 ∷ []) ∷
-    readsBack (electrical 0) (pos 2_499_999) (pos 2_000_000) ∷
-    readsBack (electrical 0) (pos 2_500_000) (pos 3_000_000) ∷
+    readsBack (bridgeEnd 0) (pos 2_499_999) (pos 2_000_000) ∷
+    readsBack (bridgeEnd 0) (pos 2_500_000) (pos 3_000_000) ∷
     means excitation 510 (Whole (pos 511)) ∷
     means excitation 511 Missing ∷
     dated 789 2000 2 29 ∷
@@ -127,6 +149,14 @@ met =
     reads 2 512 (sheetAt 1 (pos 0) (pos 2_000_000)) steep (twoChanges 2 (pos 3_000_000)) (pos 61) (negℤ (pos 28_997)) ∷
     []
 
+-- Document 02, Note 7: a sheet of template 32 is built, at each precision but the Singles', and no reading is taken from it.
+abbrev pub resisted : List Case
+resisted =
+    unread 0 40 (resistanceAt 0 (pos 0) (pos 1_000)) (pos 500) (wrongBlock firstSelector) ∷
+    unread 1 128 (resistanceAt 1 (pos 0) (pos 1_000_000)) (pos 500) (wrongBlock firstSelector) ∷
+    unread 2 512 (resistanceAt 2 (pos 0) (pos 65_534)) (pos 500) (wrongBlock firstSelector) ∷
+    []
+
 abbrev pub AllHold : List Case → Type 0
 AllHold [] = Unit {0}
 AllHold (c ∷ cases) = Holds c × AllHold cases
@@ -135,6 +165,6 @@ AllHold (c ∷ cases) = Holds c × AllHold cases
 abbrev pub Edges : Type 0
 Edges = AllHold starred
 
--- Document 000's examples, and demand 3 met.
+-- Document 000's examples, demand 3 met, and readings that are turned down.
 abbrev pub Examples : Type 0
-Examples = AllHold (printed ++ met)
+Examples = AllHold (printed ++ (met ++ resisted))

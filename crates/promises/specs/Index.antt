@@ -46,7 +46,7 @@ IndexSorted =
 
 -- ---- its bytes
 
--- 480 bytes hold any index: 4 for each of 21 fields and of the 99 points that the largest chip has room for.
+-- 480 bytes hold any index: 4 for each of template 33's 21 fields and of the 99 points that the largest chip then has room for.
 abbrev pub IndexFits : Type 0
 IndexFits = (kind : ℕ) (image : List ℕ) (c : Contents) → contents kind image ≡ good c → length (entryBytes (entries c)) ≤ 480
 

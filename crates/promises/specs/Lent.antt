@@ -1,4 +1,4 @@
--- What a caller can lend: a sheet record of 21 values whose Singles are f32.
+-- What a caller can lend: a sheet record of 21 slots whose Singles are f32.
 use mathlib.Core.Path.{_≡_}
 use mathlib.Core.List.{List, [], _∷_}
 use Prim.Native.Nat.{ℕ}

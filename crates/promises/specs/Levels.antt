@@ -12,7 +12,7 @@ use Rattle.fields.specs.declared.Value.{Value}
 use Rattle.fields.specs.declared.Level.{Level}
 use Rattle.fields.specs.declared.Level.the-variants.{Owner, CalibrationRoom, Maker}
 use Rattle.fields.specs.declared.Template.{Template}
-use Rattle.fields.specs.declared.Template.the-variants.{Bridge}
+use Rattle.fields.specs.declared.Template.the-variants.{Bridge, Resistance}
 use Rattle.fields.specs.Rules.{encode}
 use Rattle.fields.specs.Lines.{Line, linesOf, lineOf}
 use Rattle.fields.specs.Levels.{mayWrite, rank}
@@ -34,11 +34,15 @@ writtenFrom level f (line ∷ lines) =
 abbrev pub writtenBy : Level → Template → List ℕ
 writtenBy level template = writtenFrom level 1 (linesOf template)
 
--- An owner changes field 21; a calibration room also 7, 8, 10, 11, 18, 19 and 20; a maker every field that could be changed so far.
+-- An owner changes field 21; a calibration room also 7, 8, 10, 11, 18, 19 and 20; a maker every field that could be changed so far. Of template 32
+-- by the marks of its lines (Note 7).
 pub record FieldsOfLevels : Type 0 where
   pub owner : writtenBy Owner Bridge ≡ (21 ∷ [])
   pub calibrationRoom : writtenBy CalibrationRoom Bridge ≡ (7 ∷ 8 ∷ 10 ∷ 11 ∷ 18 ∷ 19 ∷ 20 ∷ 21 ∷ [])
   pub maker : writtenBy Maker Bridge ≡ (1 ∷ 2 ∷ 3 ∷ 4 ∷ 5 ∷ 6 ∷ 7 ∷ 8 ∷ 10 ∷ 11 ∷ 12 ∷ 13 ∷ 14 ∷ 15 ∷ 16 ∷ 17 ∷ 18 ∷ 19 ∷ 20 ∷ 21 ∷ [])
+  pub resistanceOwner : writtenBy Owner Resistance ≡ (19 ∷ [])
+  pub resistanceRoom : writtenBy CalibrationRoom Resistance ≡ (7 ∷ 8 ∷ 10 ∷ 11 ∷ 14 ∷ 16 ∷ 17 ∷ 18 ∷ 19 ∷ [])
+  pub resistanceMaker : writtenBy Maker Resistance ≡ (1 ∷ 2 ∷ 3 ∷ 4 ∷ 5 ∷ 6 ∷ 7 ∷ 8 ∷ 10 ∷ 11 ∷ 12 ∷ 13 ∷ 14 ∷ 15 ∷ 16 ∷ 17 ∷ 18 ∷ 19 ∷ [])
 
 -- ---- the maker
 
@@ -81,7 +85,7 @@ LevelsNest = (low high : Level) → rank low ≤ rank high → HigherMayToo low 
 -- ---- a build
 
 abbrev pub atLevel : Level → Sheet → Sheet
-atLevel level sheet = record { fields = sheet .fields; «end_bit» = sheet .«end_bit»; level = level }
+atLevel level sheet = record { template = sheet .template; fields = sheet .fields; «end_bit» = sheet .«end_bit»; level = level }
 
 -- A build tests no level and stores none: at every level its outcome is the same.
 abbrev pub BuildAsksNoLevel : Type 0

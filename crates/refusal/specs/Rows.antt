@@ -17,7 +17,7 @@ wrongSum page = returned 2 page
 abbrev pub pastEnd : ℕ → Refusal
 pastEnd bit = returned 3 bit
 
--- 4: selector 1 or 2; first selector 3; first template not 33, second not 40; selector 0 after block 40.
+-- 4: selector 1 or 2; first selector 3; first template not 32 or 33, second not 40; selector 0 after block 40; a reading of template 32.
 abbrev pub wrongBlock : ℕ → Refusal
 wrongBlock selectorBit = returned 4 selectorBit
 
@@ -33,7 +33,7 @@ notFinite bit = returned 6 bit
 abbrev pub notRising : ℕ → Refusal
 notRising place = returned 7 place
 
--- 8: field not 1 to 21; pair or character index past the last; for text, field not 3, 18 or 19.
+-- 8: field not 1 to the template's last; pair or character index past the last; for text, field not 3, 18 or 19.
 abbrev pub noSuch : ℕ → Refusal
 noSuch given = returned 8 given
 
