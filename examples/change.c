@@ -1,8 +1,8 @@
-/* Changes one field of a data sheet: change FILE FIELD VALUE NEW
+/* Changes one field of a data sheet: change FILE FIELD VALUE LEVEL NEW
  *
  * FILE holds a chip's image, and NEW is written with the changed one. VALUE is the text of a date or of letters (fields 3, 18 and
- * 19), "missing", a Single with a point in it (0.5), or a whole number in the field's unit. Prints what the field then reads, or the
- * refusal's number and place; on a refusal nothing is written.
+ * 19), "missing", a Single with a point in it (0.5), or a whole number in the field's unit. LEVEL says who writes: owner,
+ * calibration or maker. Prints what the field then reads, or the refusal's number and place; on a refusal nothing is written.
  *
  *     rt staticlib dartelm
  *     cc -Iinclude examples/change.c target/staticlib/libdartelm.a -o target/change
@@ -39,6 +39,19 @@ static int value_of(const char *word, uint64_t field, dartelm_value *value)
     return errno == 0 && end != word && *end == '\0';
 }
 
+/* The level that a word names; 0 if it names none. */
+static int level_of(const char *word, uint8_t *level)
+{
+    static const char *const names[] = {"owner", "calibration", "maker"}; /* by DARTELM_LEVEL_ */
+    for (uint8_t each = DARTELM_LEVEL_OWNER; each <= DARTELM_LEVEL_MAKER; each++) {
+        if (strcmp(word, names[each]) == 0) {
+            *level = each;
+            return 1;
+        }
+    }
+    return 0;
+}
+
 static int refused(uint8_t number, uint64_t place)
 {
     printf("refused %u at %" PRIu64 "\n", number, place);
@@ -47,8 +60,8 @@ static int refused(uint8_t number, uint64_t place)
 
 int main(int argc, char **argv)
 {
-    if (argc != 5) {
-        fprintf(stderr, "usage: %s FILE FIELD VALUE NEW\n", argv[0]);
+    if (argc != 6) {
+        fprintf(stderr, "usage: %s FILE FIELD VALUE LEVEL NEW\n", argv[0]);
         return 2;
     }
     char *end;
@@ -57,6 +70,11 @@ int main(int argc, char **argv)
     dartelm_value value;
     if (errno != 0 || end == argv[2] || *end != '\0' || !value_of(argv[3], field, &value)) {
         fprintf(stderr, "%s or %s is no number\n", argv[2], argv[3]);
+        return 2;
+    }
+    uint8_t level;
+    if (!level_of(argv[4], &level)) {
+        fprintf(stderr, "%s is no level\n", argv[4]);
         return 2;
     }
     FILE *file = fopen(argv[1], "rb");
@@ -69,7 +87,7 @@ int main(int argc, char **argv)
     fclose(file);
 
     uint8_t kind = dartelm_kind_of(length);
-    dartelm_write_answer changed = dartelm_change(kind, image, length, field, value);
+    dartelm_write_answer changed = dartelm_change(kind, image, length, level, field, value);
     if (changed.number != DARTELM_ACCEPTED) {
         return refused(changed.number, changed.place);
     }
@@ -85,9 +103,9 @@ int main(int argc, char **argv)
         printf("%" PRId64 "\n", now.value.whole);
     }
 
-    file = fopen(argv[4], "wb");
+    file = fopen(argv[5], "wb");
     if (file == NULL || fwrite(image, 1, length, file) != length || fclose(file) != 0) {
-        perror(argv[4]);
+        perror(argv[5]);
         return 2;
     }
     return 0;

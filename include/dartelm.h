@@ -1,9 +1,9 @@
 /* Dartelm: the IEEE 1451.4 data sheet (TEDS) in a sender's memory chip, from its image to a reading. For C99 and C++.
  *
  * Every call returns one struct by value. Its number is 0 where the call is accepted; else it is a refusal's, DARTELM_WRONG_IMAGE
- * to DARTELM_OTHER_CODE, with the refusal's place beside it, and every other member is 0. (0 as a float is +0.0. A Single that is
- * returned is finite.) A refused call writes nothing; no call writes anything but the image of a build, a change or a commit, and
- * the buffer of an index.
+ * to DARTELM_LEVEL_TOO_LOW, with the refusal's place beside it, and every other member is 0. (0 as a float is +0.0. A Single that
+ * is returned is finite.) A refused call writes nothing; no call writes anything but the image of a build, a change or a commit,
+ * and the buffer of an index.
  *
  * Nothing is kept between calls, so any number of them may run at once, in interrupts too. No heap is used; the only functions
  * taken from outside are memcpy and memset. Every call returns, whatever it is handed.
@@ -29,7 +29,7 @@ extern "C" {
 #endif
 
 /* This header's number, which rises when a call or a struct changes; dartelm_version() is the archive's. */
-#define DARTELM_VERSION 1
+#define DARTELM_VERSION 2
 
 /* ---- numbers ---- */
 
@@ -56,7 +56,8 @@ enum {
     DARTELM_WRONG_LIST = 16,    /* A list of points that is odd or longer than 254. Place: its length. */
     DARTELM_BLANK_CHIP = 17,    /* Every page is blank: nothing has been written to this chip. Place: 0. */
     DARTELM_SHORT_INDEX = 18,   /* A buffer too short for an index, or an index too short to be one. Place: the bytes needed. */
-    DARTELM_OTHER_CODE = 19     /* A commit: another code stands in the field than the present one. Place: the field. */
+    DARTELM_OTHER_CODE = 19,    /* A commit: another code stands in the field than the present one. Place: the field. */
+    DARTELM_LEVEL_TOO_LOW = 20  /* A writer of this level may not write the field. Place: the field. */
 };
 
 /* Fields 1 to 21, and what a value counts. */
@@ -85,6 +86,14 @@ enum {
     DARTELM_FIELDS = 21                    /* how many there are */
 };
 
+/* A writer's level, which a change, a proposal and a commit carry: which fields it may write. Reading asks for none, and a build
+ * tests none. Any other byte is the owner's. */
+enum {
+    DARTELM_LEVEL_OWNER = 0,            /* field 21 */
+    DARTELM_LEVEL_CALIBRATION_ROOM = 1, /* also 7, 8, 10, 11, 18, 19 and 20 */
+    DARTELM_LEVEL_MAKER = 2             /* every field that can be changed alone */
+};
+
 /* What dartelm_kind_of gives for a length that no kind of chip has: a kind that every call refuses, with 1. */
 #define DARTELM_NO_KIND 255
 
@@ -106,10 +115,12 @@ typedef struct dartelm_value {
     uint8_t is_missing; /* a flag */
 } dartelm_value;
 
-/* A sheet's fields: field f stands in values[f - 1]. */
+/* A sheet's fields: field f stands in values[f - 1]. The writer's level is not stored: a build does not look at it, and what is
+ * returned has 0 there. */
 typedef struct dartelm_fields {
     dartelm_value values[DARTELM_FIELDS];
     uint8_t end_bit; /* a flag: a closing text follows */
+    uint8_t level;   /* the writer's, DARTELM_LEVEL_OWNER to DARTELM_LEVEL_MAKER */
 } dartelm_fields;
 
 /* What a check answers. */
@@ -240,18 +251,19 @@ dartelm_character_answer dartelm_character(uint8_t kind, const uint8_t *image, s
 dartelm_write_answer dartelm_build(uint8_t kind, uint8_t *image, size_t image_length, dartelm_fields fields,
                                    const char *text, size_t text_length, const int64_t *points, size_t points_length);
 
-/* Changes one field of an image, and the check bytes of its pages. Refused as a check is, and with 8, 9, 10 and 12:
- * then the image keeps every byte. */
-dartelm_write_answer dartelm_change(uint8_t kind, uint8_t *image, size_t image_length, uint64_t field, dartelm_value value);
+/* Changes one field of an image, and the check bytes of its pages, as a writer of a level. Refused as a check is, and with 8, 9,
+ * 10, 12 and 20: then the image keeps every byte. */
+dartelm_write_answer dartelm_change(uint8_t kind, uint8_t *image, size_t image_length, uint8_t level, uint64_t field,
+                                    dartelm_value value);
 
 /* Tells what a field would become by a change, and writes nothing. Refused as the change would be. */
-dartelm_proposal_answer dartelm_propose(uint8_t kind, const uint8_t *image, size_t image_length, uint64_t field,
-                                        dartelm_value value);
+dartelm_proposal_answer dartelm_propose(uint8_t kind, const uint8_t *image, size_t image_length, uint8_t level,
+                                        uint64_t field, dartelm_value value);
 
-/* Puts new_code into a field of an image, and rewrites the check bytes of its pages. Refused as a check is, and with 8, 12, 19
- * where another code than present_code stands there, and 10 where new_code may not: then the image keeps every byte. A proposal
- * and its commit leave the bytes that a change would. */
-dartelm_write_answer dartelm_commit(uint8_t kind, uint8_t *image, size_t image_length, uint64_t field,
+/* Puts new_code into a field of an image, and rewrites the check bytes of its pages, as a writer of a level. Refused as a check
+ * is, and with 8, 12, 20, 19 where another code than present_code stands there, and 10 where new_code may not: then the image keeps
+ * every byte. A proposal and its commit leave the bytes that a change would. */
+dartelm_write_answer dartelm_commit(uint8_t kind, uint8_t *image, size_t image_length, uint8_t level, uint64_t field,
                                     uint64_t present_code, uint64_t new_code);
 
 /* Takes a reading at an input in nV/V. Refused as a check is, and with 13, 14 and 15. */
@@ -292,6 +304,7 @@ DARTELM_AT(dartelm_value, is_missing, 13);
 DARTELM_SIZE(dartelm_fields, 344);
 DARTELM_AT(dartelm_fields, values, 0);
 DARTELM_AT(dartelm_fields, end_bit, 336);
+DARTELM_AT(dartelm_fields, level, 337);
 DARTELM_ANSWER(dartelm_check_answer, 48);
 DARTELM_AT(dartelm_check_answer, bits, 16);
 DARTELM_AT(dartelm_check_answer, points, 24);

@@ -1,10 +1,10 @@
 //! The calls of `include/dartelm.h`: once for the product (`ffi::Product`), once for the plain implementation, so that both are
 //! handed the same and are compared in the same.
 
-use crate::plain::{self, Proposal, Reading, Refusal, Summary, Text, Value};
+use crate::plain::{self, Level, Proposal, Reading, Refusal, Summary, Text, Value};
 use crate::structs::{
     ByFlags, CharacterAnswer, CheckAnswer, CodeAnswer, FieldAnswer, Fields, PageAnswer, PairAnswer, ProposalAnswer,
-    ReadingAnswer, SheetAnswer, TextAnswer, WriteAnswer,
+    ReadingAnswer, SheetAnswer, TextAnswer, WriteAnswer, level_of,
 };
 
 /// The calls of the header; the provided ones give the plain implementation's types.
@@ -16,9 +16,9 @@ pub trait Calls {
     fn pair(&self, kind: u8, image: &[u8], index: u64) -> PairAnswer;
     fn character(&self, kind: u8, image: &[u8], index: u64) -> CharacterAnswer;
     fn build(&self, kind: u8, image: &mut [u8], fields: Fields, text: &[u8], points: &[i64]) -> WriteAnswer;
-    fn change(&self, kind: u8, image: &mut [u8], field: u64, value: ByFlags) -> WriteAnswer;
-    fn propose(&self, kind: u8, image: &[u8], field: u64, value: ByFlags) -> ProposalAnswer;
-    fn commit(&self, kind: u8, image: &mut [u8], field: u64, present: u64, new: u64) -> WriteAnswer;
+    fn change(&self, kind: u8, image: &mut [u8], level: u8, field: u64, value: ByFlags) -> WriteAnswer;
+    fn propose(&self, kind: u8, image: &[u8], level: u8, field: u64, value: ByFlags) -> ProposalAnswer;
+    fn commit(&self, kind: u8, image: &mut [u8], level: u8, field: u64, present: u64, new: u64) -> WriteAnswer;
     fn reading(&self, kind: u8, image: &[u8], input: i64) -> ReadingAnswer;
     fn text(&self, field: u64, code: u64) -> TextAnswer;
     fn code(&self, field: u64, text: &[u8]) -> CodeAnswer;
@@ -61,34 +61,33 @@ pub trait Calls {
         Ok(character)
     }
 
-    fn built(
-        &self,
-        kind: u8,
-        image: &mut [u8],
-        values: &[Value; 21],
-        end_bit: bool,
-        text: &[u8],
-        points: &[i64],
-    ) -> Result<(), Refusal> {
-        let fields = Fields { values: values.map(ByFlags::from), end_bit: u8::from(end_bit) };
+    fn built(&self, kind: u8, image: &mut [u8], fields: Fields, text: &[u8], points: &[i64]) -> Result<(), Refusal> {
         let WriteAnswer { number, place } = self.build(kind, image, fields, text, points);
         accepted(number, place)
     }
 
-    fn changed(&self, kind: u8, image: &mut [u8], field: u64, value: Value) -> Result<(), Refusal> {
-        let WriteAnswer { number, place } = self.change(kind, image, field, value.into());
+    fn changed(&self, kind: u8, image: &mut [u8], level: Level, field: u64, value: Value) -> Result<(), Refusal> {
+        let WriteAnswer { number, place } = self.change(kind, image, level.into(), field, value.into());
         accepted(number, place)
     }
 
-    fn proposed(&self, kind: u8, image: &[u8], field: u64, value: Value) -> Result<Proposal, Refusal> {
+    fn proposed(&self, kind: u8, image: &[u8], level: Level, field: u64, value: Value) -> Result<Proposal, Refusal> {
         let ProposalAnswer { number, place, present_code, new_code, value } =
-            self.propose(kind, image, field, value.into());
+            self.propose(kind, image, level.into(), field, value.into());
         accepted(number, place)?;
         Ok(Proposal { present: present_code, new: new_code, value: value.value() })
     }
 
-    fn committed(&self, kind: u8, image: &mut [u8], field: u64, present: u64, new: u64) -> Result<(), Refusal> {
-        let WriteAnswer { number, place } = self.commit(kind, image, field, present, new);
+    fn committed(
+        &self,
+        kind: u8,
+        image: &mut [u8],
+        level: Level,
+        field: u64,
+        present: u64,
+        new: u64,
+    ) -> Result<(), Refusal> {
+        let WriteAnswer { number, place } = self.commit(kind, image, level.into(), field, present, new);
         accepted(number, place)
     }
 
@@ -179,12 +178,12 @@ impl Calls for Plain {
         wrote(plain::build(kind, image, &values, fields.end_bit != 0, text, points))
     }
 
-    fn change(&self, kind: u8, image: &mut [u8], field: u64, value: ByFlags) -> WriteAnswer {
-        wrote(plain::change(kind, image, field, value.value()))
+    fn change(&self, kind: u8, image: &mut [u8], level: u8, field: u64, value: ByFlags) -> WriteAnswer {
+        wrote(plain::change(kind, image, level_of(level), field, value.value()))
     }
 
-    fn propose(&self, kind: u8, image: &[u8], field: u64, value: ByFlags) -> ProposalAnswer {
-        match plain::propose(kind, image, field, value.value()) {
+    fn propose(&self, kind: u8, image: &[u8], level: u8, field: u64, value: ByFlags) -> ProposalAnswer {
+        match plain::propose(kind, image, level_of(level), field, value.value()) {
             Ok(Proposal { present, new, value }) => ProposalAnswer {
                 present_code: present,
                 new_code: new,
@@ -195,8 +194,8 @@ impl Calls for Plain {
         }
     }
 
-    fn commit(&self, kind: u8, image: &mut [u8], field: u64, present: u64, new: u64) -> WriteAnswer {
-        wrote(plain::commit(kind, image, field, present, new))
+    fn commit(&self, kind: u8, image: &mut [u8], level: u8, field: u64, present: u64, new: u64) -> WriteAnswer {
+        wrote(plain::commit(kind, image, level_of(level), field, present, new))
     }
 
     fn reading(&self, kind: u8, image: &[u8], input: i64) -> ReadingAnswer {

@@ -3,7 +3,8 @@
 use std::fmt::{self, Display, Formatter};
 
 use crate::calls::Calls;
-use crate::plain::{Refusal, Value};
+use crate::plain::{Level, Refusal, Value};
+use crate::structs::{ByFlags, Fields};
 
 /// A line's command with what it is handed.
 #[derive(Clone, Debug, PartialEq)]
@@ -13,10 +14,18 @@ pub enum Command {
     Field(u8, Vec<u8>, u64),
     Pair(u8, Vec<u8>, u64),
     Char(u8, Vec<u8>, u64),
-    Build { kind: u8, length: usize, values: Box<[Value; 21]>, end_bit: bool, text: Vec<u8>, points: Vec<i64> },
-    Change(u8, Vec<u8>, u64, Value),
-    Propose(u8, Vec<u8>, u64, Value),
-    Commit(u8, Vec<u8>, u64, u64, u64),
+    Build {
+        kind: u8,
+        length: usize,
+        level: Level,
+        values: Box<[Value; 21]>,
+        end_bit: bool,
+        text: Vec<u8>,
+        points: Vec<i64>,
+    },
+    Change(u8, Vec<u8>, u64, Value, Level),
+    Propose(u8, Vec<u8>, u64, Value, Level),
+    Commit(u8, Vec<u8>, u64, u64, u64, Level),
     Reading(u8, Vec<u8>, i64),
     Text(u64, u64),
     Code(u64, Vec<u8>),
@@ -42,14 +51,15 @@ pub fn parse(line: &str) -> Option<Command> {
         ["field", kind, image, field] => Command::Field(unsigned(kind)?, bytes(image)?, unsigned(field)?),
         ["pair", kind, image, index] => Command::Pair(unsigned(kind)?, bytes(image)?, unsigned(index)?),
         ["char", kind, image, index] => Command::Char(unsigned(kind)?, bytes(image)?, unsigned(index)?),
-        ["change", kind, image, field, given] => {
-            Command::Change(unsigned(kind)?, bytes(image)?, unsigned(field)?, value(given)?)
+        ["change", kind, image, field, given, by] => {
+            Command::Change(unsigned(kind)?, bytes(image)?, unsigned(field)?, value(given)?, level(by)?)
         }
-        ["propose", kind, image, field, given] => {
-            Command::Propose(unsigned(kind)?, bytes(image)?, unsigned(field)?, value(given)?)
+        ["propose", kind, image, field, given, by] => {
+            Command::Propose(unsigned(kind)?, bytes(image)?, unsigned(field)?, value(given)?, level(by)?)
         }
-        ["commit", kind, image, field, present, new] => {
-            Command::Commit(unsigned(kind)?, bytes(image)?, unsigned(field)?, unsigned(present)?, unsigned(new)?)
+        ["commit", kind, image, field, present, new, by] => {
+            let (present, new) = (unsigned(present)?, unsigned(new)?);
+            Command::Commit(unsigned(kind)?, bytes(image)?, unsigned(field)?, present, new, level(by)?)
         }
         ["reading", kind, image, input] => Command::Reading(unsigned(kind)?, bytes(image)?, signed(input)?),
         ["text", field, code] => Command::Text(unsigned(field)?, unsigned(code)?),
@@ -58,7 +68,7 @@ pub fn parse(line: &str) -> Option<Command> {
         ["fetch", kind, image, index, field] => {
             Command::Fetch(unsigned(kind)?, bytes(image)?, bytes(index)?, unsigned(field)?)
         }
-        ["build", kind, length, ref rest @ ..] if rest.len() == 24 => {
+        ["build", kind, length, by, ref rest @ ..] if rest.len() == 24 => {
             let mut values = Box::new([Value::Missing; 21]);
             for (place, word) in values.iter_mut().zip(rest) {
                 *place = value(word)?;
@@ -66,6 +76,7 @@ pub fn parse(line: &str) -> Option<Command> {
             Command::Build {
                 kind: unsigned(kind)?,
                 length: unsigned(length)?,
+                level: level(by)?,
                 values,
                 end_bit: match rest[21] {
                     "0" => false,
@@ -124,6 +135,15 @@ fn value(word: &str) -> Option<Value> {
     Some(Value::Single(f32::from_bits(bits)))
 }
 
+fn level(word: &str) -> Option<Level> {
+    match word {
+        "owner" => Some(Level::Owner),
+        "calibration" => Some(Level::CalibrationRoom),
+        "maker" => Some(Level::Maker),
+        _ => None,
+    }
+}
+
 // ---- writing ----
 
 struct Hex<'a>(&'a [u8]);
@@ -147,6 +167,16 @@ impl Display for Value {
     }
 }
 
+impl Display for Level {
+    fn fmt(&self, to: &mut Formatter) -> fmt::Result {
+        to.write_str(match self {
+            Level::Owner => "owner",
+            Level::CalibrationRoom => "calibration",
+            Level::Maker => "maker",
+        })
+    }
+}
+
 impl Display for Refusal {
     fn fmt(&self, to: &mut Formatter) -> fmt::Result {
         write!(to, "no {} {}", self.number, self.place)
@@ -163,8 +193,8 @@ impl Display for Command {
             }
             Command::Pair(kind, image, index) => write!(to, "pair {kind} {} {index}", Hex(image)),
             Command::Char(kind, image, index) => write!(to, "char {kind} {} {index}", Hex(image)),
-            Command::Build { kind, length, values, end_bit, text, points } => {
-                write!(to, "build {kind} {length}")?;
+            Command::Build { kind, length, level, values, end_bit, text, points } => {
+                write!(to, "build {kind} {length} {level}")?;
                 for value in values.iter() {
                     write!(to, " {value}")?;
                 }
@@ -177,14 +207,14 @@ impl Display for Command {
                 }
                 Ok(())
             }
-            Command::Change(kind, image, field, value) => {
-                write!(to, "change {kind} {} {field} {value}", Hex(image))
+            Command::Change(kind, image, field, value, level) => {
+                write!(to, "change {kind} {} {field} {value} {level}", Hex(image))
             }
-            Command::Propose(kind, image, field, value) => {
-                write!(to, "propose {kind} {} {field} {value}", Hex(image))
+            Command::Propose(kind, image, field, value, level) => {
+                write!(to, "propose {kind} {} {field} {value} {level}", Hex(image))
             }
-            Command::Commit(kind, image, field, present, new) => {
-                write!(to, "commit {kind} {} {field} {present} {new}", Hex(image))
+            Command::Commit(kind, image, field, present, new, level) => {
+                write!(to, "commit {kind} {} {field} {present} {new} {level}", Hex(image))
             }
             Command::Reading(kind, image, input) => {
                 write!(to, "reading {kind} {} {input}", Hex(image))
@@ -225,24 +255,26 @@ impl Command {
                 format!("{point} {deviation}")
             }
             Command::Char(kind, image, index) => calls.character_read(*kind, image, *index)?.to_string(),
-            Command::Build { kind, length, values, end_bit, text, points } => {
+            Command::Build { kind, length, level, values, end_bit, text, points } => {
                 // A buffer longer than any image is as wrong as one of 513 bytes.
                 let mut image = vec![0; (*length).min(513)];
-                calls.built(*kind, &mut image, values, *end_bit, text, points)?;
+                let values = values.map(ByFlags::from);
+                let fields = Fields { values, end_bit: u8::from(*end_bit), level: u8::from(*level) };
+                calls.built(*kind, &mut image, fields, text, points)?;
                 format!("ok {}", Hex(&image))
             }
-            Command::Change(kind, image, field, value) => {
+            Command::Change(kind, image, field, value, level) => {
                 let mut image = image.clone();
-                calls.changed(*kind, &mut image, *field, *value)?;
+                calls.changed(*kind, &mut image, *level, *field, *value)?;
                 format!("ok {}", Hex(&image))
             }
-            Command::Propose(kind, image, field, value) => {
-                let proposal = calls.proposed(*kind, image, *field, *value)?;
+            Command::Propose(kind, image, field, value, level) => {
+                let proposal = calls.proposed(*kind, image, *level, *field, *value)?;
                 format!("{} {} {}", proposal.present, proposal.new, proposal.value)
             }
-            Command::Commit(kind, image, field, present, new) => {
+            Command::Commit(kind, image, field, present, new, level) => {
                 let mut image = image.clone();
-                calls.committed(*kind, &mut image, *field, *present, *new)?;
+                calls.committed(*kind, &mut image, *level, *field, *present, *new)?;
                 format!("ok {}", Hex(&image))
             }
             Command::Reading(kind, image, input) => {
@@ -271,6 +303,7 @@ mod tests {
 
     #[test]
     fn lines_that_are_no_command() {
+        let fields = "w1 m s7fc00000 ".repeat(7);
         for line in [
             "",
             " ",
@@ -289,13 +322,21 @@ mod tests {
             "reading 0 - 9223372036854775808",
             "text 18 18446744073709551616",
             "text 18 ",
-            "change 0 - 1 s0000000",
-            "change 0 - 1 s+0000000",
-            "change 0 - 1 w",
-            "propose 0 - 1",
-            "commit 0 - 1 w2 3",
-            "commit 0 - 1 2 -3",
-            "build 0 40 m",
+            "change 0 - 1 s0000000 maker",
+            "change 0 - 1 s+0000000 maker",
+            "change 0 - 1 w maker",
+            "change 0 - 1 w7",
+            "change 0 - 1 w7 Owner",
+            "change 0 - 1 w7 2",
+            "propose 0 - 1 maker",
+            "propose 0 - 1 w7",
+            "propose 0 - 1 w7 calibration room",
+            "commit 0 - 1 w2 3 maker",
+            "commit 0 - 1 2 -3 maker",
+            "commit 0 - 1 2 3",
+            "build 0 40 maker m",
+            &format!("build 0 40 {fields}1 6162 -"),
+            &format!("build 0 40 any {fields}1 6162 -"),
             "index 0 -",
             "index 0 - 0",
             "fetch 0 - -",
@@ -314,17 +355,17 @@ mod tests {
             "field 0 - 1",
             "pair 0 - 1",
             "char 0 - 1",
-            "change 0 - 1 sffffffff",
-            "change 0 - 1 w-9223372036854775808",
-            "propose 0 - 1 m",
-            "commit 0 - 1 18446744073709551615 0",
+            "change 0 - 1 sffffffff owner",
+            "change 0 - 1 w-9223372036854775808 calibration",
+            "propose 0 - 1 m maker",
+            "commit 0 - 1 18446744073709551615 0 owner",
             "reading 0 - -9223372036854775808",
             "text 18 0",
             "code 18 -",
             "index 1 00ff -",
             "fetch 2 - 0a0b 21",
-            &format!("build 0 40 {fields}1 6162 -"),
-            &format!("build 0 40 {fields}0 - 5,-6"),
+            &format!("build 0 40 owner {fields}1 6162 -"),
+            &format!("build 0 40 maker {fields}0 - 5,-6"),
         ] {
             assert_eq!(parse(line).unwrap().to_string(), line);
         }

@@ -26,12 +26,19 @@ mod dartelm {
             points: *const i64,
             points_length: usize,
         ) -> WriteAnswer;
-        pub fn dartelm_change(kind: u8, image: *mut u8, image_length: usize, field: u64, value: ByFlags)
-        -> WriteAnswer;
+        pub fn dartelm_change(
+            kind: u8,
+            image: *mut u8,
+            image_length: usize,
+            level: u8,
+            field: u64,
+            value: ByFlags,
+        ) -> WriteAnswer;
         pub fn dartelm_propose(
             kind: u8,
             image: *const u8,
             image_length: usize,
+            level: u8,
             field: u64,
             value: ByFlags,
         ) -> ProposalAnswer;
@@ -39,6 +46,7 @@ mod dartelm {
             kind: u8,
             image: *mut u8,
             image_length: usize,
+            level: u8,
             field: u64,
             present_code: u64,
             new_code: u64,
@@ -101,16 +109,16 @@ impl Calls for Product {
         unsafe { dartelm::dartelm_build(kind, image, image_length, fields, text, text_length, points, points_length) }
     }
 
-    fn change(&self, kind: u8, image: &mut [u8], field: u64, value: ByFlags) -> WriteAnswer {
-        unsafe { dartelm::dartelm_change(kind, image.as_mut_ptr(), image.len(), field, value) }
+    fn change(&self, kind: u8, image: &mut [u8], level: u8, field: u64, value: ByFlags) -> WriteAnswer {
+        unsafe { dartelm::dartelm_change(kind, image.as_mut_ptr(), image.len(), level, field, value) }
     }
 
-    fn propose(&self, kind: u8, image: &[u8], field: u64, value: ByFlags) -> ProposalAnswer {
-        unsafe { dartelm::dartelm_propose(kind, image.as_ptr(), image.len(), field, value) }
+    fn propose(&self, kind: u8, image: &[u8], level: u8, field: u64, value: ByFlags) -> ProposalAnswer {
+        unsafe { dartelm::dartelm_propose(kind, image.as_ptr(), image.len(), level, field, value) }
     }
 
-    fn commit(&self, kind: u8, image: &mut [u8], field: u64, present: u64, new: u64) -> WriteAnswer {
-        unsafe { dartelm::dartelm_commit(kind, image.as_mut_ptr(), image.len(), field, present, new) }
+    fn commit(&self, kind: u8, image: &mut [u8], level: u8, field: u64, present: u64, new: u64) -> WriteAnswer {
+        unsafe { dartelm::dartelm_commit(kind, image.as_mut_ptr(), image.len(), level, field, present, new) }
     }
 
     fn reading(&self, kind: u8, image: &[u8], input: i64) -> ReadingAnswer {

@@ -21,6 +21,25 @@ impl PartialEq for Value {
     }
 }
 
+/// Who writes.
+#[derive(Clone, Copy, Debug, PartialEq, Eq)]
+pub enum Level {
+    Owner,
+    CalibrationRoom,
+    Maker,
+}
+
+impl Level {
+    /// Whether a field that can be changed may be written.
+    fn may_write(self, field: u64) -> bool {
+        match self {
+            Level::Owner => field == 21,
+            Level::CalibrationRoom => [7, 8, 10, 11, 18, 19, 20, 21].contains(&field),
+            Level::Maker => true,
+        }
+    }
+}
+
 /// Number and place of a refused call, as in the table "Turning down".
 #[derive(Clone, Copy, Debug, PartialEq, Eq)]
 pub struct Refusal {
@@ -705,13 +724,16 @@ pub fn build(
 }
 
 impl Open {
-    /// The rule and the first bit of a field that may be changed alone.
-    fn changeable(&self, field: u64) -> Answer<(Rule, u64)> {
+    /// The rule and the first bit of a field that a writer may change alone.
+    fn changeable(&self, level: Level, field: u64) -> Answer<(Rule, u64)> {
         if !(1..=21).contains(&field) {
             return refuse(8, field);
         }
         if field == 9 {
             return refuse(12, 9);
+        }
+        if !level.may_write(field) {
+            return refuse(20, field);
         }
         Ok((rule(field as usize, self.precision), first_bit(field as usize, self.precision)))
     }
@@ -731,25 +753,25 @@ fn coded(rule: Rule, field: u64, value: Value) -> Answer<u32> {
     rule.code(value).or_else(|number| refuse(number, field))
 }
 
-pub fn change(kind: u8, image: &mut [u8], field: u64, value: Value) -> Answer<()> {
+pub fn change(kind: u8, image: &mut [u8], level: Level, field: u64, value: Value) -> Answer<()> {
     let open = open(kind, image)?;
-    let (rule, bit) = open.changeable(field)?;
+    let (rule, bit) = open.changeable(level, field)?;
     let code = coded(rule, field, value)?;
     open.store(image, bit, rule.width(), code);
     Ok(())
 }
 
-pub fn propose(kind: u8, image: &[u8], field: u64, value: Value) -> Answer<Proposal> {
+pub fn propose(kind: u8, image: &[u8], level: Level, field: u64, value: Value) -> Answer<Proposal> {
     let open = open(kind, image)?;
-    let (rule, bit) = open.changeable(field)?;
+    let (rule, bit) = open.changeable(level, field)?;
     let new = coded(rule, field, value)?;
     let present = open.chip.get(image, bit, rule.width());
     Ok(Proposal { present: u64::from(present), new: u64::from(new), value: rule.value(new) })
 }
 
-pub fn commit(kind: u8, image: &mut [u8], field: u64, present: u64, new: u64) -> Answer<()> {
+pub fn commit(kind: u8, image: &mut [u8], level: Level, field: u64, present: u64, new: u64) -> Answer<()> {
     let open = open(kind, image)?;
-    let (rule, bit) = open.changeable(field)?;
+    let (rule, bit) = open.changeable(level, field)?;
     if u64::from(open.chip.get(image, bit, rule.width())) != present {
         return refuse(19, field);
     }
@@ -1060,7 +1082,7 @@ mod tests {
         assert_eq!(check(0, &image).unwrap().bits, 294);
         assert_eq!(reading(0, &image, 1_000_000).unwrap().fraction, 333_333_333);
         assert_eq!(reading(0, &image, 2_000_000).unwrap().fraction, 666_666_667);
-        change(0, &mut image, 11, Value::Whole(2_000_000)).unwrap();
+        change(0, &mut image, Level::Maker, 11, Value::Whole(2_000_000)).unwrap();
         assert!(reading(0, &image, -200_000).is_ok());
         let refusal = Refusal { number: 14, place: 0 };
         assert_eq!(reading(0, &image, -200_001).err(), Some(refusal));
@@ -1086,10 +1108,38 @@ mod tests {
         for (figure, fits) in
             [(1_046_000_000, true), (1_046_000_001, false), (-1_000_000_000, true), (-1_000_000_001, false)]
         {
-            assert_eq!(change(0, &mut image, 10, Value::Whole(figure)).is_ok(), fits);
+            assert_eq!(change(0, &mut image, Level::Maker, 10, Value::Whole(figure)).is_ok(), fits);
         }
-        change(0, &mut image, 15, Value::Missing).unwrap();
+        change(0, &mut image, Level::Maker, 15, Value::Missing).unwrap();
         assert_eq!(field(0, &image, 15), Ok(Value::Missing));
+    }
+
+    #[test]
+    fn levels() {
+        let mut image = [0; 128];
+        build(1, &mut image, &sheet(), false, &[], &[]).unwrap();
+        let writes = |level| {
+            let values = sheet();
+            let proposed = |field: u64| propose(1, &image, level, field, values[field as usize - 1]);
+            (1..=21).filter(|field| proposed(*field).is_ok()).collect::<Vec<_>>()
+        };
+        assert_eq!(writes(Level::Owner), [21]);
+        assert_eq!(writes(Level::CalibrationRoom), [7, 8, 10, 11, 18, 19, 20, 21]);
+        assert_eq!(writes(Level::Maker), (1..=21).filter(|field| *field != 9).collect::<Vec<_>>());
+
+        // After 12, and before 9, 10 and 19.
+        let refusal = |number, place| Err(Refusal { number, place });
+        let mut changed = |level, field, value| change(1, &mut image, level, field, value);
+        assert_eq!(changed(Level::Owner, 9, Value::Whole(0)), refusal(12, 9));
+        assert_eq!(changed(Level::Owner, 22, Value::Whole(0)), refusal(8, 22));
+        assert_eq!(changed(Level::Owner, 20, Value::Missing), refusal(20, 20));
+        assert_eq!(changed(Level::CalibrationRoom, 20, Value::Missing), refusal(9, 20));
+        assert_eq!(changed(Level::Owner, 20, Value::Whole(4096)), refusal(20, 20));
+        assert_eq!(changed(Level::CalibrationRoom, 20, Value::Whole(4096)), refusal(10, 20));
+        let mut committed = |level, present, new| commit(1, &mut image, level, 20, present, new);
+        assert_eq!(committed(Level::Owner, 0, 1), refusal(20, 20));
+        assert_eq!(committed(Level::CalibrationRoom, 0, 1), refusal(19, 20));
+        assert_eq!(committed(Level::CalibrationRoom, 365, 1), Ok(()));
     }
 
     #[test]

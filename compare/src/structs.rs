@@ -1,6 +1,6 @@
 //! The structs of `include/dartelm.h`. Floats are compared by their bits.
 
-use crate::plain::Value;
+use crate::plain::{Level, Value};
 
 /// A field's value by two flags.
 #[derive(Clone, Copy, Debug, Default)]
@@ -41,12 +41,32 @@ impl ByFlags {
     }
 }
 
-/// The values of fields 1 to 21, and the end bit.
+/// The level of a byte: any but 1 and 2 is the owner's.
+pub fn level_of(byte: u8) -> Level {
+    match byte {
+        1 => Level::CalibrationRoom,
+        2 => Level::Maker,
+        _ => Level::Owner,
+    }
+}
+
+impl From<Level> for u8 {
+    fn from(level: Level) -> u8 {
+        match level {
+            Level::Owner => 0,
+            Level::CalibrationRoom => 1,
+            Level::Maker => 2,
+        }
+    }
+}
+
+/// The values of fields 1 to 21, the end bit, and the writer's level.
 #[derive(Clone, Copy, Debug, Default, PartialEq)]
 #[repr(C)]
 pub struct Fields {
     pub values: [ByFlags; 21],
     pub end_bit: u8,
+    pub level: u8,
 }
 
 #[derive(Clone, Copy, Debug, Default, PartialEq)]

@@ -7,7 +7,7 @@ use std::time::Instant;
 
 use compare::calls::{Calls, Plain};
 use compare::ffi::Product;
-use compare::plain::Value;
+use compare::plain::{Level, Value};
 use compare::structs::{ByFlags, Fields};
 
 const ROUNDS: usize = 1_000;
@@ -55,7 +55,7 @@ impl Case {
         let mut case = Case {
             kind,
             image: vec![0; [40, 128, 512][usize::from(kind)]],
-            fields: Fields { values: values().map(ByFlags::from), end_bit: 1 },
+            fields: Fields { values: values().map(ByFlags::from), end_bit: 1, level: Level::Maker.into() },
             text,
             points: (0..count)
                 .flat_map(|i| [i * 1_000_000_000 / count.max(1), (i * 7_919 % 200 - 100) * 10_000])
@@ -127,7 +127,8 @@ fn reading<C: Calls>(calls: &C, case: &mut Case, turn: usize) -> u8 {
 #[inline(never)]
 fn change<C: Calls>(calls: &C, case: &mut Case, turn: usize) -> u8 {
     let value = ByFlags::from(Value::Whole(7_306 + (turn % 2) as i64));
-    let answer = calls.change(black_box(case.kind), black_box(&mut case.image), black_box(18), black_box(value));
+    let (image, level) = (black_box(&mut case.image), black_box(Level::CalibrationRoom.into()));
+    let answer = calls.change(black_box(case.kind), image, level, black_box(18), black_box(value));
     black_box(&answer).number
 }
 

@@ -9,11 +9,11 @@ use std::process::ExitCode;
 use compare::calls::{Calls, Plain};
 use compare::console::Command;
 use compare::ffi::Product;
-use compare::plain::{self, Value};
+use compare::plain::{self, Level, Value};
 use compare::random::Random;
 use compare::structs::{
     ByFlags, CharacterAnswer, CheckAnswer, CodeAnswer, FieldAnswer, Fields, PageAnswer, PairAnswer, ProposalAnswer,
-    ReadingAnswer, SheetAnswer, TextAnswer, WriteAnswer,
+    ReadingAnswer, SheetAnswer, TextAnswer, WriteAnswer, level_of,
 };
 
 #[path = "differ/images.rs"]
@@ -47,7 +47,7 @@ const PROPOSE: usize = 14;
 const COMMIT: usize = 15;
 
 /// Refusal numbers, and 0.
-const NUMBERS: usize = 20;
+const NUMBERS: usize = 21;
 
 const MOST_SHOWN: u64 = 10;
 
@@ -318,12 +318,13 @@ impl Differ {
 
     fn change(&mut self) {
         let (field, value) = self.field_and_value();
+        let level = self.level();
         let kind = self.chip();
         self.both(
             CHANGE,
             kind,
-            |image| Command::Change(kind, image.to_vec(), field, value.value()),
-            |calls, lent| calls.change(kind, lent.image_mut(), field, value),
+            |image| Command::Change(kind, image.to_vec(), field, value.value(), level_of(level)),
+            |calls, lent| calls.change(kind, lent.image_mut(), level, field, value),
         );
     }
 
@@ -388,19 +389,20 @@ impl Differ {
 
     fn propose(&mut self) {
         let (field, value) = self.field_and_value();
+        let level = self.level();
         let kind = self.chip();
         self.both(
             PROPOSE,
             kind,
-            |image| Command::Propose(kind, image.to_vec(), field, value.value()),
-            |calls, lent| calls.propose(kind, lent.image(), field, value),
+            |image| Command::Propose(kind, image.to_vec(), field, value.value(), level_of(level)),
+            |calls, lent| calls.propose(kind, lent.image(), level, field, value),
         );
     }
 
     /// What was proposed, or other codes: near, at the edges of the field's width, beyond it, any.
     fn commit(&mut self) {
         let (field, value) = self.field_and_value();
-        let (mut present, mut new) = plain::propose(self.kind, self.image(), field, value.value())
+        let (mut present, mut new) = plain::propose(self.kind, self.image(), Level::Maker, field, value.value())
             .map_or((0, self.random.below(64)), |proposal| (proposal.present, proposal.new));
         if self.random.percent(10) {
             present = self.other_code(present);
@@ -408,12 +410,13 @@ impl Differ {
         if self.random.percent(40) {
             new = self.other_code(new);
         }
+        let level = self.level();
         let kind = self.chip();
         self.both(
             COMMIT,
             kind,
-            |image| Command::Commit(kind, image.to_vec(), field, present, new),
-            |calls, lent| calls.commit(kind, lent.image_mut(), field, present, new),
+            |image| Command::Commit(kind, image.to_vec(), field, present, new, level_of(level)),
+            |calls, lent| calls.commit(kind, lent.image_mut(), level, field, present, new),
         );
     }
 
@@ -555,6 +558,7 @@ impl Differ {
         let text = self.closing_text(precision, points.len() / 2);
         let ended = !text.is_empty() || self.random.percent(30);
         fields.end_bit = if ended && !self.random.percent(3) { self.yes() } else { 0 };
+        fields.level = self.level();
         let before = (text.clone(), points.clone());
         let kind = self.chip();
         let answer = self.both(
@@ -563,6 +567,7 @@ impl Differ {
             |image| Command::Build {
                 kind,
                 length: image.len(),
+                level: level_of(fields.level),
                 values: Box::new(fields.values.map(ByFlags::value)),
                 end_bit: fields.end_bit != 0,
                 text: text.clone(),

@@ -2,37 +2,37 @@
 use crate::asked;
 use crate::asked::Asked;
 use crate::asked::ROOM;
+use crate::builds;
+use crate::edits;
 use crate::indexes;
 use crate::printing;
 use crate::reads;
 use crate::turned;
-use crate::writes;
 use shown::put;
 use texts::equal;
 use words::Figure;
 use words::Number;
-use words::Worth;
 use words::front;
 use words::word;
 
-const HELP: [u8; 536] = *b"check KIND IMAGE\n\
+const HELP: [u8; 595] = *b"check KIND IMAGE\n\
     page KIND IMAGE PAGE\n\
     field KIND IMAGE FIELD\n\
     pair KIND IMAGE INDEX\n\
     char KIND IMAGE INDEX\n\
     reading KIND IMAGE INPUT\n\
     show KIND IMAGE\n\
-    build KIND LENGTH V1 .. V21 ENDBIT TEXT POINTS\n\
-    change KIND IMAGE FIELD VALUE\n\
+    build KIND LENGTH LEVEL V1 .. V21 ENDBIT TEXT POINTS\n\
+    change KIND IMAGE FIELD VALUE LEVEL\n\
     index KIND IMAGE BUFFER\n\
     fetch KIND IMAGE BUFFER FIELD\n\
-    propose KIND IMAGE FIELD VALUE\n\
-    commit KIND IMAGE FIELD PRESENT NEW\n\
+    propose KIND IMAGE FIELD VALUE LEVEL\n\
+    commit KIND IMAGE FIELD PRESENT NEW LEVEL\n\
     text FIELD CODE\n\
     code FIELD TEXT\n\
     help\n\
     KIND 0, 1 or 2; IMAGE, TEXT and BUFFER in hexadecimal, - for none; VALUE w7, s3f800000 or m;\n\
-    POINTS point,deviation,.. or -; a refusal is: no NUMBER PLACE\n";
+    LEVEL owner, calibration or maker; POINTS point,deviation,.. or -; a refusal is: no NUMBER PLACE\n";
 
 // Answers a line.
 pub fn answer(line: &[u8]) {
@@ -42,8 +42,9 @@ pub fn answer(line: &[u8]) {
         3 => of_two(line, name),
         4 => of_three(line, name),
         5 => of_four(line, name),
-        6 => writes::commit(line, name),
-        27 => writes::build(line, name),
+        6 => of_five(line, name),
+        7 => of_six(line, name),
+        28 => of_sheet(line, name),
         _ => printing::unknown(),
     }
 }
@@ -92,14 +93,39 @@ fn of_three(line: &[u8], name: &[u8]) {
     of_image_and(name, chip.kind, front(&room, chip.length), word(line, 3));
 }
 
+// The command of an image, an index and a field.
 fn of_four(line: &[u8], name: &[u8]) {
     if equal(name, b"fetch") {
         return indexes::fetch(line);
     }
-    if equal(name, b"propose") {
-        return propose(line);
+    printing::unknown();
+}
+
+// The commands of an image, a field, a value and a level.
+fn of_five(line: &[u8], name: &[u8]) {
+    if equal(name, b"change") {
+        return edits::change(line);
     }
-    writes::change(line, name);
+    if equal(name, b"propose") {
+        return edits::propose(line);
+    }
+    printing::unknown();
+}
+
+// The command of an image, a field, two codes and a level.
+fn of_six(line: &[u8], name: &[u8]) {
+    if equal(name, b"commit") {
+        return edits::commit(line);
+    }
+    printing::unknown();
+}
+
+// The command of a sheet.
+fn of_sheet(line: &[u8], name: &[u8]) {
+    if equal(name, b"build") {
+        return builds::build(line);
+    }
+    printing::unknown();
 }
 
 fn of_image_and(name: &[u8], kind: u8, image: &[u8], last: &[u8]) {
@@ -129,19 +155,4 @@ fn of_number(name: &[u8], kind: u8, image: &[u8], number: u64) {
         return reads::character(kind, image, number);
     }
     printing::unknown();
-}
-
-// The image, the field and the value, words 2 to 4.
-fn propose(line: &[u8]) {
-    let Number::Is(field) = words::number_of(word(line, 3)) else {
-        return printing::unknown();
-    };
-    let Worth::Is(value) = words::value_of(word(line, 4)) else {
-        return printing::unknown();
-    };
-    let mut room = [0u8; ROOM];
-    let Asked::Of(chip) = asked::lent(line, &mut room) else {
-        return printing::unknown();
-    };
-    reads::propose(chip.kind, front(&room, chip.length), field, value);
 }

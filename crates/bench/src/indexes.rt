@@ -3,7 +3,6 @@ use crate::asked;
 use crate::asked::Asked;
 use crate::asked::ROOM;
 use crate::printing;
-use crate::writes;
 use sheet::FieldAnswer;
 use words::Filled;
 use words::Number;
@@ -13,7 +12,7 @@ use words::word;
 
 fn index_in(kind: u8, image: &[u8], buffer: &mut [u8]) {
     let answer = index::make_index(kind, image, buffer);
-    writes::written(answer, buffer);
+    printing::written(answer, buffer);
 }
 
 // The image and the buffer, words 2 and 3.

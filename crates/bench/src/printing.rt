@@ -3,6 +3,7 @@ use crate::asked::ROOM;
 use fields::Value;
 use libc::STDOUT_FILENO;
 use refusal::Refusal;
+use refusal::Written;
 use shown::put;
 use shown::put_figure;
 use shown::put_number;
@@ -78,4 +79,16 @@ pub fn value(v: Value) {
         Value::Missing => put(b"m"),
     }
     end();
+}
+
+// An answer of a lent buffer afterwards, or the refusal.
+pub fn written(answer: Written, buffer: &[u8]) {
+    match answer {
+        Written::Done => {
+            put(b"ok ");
+            bytes(buffer);
+            end();
+        }
+        Written::Refused(r) => refused(r),
+    }
 }

@@ -1,8 +1,5 @@
 // The commands that leave the image alone.
 use crate::printing;
-use change::Proposal;
-use change::ProposalAnswer;
-use fields::Value;
 use memory::page_bytes;
 use reading::ReadingAnswer;
 use sheet::CharacterAnswer;
@@ -69,21 +66,5 @@ pub fn reading(kind: u8, image: &[u8], input: i64) {
             printing::end();
         }
         ReadingAnswer::Refused(r) => printing::refused(r),
-    }
-}
-
-fn proposed(proposal: Proposal) {
-    let back = proposal.value;
-    put_number(proposal.present);
-    put(b" ");
-    put_number(proposal.new);
-    put(b" ");
-    printing::value(back);
-}
-
-pub fn propose(kind: u8, image: &[u8], field: u64, value: Value) {
-    match change::propose(kind, image, field, value) {
-        ProposalAnswer::Proposed(proposal) => proposed(proposal),
-        ProposalAnswer::Refused(r) => printing::refused(r),
     }
 }

@@ -241,13 +241,8 @@ pub extern "C" fn dartelm_change(
     ensures { λ r. ⌜ (let outcome = changeCall kind (now (image .entry)) level field value in
         (r ≡ told writeAnswer [] outcome) × (now (image .exit) ≡ afterwards (now (image .entry)) outcome)) ⌝ }
 {
-    wrote(change::change(
-        kind,
-        image,
-        values::level_of(level),
-        field,
-        values::value_of(value),
-    ))
+    let writer = values::level_of(level);
+    wrote(change::change(kind, image, writer, field, values::value_of(value)))
 }
 
 // Makes the index of an image in a buffer.
@@ -310,14 +305,8 @@ pub extern "C" fn dartelm_commit(
     ensures { λ r. ⌜ (let outcome = commitCall kind (now (image .entry)) level field «present_code» «new_code» in
         (r ≡ told writeAnswer [] outcome) × (now (image .exit) ≡ afterwards (now (image .entry)) outcome)) ⌝ }
 {
-    wrote(change::commit(
-        kind,
-        image,
-        values::level_of(level),
-        field,
-        present_code,
-        new_code,
-    ))
+    let writer = values::level_of(level);
+    wrote(change::commit(kind, image, writer, field, present_code, new_code))
 }
 
 // Takes a reading at an input in nV/V.

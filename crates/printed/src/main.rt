@@ -1,7 +1,7 @@
 // Examples that documents 000 and 002 print, the cases of document 01's "Edges" and "Slips", the edges of its rows, and sheets
 // as a person sees them (docs/EXAMPLES.md). The first six lines are document 000's examples of ConRes, 7.4.5.3.3, which are of
-// no field of the sheet: they go through the one rule that every stepped field has. The others are answers to lines of the
-// console.
+// no field of the sheet: they go through the one rule that every stepped field has. The last lines are the refusals in words that
+// `show` does not come to, since a check does not. The others are answers to lines of the console.
 use fields::Decoded;
 use fields::Row;
 use fields::Rule;
@@ -57,6 +57,22 @@ const GRANULAR: Row = Row {
     missing: true,
 };
 
+// The rows that calls other than a check give.
+fn print_rows() {
+    shown::refused(refusal::no_such(22));
+    shown::refused(refusal::wrong_sort(13));
+    shown::refused(refusal::out_of_range(15));
+    shown::refused(refusal::too_long(320));
+    shown::refused(refusal::changed_alone(9));
+    shown::refused(refusal::no_span(11));
+    shown::refused(refusal::outside_span());
+    shown::refused(refusal::single_span());
+    shown::refused(refusal::wrong_list(3));
+    shown::refused(refusal::short_index(84));
+    shown::refused(refusal::other_code(20));
+    shown::refused(refusal::level_too_low(13));
+}
+
 fn main() {
     print_code(TEMPERATURE_COEFFICIENT, 8);
     print_code(TEMPERATURE_COEFFICIENT, 510);
@@ -65,4 +81,5 @@ fn main() {
     print_code(SIGNED_INTEGER, 255);
     print_code(GRANULAR, 20_000_000);
     bench::serve();
+    print_rows();
 }

@@ -6,7 +6,7 @@ use refusal::Refusal;
 
 // A line a row, from 0, which is none: what its place is, with no word for it where a row has more than one sort of place,
 // and what it means.
-const ROWS: [u8; 941] = *b"place;no row of the table\n\
+const ROWS: [u8; 989] = *b"place;no row of the table\n\
     place;no such kind of chip, or an image of another length\n\
     page;the bytes of this page do not add up\n\
     bit;what begins here would pass the end of the chip\n\
@@ -25,7 +25,8 @@ const ROWS: [u8; 941] = *b"place;no row of the table\n\
     length;a list of points that is odd or too long\n\
     place;blank: nothing has been written to this chip\n\
     bytes;an index needs so many, and there are fewer\n\
-    field;another code stands there than the one expected";
+    field;another code stands there than the one expected\n\
+    field;the writer's level is too low to write it";
 
 // Prints a refusal's number, place and meaning, on a line.
 pub fn refused(r: Refusal) {

@@ -3,3 +3,4 @@ pub mod Said
 pub mod Figures
 pub mod Hexadecimal
 pub mod Values
+pub mod Levels

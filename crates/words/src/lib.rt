@@ -1,16 +1,19 @@
-// The words of a console line: numbers, images and texts in hexadecimal, figures, and the values of fields. Every function
-// takes any bytes at all, and says where a word is not what was asked for. All are proved, nothing is assumed.
+// The words of a console line: numbers, images and texts in hexadecimal, figures, the values of fields, and levels. Every
+// function takes any bytes at all, and says where a word is not what was asked for. All are proved, nothing is assumed.
 mod figures; // figures.rt: decimal numbers, with or without a sign, and lists of them
 mod hexadecimal; // hexadecimal.rt: bytes as hexadecimal digits and back
+mod levels; // levels.rt: a writer's level
 mod parts; // parts.rt: the words of a line
 mod values; // values.rt: the value of a field
 
+use fields::Level;
 use fields::Value;
 pub use figures::figure_of;
 pub use figures::figures_of;
 pub use figures::number_of;
 pub use hexadecimal::bytes_of;
 pub use hexadecimal::spell;
+pub use levels::level_of;
 pub use parts::front;
 pub use parts::front_figures;
 pub use parts::front_mut;
@@ -40,5 +43,11 @@ pub enum Filled {
 // A word's value of a field.
 pub enum Worth {
     Is(Value),
+    Not,
+}
+
+// A word's level of a writer.
+pub enum Writer {
+    Is(Level),
     Not,
 }

@@ -25,6 +25,12 @@ impl Differ {
         if self.random.percent(80) { 1 } else { self.random.within(1, 255) as u8 }
     }
 
+    /// A writer's level: often the maker's, which may write what a value suits; or a byte that is none.
+    pub fn level(&mut self) -> u8 {
+        let any = self.random.word() as u8;
+        self.random.pick(&[0, 1, 1, 2, 2, 2, 2, 3, any])
+    }
+
     /// A value by flags, with anything in the members that it does not need.
     pub fn given(&mut self, value: Value) -> ByFlags {
         let mut given = ByFlags {

@@ -24,7 +24,7 @@ same-length c = search needs
 returns : tie.Need-returns
 returns c =
     let a = c .before .before .before .before .before .before .before .before .args in
-    tells-written (a .image .now) _ (c .before .before .before .change .result) (c .wrote .ensures) (c .before .before .before .change .ensures .0) (c .before .before .before .change .ensures .1) (ap₂ (λ (l : Level) (v : Value). change (a .kind) (a .image .now) l (a .field) v) (c .before .before .before .before .before .level-of .ensures) (c .before .before .before .before .value-of .ensures))
+    tells-written (a .image .now) _ (c .before .before .before .change .result) (c .wrote .ensures) (c .before .before .before .change .ensures .0) (c .before .before .before .change .ensures .1) (ap₂ (λ (l : Level) (v : Value). change (a .kind) (a .image .now) l (a .field) v) (c .before .before .before .before .before .before .level-of .ensures) (c .before .before .before .before .value-of .ensures))
 
 pub dartelm-change-spec : {M : Type 1} → statement M
 dartelm-change-spec =

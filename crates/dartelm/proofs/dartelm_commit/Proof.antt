@@ -12,7 +12,7 @@ returns c =
     let m = c .before .before .before in
     let a = m .before .before .before .before .args in
     tells-written (a .image .now) _ (m .commit .result) (c .wrote .ensures) (m .commit .ensures .0) (m .commit .ensures .1)
-    (ap (λ (l : Level). commit (a .kind) (a .image .now) l (a .field) (a .present-code) (a .new-code)) (m .before .level-of .ensures))
+    (ap (λ (l : Level). commit (a .kind) (a .image .now) l (a .field) (a .present-code) (a .new-code)) (m .before .before .level-of .ensures))
 
 pub dartelm-commit-spec : {M : Type 1} → statement M
 dartelm-commit-spec =

@@ -1,14 +1,14 @@
 use Prim.Native.Nat.{_-_}
 use borrow.Author.Needs.{needs}
-use Rattle.bench.proofs.writes.are_values.Statement.{statement}
-use Rattle.bench.proofs.writes.are_values.Tie as tie
+use Rattle.bench.proofs.builds.are_values.Statement.{statement}
+use Rattle.bench.proofs.builds.are_values.Tie as tie
 
 pub are-values-spec : {M : Type 1} → statement M
 are-values-spec =
     tie.close
     (tie.spec
     (λ line index₀ index. Unit {0})
-    (λ line index₀ index. 24 - index)
+    (λ line index₀ index. 25 - index)
     (λ c. search needs)
     (λ c κs. search needs)
     (λ c κs. search needs)
