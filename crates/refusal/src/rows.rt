@@ -15,11 +15,11 @@ ghost use Rattle.refusal.specs.Rows.{
   changedAlone,
   noSpan,
   outsideSpan,
-  singleSpan,
   wrongList,
   blankChip,
   shortIndex,
   otherCode,
+  endOutside,
 };
 use crate::Refusal;
 
@@ -156,15 +156,6 @@ pub fn outside_span() -> Refusal
     }
 }
 
-pub fn single_span() -> Refusal
-    ensures { λ r. ⌜ r ≡ singleSpan ⌝ }
-{
-    Refusal {
-        number: crate::SINGLE_SPAN,
-        place: 9,
-    }
-}
-
 pub fn wrong_list(length: u64) -> Refusal
     ensures { λ r. ⌜ r ≡ wrongList length ⌝ }
 {
@@ -197,6 +188,15 @@ pub fn other_code(field: u64) -> Refusal
 {
     Refusal {
         number: crate::OTHER_CODE,
+        place: field,
+    }
+}
+
+pub fn end_outside(field: u64) -> Refusal
+    ensures { λ r. ⌜ r ≡ endOutside field ⌝ }
+{
+    Refusal {
+        number: crate::END_OUTSIDE,
         place: field,
     }
 }
