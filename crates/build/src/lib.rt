@@ -5,6 +5,7 @@ mod plan; // plan.rt: what a build tests before it writes
 mod write; // write.rt: what a build writes
 
 pub use building::build;
+use fields::Level;
 use fields::Value;
 
 // A field's value in the sheet record: a struct's array holds no enum, but it holds structs that do.
@@ -12,9 +13,10 @@ pub struct Slot {
     pub value: Value,
 }
 
-// The sheet record: the values of the fields, with room for as many as any template has, and the end bit. The text of the
-// ending is lent beside it.
+// The sheet record: the values of the fields, with room for as many as any template has, the end bit, and the writer's level,
+// which a build neither tests nor stores. The text of the ending is lent beside it.
 pub struct Sheet {
     pub fields: [Slot; 21],
     pub end_bit: bool,
+    pub level: Level,
 }

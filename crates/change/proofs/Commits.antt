@@ -20,6 +20,7 @@ use Rattle.memory.proofs.Images.{image-length, image-bytes}
 use Rattle.fields.specs.declared.Value.{Value}
 use Rattle.fields.specs.declared.Value.the-variants.{Whole, Single, Missing}
 use Rattle.fields.specs.declared.Row.{Row}
+use Rattle.fields.specs.declared.Level.{Level}
 use Rattle.fields.specs.declared.Rule.{Rule}
 use Rattle.fields.specs.declared.Rule.the-variants.{Plain, Stepped, Geometric, Single as Ieee}
 use Rattle.fields.specs.Rules.{allOnes, topCode, steppedValue, progression, geometricValue, finite, meaning, decode}
@@ -74,40 +75,40 @@ module _ (row : Row) (code : ℕ) where
 
 -- ---- by their parts
 
-pub propose-is : (kind : ℕ) (image : List ℕ) (c : Contents) → contents kind image ≡ good c → (f : ℕ) (v : Value) →
-    propose kind image f v ≡ (codeFor c f v >>= proposedFor (field c f))
+pub propose-is : (kind : ℕ) (image : List ℕ) (c : Contents) → contents kind image ≡ good c → (level : Level) (f : ℕ) (v : Value) →
+    propose kind image level f v ≡ (codeFor c level f v >>= proposedFor (field c f))
 unfolding propose
-propose-is kind image c e f v = bind-good _ e
+propose-is kind image c e level f v = bind-good _ e
 
-module _ (c : Contents) (f : ℕ) (h : Changeable c f) (new : ℕ) where
-  pub commit-allowed : mayStand (field c f .row) new ≡ true → mayCommit c f (field c f .code) new ≡ good tt
+module _ (c : Contents) (level : Level) (f : ℕ) (h : Changeable c level f) (new : ℕ) where
+  pub commit-allowed : mayStand (field c f .row) new ≡ true → mayCommit c level f (field c f .code) new ≡ good tt
   unfolding mayCommit
-  commit-allowed s = rw (changeable-good c f h, eq-eqb (field c f .code) (field c f .code) refl, s)
+  commit-allowed s = rw (changeable-good c level f h, eq-eqb (field c f .code) (field c f .code) refl, s)
 
-  pub commit-other : (present : ℕ) → (field c f .code ≡ present → ⊥) → mayCommit c f present new ≡ refused (otherCode f)
+  pub commit-other : (present : ℕ) → (field c f .code ≡ present → ⊥) → mayCommit c level f present new ≡ refused (otherCode f)
   unfolding mayCommit
-  commit-other present n = rw (changeable-good c f h, ne-eqb (field c f .code) present n)
+  commit-other present n = rw (changeable-good c level f h, ne-eqb (field c f .code) present n)
 
 -- ---- an accepted commit
 
 -- What it was made of: the sheet that the image held, which was tested.
-pub record CommitMade (kind : ℕ) (image : List ℕ) (f present new : ℕ) (after : List ℕ) : Type 0 where
+pub record CommitMade (kind : ℕ) (image : List ℕ) (level : Level) (f present new : ℕ) (after : List ℕ) : Type 0 where
   pub held : Contents
   pub sizes : Sizes
   pub accepted : contents kind image ≡ good held
   pub sized : imageSizes kind (length image) ≡ good sizes
-  pub tested : Committed held f present new
+  pub tested : Committed held level f present new
   pub is : after ≡ recodedIn sizes image (field held f) new
 
-module _ (kind : ℕ) (image : List ℕ) (f present new : ℕ) (after : List ℕ) (made : commit kind image f present new ≡ good after) where
-  pub commit-made : CommitMade kind image f present new after
+module _ (kind : ℕ) (image : List ℕ) (level : Level) (f present new : ℕ) (after : List ℕ) (made : commit kind image level f present new ≡ good after) where
+  pub commit-made : CommitMade kind image level f present new after
   unfolding commit
   commit-made =
       let (c, e, g) = good-bind (contents kind image) _ after made in
       let a = contents-accepted kind image c e in
-      let (t, k) = good-then (mayCommit c f present new) (good (recodedIn (a .sizes) image (field c f) new)) after
-      (sym (commit-is kind image f present new c (a .sizes) e (a .sized)) ∙ made) in
-      record { held = c; sizes = a .sizes; accepted = e; sized = a .sized; tested = committed c f present new t; is = sym (good-same k) }
+      let (t, k) = good-then (mayCommit c level f present new) (good (recodedIn (a .sizes) image (field c f) new)) after
+      (sym (commit-is kind image level f present new c (a .sizes) e (a .sized)) ∙ made) in
+      record { held = c; sizes = a .sizes; accepted = e; sized = a .sized; tested = committed c level f present new t; is = sym (good-same k) }
 
   -- It has the bytes of an image, as many as before.
   pub commit-length : length after ≡ length image
@@ -120,7 +121,7 @@ module _ (kind : ℕ) (image : List ℕ) (f present new : ℕ) (after : List ℕ
 
 -- The new code with the value that it means, all else as it was.
 pub committed-contents : (kind : ℕ) (image : List ℕ) (c : Contents) (z : Sizes) → Bytes image → contents kind image ≡ good c →
-    imageSizes kind (length image) ≡ good z → (f present new : ℕ) → Committed c f present new → (v : Value) → decode (field c f .row) (field c f .at) new ≡ good v →
+    imageSizes kind (length image) ≡ good z → (level : Level) (f present new : ℕ) → Committed c level f present new → (v : Value) → decode (field c f .row) (field c f .at) new ≡ good v →
     contents kind (recodedIn z image (field c f) new) ≡ good (withField c (f - 1) (recoded (field c f) new v))
-committed-contents kind image c z bytes e hz f present new t v means =
-    recoded-contents kind image c z bytes e hz f (t .free) new v (stands-fits (field c f .row) new (t .stands)) means
+committed-contents kind image c z bytes e hz level f present new t v means =
+    recoded-contents kind image c z bytes e hz level f (t .free) new v (stands-fits (field c f .row) new (t .stands)) means

@@ -1,6 +1,6 @@
 -- The parts of a change as the code takes them are those of its definition.
 use mathlib.Core.Path.{_≡_, refl, sym, ap, ap₂, _∙_, subst}
-use mathlib.Core.Bool.{Bool, true, false, _||_}
+use mathlib.Core.Bool.{Bool, true, false, not, _||_}
 use mathlib.Core.List.{List}
 use Prim.Native.Nat.{ℕ, _+_, _-_, _^_, _≤_, _<_}
 use native.Mathlib.Omega.{arith}
@@ -12,7 +12,7 @@ use denote.Enum.Declared as enum
 use denote.Enum.Laws.{vals, owed}
 use Rattle.refusal.specs.declared.Refusal.{Refusal}
 use Rattle.refusal.specs.Outcome.{Outcome, good, refused, _>>_, _>>=_, refuse_if_}
-use Rattle.refusal.specs.Rows.{noSuch, changedAlone}
+use Rattle.refusal.specs.Rows.{noSuch, changedAlone, levelTooLow}
 use Rattle.refusal.proofs.Outcomes.{passed, neither, good-then, bind-good, bind-refused, then-good, then-refused}
 use Rattle.memory.specs.declared.Sizes.{Sizes}
 use Rattle.memory.specs.Bits.{putAt}
@@ -24,9 +24,11 @@ use Rattle.fields.specs.declared.Value.{Value}
 use Rattle.fields.specs.declared.Value.the-variants.{Whole, Single, Missing}
 use Rattle.fields.specs.declared.Template.{Template}
 use Rattle.fields.specs.declared.Layout.{Layout}
+use Rattle.fields.specs.declared.Level.{Level}
 use Rattle.fields.specs.Rules.{encode}
 use Rattle.fields.specs.Stored.{Real}
 use Rattle.fields.specs.Lines.{lastField, lineOf, rowOf}
+use Rattle.fields.specs.Levels.{mayWrite}
 use Rattle.fields.proofs.Value.{the-type}
 use Rattle.fields.proofs.Value.Laws.{the-laws}
 use Rattle.fields.proofs.RowLaws.{row-sound}
@@ -42,36 +44,43 @@ use Rattle.sheet.specs.declared.opening.Opened.{Opened}
 use Rattle.sheet.specs.Opened.{Opens}
 use Rattle.sheet.proofs.HeldLaws.{layout-is, held-whole, holding}
 use Rattle.change.specs.Change.{changeable, codeFor, change}
-use Rattle.change.specs.Parts.{allowedIn, codeIn}
+use Rattle.change.specs.Parts.{writableIn, allowedIn, codeIn}
 use Rattle.change.proofs.Recoding.{change-is}
 
 -- ---- the tests
 
-module _ (t : Template) (f : ℕ) where
-  pub allowed-none : f < 1 → refused (noSuch f) ≡ allowedIn t f
+module _ (t : Template) (level : Level) (f : ℕ) where
+  pub allowed-none : f < 1 → refused (noSuch f) ≡ allowedIn t level f
   unfolding allowedIn
   allowed-none h = let z : f ≡ 0 = omega arith in rw (eq-eqb f 0 z)
 
-  pub allowed-past : 1 ≤ f → lastField t < f → refused (noSuch f) ≡ allowedIn t f
+  pub allowed-past : 1 ≤ f → lastField t < f → refused (noSuch f) ≡ allowedIn t level f
   unfolding allowedIn
   allowed-past h m = rw (ne-eqb f 0 (λ z. omega arith), lt-ltb (lastField t) f m)
 
-  pub allowed-by : (b : Bool) → lineOf t f .sets ≡ b → 1 ≤ f → f ≤ lastField t → (refuse changedAlone f if b) ≡ allowedIn t f
+  pub allowed-choice : lineOf t f .sets ≡ true → 1 ≤ f → f ≤ lastField t → refused (changedAlone f) ≡ allowedIn t level f
   unfolding allowedIn
-  allowed-by b e h m = rw (ne-eqb f 0 (λ z. omega arith), le-ltb (lastField t) f m, e)
+  allowed-choice e h m = rw (ne-eqb f 0 (λ z. omega arith), le-ltb (lastField t) f m, e)
+
+  pub allowed-by-level : lineOf t f .sets ≡ false → 1 ≤ f → f ≤ lastField t → writableIn t level f ≡ allowedIn t level f
+  unfolding allowedIn
+  allowed-by-level e h m = rw (ne-eqb f 0 (λ z. omega arith), le-ltb (lastField t) f m, e)
+
+  pub writable-by : {b : Bool} → mayWrite level (lineOf t f .mark) ≡ b → (refuse levelTooLow f if not b) ≡ writableIn t level f
+  writable-by e = rw e
 
   -- A field that may be changed is one of the template's.
-  pub allowed-known : good tt ≡ allowedIn t f → (1 ≤ f) × (f ≤ lastField t)
+  pub allowed-known : good tt ≡ allowedIn t level f → (1 ≤ f) × (f ≤ lastField t)
   unfolding allowedIn
   allowed-known e =
-      let (k, g) = passed (noSuch f) (eqb f 0 || ltb (lastField t) f) (refuse changedAlone f if lineOf t f .sets) tt (sym e) in
+      let (k, g) = passed (noSuch f) (eqb f 0 || ltb (lastField t) f) ((refuse changedAlone f if lineOf t f .sets) >> writableIn t level f) tt (sym e) in
       let (a, b) = neither (eqb f 0) (ltb (lastField t) f) k in
       let z : f ≡ 0 → ⊥ = eqb-false f 0 a in
       (omega arith, ltb-false (lastField t) f b)
 
 -- ---- the code
 
-module _ (c : Contents) (f : ℕ) (v : Value) where
+module _ (c : Contents) (level : Level) (f : ℕ) (v : Value) where
   abbrev t : Template
   t = c .template
 
@@ -79,21 +88,25 @@ module _ (c : Contents) (f : ℕ) (v : Value) where
   outside n = eqb f 0 || ltb n f
 
   -- The same tests, told of the field and of its row.
-  abbrev byField : Bool → Bool → Outcome ℕ
-  byField none sets = ((refuse noSuch f if none) >> good (field c f)) >>= (λ x. (refuse changedAlone f if sets) >> good x) >>= λ x. encode (x .row) f v
+  abbrev byField : Bool → Bool → Bool → Outcome ℕ
+  byField none sets low =
+      ((refuse noSuch f if none) >> good (field c f)) >>= (λ x. (refuse changedAlone f if sets) >> ((refuse levelTooLow f if low) >> good x)) >>= λ x. encode (x .row) f v
 
-  abbrev byRow : Bool → Bool → Outcome ℕ
-  byRow none sets = ((refuse noSuch f if none) >> (refuse changedAlone f if sets)) >> encode (rowOf (layoutOf c) f) f v
+  abbrev byRow : Bool → Bool → Bool → Outcome ℕ
+  byRow none sets low = ((refuse noSuch f if none) >> ((refuse changedAlone f if sets) >> (refuse levelTooLow f if low))) >> encode (rowOf (layoutOf c) f) f v
 
-  same-tests : (none sets : Bool) → (none ≡ false → field c f .row ≡ rowOf (layoutOf c) f) → byField none sets ≡ byRow none sets
-  same-tests true sets h = refl
-  same-tests false true h = refl
-  same-tests false false h = ap (λ r. encode r f v) (h refl)
+  same-tests : (none sets low : Bool) → (none ≡ false → field c f .row ≡ rowOf (layoutOf c) f) → byField none sets low ≡ byRow none sets low
+  same-tests true sets low h = refl
+  same-tests false true low h = refl
+  same-tests false false true h = refl
+  same-tests false false false h = ap (λ r. encode r f v) (h refl)
 
   -- For a sheet whose fields are the template's, each of its row.
-  pub code-parts : length (c .fields) ≡ lastField t → (1 ≤ f → f ≤ lastField t → field c f .row ≡ rowOf (layoutOf c) f) → codeFor c f v ≡ codeIn (layoutOf c) f v
+  pub code-parts : length (c .fields) ≡ lastField t → (1 ≤ f → f ≤ lastField t → field c f .row ≡ rowOf (layoutOf c) f) → codeFor c level f v ≡ codeIn (layoutOf c) level f v
   unfolding codeFor changeable codeIn allowedIn
-  code-parts count row = ap (λ (n : ℕ). byField (outside n) (lineOf t f .sets)) count ∙ same-tests (outside (lastField t)) (lineOf t f .sets) here
+  code-parts count row =
+      let low : Bool = not (mayWrite level (lineOf t f .mark)) in
+      ap (λ (n : ℕ). byField (outside n) (lineOf t f .sets) low) count ∙ same-tests (outside (lastField t)) (lineOf t f .sets) low here
     where
       here : outside (lastField t) ≡ false → field c f .row ≡ rowOf (layoutOf c) f
       here e =
@@ -101,20 +114,20 @@ module _ (c : Contents) (f : ℕ) (v : Value) where
           let z : f ≡ 0 → ⊥ = eqb-false f 0 a in
           row (omega arith) (ltb-false (lastField t) f b)
 
-pub code-known : (layout : Layout) (f : ℕ) (v : Value) (code : ℕ) → codeIn layout f v ≡ good code →
+pub code-known : (layout : Layout) (level : Level) (f : ℕ) (v : Value) (code : ℕ) → codeIn layout level f v ≡ good code →
     (1 ≤ f) × (f ≤ lastField (layout .template)) × (encode (rowOf layout f) f v ≡ good code)
 unfolding codeIn
-code-known layout f v code e =
-    let (a, b) = good-then (allowedIn (layout .template) f) (encode (rowOf layout f) f v) code e in
-    let (lo, hi) = allowed-known (layout .template) f (sym a) in
+code-known layout level f v code e =
+    let (a, b) = good-then (allowedIn (layout .template) level f) (encode (rowOf layout f) f v) code e in
+    let (lo, hi) = allowed-known (layout .template) level f (sym a) in
     (lo, hi, b)
 
-module _ (layout : Layout) (f : ℕ) (v : Value) where
-  pub code-refused : {r : Refusal} → refused r ≡ allowedIn (layout .template) f → refused r ≡ codeIn layout f v
+module _ (layout : Layout) (level : Level) (f : ℕ) (v : Value) where
+  pub code-refused : {r : Refusal} → refused r ≡ allowedIn (layout .template) level f → refused r ≡ codeIn layout level f v
   unfolding codeIn
   code-refused e = sym (then-refused (encode (rowOf layout f) f v) (sym e))
 
-  pub code-allowed : good tt ≡ allowedIn (layout .template) f → {o : Outcome ℕ} → o ≡ encode (rowOf layout f) f v → o ≡ codeIn layout f v
+  pub code-allowed : good tt ≡ allowedIn (layout .template) level f → {o : Outcome ℕ} → o ≡ encode (rowOf layout f) f v → o ≡ codeIn layout level f v
   unfolding codeIn
   code-allowed e k = k ∙ sym (then-good (encode (rowOf layout f) f v) (sym e))
 
@@ -140,29 +153,29 @@ lent-real (Whole z) h = tt
 lent-real (Single x) h = subst T (sym (owed the-type the-laws (Single x) (vals the-type the-laws (Single x)) h .0 .1)) tt
 lent-real Missing h = tt
 
-module _ {kind : ℕ} {image : List ℕ} {o : Opened} {c : Contents} (h : Opens kind image o c) (f : ℕ) (v : Value) where
+module _ {kind : ℕ} {image : List ℕ} {o : Opened} {c : Contents} (h : Opens kind image o c) (level : Level) (f : ℕ) (v : Value) where
   abbrev z : Sizes
   z = o .sizes
 
-  pub coded : codeFor c f v ≡ codeIn (o .layout) f v
+  pub coded : codeFor c level f v ≡ codeIn (o .layout) level f v
   coded =
-      code-parts c f v (fields-count (holding h .formed)) (λ lo hi. row-is (field-at (holding h .formed) f lo hi))
-      ∙ ap (λ l. codeIn l f v) (sym (layout-is h))
+      code-parts c level f v (fields-count (holding h .formed)) (λ lo hi. row-is (field-at (holding h .formed) f lo hi))
+      ∙ ap (λ l. codeIn l level f v) (sym (layout-is h))
 
-  pub change-refused : {r : Refusal} → codeIn (o .layout) f v ≡ refused r → change kind image f v ≡ refused r
-  change-refused e = change-is kind image c z (h .accepted) (h .sized) f v ∙ bind-refused _ (coded ∙ e)
+  pub change-refused : {r : Refusal} → codeIn (o .layout) level f v ≡ refused r → change kind image level f v ≡ refused r
+  change-refused e = change-is kind image c z (h .accepted) (h .sized) level f v ∙ bind-refused _ (coded ∙ e)
 
-  module _ {code : ℕ} (e : codeIn (o .layout) f v ≡ good code) where
+  module _ {code : ℕ} (e : codeIn (o .layout) level f v ≡ good code) where
     known : (1 ≤ f) × (f ≤ lastField (o .layout .template)) × (encode (rowOf (o .layout) f) f v ≡ good code)
-    known = code-known (o .layout) f v code e
+    known = code-known (o .layout) level f v code e
 
     stands : Stands (streamIn z image) (rowOf (o .layout) f) (fieldPlace (o .layout) f) (field c f)
     stands = stands-here h f (known .0) (known .1)
 
     pub change-stored : {at w : ℕ} → at ≡ fieldPlace (o .layout) f → w ≡ rowOf (o .layout) f .width →
-        change kind image f v ≡ good (imageOf z (putAt (streamNumber z image) at w code))
+        change kind image level f v ≡ good (imageOf z (putAt (streamNumber z image) at w code))
     change-stored {at} {w} ea ew =
-        change-is kind image c z (h .accepted) (h .sized) f v ∙ bind-good _ (coded ∙ e)
+        change-is kind image c z (h .accepted) (h .sized) level f v ∙ bind-good _ (coded ∙ e)
         ∙ ap₂ (λ (n k : ℕ). good (imageOf z (putAt (streamNumber z image) n k code))) (at-is (stands .field) ∙ sym ea) (width-is (stands .field) ∙ sym ew)
 
     pub change-place : Real v → {at w : ℕ} → at ≡ fieldPlace (o .layout) f → w ≡ rowOf (o .layout) f .width → InStream z image at w × (code < 2 ^ w)

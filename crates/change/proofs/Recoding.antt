@@ -1,15 +1,15 @@
 -- A change by its parts, and what the changed image holds.
 use mathlib.Core.Path.{_≡_, sym, ap, ap₂, _∙_, subst}
-use mathlib.Core.Bool.{Bool, false, _||_}
+use mathlib.Core.Bool.{Bool, true, false, not, _||_}
 use mathlib.Core.List.{List}
 use Prim.Native.Nat.{ℕ, _+_, _-_, _^_, _≤_, _<_}
 use native.Mathlib.Omega.{arith}
 use lib.Dec.{eqb, ltb}
 use lib.ListN.{length}
-use borrow.Author.Tests.{eqb-false, ltb-false, ne-eqb, le-ltb}
+use borrow.Author.Tests.{eqb-false, ltb-false, ne-eqb, le-ltb, not-false}
 use Rattle.refusal.specs.declared.Refusal.{Refusal}
 use Rattle.refusal.specs.Outcome.{good, refused, _>>_, _>>=_, refuse_if_}
-use Rattle.refusal.specs.Rows.{noSuch, changedAlone}
+use Rattle.refusal.specs.Rows.{noSuch, changedAlone, levelTooLow}
 use Rattle.refusal.proofs.Outcomes.{good-same, good-bind, passed, neither}
 use Rattle.memory.specs.declared.Sizes.{Sizes}
 use Rattle.memory.specs.Bits.{Bytes, fieldAt, putAt}
@@ -20,9 +20,11 @@ use Rattle.memory.proofs.Streams.{stream-lt}
 use Rattle.memory.proofs.SumLaws.{sums-right}
 use Rattle.memory.proofs.Images.{image-length, image-bytes, two-views}
 use Rattle.fields.specs.declared.Value.{Value}
+use Rattle.fields.specs.declared.Level.{Level}
 use Rattle.fields.specs.Rules.{decode, encode}
 use Rattle.fields.specs.Stored.{kept, Real, Sound}
 use Rattle.fields.specs.Lines.{chose, lineOf, rowOf}
+use Rattle.fields.specs.Levels.{mayWrite}
 use Rattle.fields.proofs.RowLaws.{row-sound}
 use Rattle.fields.proofs.StoredLaws.{reads-back, stored-again}
 use Rattle.layout.specs.Contents.{Found, Contents}
@@ -38,63 +40,67 @@ use Rattle.change.specs.Change.{changeable, codeFor, recodedIn, rewritte
 -- ---- by its parts
 
 -- A field that may be changed.
-pub record Changeable (c : Contents) (f : ℕ) : Type 0 where
+pub record Changeable (c : Contents) (level : Level) (f : ℕ) : Type 0 where
   pub least : 1 ≤ f
   pub most : f ≤ length (c .fields)
   pub free : lineOf (c .template) f .sets ≡ false
+  pub may : mayWrite level (lineOf (c .template) f .mark) ≡ true
 
-pub changeable-is : (c : Contents) (f : ℕ) (x : Found) → changeable c f ≡ good x → Changeable c f × (field c f ≡ x)
+pub changeable-is : (c : Contents) (level : Level) (f : ℕ) (x : Found) → changeable c level f ≡ good x → Changeable c level f × (field c f ≡ x)
 unfolding changeable
-changeable-is c f x e =
-    let (y, n, g) = good-bind _ (λ y. (refuse changedAlone f if lineOf (c .template) f .sets) >> good y) x e in
+changeable-is c level f x e =
+    let sets : Bool = lineOf (c .template) f .sets in
+    let low : Bool = not (mayWrite level (lineOf (c .template) f .mark)) in
+    let (y, n, g) = good-bind _ (λ y. (refuse changedAlone f if sets) >> ((refuse levelTooLow f if low) >> good y)) x e in
     let (t, k) = passed (noSuch f) (eqb f 0 || ltb (length (c .fields)) f) (good (field c f)) y n in
-    let (s, m) = passed (changedAlone f) (lineOf (c .template) f .sets) (good y) x g in
+    let (s, m) = passed (changedAlone f) sets ((refuse levelTooLow f if low) >> good y) x g in
+    let (u, o) = passed (levelTooLow f) low (good y) x m in
     let (a, b) = neither (eqb f 0) (ltb (length (c .fields)) f) t in
     let z : f ≡ 0 → ⊥ = eqb-false f 0 a in
-    (record { least = omega arith; most = ltb-false (length (c .fields)) f b; free = s }, good-same k ∙ good-same m)
+    (record { least = omega arith; most = ltb-false (length (c .fields)) f b; free = s; may = not-false _ u }, good-same k ∙ good-same o)
 
-pub changeable-good : (c : Contents) (f : ℕ) → Changeable c f → changeable c f ≡ good (field c f)
+pub changeable-good : (c : Contents) (level : Level) (f : ℕ) → Changeable c level f → changeable c level f ≡ good (field c f)
 unfolding changeable
-changeable-good c f h = rw (ne-eqb f 0 (λ z. omega (arith, h .least)), le-ltb (length (c .fields)) f (h .most), h .free)
+changeable-good c level f h = rw (ne-eqb f 0 (λ z. omega (arith, h .least)), le-ltb (length (c .fields)) f (h .most), h .free, h .may)
 
 -- A code that was found for a value.
-pub code-found : (c : Contents) (f : ℕ) (v : Value) (code : ℕ) → codeFor c f v ≡ good code → Changeable c f × (encode (field c f .row) f v ≡ good code)
+pub code-found : (c : Contents) (level : Level) (f : ℕ) (v : Value) (code : ℕ) → codeFor c level f v ≡ good code → Changeable c level f × (encode (field c f .row) f v ≡ good code)
 unfolding codeFor
-code-found c f v code e =
-    let (x, a, b) = good-bind (changeable c f) (λ x. encode (x .row) f v) code e in
-    let (h, same) = changeable-is c f x a in
+code-found c level f v code e =
+    let (x, a, b) = good-bind (changeable c level f) (λ x. encode (x .row) f v) code e in
+    let (h, same) = changeable-is c level f x a in
     (h, ap (λ y. encode (y .row) f v) same ∙ b)
 
 -- A change of what a check does not accept, and of what it does.
-pub change-unread : (kind : ℕ) (image : List ℕ) (f : ℕ) (v : Value) (r : Refusal) → contents kind image ≡ refused r → change kind image f v ≡ refused r
+pub change-unread : (kind : ℕ) (image : List ℕ) (level : Level) (f : ℕ) (v : Value) (r : Refusal) → contents kind image ≡ refused r → change kind image level f v ≡ refused r
 unfolding change
-change-unread kind image f v r e = rw e
+change-unread kind image level f v r e = rw e
 
-pub change-is : (kind : ℕ) (image : List ℕ) (c : Contents) (z : Sizes) → contents kind image ≡ good c → imageSizes kind (length image) ≡ good z → (f : ℕ) (v : Value) →
-    change kind image f v ≡ (codeFor c f v >>= λ code. good (recodedIn z image (field c f) code))
+pub change-is : (kind : ℕ) (image : List ℕ) (c : Contents) (z : Sizes) → contents kind image ≡ good c → imageSizes kind (length image) ≡ good z → (level : Level) (f : ℕ) (v : Value) →
+    change kind image level f v ≡ (codeFor c level f v >>= λ code. good (recodedIn z image (field c f) code))
 unfolding change rewritten
-change-is kind image c z e hz f v = simp (e, hz)
+change-is kind image c z e hz level f v = simp (e, hz)
 
 -- ---- an accepted change
 
 -- What it was made of: the sheet that the image held, and the code that the value is stored at.
-pub record Made (kind : ℕ) (image : List ℕ) (f : ℕ) (v : Value) (after : List ℕ) : Type 0 where
+pub record Made (kind : ℕ) (image : List ℕ) (level : Level) (f : ℕ) (v : Value) (after : List ℕ) : Type 0 where
   pub held : Contents
   pub sizes : Sizes
   pub accepted : contents kind image ≡ good held
   pub sized : imageSizes kind (length image) ≡ good sizes
   pub code : ℕ
-  pub coded : codeFor held f v ≡ good code
+  pub coded : codeFor held level f v ≡ good code
   pub is : after ≡ recodedIn sizes image (field held f) code
 
-module _ (kind : ℕ) (image : List ℕ) (f : ℕ) (v : Value) (after : List ℕ) (made : change kind image f v ≡ good after) where
-  pub change-made : Made kind image f v after
+module _ (kind : ℕ) (image : List ℕ) (level : Level) (f : ℕ) (v : Value) (after : List ℕ) (made : change kind image level f v ≡ good after) where
+  pub change-made : Made kind image level f v after
   unfolding change
   change-made =
       let (c, e, g) = good-bind (contents kind image) _ after made in
       let a = contents-accepted kind image c e in
-      let (code, coded, k) = good-bind (codeFor c f v) (λ code. good (recodedIn (a .sizes) image (field c f) code)) after
-      (sym (change-is kind image c (a .sizes) e (a .sized) f v) ∙ made) in
+      let (code, coded, k) = good-bind (codeFor c level f v) (λ code. good (recodedIn (a .sizes) image (field c f) code)) after
+      (sym (change-is kind image c (a .sizes) e (a .sized) level f v) ∙ made) in
       record { held = c; sizes = a .sizes; accepted = e; sized = a .sized; code = code; coded = coded; is = sym (good-same k) }
 
   -- It has the bytes of an image, as many as before.
@@ -109,7 +115,7 @@ module _ (kind : ℕ) (image : List ℕ) (f : ℕ) (v : Value) (after : List ℕ
 -- ---- what the changed image holds
 
 module _ (kind : ℕ) (image : List ℕ) (c : Contents) (z : Sizes) (bytes : Bytes image) (e : contents kind image ≡ good c)
-    (hz : imageSizes kind (length image) ≡ good z) (f : ℕ) (h : Changeable c f) where
+    (hz : imageSizes kind (length image) ≡ good z) (level : Level) (f : ℕ) (h : Changeable c level f) where
   abbrev x : Found
   x = field c f
 

@@ -1,19 +1,21 @@
--- Document 01: change one field; document 02, Note 5: propose a change, and commit it. They share their parts: the field that may be changed, the
--- code that is to be stored, and the rewriting.
+-- Document 01: change one field; document 02, Note 5: propose a change, and commit it; Note 6: each by a writer of a level. They share their parts:
+-- the field that the writer may change, the code that is to be stored, and the rewriting.
 use mathlib.Core.Bool.{Bool, true, false, not, _&&_}
 use mathlib.Core.List.{List}
 use Prim.Native.Nat.{ℕ, _^_}
 use lib.Dec.{eqb, ltb}
 use lib.ListN.{length}
 use Rattle.refusal.specs.Outcome.{Outcome, good, refused, _>>_, _>>=_, refuse_if_}
-use Rattle.refusal.specs.Rows.{changedAlone, outOfRange, otherCode}
+use Rattle.refusal.specs.Rows.{changedAlone, outOfRange, otherCode, levelTooLow}
 use Rattle.memory.specs.declared.Sizes.{Sizes}
 use Rattle.memory.specs.Bits.{putAt}
 use Rattle.memory.specs.Image.{imageSizes, streamNumber, imageOf}
 use Rattle.fields.specs.declared.Value.{Value}
 use Rattle.fields.specs.declared.Row.{Row}
+use Rattle.fields.specs.declared.Level.{Level}
 use Rattle.fields.specs.Rules.{decode, encode}
 use Rattle.fields.specs.Lines.{lineOf}
+use Rattle.fields.specs.Levels.{mayWrite}
 use Rattle.layout.specs.Contents.{Found, Contents}
 use Rattle.layout.specs.Image.{contents, field, numbered}
 use Rattle.change.specs.declared.Proposal.{Proposal}
@@ -22,17 +24,18 @@ use Rattle.change.specs.declared.ProposalAnswer.the-variants.{Proposed, 
 
 -- ---- its parts
 
--- Field f, which may be changed alone. Order: 8, 12.
-unfoldable pub changeable : Contents → ℕ → Outcome Found
-changeable c f = do
+-- Field f, which may be changed alone by a writer of a level. Order: 8, 12, 20.
+unfoldable pub changeable : Contents → Level → ℕ → Outcome Found
+changeable c level f = do
   x ← numbered c f
   refuse changedAlone f if lineOf (c .template) f .sets
+  refuse levelTooLow f if not (mayWrite level (lineOf (c .template) f .mark))
   good x
 
--- The code that a value is to be stored at. Order: 8, 12, 9, 10.
-unfoldable pub codeFor : Contents → ℕ → Value → Outcome ℕ
-codeFor c f value = do
-  x ← changeable c f
+-- The code that a value is to be stored at. Order: 8, 12, 20, 9, 10.
+unfoldable pub codeFor : Contents → Level → ℕ → Value → Outcome ℕ
+codeFor c level f value = do
+  x ← changeable c level f
   encode (x .row) f value
 
 -- The image with a field at a code: its code and the check bytes are rewritten, no other bit.
@@ -46,11 +49,11 @@ rewritten kind image x code = do
 
 -- ---- the change
 
--- The image with field f at a value. Order: check, 8, 12, 9, 10.
-unfoldable pub change : ℕ → List ℕ → ℕ → Value → Outcome (List ℕ)
-change kind image f value = do
+-- The image with field f at a value. Order: check, 8, 12, 20, 9, 10.
+unfoldable pub change : ℕ → List ℕ → Level → ℕ → Value → Outcome (List ℕ)
+change kind image level f value = do
   c ← contents kind image
-  code ← codeFor c f value
+  code ← codeFor c level f value
   rewritten kind image (field c f) code
 
 -- ---- proposal and commit
@@ -62,10 +65,10 @@ proposedFor x code = do
   good (record { present = x .code; new = code; value = back })
 
 -- A proposal is refused as the change would be, and writes nothing.
-unfoldable pub propose : ℕ → List ℕ → ℕ → Value → Outcome Proposal
-propose kind image f value = do
+unfoldable pub propose : ℕ → List ℕ → Level → ℕ → Value → Outcome Proposal
+propose kind image level f value = do
   c ← contents kind image
-  code ← codeFor c f value
+  code ← codeFor c level f value
   proposedFor (field c f) code
 
 -- A code may stand in a field of a row if it has no more bits than the field, and a check would take it.
@@ -76,18 +79,18 @@ taken (refused r) = false
 unfoldable pub mayStand : Row → ℕ → Bool
 mayStand row code = ltb code (2 ^ row .width) && taken (decode row 0 code)
 
--- Whether a new code may be put into field f in place of the present one. Order: 8, 12, 19, 10.
-unfoldable pub mayCommit : Contents → ℕ → ℕ → ℕ → Outcome (Unit {0})
-mayCommit c f present new = do
-  x ← changeable c f
+-- Whether a new code may be put into field f in place of the present one. Order: 8, 12, 20, 19, 10.
+unfoldable pub mayCommit : Contents → Level → ℕ → ℕ → ℕ → Outcome (Unit {0})
+mayCommit c level f present new = do
+  x ← changeable c level f
   refuse otherCode f if not (eqb (x .code) present)
   refuse outOfRange f if not (mayStand (x .row) new)
 
--- The image with field f at a new code, if the present one is still there. Order: check, 8, 12, 19, 10.
-unfoldable pub commit : ℕ → List ℕ → ℕ → ℕ → ℕ → Outcome (List ℕ)
-commit kind image f present new = do
+-- The image with field f at a new code, if the present one is still there. Order: check, 8, 12, 20, 19, 10.
+unfoldable pub commit : ℕ → List ℕ → Level → ℕ → ℕ → ℕ → Outcome (List ℕ)
+commit kind image level f present new = do
   c ← contents kind image
-  mayCommit c f present new
+  mayCommit c level f present new
   rewritten kind image (field c f) new
 
 -- ---- the answer of a proposal

@@ -3,28 +3,35 @@ use mathlib.Core.Bool.{not, _||_}
 use Prim.Native.Nat.{ℕ}
 use lib.Dec.{eqb, ltb}
 use Rattle.refusal.specs.Outcome.{Outcome, good, refused, _>>=_, _>>_, refuse_if_}
-use Rattle.refusal.specs.Rows.{noSuch, changedAlone, outOfRange, otherCode}
+use Rattle.refusal.specs.Rows.{noSuch, changedAlone, outOfRange, otherCode, levelTooLow}
 use Rattle.fields.specs.declared.Value.{Value}
 use Rattle.fields.specs.declared.Template.{Template}
 use Rattle.fields.specs.declared.Layout.{Layout}
 use Rattle.fields.specs.declared.Row.{Row}
+use Rattle.fields.specs.declared.Level.{Level}
 use Rattle.fields.specs.Rules.{decode, encode}
 use Rattle.fields.specs.Lines.{lastField, lineOf, rowOf}
+use Rattle.fields.specs.Levels.{mayWrite}
 use Rattle.change.specs.declared.Proposal.{Proposal}
 use Rattle.change.specs.declared.changing.Allowed.{Allowed}
 use Rattle.change.specs.declared.changing.Allowed.the-variants.{Free, Refused}
 use Rattle.change.specs.Change.{mayStand}
 
--- Rows 8 and 12 of a field of a template.
-unfoldable pub allowedIn : Template → ℕ → Outcome (Unit {0})
-allowedIn template f = do
+-- Row 20 of a field of a template.
+abbrev pub writableIn : Template → Level → ℕ → Outcome (Unit {0})
+writableIn template level f = refuse levelTooLow f if not (mayWrite level (lineOf template f .mark))
+
+-- Rows 8, 12 and 20 of a field of a template.
+unfoldable pub allowedIn : Template → Level → ℕ → Outcome (Unit {0})
+allowedIn template level f = do
   refuse noSuch f if eqb f 0 || ltb (lastField template) f
   refuse changedAlone f if lineOf template f .sets
+  writableIn template level f
 
 -- The code that a value is to be stored at.
-unfoldable pub codeIn : Layout → ℕ → Value → Outcome ℕ
-codeIn layout f value = do
-  allowedIn (layout .template) f
+unfoldable pub codeIn : Layout → Level → ℕ → Value → Outcome ℕ
+codeIn layout level f value = do
+  allowedIn (layout .template) level f
   encode (rowOf layout f) f value
 
 abbrev pub allowedSaid : Allowed → Outcome (Unit {0})

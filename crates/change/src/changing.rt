@@ -1,11 +1,14 @@
-// Document 01: change one field. Order: check, 8, 12, 9, 10.
+// Document 01: change one field; document 02, Note 6: by a writer of a level. Order: check, 8, 12, 20, 9, 10.
 ghost use mathlib.Core.Path.{_≡_};
 ghost use Rattle.refusal.specs.Written.{writtenSaid, afterwards};
 ghost use Rattle.fields.specs.Answers.{encodedSaid};
 ghost use Rattle.change.specs.Change.{change as changeOf};
-ghost use Rattle.change.specs.Parts.{allowedIn, codeIn, allowedSaid};
+ghost use Prim.Native.Nat.{_≤_};
+ghost use Rattle.fields.specs.Lines.{lastField};
+ghost use Rattle.change.specs.Parts.{writableIn, allowedIn, codeIn, allowedSaid};
 use fields::Encoded;
 use fields::Layout;
+use fields::Level;
 use fields::Template;
 use fields::Value;
 use refusal::Refusal;
@@ -18,9 +21,20 @@ pub enum Allowed {
     Refused(Refusal),
 }
 
-// 8 where the template has no such field, 12 for a field that sets the widths of others.
-pub fn may_change(template: Template, field: u64) -> Allowed
-    ensures { λ r. ⌜ allowedSaid r ≡ allowedIn template field ⌝ }
+// 20 where a writer of the level may not write the field.
+fn may_write(template: Template, level: Level, field: u64) -> Allowed
+    requires { ⌜ (1 ≤ field) × (field ≤ lastField template) ⌝ }
+    ensures { λ r. ⌜ allowedSaid r ≡ writableIn template level field ⌝ }
+{
+    if !fields::may_write(level, fields::mark_of(template, field)) {
+        return Allowed::Refused(refusal::level_too_low(field));
+    }
+    Allowed::Free
+}
+
+// 8 where the template has no such field, 12 for a field that sets the widths of others, 20 where the level is too low.
+pub fn may_change(template: Template, level: Level, field: u64) -> Allowed
+    ensures { λ r. ⌜ allowedSaid r ≡ allowedIn template level field ⌝ }
 {
     if field < 1 {
         return Allowed::Refused(refusal::no_such(field));
@@ -31,16 +45,16 @@ pub fn may_change(template: Template, field: u64) -> Allowed
     if fields::is_choice(template, field) {
         return Allowed::Refused(refusal::changed_alone(field));
     }
-    Allowed::Free
+    may_write(template, level, field)
 }
 
-// The code that a value is to be stored at in a field; or 8, 12, 9 where the field takes no value of this sort, 10 where it has
-// no code for it.
-pub fn code_for(layout: Layout, field: u64, value: Value) -> Encoded
-    ensures { λ r. ⌜ encodedSaid r ≡ codeIn layout field value ⌝ }
+// The code that a value is to be stored at in a field; or 8, 12, 20, 9 where the field takes no value of this sort, 10 where it
+// has no code for it.
+pub fn code_for(layout: Layout, level: Level, field: u64, value: Value) -> Encoded
+    ensures { λ r. ⌜ encodedSaid r ≡ codeIn layout level field value ⌝ }
 {
     let template = layout.template;
-    match may_change(template, field) {
+    match may_change(template, level, field) {
         Allowed::Refused(r) => Encoded::Refused(r),
         Allowed::Free => fields::encode(layout, field, value),
     }
@@ -48,16 +62,17 @@ pub fn code_for(layout: Layout, field: u64, value: Value) -> Encoded
 
 // Stores a value in a field, counted from 1, of an image: the field's bits and the check bytes of its pages are
 // rewritten, and no other bit. Or the check's refusal; 8 where the template has no such field; 12 for a field that sets the
-// widths of others; 9 where the field takes no value of this sort; 10 where it has no code for it. A refusal writes nothing.
-pub fn change(kind: u8, image: &mut [u8], field: u64, value: Value) -> Written
-    ensures { λ r. ⌜ (writtenSaid r (now (image .exit)) ≡ changeOf kind (now (image .entry)) field value)
-        × (now (image .exit) ≡ afterwards (now (image .entry)) (changeOf kind (now (image .entry)) field value)) ⌝ }
+// widths of others; 20 where a writer of the level may not write it; 9 where the field takes no value of this sort; 10 where it
+// has no code for it. A refusal writes nothing.
+pub fn change(kind: u8, image: &mut [u8], level: Level, field: u64, value: Value) -> Written
+    ensures { λ r. ⌜ (writtenSaid r (now (image .exit)) ≡ changeOf kind (now (image .entry)) level field value)
+        × (now (image .exit) ≡ afterwards (now (image .entry)) (changeOf kind (now (image .entry)) level field value)) ⌝ }
 {
     match sheet::open(kind, image) {
         OpenedAnswer::Refused(r) => Written::Refused(r),
         OpenedAnswer::Sheet(opened) => {
             let layout = opened.layout;
-            match code_for(layout, field, value) {
+            match code_for(layout, level, field, value) {
                 Encoded::Refused(r) => Written::Refused(r),
                 Encoded::Code(code) => {
                     let sizes = opened.sizes;

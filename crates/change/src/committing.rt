@@ -1,4 +1,5 @@
-// Document 02, Note 5: a code put into a field, if the present one is still there. Order: check, 8, 12, 19, 10.
+// Document 02, Notes 5 and 6: a code put into a field by a writer of a level, if the present one is still there. Order: check,
+// 8, 12, 20, 19, 10.
 ghost use mathlib.Core.Path.{_≡_};
 ghost use Prim.Native.Nat.{ℕ};
 ghost use Rattle.refusal.specs.Written.{writtenSaid, afterwards};
@@ -12,6 +13,7 @@ use crate::changing;
 use crate::changing::Allowed;
 use crate::standing;
 use fields::Judged;
+use fields::Level;
 use fields::Row;
 use refusal::Written;
 use sheet::Opened;
@@ -45,14 +47,21 @@ fn may_follow(row: Row, stands: u64, field: u64, present: u64, new: u64) -> Judg
     Judged::Stands
 }
 
-// Whether a new code may be put into a field of an opened sheet: 8, 12, 19, 10.
-fn may_commit(sheet: Opened, image: &[u8], field: u64, present: u64, new: u64) -> Judged
+// Whether a new code may be put into a field of an opened sheet: 8, 12, 20, 19, 10.
+fn may_commit(
+    sheet: Opened,
+    image: &[u8],
+    level: Level,
+    field: u64,
+    present: u64,
+    new: u64,
+) -> Judged
     requires { ⌜ Held sheet (now image) ⌝ }
-    ensures { λ r. ⌜ ((kind : ℕ) (c : Contents) → Opens kind (now (image .entry)) sheet c → judgedSaid r ≡ mayCommit c field present new) ⌝ }
+    ensures { λ r. ⌜ ((kind : ℕ) (c : Contents) → Opens kind (now (image .entry)) sheet c → judgedSaid r ≡ mayCommit c level field present new) ⌝ }
 {
     let layout = sheet.layout;
     let template = layout.template;
-    match changing::may_change(template, field) {
+    match changing::may_change(template, level, field) {
         Allowed::Refused(r) => Judged::Refused(r),
         Allowed::Free => may_follow(
             fields::row_of(layout, field),
@@ -65,15 +74,23 @@ fn may_commit(sheet: Opened, image: &[u8], field: u64, present: u64, new: u64) -
 }
 
 // Puts a code into a field, counted from 1, of an image: the field's bits and the check bytes of its pages are rewritten, and no
-// other bit. Or the check's refusal; 8 where the template has no such field; 12 for a field that sets the widths of others; 19
-// where another code stands there than the present one; 10 where the new one may not. A refusal writes nothing.
-pub fn commit(kind: u8, image: &mut [u8], field: u64, present: u64, new: u64) -> Written
-    ensures { λ r. ⌜ (writtenSaid r (now (image .exit)) ≡ commitOf kind (now (image .entry)) field present new)
-        × (now (image .exit) ≡ afterwards (now (image .entry)) (commitOf kind (now (image .entry)) field present new)) ⌝ }
+// other bit. Or the check's refusal; 8 where the template has no such field; 12 for a field that sets the widths of others; 20
+// where a writer of the level may not write it; 19 where another code stands there than the present one; 10 where the new one may
+// not. A refusal writes nothing.
+pub fn commit(
+    kind: u8,
+    image: &mut [u8],
+    level: Level,
+    field: u64,
+    present: u64,
+    new: u64,
+) -> Written
+    ensures { λ r. ⌜ (writtenSaid r (now (image .exit)) ≡ commitOf kind (now (image .entry)) level field present new)
+        × (now (image .exit) ≡ afterwards (now (image .entry)) (commitOf kind (now (image .entry)) level field present new)) ⌝ }
 {
     match sheet::open(kind, image) {
         OpenedAnswer::Refused(r) => Written::Refused(r),
-        OpenedAnswer::Sheet(opened) => match may_commit(opened, image, field, present, new) {
+        OpenedAnswer::Sheet(opened) => match may_commit(opened, image, level, field, present, new) {
             Judged::Refused(r) => Written::Refused(r),
             Judged::Stands => {
                 let sizes = opened.sizes;

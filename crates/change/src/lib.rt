@@ -1,5 +1,5 @@
-// Document 01: change one field of an image; document 02, Note 5: propose a change, and commit it. No call asks anything of its
-// caller, and a refusal writes nothing.
+// Document 01: change one field of an image; document 02, Note 5: propose a change, and commit it; Note 6: each by a writer of a
+// level. No call asks anything of its caller, and a refusal writes nothing.
 mod changing; // changing.rt: the parts of a change, and the change
 mod committing; // committing.rt: a code put where the present one still stands
 mod proposing; // proposing.rt: what a field would become

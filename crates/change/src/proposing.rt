@@ -12,6 +12,7 @@ use crate::standing;
 use fields::Decoded;
 use fields::Encoded;
 use fields::Layout;
+use fields::Level;
 use fields::Value;
 use sheet::OpenedAnswer;
 
@@ -33,14 +34,14 @@ fn proposed(layout: Layout, field: u64, present: u64, new: u64) -> ProposalAnswe
 }
 
 // The present code of a field, the code that a value would be stored at, and what that reads back; or the refusal of the change.
-pub fn propose(kind: u8, image: &[u8], field: u64, value: Value) -> ProposalAnswer
-    ensures { λ r. ⌜ proposalSaid r ≡ proposeOf kind (now (image .entry)) field value ⌝ }
+pub fn propose(kind: u8, image: &[u8], level: Level, field: u64, value: Value) -> ProposalAnswer
+    ensures { λ r. ⌜ proposalSaid r ≡ proposeOf kind (now (image .entry)) level field value ⌝ }
 {
     match sheet::open(kind, image) {
         OpenedAnswer::Refused(r) => ProposalAnswer::Refused(r),
         OpenedAnswer::Sheet(opened) => {
             let layout = opened.layout;
-            match changing::code_for(layout, field, value) {
+            match changing::code_for(layout, level, field, value) {
                 Encoded::Refused(r) => ProposalAnswer::Refused(r),
                 Encoded::Code(new) => proposed(
                     layout,

@@ -14,6 +14,7 @@ use Rattle.memory.specs.declared.Sizes.{Sizes}
 use Rattle.memory.specs.Image.{imageSizes}
 use Rattle.fields.specs.declared.Value.{Value}
 use Rattle.fields.specs.declared.Value.the-variants.{Whole, Single, Missing}
+use Rattle.fields.specs.declared.Level.the-variants.{Owner}
 use Rattle.build.specs.Build.{slot}
 use Rattle.layout.specs.Pieces.{endCode}
 use Rattle.dartelm.specs.Values.{yes, valueOf, byFlags, slotOf, sheetOf}
@@ -34,7 +35,7 @@ flag-again true = refl
 flag-again false = refl
 
 -- The fields of a sheet that was read are the sheet record that a build of them wants.
-pub sheet-again : (s : AllFields) → length (s .values) ≡ 21 → sheetOf (fieldsTold s) ≡ record { fields = map slot (s .values); «end_bit» = s .summary .«end_bit» }
+pub sheet-again : (s : AllFields) → length (s .values) ≡ 21 → sheetOf (fieldsTold s) ≡ record { fields = map slot (s .values); «end_bit» = s .summary .«end_bit»; level = Owner }
 sheet-again s e =
     let none : 21 - length (map byFlags (s .values)) ≡ 0 = rw length-map (omega arith) in
     rw (none, append-nil, values-again (s .values), flag-again (s .summary .«end_bit»))

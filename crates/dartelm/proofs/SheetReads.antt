@@ -53,7 +53,7 @@ module _ (c : Contents) (many : length (c .fields) ≡ 21) where
       filled-more byFlags 21 noValue (map valueIn (c .fields)) i b (valueIn nothing) array h (rw length-map (omega arith)) e (g ∙ ap byFlags held)
 
   pub all-told : (i : ℕ) (array : List DartelmValue) (s : Summary) → 21 ≤ i → array ≡ filled byFlags 21 noValue (foundFields c .values) i → s ≡ summary c
-      → record { number = 0; place = 0; bits = s .bits; points = s .points; characters = s .characters; «field_count» = 21; fields = record { values = array; «end_bit» = endCode (s .«end_bit») } }
+      → record { number = 0; place = 0; bits = s .bits; points = s .points; characters = s .characters; «field_count» = 21; fields = record { values = array; «end_bit» = endCode (s .«end_bit»); level = 0 } }
       ≡ told sheetAnswer noFields (good (foundFields c))
   all-told i array s h e f =
       let count : length (map valueIn (c .fields)) ≡ 21 = length-map (c .fields) valueIn ∙ many in

@@ -24,12 +24,12 @@ use Rattle.dartelm.specs.declared.answers.DartelmReadingAnswer.{DartelmR
 use Rattle.dartelm.specs.declared.answers.DartelmTextAnswer.{DartelmTextAnswer}
 use Rattle.dartelm.specs.declared.answers.DartelmCodeAnswer.{DartelmCodeAnswer}
 use Rattle.dartelm.specs.declared.answers.DartelmPageAnswer.{DartelmPageAnswer}
-use Rattle.dartelm.specs.Values.{valueOf, sheetOf}
+use Rattle.dartelm.specs.Values.{levelOf, valueOf, sheetOf}
 use Rattle.dartelm.specs.Answers.{told, checkAnswer, noSummary, fieldAnswer, pairAnswer, noPair, characterAnswer, proposalAnswer, noProposal, readingAnswer, noReading, textAnswer, codeAnswer, pageAnswer}
 
 -- The number of this archive and its header.
 abbrev pub version : ℕ
-version = 1
+version = 2
 
 -- ---- kinds
 
@@ -68,19 +68,19 @@ characterCall kind image index = told characterAnswer 0 (readCharacter kind imag
 abbrev pub buildCall : ℕ → List ℕ → DartelmFields → List ℕ → List ℤ → Outcome (List ℕ)
 buildCall kind image fields text points = build kind image (sheetOf fields) text points
 
-abbrev pub changeCall : ℕ → List ℕ → ℕ → DartelmValue → Outcome (List ℕ)
-changeCall kind image field value = change kind image field (valueOf value)
+abbrev pub changeCall : ℕ → List ℕ → ℕ → ℕ → DartelmValue → Outcome (List ℕ)
+changeCall kind image level field value = change kind image (levelOf level) field (valueOf value)
 
 abbrev pub indexCall : ℕ → List ℕ → List ℕ → Outcome (List ℕ)
 indexCall kind image buffer = index kind image buffer
 
-abbrev pub commitCall : ℕ → List ℕ → ℕ → ℕ → ℕ → Outcome (List ℕ)
-commitCall kind image field present new = commit kind image field present new
+abbrev pub commitCall : ℕ → List ℕ → ℕ → ℕ → ℕ → ℕ → Outcome (List ℕ)
+commitCall kind image level field present new = commit kind image (levelOf level) field present new
 
 -- ---- a proposal
 
-abbrev pub proposeCall : ℕ → List ℕ → ℕ → DartelmValue → DartelmProposalAnswer
-proposeCall kind image field value = told proposalAnswer noProposal (propose kind image field (valueOf value))
+abbrev pub proposeCall : ℕ → List ℕ → ℕ → ℕ → DartelmValue → DartelmProposalAnswer
+proposeCall kind image level field value = told proposalAnswer noProposal (propose kind image (levelOf level) field (valueOf value))
 
 -- ---- a reading, texts, a page
 

@@ -35,9 +35,9 @@ readFields kind image = do
 
 -- ---- the struct
 
--- Field f stands at index f − 1.
+-- Field f stands at index f − 1. A level is not stored: the owner's number is told.
 abbrev pub fieldsTold : AllFields → DartelmFields
-fieldsTold s = record { values = padded 21 noValue (map byFlags (s .values)); «end_bit» = endCode (s .summary .«end_bit») }
+fieldsTold s = record { values = padded 21 noValue (map byFlags (s .values)); «end_bit» = endCode (s .summary .«end_bit»); level = 0 }
 
 abbrev pub sheetAnswer : ℕ → ℕ → AllFields → DartelmSheetAnswer
 sheetAnswer n p s =

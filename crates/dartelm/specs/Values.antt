@@ -1,12 +1,14 @@
 -- include/dartelm.h: a field's value by two flags, and the sheet record that a build is handed. A flag is yes where it is not 0, so every byte handed in means something.
 use mathlib.Core.Bool.{Bool, not, cond}
 use mathlib.Core.List.{map}
-use Prim.Native.Nat.{ℕ}
+use Prim.Native.Nat.{ℕ, zero, suc}
 use lib.Dec.{eqb}
 use lib.IntN.{pos}
 use lib.Ieee.{Float, Format, binary32, ofBits}
 use Rattle.fields.specs.declared.Value.{Value}
 use Rattle.fields.specs.declared.Value.the-variants.{Whole, Single, Missing}
+use Rattle.fields.specs.declared.Level.{Level}
+use Rattle.fields.specs.declared.Level.the-variants.{Owner, CalibrationRoom, Maker}
 use Rattle.build.specs.declared.Slot.{Slot}
 use Rattle.build.specs.declared.Sheet.{Sheet}
 use Rattle.build.specs.Build.{slot}
@@ -19,6 +21,13 @@ yes flag = not (eqb flag 0)
 -- The value handed in: missing where that flag is yes, else a Single where that one is, else a whole number.
 abbrev pub valueOf : DartelmValue → Value
 valueOf v = cond (yes (v .«is_missing»)) Missing (cond (yes (v .«is_single»)) (Single (v .single)) (Whole (v .whole)))
+
+-- A level by its number: 0 owner, 1 calibration room, 2 maker; any other is taken as the owner, the least of them.
+abbrev pub levelOf : ℕ → Level
+levelOf zero = Owner
+levelOf (suc zero) = CalibrationRoom
+levelOf (suc (suc zero)) = Maker
+levelOf (suc (suc (suc n))) = Owner
 
 -- The float of a format whose bits are 0: +0.0.
 abbrev pub plusZero : Format → Float
@@ -39,4 +48,4 @@ abbrev pub slotOf : DartelmValue → Slot
 slotOf v = slot (valueOf v)
 
 abbrev pub sheetOf : DartelmFields → Sheet
-sheetOf f = record { fields = map slotOf (f .values); «end_bit» = yes (f .«end_bit») }
+sheetOf f = record { fields = map slotOf (f .values); «end_bit» = yes (f .«end_bit»); level = levelOf (f .level) }

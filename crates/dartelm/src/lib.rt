@@ -62,7 +62,7 @@ use values::DartelmValue;
 pub extern "C" fn dartelm_version() -> u32
     ensures { λ r. ⌜ r ≡ version ⌝ }
 {
-    1
+    2
 }
 
 // The kind of the images that have so many bytes: 0, 1 or 2; 255 where no kind has.
@@ -224,18 +224,25 @@ pub extern "C" fn dartelm_build(
     wrote(build::build(kind, image, values::sheet_of(fields), text, points))
 }
 
-// Changes one field.
+// Changes one field, as a writer of a level.
 #[no_mangle]
 pub extern "C" fn dartelm_change(
     kind: u8,
     image: &mut [u8],
+    level: u8,
     field: u64,
     value: DartelmValue,
 ) -> DartelmWriteAnswer
-    ensures { λ r. ⌜ (let outcome = changeCall kind (now (image .entry)) field value in
+    ensures { λ r. ⌜ (let outcome = changeCall kind (now (image .entry)) level field value in
         (r ≡ told writeAnswer [] outcome) × (now (image .exit) ≡ afterwards (now (image .entry)) outcome)) ⌝ }
 {
-    wrote(change::change(kind, image, field, values::value_of(value)))
+    wrote(change::change(
+        kind,
+        image,
+        values::level_of(level),
+        field,
+        values::value_of(value),
+    ))
 }
 
 // Makes the index of an image in a buffer.
@@ -252,12 +259,19 @@ pub extern "C" fn dartelm_index(kind: u8, image: &[u8], buffer: &mut [u8]) -> Da
 pub extern "C" fn dartelm_propose(
     kind: u8,
     image: &[u8],
+    level: u8,
     field: u64,
     value: DartelmValue,
 ) -> DartelmProposalAnswer
-    ensures { λ r. ⌜ r ≡ proposeCall kind (now (image .entry)) field value ⌝ }
+    ensures { λ r. ⌜ r ≡ proposeCall kind (now (image .entry)) level field value ⌝ }
 {
-    match change::propose(kind, image, field, values::value_of(value)) {
+    match change::propose(
+        kind,
+        image,
+        values::level_of(level),
+        field,
+        values::value_of(value),
+    ) {
         ProposalAnswer::Refused(r) => DartelmProposalAnswer {
             number: r.number,
             place: r.place,
@@ -283,14 +297,22 @@ pub extern "C" fn dartelm_propose(
 pub extern "C" fn dartelm_commit(
     kind: u8,
     image: &mut [u8],
+    level: u8,
     field: u64,
     present_code: u64,
     new_code: u64,
 ) -> DartelmWriteAnswer
-    ensures { λ r. ⌜ (let outcome = commitCall kind (now (image .entry)) field «present_code» «new_code» in
+    ensures { λ r. ⌜ (let outcome = commitCall kind (now (image .entry)) level field «present_code» «new_code» in
         (r ≡ told writeAnswer [] outcome) × (now (image .exit) ≡ afterwards (now (image .entry)) outcome)) ⌝ }
 {
-    wrote(change::commit(kind, image, field, present_code, new_code))
+    wrote(change::commit(
+        kind,
+        image,
+        values::level_of(level),
+        field,
+        present_code,
+        new_code,
+    ))
 }
 
 // Takes a reading at an input in nV/V.

@@ -30,6 +30,7 @@ pub fn sheet_in(sheet: Opened, image: &[u8]) -> DartelmSheetAnswer
     let fields = DartelmFields {
         values,
         end_bit: summary.end_bit as u8,
+        level: 0,
     };
     DartelmSheetAnswer {
         number: 0,
@@ -49,6 +50,7 @@ pub fn no_sheet(r: Refusal) -> DartelmSheetAnswer
     let fields = DartelmFields {
         values: [no_value(); 21],
         end_bit: 0,
+        level: 0,
     };
     DartelmSheetAnswer {
         number: r.number,

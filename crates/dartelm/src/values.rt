@@ -1,8 +1,9 @@
 // A field's value by two flags, and the values of a sheet: what C hands in and is handed. A flag is yes where it is not 0.
 ghost use mathlib.Core.Path.{_≡_};
-ghost use Rattle.dartelm.specs.Values.{valueOf, byFlags, noValue, sheetOf};
+ghost use Rattle.dartelm.specs.Values.{levelOf, valueOf, byFlags, noValue, sheetOf};
 use build::Sheet;
 use build::Slot;
+use fields::Level;
 use fields::Value;
 
 // Missing where `is_missing` is yes, else a Single where `is_single` is, else a whole number. What is told has 0 in every
@@ -15,11 +16,23 @@ pub struct DartelmValue {
     pub is_missing: u8,
 }
 
-// The values of fields 1 to 21, and field 22's end bit, a flag.
+// The values of fields 1 to 21, field 22's end bit, a flag, and the writer's level, which a build neither tests nor stores.
 #[repr(C)]
 pub struct DartelmFields {
     pub values: [DartelmValue; 21],
     pub end_bit: u8,
+    pub level: u8,
+}
+
+// A level as C hands it in: 0 owner, 1 calibration room, 2 maker; any other is taken as the owner, the least of them.
+pub fn level_of(given: u8) -> Level
+    ensures { λ r. ⌜ r ≡ levelOf given ⌝ }
+{
+    match given {
+        1 => Level::CalibrationRoom,
+        2 => Level::Maker,
+        _ => Level::Owner,
+    }
 }
 
 // The value that C hands in.
@@ -92,5 +105,6 @@ pub fn sheet_of(given: DartelmFields) -> Sheet
     Sheet {
         fields,
         end_bit: given.end_bit != 0,
+        level: level_of(given.level),
     }
 }

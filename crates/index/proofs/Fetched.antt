@@ -15,6 +15,7 @@ use Rattle.memory.specs.Bits.{number, fieldAt}
 use Rattle.memory.specs.Image.{streamBits, streamNumber}
 use Rattle.memory.proofs.Chips.{sizes-chip}
 use Rattle.fields.specs.declared.Row.{Row}
+use Rattle.fields.specs.declared.Mark.{Mark}
 use Rattle.fields.specs.declared.Template.{Template}
 use Rattle.fields.specs.declared.Template.the-variants.{Bridge}
 use Rattle.fields.specs.declared.Layout.{Layout}
@@ -79,27 +80,27 @@ Tolds : List Line → Type 0
 Tolds [] = Unit {0}
 Tolds (l ∷ lines) = Told l × Tolds lines
 
-one : (sets : Bool) (row : Row) → Told (record { sets = sets; rowAt = λ latest. row })
+one : (mark : Mark) (sets : Bool) (row : Row) → Told (record { mark = mark; sets = sets; rowAt = λ latest. row })
 unfolding Told
-one sets row at p = rw (eq-eqb (row .width) (row .width) refl)
+one mark sets row at p = rw (eq-eqb (row .width) (row .width) refl)
 
-ends : Told (chosen electrical)
+ends : (mark : Mark) → Told (chosen mark electrical)
 unfolding Told
-ends at zero = refl
-ends at (suc zero) = refl
-ends at (suc (suc p)) = refl
+ends mark at zero = refl
+ends mark at (suc zero) = refl
+ends mark at (suc (suc p)) = refl
 
 told-template : (t : Template) → Tolds (templateLines t)
 unfolding Tolds template33
-told-template Bridge = (one _ _, (one _ _, (one _ _, (one _ _, (ends, (ends, (one _ _, (one _ _, (one _ _, (one _ _, (one _ _, (one _ _, (one _ _, (one _ _, (one _ _, (one _ _, tt))))))))))))))))
+told-template Bridge = (one _ _ _, (one _ _ _, (one _ _ _, (one _ _ _, (ends _, (ends _, (one _ _ _, (one _ _ _, (one _ _ _, (one _ _ _, (one _ _ _, (one _ _ _, (one _ _ _, (one _ _ _, (one _ _ _, (one _ _ _, tt))))))))))))))))
 
 told-lines : (t : Template) → Tolds (linesOf t)
 unfolding Tolds linesOf basic
-told-lines t = (one _ _, (one _ _, (one _ _, (one _ _, (one _ _, told-template t)))))
+told-lines t = (one _ _ _, (one _ _ _, (one _ _ _, (one _ _ _, (one _ _ _, told-template t)))))
 
 told-at : (lines : List Line) → Tolds lines → (i : ℕ) → Told (getD lines i noLine)
 unfolding Tolds
-told-at [] h i = one _ _
+told-at [] h i = one _ _ _
 told-at (l ∷ lines) h zero = h .0
 told-at (l ∷ lines) h (suc i) = told-at lines (h .1) i
 

@@ -16,6 +16,7 @@ use Rattle.memory.specs.declared.Sizes.{Sizes}
 use Rattle.memory.specs.Bits.{Bytes}
 use Rattle.memory.specs.Image.{imageSizes}
 use Rattle.fields.specs.declared.Value.{Value}
+use Rattle.fields.specs.declared.Level.{Level}
 use Rattle.fields.specs.Rules.{decode}
 use Rattle.fields.specs.Stored.{kept, Real}
 use Rattle.layout.specs.Contents.{Found, Contents}
@@ -81,11 +82,14 @@ other-kind kind other image c e n = go (contents other image) refl
 
 -- What a sheet holds after a change of its own kind.
 after-own : (image : List ℕ) (c : Contents) (ch : Change) → Bytes image → Real (ch .value) → contents (ch .kind) image ≡ good c →
-    contents (ch .kind) (changedBy image ch) ≡ good (left c (changeIn c (ch .field) (ch .value)))
-after-own image c ch bytes real e = go (codeFor c f v) refl
+    contents (ch .kind) (changedBy image ch) ≡ good (left c (changeIn c (ch .level) (ch .field) (ch .value)))
+after-own image c ch bytes real e = go (codeFor c level f v) refl
   where
     k : ℕ
     k = ch .kind
+
+    level : Level
+    level = ch .level
 
     f : ℕ
     f = ch .field
@@ -96,27 +100,30 @@ after-own image c ch bytes real e = go (codeFor c f v) refl
     a : Accepted k image c
     a = contents-accepted k image c e
 
-    after : (o : Outcome ℕ) → codeFor c f v ≡ o →
+    after : (o : Outcome ℕ) → codeFor c level f v ≡ o →
         contents k (changedBy image ch) ≡ contents k (afterwards image (o >>= λ code. good (recodedIn (a .sizes) image (field c f) code)))
     after o h =
-        ap (λ u. contents k (afterwards image u)) (change-is k image c (a .sizes) e (a .sized) f v)
+        ap (λ u. contents k (afterwards image u)) (change-is k image c (a .sizes) e (a .sized) level f v)
         ∙ ap (λ u. contents k (afterwards image (u >>= λ code. good (recodedIn (a .sizes) image (field c f) code)))) h
 
-    go : (o : Outcome ℕ) → codeFor c f v ≡ o → contents k (changedBy image ch) ≡ good (left c (o >>= λ code. good (replaced c f code (kept (field c f .row) v))))
+    go : (o : Outcome ℕ) → codeFor c level f v ≡ o → contents k (changedBy image ch) ≡ good (left c (o >>= λ code. good (replaced c f code (kept (field c f .row) v))))
     go (refused r) h = after (refused r) h ∙ e
     go (good code) h =
-        let (free, stored) = code-found c f v code h in
-        after (good code) h ∙ stored-contents k image c (a .sizes) bytes e (a .sized) f free v real code stored
+        let (free, stored) = code-found c level f v code h in
+        after (good code) h ∙ stored-contents k image c (a .sizes) bytes e (a .sized) level f free v real code stored
 
 -- ---- one commit
 
 -- A code that may stand means a value, so nothing is refused behind the tests.
 after-own-commit : (image : List ℕ) (c : Contents) (co : Commit) → Bytes image → contents (co .kind) image ≡ good c →
-    contents (co .kind) (committedBy image co) ≡ good (left c (commitIn c (co .field) (co .present) (co .new)))
-after-own-commit image c co bytes e = go (mayCommit c f present new) refl
+    contents (co .kind) (committedBy image co) ≡ good (left c (commitIn c (co .level) (co .field) (co .present) (co .new)))
+after-own-commit image c co bytes e = go (mayCommit c level f present new) refl
   where
     k : ℕ
     k = co .kind
+
+    level : Level
+    level = co .level
 
     f : ℕ
     f = co .field
@@ -130,22 +137,22 @@ after-own-commit image c co bytes e = go (mayCommit c f present new) refl
     a : Accepted k image c
     a = contents-accepted k image c e
 
-    after : (o : Outcome (Unit {0})) → mayCommit c f present new ≡ o →
+    after : (o : Outcome (Unit {0})) → mayCommit c level f present new ≡ o →
         contents k (committedBy image co) ≡ contents k (afterwards image (o >> good (recodedIn (a .sizes) image (field c f) new)))
     after o h =
-        ap (λ u. contents k (afterwards image u)) (commit-is k image f present new c (a .sizes) e (a .sized))
+        ap (λ u. contents k (afterwards image u)) (commit-is k image level f present new c (a .sizes) e (a .sized))
         ∙ ap (λ u. contents k (afterwards image (u >> good (recodedIn (a .sizes) image (field c f) new)))) h
 
     valued : Outcome Value → Outcome Contents
     valued d = d >>= λ v. good (replaced c f new v)
 
-    go : (o : Outcome (Unit {0})) → mayCommit c f present new ≡ o →
+    go : (o : Outcome (Unit {0})) → mayCommit c level f present new ≡ o →
         contents k (committedBy image co) ≡ good (left c (o >> valued (decode (field c f .row) (field c f .at) new)))
     go (refused r) h = after (refused r) h ∙ e
     go (good u) h =
-        let t = committed c f present new h in
+        let t = committed c level f present new h in
         let (v, means) = stands-means (field c f .row) new (t .stands) (field c f .at) in
-        after (good u) h ∙ committed-contents k image c (a .sizes) bytes e (a .sized) f present new t v means
+        after (good u) h ∙ committed-contents k image c (a .sizes) bytes e (a .sized) level f present new t v means
         ∙ ap (λ d. good (left c (valued d))) (sym means)
 
 -- ---- one of either
@@ -167,11 +174,11 @@ by-kind kind other image after c d e own unread = go (eqb other kind) refl
 after-one : (kind : ℕ) (image : List ℕ) (c : Contents) (a : Alteration) → Bytes image → RealAlteration a → contents kind image ≡ good c →
     contents kind (alteredBy image a) ≡ good (heldBy kind c a)
 after-one kind image c (changes ch) bytes real e =
-    by-kind kind (ch .kind) image (changedBy image ch) c (left c (changeIn c (ch .field) (ch .value))) e (after-own image c ch bytes real)
-    (λ r h. ap (afterwards image) (change-unread (ch .kind) image (ch .field) (ch .value) r h))
+    by-kind kind (ch .kind) image (changedBy image ch) c (left c (changeIn c (ch .level) (ch .field) (ch .value))) e (after-own image c ch bytes real)
+    (λ r h. ap (afterwards image) (change-unread (ch .kind) image (ch .level) (ch .field) (ch .value) r h))
 after-one kind image c (commits co) bytes real e =
-    by-kind kind (co .kind) image (committedBy image co) c (left c (commitIn c (co .field) (co .present) (co .new))) e (after-own-commit image c co bytes)
-    (λ r h. ap (afterwards image) (commit-unread (co .kind) image (co .field) (co .present) (co .new) r h))
+    by-kind kind (co .kind) image (committedBy image co) c (left c (commitIn c (co .level) (co .field) (co .present) (co .new))) e (after-own-commit image c co bytes)
+    (λ r h. ap (afterwards image) (commit-unread (co .kind) image (co .level) (co .field) (co .present) (co .new) r h))
 
 -- ---- every one
 
@@ -185,12 +192,12 @@ kept-bytes image (refused r) bytes h = bytes
 kept-bytes image (good after) bytes h = h after refl
 
 by-length : (image : List ℕ) (a : Alteration) → length (alteredBy image a) ≡ length image
-by-length image (changes ch) = kept-length image _ (made-length (ch .kind) image (ch .field) (ch .value))
-by-length image (commits co) = kept-length image _ (commit-length (co .kind) image (co .field) (co .present) (co .new))
+by-length image (changes ch) = kept-length image _ (made-length (ch .kind) image (ch .level) (ch .field) (ch .value))
+by-length image (commits co) = kept-length image _ (commit-length (co .kind) image (co .level) (co .field) (co .present) (co .new))
 
 by-bytes : (image : List ℕ) (a : Alteration) → Bytes image → Bytes (alteredBy image a)
-by-bytes image (changes ch) bytes = kept-bytes image _ bytes (made-bytes (ch .kind) image (ch .field) (ch .value))
-by-bytes image (commits co) bytes = kept-bytes image _ bytes (commit-bytes (co .kind) image (co .field) (co .present) (co .new))
+by-bytes image (changes ch) bytes = kept-bytes image _ bytes (made-bytes (ch .kind) image (ch .level) (ch .field) (ch .value))
+by-bytes image (commits co) bytes = kept-bytes image _ bytes (commit-bytes (co .kind) image (co .level) (co .field) (co .present) (co .new))
 
 pub altered-length : (image : List ℕ) (alterations : List Alteration) → length (altered image alterations) ≡ length image
 altered-length image [] = refl
@@ -206,11 +213,11 @@ after-alterations kind image c (a ∷ alterations) bytes real e =
     after-alterations kind (alteredBy image a) (heldBy kind c a) alterations (by-bytes image a bytes) (real .1) (after-one kind image c a bytes (real .0) e)
 
 pub changed-to-the-same : ChangedToTheSame
-changed-to-the-same kind image after c f bytes e h =
-    let m = change-made kind image f (field c f .value) after h in
+changed-to-the-same kind image after c level f bytes e h =
+    let m = change-made kind image level f (field c f .value) after h in
     let q : m .held ≡ c = good-same (sym (m .accepted) ∙ e) in
-    let (free, stored) = code-found c f (field c f .value) (m .code) (subst (λ d. codeFor d f (field c f .value) ≡ good (m .code)) q (m .coded)) in
-    m .is ∙ ap (λ d. recodedIn (m .sizes) image (field d f) (m .code)) q ∙ same-value kind image c (m .sizes) bytes e (m .sized) f free (m .code) stored
+    let (free, stored) = code-found c level f (field c f .value) (m .code) (subst (λ d. codeFor d level f (field c f .value) ≡ good (m .code)) q (m .coded)) in
+    m .is ∙ ap (λ d. recodedIn (m .sizes) image (field d f) (m .code)) q ∙ same-value kind image c (m .sizes) bytes e (m .sized) level f free (m .code) stored
 
 -- What a check refuses it still refuses: an image that is altered is of another kind, which the altered one is too.
 module _ (kind : ℕ) (r : Refusal) where
@@ -236,11 +243,11 @@ module _ (kind : ℕ) (r : Refusal) where
 
   one-refused : (image : List ℕ) (a : Alteration) → contents kind image ≡ refused r → contents kind (alteredBy image a) ≡ refused r
   one-refused image (changes ch) e = kept-refused image _ e (λ after h.
-      let m = change-made (ch .kind) image (ch .field) (ch .value) after h in
-      still-refused (ch .kind) image after (m .held) e (m .accepted) (made-length (ch .kind) image (ch .field) (ch .value) after h))
+      let m = change-made (ch .kind) image (ch .level) (ch .field) (ch .value) after h in
+      still-refused (ch .kind) image after (m .held) e (m .accepted) (made-length (ch .kind) image (ch .level) (ch .field) (ch .value) after h))
   one-refused image (commits co) e = kept-refused image _ e (λ after h.
-      let m = commit-made (co .kind) image (co .field) (co .present) (co .new) after h in
-      still-refused (co .kind) image after (m .held) e (m .accepted) (commit-length (co .kind) image (co .field) (co .present) (co .new) after h))
+      let m = commit-made (co .kind) image (co .level) (co .field) (co .present) (co .new) after h in
+      still-refused (co .kind) image after (m .held) e (m .accepted) (commit-length (co .kind) image (co .level) (co .field) (co .present) (co .new) after h))
 
   pub refused-after : (image : List ℕ) (alterations : List Alteration) → contents kind image ≡ refused r → contents kind (altered image alterations) ≡ refused r
   refused-after image [] e = e
@@ -264,10 +271,10 @@ module _ {A : Type 0} (g : Contents → A) (same : (c : Contents) (i : ℕ) (x :
   commit-keeps c f new true (good u) (good v) = same c (f - 1) _
 
   one-keeps : (kind : ℕ) (c : Contents) (a : Alteration) → g (heldBy kind c a) ≡ g c
-  one-keeps kind c (changes ch) = change-keeps c (ch .field) (ch .value) (eqb (ch .kind) kind) (codeFor c (ch .field) (ch .value))
+  one-keeps kind c (changes ch) = change-keeps c (ch .field) (ch .value) (eqb (ch .kind) kind) (codeFor c (ch .level) (ch .field) (ch .value))
   one-keeps kind c (commits co) =
       let x = field c (co .field) in
-      commit-keeps c (co .field) (co .new) (eqb (co .kind) kind) (mayCommit c (co .field) (co .present) (co .new)) (decode (x .row) (x .at) (co .new))
+      commit-keeps c (co .field) (co .new) (eqb (co .kind) kind) (mayCommit c (co .level) (co .field) (co .present) (co .new)) (decode (x .row) (x .at) (co .new))
 
   pub held-keeps : (kind : ℕ) (c : Contents) (alterations : List Alteration) → g (held kind c alterations) ≡ g c
   held-keeps kind c [] = refl

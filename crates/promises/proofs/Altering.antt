@@ -17,6 +17,7 @@ use Rattle.memory.proofs.Streams.{stream-bytes, stream-lt}
 use Rattle.memory.proofs.SumLaws.{sums-right}
 use Rattle.memory.proofs.Images.{image-number-lt}
 use Rattle.memory.proofs.Mending.{mended-check}
+use Rattle.fields.specs.declared.Level.{Level}
 use Rattle.fields.proofs.StoredLaws.{reads-back}
 use Rattle.layout.specs.Contents.{Found, Contents}
 use Rattle.layout.specs.Image.{contents, field}
@@ -42,16 +43,16 @@ puts N n w code fits = record { stands = put-field N n w code fits; others = oth
     others i (inr h) = put-after N n w code fits i 1 h
 
 -- A field at a code that fits it.
-module _ (kind : ℕ) (image : List ℕ) (z : Sizes) (c : Contents) (f : ℕ) (bytes : Bytes image) (sizes : imageSizes kind (length image) ≡ good z)
-    (e : contents kind image ≡ good c) (free : Changeable c f) where
+module _ (kind : ℕ) (image : List ℕ) (z : Sizes) (c : Contents) (level : Level) (f : ℕ) (bytes : Bytes image) (sizes : imageSizes kind (length image) ≡ good z)
+    (e : contents kind image ≡ good c) (free : Changeable c level f) where
   abbrev x : Found
   x = field c f
 
   recode-alters-no-other : (code : ℕ) → code < 2 ^ x .row .width → AltersNoOther z x image (recodedIn z image x code)
   recode-alters-no-other code fits =
       let N : ℕ = streamNumber z image in
-      let sound = field-sound kind image c z bytes e sizes f free in
-      let inside = field-inside kind image c z bytes e sizes f free in
+      let sound = field-sound kind image c z bytes e sizes level f free in
+      let inside = field-inside kind image c z bytes e sizes level f free in
       let chip = sizes-chip kind (length image) z sizes in
       let small = put-lt N (x .at) (x .row .width) code fits (streamBits z) (stream-lt z image (chip .long) bytes) inside in
       let number : streamNumber z (recodedIn z image x code) ≡ putAt N (x .at) (x .row .width) code = image-number-lt z _ small in
@@ -63,20 +64,20 @@ module _ (kind : ℕ) (image : List ℕ) (z : Sizes) (c : Contents) (f : ℕ) (b
       }
 
 pub change-alters-no-other : ChangeAltersNoOther
-change-alters-no-other kind image after z c f v bytes real sizes e h =
-    let m = change-made kind image f v after h in
+change-alters-no-other kind image after z c level f v bytes real sizes e h =
+    let m = change-made kind image level f v after h in
     let same : m .held ≡ c = good-same (sym (m .accepted) ∙ e) in
     let sized : m .sizes ≡ z = good-same (sym (m .sized) ∙ sizes) in
-    let (free, stored) = code-found c f v (m .code) (subst (λ d. codeFor d f v ≡ good (m .code)) same (m .coded)) in
-    let fits = reads-back (field c f .row) f (field c f .at) (m .code) v (field-sound kind image c z bytes e sizes f free) real stored .0 in
+    let (free, stored) = code-found c level f v (m .code) (subst (λ d. codeFor d level f v ≡ good (m .code)) same (m .coded)) in
+    let fits = reads-back (field c f .row) f (field c f .at) (m .code) v (field-sound kind image c z bytes e sizes level f free) real stored .0 in
     subst (AltersNoOther z (field c f) image) (sym (m .is ∙ ap₂ (λ d y. recodedIn y image (field d f) (m .code)) same sized))
-    (recode-alters-no-other kind image z c f bytes sizes e free (m .code) fits)
+    (recode-alters-no-other kind image z c level f bytes sizes e free (m .code) fits)
 
 pub commit-alters-no-other : CommitAltersNoOther
-commit-alters-no-other kind image after z c f present new bytes sizes e h =
-    let m = commit-made kind image f present new after h in
+commit-alters-no-other kind image after z c level f present new bytes sizes e h =
+    let m = commit-made kind image level f present new after h in
     let same : m .held ≡ c = good-same (sym (m .accepted) ∙ e) in
     let sized : m .sizes ≡ z = good-same (sym (m .sized) ∙ sizes) in
-    let t : Committed c f present new = subst (λ d. Committed d f present new) same (m .tested) in
+    let t : Committed c level f present new = subst (λ d. Committed d level f present new) same (m .tested) in
     subst (AltersNoOther z (field c f) image) (sym (m .is ∙ ap₂ (λ d y. recodedIn y image (field d f) new) same sized))
-    (recode-alters-no-other kind image z c f bytes sizes e (t .free) new (stands-fits (field c f .row) new (t .stands)))
+    (recode-alters-no-other kind image z c level f bytes sizes e (t .free) new (stands-fits (field c f .row) new (t .stands)))

@@ -41,8 +41,8 @@ module _ (kind : ℕ) (buffer : List ℕ) (sheet : Sheet) (text : List ℕ) (poi
   -- The same of calls whose images have names of their own.
   pub answered : (built once twice : List ℕ) → Lendable sheet → Real (first .value) → Real (second .value) →
       writtenSaid (r .built) built ≡ build kind buffer sheet text points → built ≡ done →
-      writtenSaid (r .first) once ≡ change (first .kind) built (first .field) (first .value) → once ≡ changedBy built first →
-      writtenSaid (r .second) twice ≡ change (second .kind) once (second .field) (second .value) → twice ≡ changedBy once second →
+      writtenSaid (r .first) once ≡ change (first .kind) built (first .level) (first .field) (first .value) → once ≡ changedBy built first →
+      writtenSaid (r .second) twice ≡ change (second .kind) once (second .level) (second .field) (second .value) → twice ≡ changedBy once second →
       readingSaid (r .reading) ≡ takeReading readingKind twice v → Answered kind buffer sheet text points first second readingKind v twice r
   answered built once twice lendable real other b bs f fs s ss t =
       let next : once ≡ changedBy done first = fs ∙ ap (λ l. changedBy l first) bs in
@@ -50,6 +50,6 @@ module _ (kind : ℕ) (buffer : List ℕ) (sheet : Sheet) (text : List ℕ) (poi
       subst (λ l. Answered kind buffer sheet text points first second readingKind v l r) (sym end)
       (answered-so lendable real other
       (subst (λ l. writtenSaid (r .built) l ≡ build kind buffer sheet text points) bs b)
-      (subst (λ l. ChangeSaid l first (r .first)) bs (subst (λ l. writtenSaid (r .first) l ≡ change (first .kind) built (first .field) (first .value)) fs f))
-      (subst (λ l. ChangeSaid l second (r .second)) next (subst (λ l. writtenSaid (r .second) l ≡ change (second .kind) once (second .field) (second .value)) ss s))
+      (subst (λ l. ChangeSaid l first (r .first)) bs (subst (λ l. writtenSaid (r .first) l ≡ change (first .kind) built (first .level) (first .field) (first .value)) fs f))
+      (subst (λ l. ChangeSaid l second (r .second)) next (subst (λ l. writtenSaid (r .second) l ≡ change (second .kind) once (second .level) (second .field) (second .value)) ss s))
       (subst (λ l. readingSaid (r .reading) ≡ takeReading readingKind l v) end t))

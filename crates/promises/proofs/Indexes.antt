@@ -124,10 +124,10 @@ module _ (c : Contents) where
   commit-entries f new true (good u) (good v) = recoded-entries f new v
 
   one-entries : (kind : ℕ) (a : Alteration) → entries (heldBy kind c a) ≡ entries c
-  one-entries kind (changes ch) = change-entries (ch .field) (ch .value) (eqb (ch .kind) kind) (codeFor c (ch .field) (ch .value))
+  one-entries kind (changes ch) = change-entries (ch .field) (ch .value) (eqb (ch .kind) kind) (codeFor c (ch .level) (ch .field) (ch .value))
   one-entries kind (commits co) =
       let x = field c (co .field) in
-      commit-entries (co .field) (co .new) (eqb (co .kind) kind) (mayCommit c (co .field) (co .present) (co .new)) (decode (x .row) (x .at) (co .new))
+      commit-entries (co .field) (co .new) (eqb (co .kind) kind) (mayCommit c (co .level) (co .field) (co .present) (co .new)) (decode (x .row) (x .at) (co .new))
 
 held-entries : (kind : ℕ) (c : Contents) (alterations : List Alteration) → entries (held kind c alterations) ≡ entries c
 held-entries kind c [] = refl

@@ -28,7 +28,7 @@ value-real : (v : Value) (vs : List Val) → Is (enum.row value.the-type) v vs �
 value-real v vs h = lent-real v (subst (Is (enum.row value.the-type) v) (tells value.the-type the-laws v vs h) h)
 
 pub change-real : (ch : Change) (vs : List Val) → Is (struct.row change.the-type) ch vs → Real (ch .value)
-change-real ch vs h = value-real (ch .value) (h .0 .1 .1 .0) (h .1 .1 .1 .1 .0)
+change-real ch vs h = value-real (ch .value) (h .0 .1 .1 .1 .0) (h .1 .1 .1 .1 .1 .0)
 
 slots-real : (slots : List Slot) (us : List Val) → shadow (each (slot.the-field .row .Denot) (slot.the-field .row .own) (map (slot.the-field .into) slots) us) → AllReal slots
 slots-real [] us h = tt

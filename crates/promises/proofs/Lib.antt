@@ -3,6 +3,7 @@ pub mod AfterAlterations
 pub mod Indexes
 pub mod Altering
 pub mod Proposing
+pub mod LevelLaws
 pub mod ByIndex
 pub mod PlannedFields
 pub mod PlannedPairs

@@ -82,8 +82,8 @@ rebuilt kind image buffer z c sheet pts bytes long hz e zeros lents end pairs tw
     ∙ ap good (two-views z image (sizes-chip kind (length image) z hz .long) bytes (sums-right z image summed)))
 
 pub rebuilt-same-bytes : RebuiltSameBytes
-rebuilt-same-bytes kind image buffer z c bytes long hz e zeros =
-    rebuilt kind image buffer z c (sheetRead c) (turns (points c)) bytes long hz e zeros (read-lent (sheetRead c) 1 (c .fields) _ (slots-all (sheetRead c))) refl
+rebuilt-same-bytes kind image buffer level z c bytes long hz e zeros =
+    rebuilt kind image buffer z c (sheetRead c level) (turns (points c)) bytes long hz e zeros (read-lent (sheetRead c level) 1 (c .fields) _ (slots-all (sheetRead c level))) refl
     (pairs-turned (points c)) (turns-length (points c))
 
 -- ---- through the calls

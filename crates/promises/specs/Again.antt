@@ -14,6 +14,7 @@ use Rattle.memory.specs.Pieces.{Piece, needed}
 use Rattle.fields.specs.declared.Value.{Value}
 use Rattle.fields.specs.declared.Value.the-variants.{Whole, Missing}
 use Rattle.fields.specs.declared.Row.{Row}
+use Rattle.fields.specs.declared.Level.{Level}
 use Rattle.fields.specs.declared.Template.{Template}
 use Rattle.fields.specs.declared.Template.the-variants.{Bridge}
 use Rattle.fields.specs.declared.Layout.{Layout}
@@ -69,22 +70,23 @@ ZeroEndsText =
 
 -- ---- read and rebuilt
 
--- What an image reads, as a sheet and as points lent by turns. A template with fewer fields leaves the last slots missing.
-abbrev pub sheetRead : Contents → Sheet
-sheetRead c = record { fields = map slot (values c) ++ replicate (21 - length (c .fields)) (slot Missing); «end_bit» = c .endBit }
+-- What an image reads, as a sheet and as points lent by turns. A template with fewer fields leaves the last slots missing; the level is not stored,
+-- and any is as good.
+abbrev pub sheetRead : Contents → Level → Sheet
+sheetRead c level = record { fields = map slot (values c) ++ replicate (21 - length (c .fields)) (slot Missing); «end_bit» = c .endBit; level = level }
 
 abbrev pub turns : List Pair → List ℤ
 turns [] = []
 turns (p ∷ pairs) = p .point ∷ p .deviation ∷ turns pairs
 
--- An accepted image with zeros after its end, rebuilt from what it reads, is the same bytes, in whatever buffer of its length.
+-- An accepted image with zeros after its end, rebuilt from what it reads at any level, is the same bytes, in whatever buffer of its length.
 abbrev pub RebuiltSameBytes : Type 0
 RebuiltSameBytes =
-    (kind : ℕ) (image buffer : List ℕ) (z : Sizes) (c : Contents) → Bytes image → length buffer ≡ length image →
+    (kind : ℕ) (image buffer : List ℕ) (level : Level) (z : Sizes) (c : Contents) → Bytes image → length buffer ≡ length image →
     imageSizes kind (length image) ≡ good z →
     contents kind image ≡ good c →
     streamNumber z image < 2 ^ c .bits →
-    build kind buffer (sheetRead c) (c .text) (turns (points c)) ≡ good image
+    build kind buffer (sheetRead c level) (c .text) (turns (points c)) ≡ good image
 
 -- The same of whatever a caller hands in who read the image through the calls: the sheet has each field that is read, text and points have each
 -- character and pair, as many as the check gives.

@@ -1,4 +1,4 @@
--- Demand 2 after each change: any list of one-field changes and commits, accepted or refused. What the image holds afterwards is told on the
+-- Demand 2 after each change: any list of one-field changes and commits, accepted or refused, by writers of any level. What the image holds afterwards is told on the
 -- contents, so that it can be held against what a check of the altered image finds.
 use mathlib.Core.Path.{_≡_}
 use mathlib.Core.Bool.{cond}
@@ -13,6 +13,7 @@ use Rattle.memory.specs.declared.Sizes.{Sizes}
 use Rattle.memory.specs.Bits.{Bytes, bit}
 use Rattle.memory.specs.Image.{imageSizes, pageAt, streamNumber, pageOf}
 use Rattle.fields.specs.declared.Value.{Value}
+use Rattle.fields.specs.declared.Level.{Level}
 use Rattle.fields.specs.Rules.{decode}
 use Rattle.fields.specs.Stored.{kept, Real}
 use Rattle.layout.specs.Contents.{Found, Contents}
@@ -20,9 +21,10 @@ use Rattle.layout.specs.Image.{contents, field}
 use Rattle.change.specs.Change.{codeFor, change, mayCommit, commit}
 use Rattle.promises.specs.declared.Change.{Change}
 
--- A commit as a caller can hand it in: its own kind, field and codes.
+-- A commit as a caller can hand it in: its own kind, level, field and codes.
 pub record Commit : Type 0 where
   pub kind : ℕ
+  pub level : Level
   pub field : ℕ
   pub present : ℕ
   pub new : ℕ
@@ -42,10 +44,10 @@ RealAlterations (a ∷ alterations) = RealAlteration a × RealAlterations altera
 
 -- The image after one of them, and after a list: a refused one leaves the image.
 abbrev pub changedBy : List ℕ → Change → List ℕ
-changedBy image ch = afterwards image (change (ch .kind) image (ch .field) (ch .value))
+changedBy image ch = afterwards image (change (ch .kind) image (ch .level) (ch .field) (ch .value))
 
 abbrev pub committedBy : List ℕ → Commit → List ℕ
-committedBy image co = afterwards image (commit (co .kind) image (co .field) (co .present) (co .new))
+committedBy image co = afterwards image (commit (co .kind) image (co .level) (co .field) (co .present) (co .new))
 
 abbrev pub alteredBy : List ℕ → Alteration → List ℕ
 alteredBy image (changes ch) = changedBy image ch
@@ -71,15 +73,15 @@ replaced c f code v =
     }
 
 -- A change stores the value as its rule keeps it.
-abbrev pub changeIn : Contents → ℕ → Value → Outcome Contents
-changeIn c f v = do
-  code ← codeFor c f v
+abbrev pub changeIn : Contents → Level → ℕ → Value → Outcome Contents
+changeIn c level f v = do
+  code ← codeFor c level f v
   good (replaced c f code (kept (field c f .row) v))
 
 -- A commit stores its new code, with the value that this means.
-abbrev pub commitIn : Contents → ℕ → ℕ → ℕ → Outcome Contents
-commitIn c f present new = do
-  mayCommit c f present new
+abbrev pub commitIn : Contents → Level → ℕ → ℕ → ℕ → Outcome Contents
+commitIn c level f present new = do
+  mayCommit c level f present new
   v ← decode (field c f .row) (field c f .at) new
   good (replaced c f new v)
 
@@ -90,8 +92,8 @@ left c (refused r) = c
 
 -- What a sheet of a kind holds afterwards: nothing else where the kind is another.
 abbrev pub heldBy : ℕ → Contents → Alteration → Contents
-heldBy kind c (changes ch) = cond (eqb (ch .kind) kind) (left c (changeIn c (ch .field) (ch .value))) c
-heldBy kind c (commits co) = cond (eqb (co .kind) kind) (left c (commitIn c (co .field) (co .present) (co .new))) c
+heldBy kind c (changes ch) = cond (eqb (ch .kind) kind) (left c (changeIn c (ch .level) (ch .field) (ch .value))) c
+heldBy kind c (commits co) = cond (eqb (co .kind) kind) (left c (commitIn c (co .level) (co .field) (co .present) (co .new))) c
 
 abbrev pub held : ℕ → Contents → List Alteration → Contents
 held kind c [] = c
@@ -107,8 +109,8 @@ AfterAlterations =
 -- A change to what already stands there leaves every byte.
 abbrev pub ChangedToTheSame : Type 0
 ChangedToTheSame =
-    (kind : ℕ) (image after : List ℕ) (c : Contents) (f : ℕ) → Bytes image →
-    contents kind image ≡ good c → change kind image f (field c f .value) ≡ good after → after ≡ image
+    (kind : ℕ) (image after : List ℕ) (c : Contents) (level : Level) (f : ℕ) → Bytes image →
+    contents kind image ≡ good c → change kind image level f (field c f .value) ≡ good after → after ≡ image
 
 -- A change or a commit rewrites the field and the check bytes of its pages, no other bit: no bit of the stream outside the field, and the check byte of no page
 -- but those of the field's first and last bit.
@@ -119,12 +121,12 @@ pub record AltersNoOther (z : Sizes) (x : Found) (image after : List ℕ) : Type
 
 abbrev pub ChangeAltersNoOther : Type 0
 ChangeAltersNoOther =
-    (kind : ℕ) (image after : List ℕ) (z : Sizes) (c : Contents) (f : ℕ) (v : Value) → Bytes image → Real v →
-    imageSizes kind (length image) ≡ good z → contents kind image ≡ good c → change kind image f v ≡ good after →
+    (kind : ℕ) (image after : List ℕ) (z : Sizes) (c : Contents) (level : Level) (f : ℕ) (v : Value) → Bytes image → Real v →
+    imageSizes kind (length image) ≡ good z → contents kind image ≡ good c → change kind image level f v ≡ good after →
     AltersNoOther z (field c f) image after
 
 abbrev pub CommitAltersNoOther : Type 0
 CommitAltersNoOther =
-    (kind : ℕ) (image after : List ℕ) (z : Sizes) (c : Contents) (f present new : ℕ) → Bytes image →
-    imageSizes kind (length image) ≡ good z → contents kind image ≡ good c → commit kind image f present new ≡ good after →
+    (kind : ℕ) (image after : List ℕ) (z : Sizes) (c : Contents) (level : Level) (f present new : ℕ) → Bytes image →
+    imageSizes kind (length image) ≡ good z → contents kind image ≡ good c → commit kind image level f present new ≡ good after →
     AltersNoOther z (field c f) image after

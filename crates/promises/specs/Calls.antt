@@ -22,7 +22,7 @@ use Rattle.promises.specs.Certificate.{leastIn, greatestIn, lineFor}
 
 -- What a change of an image answered.
 abbrev pub ChangeSaid : List ℕ → Change → Written → Type 0
-ChangeSaid image ch w = writtenSaid w (changedBy image ch) ≡ change (ch .kind) image (ch .field) (ch .value)
+ChangeSaid image ch w = writtenSaid w (changedBy image ch) ≡ change (ch .kind) image (ch .level) (ch .field) (ch .value)
 
 module _ (kind : ℕ) (buffer : List ℕ) (sheet : Sheet) (text : List ℕ) (points : List ℤ) where
   -- The image behind the build.

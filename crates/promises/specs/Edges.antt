@@ -13,6 +13,7 @@ use Rattle.memory.specs.Pieces.{pack}
 use Rattle.fields.specs.declared.Value.{Value}
 use Rattle.fields.specs.declared.Value.the-variants.{Whole, Single, Missing}
 use Rattle.fields.specs.declared.Row.{Row}
+use Rattle.fields.specs.declared.Level.the-variants.{CalibrationRoom, Maker}
 use Rattle.fields.specs.declared.Rule.the-variants.{Stepped}
 use Rattle.fields.specs.Rules.{Progression, decode, encode, geometricValue}
 use Rattle.fields.specs.Rows.{optional, electrical, excitation}
@@ -33,6 +34,7 @@ sheetAt precision e f = record {
       map slot (replicate 6 Missing) ++
       map (λ n. slot (Whole (pos n))) (0 ∷ 0 ∷ 0 ∷ []);
   «end_bit» = false;
+  level = Maker;
 }
 
 pub data Case : Type 0 where
@@ -55,7 +57,7 @@ pub data Case : Type 0 where
 
 abbrev pub Holds : Case → Type 0
 Holds (basicIs figures bytes) =
-    (linePieces (record { fields = map (λ n. slot (Whole n)) figures; «end_bit» = false }) basic 0 1 >>= λ pieces. good (bytesOf 8 (pack pieces))) ≡ good bytes
+    (linePieces (record { fields = map (λ n. slot (Whole n)) figures; «end_bit» = false; level = Maker }) basic 0 1 >>= λ pieces. good (bytesOf 8 (pack pieces))) ≡ good bytes
 Holds (readsBack row figure value) = (encode row 0 (Whole figure) >>= decode row 0) ≡ good (Whole value)
 Holds (means row code value) = decode row 0 code ≡ good value
 Holds (scaled progression code value) = geometricValue progression code ≡ value
@@ -100,13 +102,13 @@ printed =
 
 -- A change of field 11, and one of field 9, which is refused.
 abbrev pub twoChanges : ℕ → ℤ → List Alteration
-twoChanges kind f = changes (record { kind = kind; field = 11; value = Whole f }) ∷ changes (record { kind = kind; field = 9; value = Whole (pos 1) }) ∷ []
+twoChanges kind f = changes (record { kind = kind; level = CalibrationRoom; field = 11; value = Whole f }) ∷ changes (record { kind = kind; level = Maker; field = 9; value = Whole (pos 1) }) ∷ []
 
 -- A commit of field 11 from 2,000,000 to 3,000,000 at precision 0, and another that still expects the former, which is refused.
 abbrev pub twoCommits : ℕ → List Alteration
 twoCommits kind =
-    commits (record { kind = kind; field = 11; present = 1_002; new = 1_003 }) ∷
-    commits (record { kind = kind; field = 11; present = 1_002; new = 1_004 }) ∷
+    commits (record { kind = kind; level = CalibrationRoom; field = 11; present = 1_002; new = 1_003 }) ∷
+    commits (record { kind = kind; level = CalibrationRoom; field = 11; present = 1_002; new = 1_004 }) ∷
     []
 
 -- Points half a step and deviations half a step off what a chip can hold, on a steep fall.

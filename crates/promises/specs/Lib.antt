@@ -5,6 +5,7 @@ pub mod Reads
 pub mod Again
 pub mod Alterations
 pub mod Proposals
+pub mod Levels
 pub mod Index
 pub mod Certificate
 pub mod Calls

@@ -6,6 +6,7 @@ use Rattle.refusal.specs.Outcome.{Outcome, good, refused, _>>=_}
 use Rattle.refusal.specs.Rows.{otherCode}
 use Rattle.memory.specs.Bits.{Bytes}
 use Rattle.fields.specs.declared.Value.{Value}
+use Rattle.fields.specs.declared.Level.{Level}
 use Rattle.fields.specs.Rules.{decode}
 use Rattle.fields.specs.Stored.{Real}
 use Rattle.layout.specs.Contents.{Contents}
@@ -16,8 +17,8 @@ use Rattle.promises.specs.Alterations.{replaced}
 -- Proposal and immediate commit leave the bytes that a change would, and are refused as it would be.
 abbrev pub ProposedThenCommitted : Type 0
 ProposedThenCommitted =
-    (kind : ℕ) (image : List ℕ) (f : ℕ) (v : Value) → Bytes image → Real v →
-    (propose kind image f v >>= λ p. commit kind image f (p .present) (p .new)) ≡ change kind image f v
+    (kind : ℕ) (image : List ℕ) (level : Level) (f : ℕ) (v : Value) → Bytes image → Real v →
+    (propose kind image level f v >>= λ p. commit kind image level f (p .present) (p .new)) ≡ change kind image level f v
 
 abbrev pub whether : {A : Type 0} → Outcome A → Outcome (Unit {0})
 whether (good a) = good tt
@@ -26,19 +27,19 @@ whether (refused r) = refused r
 -- A proposal is refused exactly where the change is, with the same number and place.
 abbrev pub ProposalRefused : Type 0
 ProposalRefused =
-    (kind : ℕ) (image : List ℕ) (f : ℕ) (v : Value) → Bytes image → Real v →
-    whether (propose kind image f v) ≡ whether (change kind image f v)
+    (kind : ℕ) (image : List ℕ) (level : Level) (f : ℕ) (v : Value) → Bytes image → Real v →
+    whether (propose kind image level f v) ≡ whether (change kind image level f v)
 
 -- An accepted commit makes the field's code the new one, with the value that it means, all else as it was.
 abbrev pub CommitStores : Type 0
 CommitStores =
-    (kind : ℕ) (image after : List ℕ) (c : Contents) (f present new : ℕ) → Bytes image →
-    contents kind image ≡ good c → commit kind image f present new ≡ good after →
+    (kind : ℕ) (image after : List ℕ) (c : Contents) (level : Level) (f present new : ℕ) → Bytes image →
+    contents kind image ≡ good c → commit kind image level f present new ≡ good after →
     (v : Value) × (decode (field c f .row) (field c f .at) new ≡ good v) × (contents kind after ≡ good (replaced c f new v))
 
 -- It was accepted only where the present code was still there: after an accepted change of that field to another code it is refused with 19.
 abbrev pub CommitAfterAnother : Type 0
 CommitAfterAnother =
-    (kind : ℕ) (image after : List ℕ) (c : Contents) (f : ℕ) (v : Value) (code present new : ℕ) → Bytes image → Real v →
-    contents kind image ≡ good c → codeFor c f v ≡ good code → (code ≡ present → ⊥) → change kind image f v ≡ good after →
-    commit kind after f present new ≡ refused (otherCode f)
+    (kind : ℕ) (image after : List ℕ) (c : Contents) (level : Level) (f : ℕ) (v : Value) (code present new : ℕ) → Bytes image → Real v →
+    contents kind image ≡ good c → codeFor c level f v ≡ good code → (code ≡ present → ⊥) → change kind image level f v ≡ good after →
+    commit kind after level f present new ≡ refused (otherCode f)

@@ -22,9 +22,17 @@ pub fn points_to_reading(
 {
     let built = build::build(kind, image, sheet, text, points);
     let first_value = first.value;
-    let first_answer = change::change(first.kind, image, first.field, first_value);
+    let first_level = first.level;
+    let first_answer = change::change(first.kind, image, first_level, first.field, first_value);
     let second_value = second.value;
-    let second_answer = change::change(second.kind, image, second.field, second_value);
+    let second_level = second.level;
+    let second_answer = change::change(
+        second.kind,
+        image,
+        second_level,
+        second.field,
+        second_value,
+    );
     let reading = reading::take_reading(reading_kind, image, input);
     Answers {
         built,

@@ -3,13 +3,15 @@
 mod certificate; // certificate.rt: from the points lent to the q returned
 
 pub use certificate::points_to_reading;
+use fields::Level;
 use fields::Value;
 use reading::ReadingAnswer;
 use refusal::Written;
 
-// A one-field change as a caller can hand it in: its own kind, field and value.
+// A one-field change as a caller can hand it in: its own kind, level, field and value.
 pub struct Change {
     pub kind: u8,
+    pub level: Level,
     pub field: u64,
     pub value: Value,
 }

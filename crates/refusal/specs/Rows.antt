@@ -77,6 +77,10 @@ shortIndex bytes = returned 18 bytes
 abbrev pub otherCode : ℕ → Refusal
 otherCode field = returned 19 field
 
+-- 20 (Note 6): the writer's level may not write the field.
+abbrev pub levelTooLow : ℕ → Refusal
+levelTooLow field = returned 20 field
+
 -- 21 (Note 8): reading: a Single outside −2 to 2 V/V. The place is the first of 10 and 11 that is one.
 abbrev pub endOutside : ℕ → Refusal
 endOutside field = returned 21 field

@@ -6,6 +6,7 @@ mod rows;
 pub use rows::blank_chip;
 pub use rows::changed_alone;
 pub use rows::end_outside;
+pub use rows::level_too_low;
 pub use rows::no_span;
 pub use rows::no_such;
 pub use rows::not_finite;
@@ -71,5 +72,7 @@ pub const BLANK_CHIP: u8 = 17;
 pub const SHORT_INDEX: u8 = 18;
 
 pub const OTHER_CODE: u8 = 19;
+
+pub const LEVEL_TOO_LOW: u8 = 20;
 
 pub const END_OUTSIDE: u8 = 21;

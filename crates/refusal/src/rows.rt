@@ -19,6 +19,7 @@ ghost use Rattle.refusal.specs.Rows.{
   blankChip,
   shortIndex,
   otherCode,
+  levelTooLow,
   endOutside,
 };
 use crate::Refusal;
@@ -188,6 +189,15 @@ pub fn other_code(field: u64) -> Refusal
 {
     Refusal {
         number: crate::OTHER_CODE,
+        place: field,
+    }
+}
+
+pub fn level_too_low(field: u64) -> Refusal
+    ensures { λ r. ⌜ r ≡ levelTooLow field ⌝ }
+{
+    Refusal {
+        number: crate::LEVEL_TOO_LOW,
         place: field,
     }
 }

@@ -1,7 +1,9 @@
 -- `dartelm_change` meets its contract.
 -- Assumes nothing.
 use borrow.Author.Needs.{needs}
-use mathlib.Core.Path.{ap}
+use mathlib.Core.Path.{ap₂}
+use Rattle.fields.specs.declared.Value.{Value}
+use Rattle.fields.specs.declared.Level.{Level}
 use Rattle.change.specs.Change.{change}
 use Rattle.dartelm.proofs.Telling.{tells-written}
 use Rattle.dartelm.proofs.dartelm_change.Statement.{statement}
@@ -21,9 +23,9 @@ same-length c = search needs
 
 returns : tie.Need-returns
 returns c =
-    let a = c .before .before .before .before .before .before .before .args in
-    tells-written (a .image .now) _ (c .before .before .before .change .result) (c .wrote .ensures) (c .before .before .before .change .ensures .0) (c .before .before .before .change .ensures .1) (ap (change (a .kind) (a .image .now) (a .field)) (c .before .before .before .before .value-of .ensures))
+    let a = c .before .before .before .before .before .before .before .before .args in
+    tells-written (a .image .now) _ (c .before .before .before .change .result) (c .wrote .ensures) (c .before .before .before .change .ensures .0) (c .before .before .before .change .ensures .1) (ap₂ (λ (l : Level) (v : Value). change (a .kind) (a .image .now) l (a .field) v) (c .before .before .before .before .before .level-of .ensures) (c .before .before .before .before .value-of .ensures))
 
 pub dartelm-change-spec : {M : Type 1} → statement M
 dartelm-change-spec =
-    tie.close (tie.spec value-of-requires change-requires wrote-requires same-length returns)
+    tie.close (tie.spec (λ c κs. search needs) value-of-requires change-requires wrote-requires same-length returns)

@@ -1,6 +1,8 @@
 -- `dartelm_commit` meets its contract.
 use borrow.Author.Needs.{needs}
-use mathlib.Core.Path.{refl}
+use mathlib.Core.Path.{ap}
+use Rattle.fields.specs.declared.Level.{Level}
+use Rattle.change.specs.Change.{commit}
 use Rattle.dartelm.proofs.Telling.{tells-written}
 use Rattle.dartelm.proofs.dartelm_commit.Statement.{statement}
 use Rattle.dartelm.proofs.dartelm_commit.Tie as tie
@@ -8,9 +10,10 @@ use Rattle.dartelm.proofs.dartelm_commit.Tie as tie
 returns : tie.Need-returns
 returns c =
     let m = c .before .before .before in
-    let a = m .before .before .before .args in
-    tells-written (a .image .now) _ (m .commit .result) (c .wrote .ensures) (m .commit .ensures .0) (m .commit .ensures .1) refl
+    let a = m .before .before .before .before .args in
+    tells-written (a .image .now) _ (m .commit .result) (c .wrote .ensures) (m .commit .ensures .0) (m .commit .ensures .1)
+    (ap (λ (l : Level). commit (a .kind) (a .image .now) l (a .field) (a .present-code) (a .new-code)) (m .before .level-of .ensures))
 
 pub dartelm-commit-spec : {M : Type 1} → statement M
 dartelm-commit-spec =
-    tie.close (tie.spec (λ c κs. search needs) (λ c κs. search needs) (λ c. search needs) returns)
+    tie.close (tie.spec (λ c κs. search needs) (λ c κs. search needs) (λ c κs. search needs) (λ c. search needs) returns)

@@ -1,6 +1,8 @@
 -- `dartelm_propose` meets its contract.
 use borrow.Author.Needs.{needs}
-use mathlib.Core.Path.{ap, _∙_}
+use mathlib.Core.Path.{ap₂, _∙_}
+use Rattle.fields.specs.declared.Value.{Value}
+use Rattle.fields.specs.declared.Level.{Level}
 use Rattle.change.specs.Change.{propose, proposalSaid}
 use Rattle.dartelm.specs.Answers.{told, proposalAnswer, noProposal}
 use Rattle.dartelm.proofs.Telling.{tells}
@@ -10,23 +12,24 @@ use Rattle.dartelm.proofs.dartelm_propose.Tie as tie
 returns : tie.Need-returns
 returns c =
     let p = c .before .before .before .before in
-    let a = p .before .before .before .args in
+    let a = p .before .before .before .before .args in
     rw (c .no-value .ensures)
     (tells (told proposalAnswer noProposal) proposalSaid
-    (p .propose .ensures ∙ ap (propose (a .kind) (a .image .now) (a .field)) (p .before .value-of .ensures)) (c .before .before .r .given .1))
+    (p .propose .ensures ∙ ap₂ (λ (l : Level) (v : Value). propose (a .kind) (a .image .now) l (a .field) v) (p .before .before .level-of .ensures) (p .before .value-of .ensures)) (c .before .before .r .given .1))
 
 returns-2 : tie.Need-returns-2
 returns-2 c =
     let p = c .before .before .before .before in
-    let a = p .before .before .before .args in
+    let a = p .before .before .before .before .args in
     rw (c .by-flags .ensures)
     (tells (told proposalAnswer noProposal) proposalSaid
-    (p .propose .ensures ∙ ap (propose (a .kind) (a .image .now) (a .field)) (p .before .value-of .ensures)) (c .before .before .proposal .given .1))
+    (p .propose .ensures ∙ ap₂ (λ (l : Level) (v : Value). propose (a .kind) (a .image .now) l (a .field) v) (p .before .before .level-of .ensures) (p .before .value-of .ensures)) (c .before .before .proposal .given .1))
 
 pub dartelm-propose-spec : {M : Type 1} → statement M
 dartelm-propose-spec =
     tie.close
     (tie.spec
+    (λ c κs. search needs)
     (λ c κs. search needs)
     (λ c κs. search needs)
     (λ c. search needs)

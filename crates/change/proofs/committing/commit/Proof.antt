@@ -24,7 +24,7 @@ row-of-requires c κs =
     let s = m .before .before .before .before .before in
     let a = s .before .before .before .args in
     let (x, h) = opens (a .kind) (a .image .now) _ (s .«open» .ensures) (m .before .before .before .opened .given .1) in
-    commit-known h (a .field) (a .present) (a .new) (sym (told judgedSaid (c .before .before .enum-told .given .1) (m .may-commit .ensures (a .kind) x h)))
+    commit-known h (a .level) (a .field) (a .present) (a .new) (sym (told judgedSaid (c .before .before .enum-told .given .1) (m .may-commit .ensures (a .kind) x h)))
 
 locate-requires : tie.Need-locate-requires
 locate-requires c κs =
@@ -32,7 +32,7 @@ locate-requires c κs =
     let s = m .before .before .before .before .before in
     let a = s .before .before .before .args in
     let (x, h) = opens (a .kind) (a .image .now) _ (s .«open» .ensures) (m .before .before .before .opened .given .1) in
-    let k = commit-known h (a .field) (a .present) (a .new) (sym (told judgedSaid (c .before .before .before .before .enum-told .given .1) (m .may-commit .ensures (a .kind) x h))) in
+    let k = commit-known h (a .level) (a .field) (a .present) (a .new) (sym (told judgedSaid (c .before .before .before .before .enum-told .given .1) (m .may-commit .ensures (a .kind) x h))) in
     (k .0, omega (arith, k .1))
 
 rewrite-requires : tie.Need-rewrite-requires
@@ -42,13 +42,13 @@ rewrite-requires c κs =
     let a = s .before .before .before .args in
     let (x, h) = opens (a .kind) (a .image .now) _ (s .«open» .ensures) (m .before .before .before .opened .given .1) in
     let e = sym (told judgedSaid (c .before .before .before .before .before .enum-told .given .1) (m .may-commit .ensures (a .kind) x h)) in
-    (commit-place h (a .field) (a .present) (a .new) e (c .locate .ensures) (ap (λ r. r .width) (c .before .before .row-of .ensures)), opened-right h (a .field) Missing)
+    (commit-place h (a .level) (a .field) (a .present) (a .new) e (c .locate .ensures) (ap (λ r. r .width) (c .before .before .row-of .ensures)), opened-right h (a .level) (a .field) Missing)
 
 returns : tie.Need-returns
 returns c =
     let s = c .before .before .before in
     let a = s .before .before .before .args in
-    written-refused (a .image .now) refl (commit-unread (a .kind) (a .image .now) (a .field) (a .present) (a .new) _ (not-opened (a .kind) (a .image .now) _ (s .«open» .ensures) (c .before .r .given .1)))
+    written-refused (a .image .now) refl (commit-unread (a .kind) (a .image .now) (a .level) (a .field) (a .present) (a .new) _ (not-opened (a .kind) (a .image .now) _ (s .«open» .ensures) (c .before .r .given .1)))
 
 returns-2 : tie.Need-returns-2
 returns-2 c =
@@ -56,7 +56,7 @@ returns-2 c =
     let s = m .before .before .before .before .before in
     let a = s .before .before .before .args in
     let (x, h) = opens (a .kind) (a .image .now) _ (s .«open» .ensures) (m .before .before .before .opened .given .1) in
-    written-refused (a .image .now) refl (commit-refused h (a .field) (a .present) (a .new) (sym (told judgedSaid (c .before .r2 .given .1) (m .may-commit .ensures (a .kind) x h))))
+    written-refused (a .image .now) refl (commit-refused h (a .level) (a .field) (a .present) (a .new) (sym (told judgedSaid (c .before .r2 .given .1) (m .may-commit .ensures (a .kind) x h))))
 
 returns-3 : tie.Need-returns-3
 returns-3 c =
@@ -66,7 +66,7 @@ returns-3 c =
     let a = s .before .before .before .args in
     let (x, h) = opens (a .kind) (a .image .now) _ (s .«open» .ensures) (m .before .before .before .opened .given .1) in
     let e = sym (told judgedSaid (w .before .before .before .before .before .before .enum-told .given .1) (m .may-commit .ensures (a .kind) x h)) in
-    written-done (a .image .now) (commit-stored h (a .field) (a .present) (a .new) e (w .before .locate .ensures) (ap (λ r. r .width) (w .before .before .before .row-of .ensures))) (w .rewrite .ensures)
+    written-done (a .image .now) (commit-stored h (a .level) (a .field) (a .present) (a .new) e (w .before .locate .ensures) (ap (λ r. r .width) (w .before .before .before .row-of .ensures))) (w .rewrite .ensures)
 
 pub commit-spec : {M : Type 1} → statement M
 commit-spec =

@@ -2,11 +2,12 @@
 -- Assumes nothing.
 use borrow.Author.Needs.{needs}
 use Prim.Native.Nat.{_-_, _≤_}
-use mathlib.Core.Path.{_≡_, refl, ap}
+use mathlib.Core.Path.{_≡_, refl, ap, ap₂}
 use mathlib.Core.List.{List}
 use native.Mathlib.Omega.{arith}
 use lib.ListN.{length, length-map}
 use Rattle.fields.specs.declared.Value.the-variants.{Missing}
+use Rattle.fields.specs.declared.Level.{Level}
 use Rattle.build.specs.declared.Slot.{Slot}
 use Rattle.build.specs.Build.{slot}
 use Rattle.dartelm.specs.Values.{slotOf, yes}
@@ -53,9 +54,10 @@ loop-again c =
 
 returns : tie.Need-returns Inv-loop μ-loop
 returns c =
-    let s = c .before .before .before .before in
-    ap (λ (l : List Slot). record { fields = l; «end_bit» = yes (s .args .given .«end_bit») })
-    (filled-full slotOf 21 (slot Missing) (s .args .given .values) _ _ (simp length-map at (s .good .0 .1 .1 .0 .1 .0 .1)) (c .before .loop-test .left) (c .before .before .loop .inv .1))
+    let s = c .before .before .before .before .before in
+    ap₂ (λ (l : List Slot) (level : Level). record { fields = l; «end_bit» = yes (s .args .given .«end_bit»); level = level })
+    (filled-full slotOf 21 (slot Missing) (s .args .given .values) _ _ (simp length-map at (s .good .0 .1 .1 .0 .1 .0 .1)) (c .before .before .loop-test .left) (c .before .before .before .loop .inv .1))
+    (c .level-of .ensures)
 
 pub sheet-of-spec : {M : Type 1} → statement M
 sheet-of-spec =
@@ -72,4 +74,5 @@ sheet-of-spec =
     add-at
     loop-less
     loop-again
+    (λ c κs. search needs)
     returns)

@@ -1,0 +1,17 @@
+use mathlib.Core.Path.{_≡_, refl}
+use Prim.Native.Nat.{ℕ, zero, suc}
+use borrow.Author.Needs.{needs}
+use Rattle.fields.specs.declared.Level.the-variants.{Owner}
+use Rattle.dartelm.specs.Values.{levelOf}
+use Rattle.dartelm.proofs.values.level_of.Statement.{statement}
+use Rattle.dartelm.proofs.values.level_of.Tie as tie
+
+-- Neither 1 nor 2 is the owner.
+other : (n : ℕ) → (n ≡ 1 → ⊥) → (n ≡ 2 → ⊥) → Owner ≡ levelOf n
+other zero a b = refl
+other (suc zero) a b = absurd (a refl)
+other (suc (suc zero)) a b = absurd (b refl)
+other (suc (suc (suc n))) a b = refl
+
+pub level-of-spec : {M : Type 1} → statement M
+level-of-spec = tie.close (tie.spec (λ c. search needs) (λ c. search needs) (λ c. other _ (c .match .rest .0 .1) (c .match .rest .1)))
