@@ -1,6 +1,6 @@
 -- What the bits of a Single stand for: a number of units of 2^−149. The sign's bit taken off, patterns are in the order of these numbers, so that one
 -- comparison tells which of them are from −2 to 2.
-use mathlib.Core.Path.{_≡_, sym, ap, _∙_, subst}
+use mathlib.Core.Path.{_≡_, ap, _∙_, subst}
 use mathlib.Core.Bool.{Bool, true, false}
 use mathlib.Core.Logic.{_⊎_, inl, inr}
 use Prim.Native.Nat.{ℕ, zero, suc, _+_, _-_, _*_, _/_, _%_, _^_, _≤_, _<_}

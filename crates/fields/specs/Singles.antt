@@ -1,6 +1,6 @@
 -- Document 02, Note 8: full-precision end values. A Single in V/V is the exact fraction that its bits stand for; it is turned into the nearest nV/V.
 use mathlib.Core.Path.{_≡_}
-use mathlib.Core.Bool.{Bool, true, false, not, _||_, cond}
+use mathlib.Core.Bool.{Bool, false, not, _||_, cond}
 use Prim.Native.Nat.{ℕ, _*_, _≤_}
 use lib.IntN.{ℤ, pos, negℤ, natAbs, _*ℤ_}
 use lib.Signed.{_≤ℤ_}

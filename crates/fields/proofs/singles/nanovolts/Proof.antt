@@ -1,9 +1,7 @@
 use borrow.Author.Needs.{needs, sfits-of}
-use mathlib.Core.Path.{ap, _∙_}
 use lib.Ieee.{binary32}
 use lib.Ieee.Bits.{ofBits-toBits}
 use mir.Facts.{toZ-ofZ}
-use Rattle.fields.specs.Singles.{nanovolts}
 use Rattle.fields.proofs.FloatLaws.{nan-is, not-nan}
 use Rattle.fields.proofs.SingleValues.{not-finite-far, far-single, near-single}
 use Rattle.fields.proofs.singles.nanovolts.Statement.{statement}
