@@ -10,7 +10,7 @@ use lib.ListN.{length}
 use lib.Signed.{leZ}
 use Rattle.refusal.specs.declared.Refusal.{Refusal}
 use Rattle.refusal.specs.Outcome.{Outcome, good, refused, _>>=_, _>>_, refuse_if_}
-use Rattle.refusal.specs.Rows.{wrongImage, blankChip, noSpan, outsideSpan, endOutside}
+use Rattle.refusal.specs.Rows.{wrongBlock, wrongImage, blankChip, noSpan, outsideSpan, endOutside}
 use Rattle.refusal.proofs.Outcomes.{Low}
 use Rattle.memory.specs.Image.{sizesOf, imageBytes, imageSizes, blankFrom, sumsFrom, sums}
 use Rattle.memory.proofs.SumLaws.{sums-low}
@@ -19,7 +19,8 @@ use Rattle.layout.specs.Format.{parse}
 use Rattle.layout.specs.Contents.{Contents, sheetOf}
 use Rattle.layout.specs.Image.{streamIn, contents, field}
 use Rattle.layout.proofs.Numbers.{parse-low, sheet-lows}
-use Rattle.reading.specs.Reading.{isMissing, isOutside, refuseFirst, least, greatest, spanOf, tooFar, takeReading}
+use Rattle.reading.specs.Reading.{isResistance, isMissing, isOutside, refuseFirst, least, greatest, spanOf, tooFar, takeReading}
+use Rattle.layout.specs.Places.{firstSelector}
 use Rattle.promises.specs.Readings.{NeverFifteen}
 
 -- Refused, if at all, with another number.
@@ -78,8 +79,9 @@ reading-other : (kind : ℕ) (image : List ℕ) (v : ℤ) → Other (takeReading
 unfolding takeReading
 reading-other kind image v =
     bind-other (contents kind image) _ (contents-other kind image) (λ c.
-    bind-other (spanOf c) _ (span-other c) (λ s.
-    then-other (refuse outsideSpan if tooFar v (s .least) (s .greatest)) _ (test-other outsideSpan (tooFar v (s .least) (s .greatest)) (λ e. omega arith)) tt))
+    then-other (refuse wrongBlock firstSelector if isResistance (c .template)) _ (test-other (wrongBlock firstSelector) (isResistance (c .template)) (λ e. omega arith))
+    (bind-other (spanOf c) _ (span-other c) (λ s.
+    then-other (refuse outsideSpan if tooFar v (s .least) (s .greatest)) _ (test-other outsideSpan (tooFar v (s .least) (s .greatest)) (λ e. omega arith)) tt)))
 
 pub never-fifteen : NeverFifteen
 never-fifteen kind image v r e = subst Other e (reading-other kind image v)
