@@ -11,46 +11,92 @@
 
 #include "dartelm.h"
 
-/* Names and units of fields 1 to 21. */
-static const struct {
+/* A field's name, and the units of its whole number and of its Single. */
+typedef struct shown {
     const char *name;
     const char *unit;
-} shown[DARTELM_FIELDS] = {
-    {"manufacturer ID", ""},
-    {"model number", ""},
-    {"version letter", ""},
-    {"version number", ""},
-    {"serial number", ""},
-    {"physical measurand", ""},
-    {"minimum physical value", ""},
-    {"maximum physical value", ""},
-    {"electrical value precision", ""},
-    {"minimum electrical value", " nV/V"},
-    {"maximum electrical value", " nV/V"},
-    {"bridge type", ""},
-    {"bridge element impedance", " x 0.1 ohm"},
-    {"response time", " x 10 ns"},
-    {"excitation level, nominal", " x 0.1 V"},
-    {"excitation level, minimum", " x 0.1 V"},
-    {"excitation level, maximum", " x 0.1 V"},
-    {"calibration date", ""},
-    {"calibration initials", ""},
-    {"calibration period", " days"},
-    {"measurement location ID", ""},
+    const char *single_unit;
+} shown;
+
+/* Fields 1 to 9, of both templates. */
+static const shown first[] = {
+    {"manufacturer ID", "", ""},
+    {"model number", "", ""},
+    {"version letter", "", ""},
+    {"version number", "", ""},
+    {"serial number", "", ""},
+    {"physical measurand", "", ""},
+    {"minimum physical value", "", ""},
+    {"maximum physical value", "", ""},
+    {"electrical value precision", "", ""},
 };
 
-static void show(unsigned field, dartelm_value value)
+/* From field 10 on. */
+static const shown bridge[] = {
+    {"minimum electrical value", " nV/V", " V/V"},
+    {"maximum electrical value", " nV/V", " V/V"},
+    {"bridge type", "", ""},
+    {"bridge element impedance", " x 0.1 ohm", ""},
+    {"response time", " x 10 ns", ""},
+    {"excitation level, nominal", " x 0.1 V", ""},
+    {"excitation level, minimum", " x 0.1 V", ""},
+    {"excitation level, maximum", " x 0.1 V", ""},
+    {"calibration date", "", ""},
+    {"calibration initials", "", ""},
+    {"calibration period", " days", ""},
+    {"measurement location ID", "", ""},
+};
+static const shown resistance[] = {
+    {"minimum electrical value", " ohm", " ohm"},
+    {"maximum electrical value", " ohm", " ohm"},
+    {"mapping method", "", ""},
+    {"response time", " x 10 ns", ""},
+    {"excitation current, nominal", " x 0.1 nA", ""},
+    {"excitation current, maximum", " x 0.1 nA", ""},
+    {"calibration date", "", ""},
+    {"calibration initials", "", ""},
+    {"calibration period", " days", ""},
+    {"measurement location ID", "", ""},
+};
+
+static shown shown_of(uint8_t template_id, unsigned field)
 {
-    printf("%2u %s: ", field, shown[field - 1].name);
+    if (field <= DARTELM_FIELD_PRECISION) {
+        return first[field - 1];
+    }
+    return template_id == DARTELM_TEMPLATE_RESISTANCE ? resistance[field - 10] : bridge[field - 10];
+}
+
+/* The field as which dartelm_text knows the text of one. Only 3, 18 and 19 have one: for another the call is refused. */
+static uint64_t text_field(uint8_t template_id, unsigned field)
+{
+    if (template_id != DARTELM_TEMPLATE_RESISTANCE) {
+        return field;
+    }
+    switch (field) {
+    case DARTELM_FIELD_VERSION_LETTER:
+        return DARTELM_FIELD_VERSION_LETTER;
+    case DARTELM_RESISTANCE_CAL_DATE:
+        return DARTELM_FIELD_CAL_DATE;
+    case DARTELM_RESISTANCE_CAL_INITIALS:
+        return DARTELM_FIELD_CAL_INITIALS;
+    default:
+        return 0;
+    }
+}
+
+static void show(uint8_t template_id, unsigned field, dartelm_value value)
+{
+    shown as = shown_of(template_id, field);
+    printf("%2u %s: ", field, as.name);
     if (value.is_missing) {
         printf("missing\n");
     } else if (value.is_single) {
-        int electrical = field == DARTELM_FIELD_MIN_ELEC_VAL || field == DARTELM_FIELD_MAX_ELEC_VAL;
-        printf("%.9g%s\n", value.single, electrical ? " V/V" : "");
+        printf("%.9g%s\n", value.single, as.single_unit);
     } else {
-        printf("%" PRId64 "%s", value.whole, shown[field - 1].unit);
-        /* Fields 3, 18 and 19 have a text; for any other the call is refused, and the length is 0. */
-        dartelm_text_answer text = dartelm_text(field, (uint64_t)value.whole);
+        printf("%" PRId64 "%s", value.whole, as.unit);
+        /* Where the call is refused, the length is 0. */
+        dartelm_text_answer text = dartelm_text(text_field(template_id, field), (uint64_t)value.whole);
         if (text.length > 0) {
             printf(" (%s)", text.characters);
         }
@@ -83,9 +129,9 @@ int main(int argc, char **argv)
         printf("refused %u at %" PRIu64 "\n", sheet.number, sheet.place);
         return 1;
     }
-    printf("kind %u, %" PRIu64 " bits\n", kind, sheet.bits);
+    printf("kind %u, template %u, %" PRIu64 " bits\n", kind, sheet.fields.template_id, sheet.bits);
     for (unsigned field = 1; field <= sheet.field_count; field++) {
-        show(field, sheet.fields.values[field - 1]);
+        show(sheet.fields.template_id, field, sheet.fields.values[field - 1]);
     }
     for (uint64_t i = 0; i < sheet.points; i++) {
         dartelm_pair_answer pair = dartelm_pair(kind, image, length, i);

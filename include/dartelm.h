@@ -29,7 +29,7 @@ extern "C" {
 #endif
 
 /* This header's number, which rises when a call or a struct changes; dartelm_version() is the archive's. */
-#define DARTELM_VERSION 2
+#define DARTELM_VERSION 3
 
 /* ---- numbers ---- */
 
@@ -39,13 +39,13 @@ enum {
     DARTELM_WRONG_IMAGE = 1,    /* Kind not 0 to 2, or a wrong image length. Place: 0. */
     DARTELM_WRONG_SUM = 2,      /* A page does not add up. Place: the page, from 0. */
     DARTELM_PAST_END = 3,       /* The stream ends before the sheet does. Place: the first bit of what is cut off. */
-    DARTELM_WRONG_BLOCK = 4,    /* A block that is not known here. Place: its selector's bit. */
+    DARTELM_WRONG_BLOCK = 4,    /* A block that is not known here; a reading from template 32. Place: its selector's bit. */
     DARTELM_OUTSIDE_TABLE = 5,  /* A code that the table has not. Place: its first bit. */
     DARTELM_NOT_FINITE = 6,     /* A Single that is infinite, or a NaN. Place: its first bit. */
     DARTELM_NOT_RISING = 7,     /* Calibration points that do not rise. Place: the later one's bit; in a build its index. */
     DARTELM_NO_SUCH = 8,        /* No such field, calibration point or character. Place: the number given. */
     DARTELM_WRONG_SORT = 9,     /* Wrong sort of value, missing where it may not be, text with end bit 0, text of a wrong
-                                 * length. Place: the field (22 for the closing text). */
+                                 * length. Place: the field (for the closing text the number behind the last field's). */
     DARTELM_OUT_OF_RANGE = 10,  /* A value, text or code that the field cannot hold. Place: the field, or a point's index. */
     DARTELM_TOO_LONG = 11,      /* More than the chip holds. Place: the bits needed, 65,535 if they are more than that. */
     DARTELM_CHANGED_ALONE = 12, /* Field 9 cannot be changed alone. Place: 9. */
@@ -60,7 +60,14 @@ enum {
     DARTELM_LEVEL_TOO_LOW = 20  /* A writer of this level may not write the field. Place: the field. */
 };
 
-/* Fields 1 to 21, and what a value counts. */
+/* The template of a sheet's first block, which says what its fields are. A byte that is handed in and is neither is taken as
+ * 33. */
+enum {
+    DARTELM_TEMPLATE_RESISTANCE = 32, /* resistance senders: fields 1 to 19 */
+    DARTELM_TEMPLATE_BRIDGE = 33      /* bridge senders: fields 1 to 21 */
+};
+
+/* Fields 1 to 21 of template 33, and what a value counts; 1 to 9 are template 32's too. */
 enum {
     DARTELM_FIELD_MANUFACTURER_ID = 1,     /* 17 to 16381 */
     DARTELM_FIELD_MODEL_NUMBER = 2,        /* 0 to 32767 */
@@ -70,7 +77,7 @@ enum {
     DARTELM_FIELD_MEASURAND = 6,           /* 0 to 45: the physical measurand, and with it the unit of 7, 8 and of a reading */
     DARTELM_FIELD_MIN_PHYS_VAL = 7,        /* a Single, in the measurand's unit; or missing */
     DARTELM_FIELD_MAX_PHYS_VAL = 8,        /* a Single, in the measurand's unit; or missing */
-    DARTELM_FIELD_PRECISION = 9,           /* 0, 1 or 2: how 10 and 11 are stored; cannot be changed alone */
+    DARTELM_FIELD_PRECISION = 9,           /* 0, 1 or 2, of template 32 also 3: how 10 and 11 are stored; not changed alone */
     DARTELM_FIELD_MIN_ELEC_VAL = 10,       /* nV/V at precision 0 and 1; a Single in V/V at precision 2; or missing */
     DARTELM_FIELD_MAX_ELEC_VAL = 11,       /* nV/V at precision 0 and 1; a Single in V/V at precision 2; or missing */
     DARTELM_FIELD_BRIDGE_TYPE = 12,        /* 0 quarter, 1 half, 2 full */
@@ -86,11 +93,26 @@ enum {
     DARTELM_FIELDS = 21                    /* how many there are */
 };
 
+/* Fields 10 to 19 of template 32, and what a value counts. */
+enum {
+    DARTELM_RESISTANCE_MIN_ELEC_VAL = 10,    /* ohm, at precision 3 a Single; or missing */
+    DARTELM_RESISTANCE_MAX_ELEC_VAL = 11,    /* ohm, at precision 3 a Single; or missing */
+    DARTELM_RESISTANCE_MAPPING_METHOD = 12,  /* 0 linear, 1 inverse m/(x+b), 2 inverse b+m/x, 3 inverse 1/(b+m/x) */
+    DARTELM_RESISTANCE_RESPONSE_TIME = 13,   /* 10 ns; or missing */
+    DARTELM_RESISTANCE_CURRENT_NOMINAL = 14, /* 0.1 nA; or missing */
+    DARTELM_RESISTANCE_CURRENT_MAX = 15,     /* 0.1 nA; or missing */
+    DARTELM_RESISTANCE_CAL_DATE = 16,        /* days since 1 January 1998; or missing. Its text is asked for as field 18's */
+    DARTELM_RESISTANCE_CAL_INITIALS = 17,    /* three letters. Their text is asked for as field 19's */
+    DARTELM_RESISTANCE_CAL_PERIOD = 18,      /* days */
+    DARTELM_RESISTANCE_LOCATION_ID = 19,     /* 0 to 2047 */
+    DARTELM_RESISTANCE_FIELDS = 19           /* how many there are */
+};
+
 /* A writer's level, which a change, a proposal and a commit carry: which fields it may write. Reading asks for none, and a build
  * tests none. Any other byte is the owner's. */
 enum {
-    DARTELM_LEVEL_OWNER = 0,            /* field 21 */
-    DARTELM_LEVEL_CALIBRATION_ROOM = 1, /* also 7, 8, 10, 11, 18, 19 and 20 */
+    DARTELM_LEVEL_OWNER = 0,            /* field 21; of template 32 field 19 */
+    DARTELM_LEVEL_CALIBRATION_ROOM = 1, /* also 7, 8, 10, 11, 18, 19 and 20; of template 32 7, 8, 10, 11, 14, 16, 17 and 18 */
     DARTELM_LEVEL_MAKER = 2             /* every field that can be changed alone */
 };
 
@@ -100,7 +122,8 @@ enum {
 /* The bytes of the longest image. */
 #define DARTELM_LONGEST_IMAGE 512
 
-/* The bytes of an index of an image with so many calibration points, and of the longest index. */
+/* The bytes of an index of an image with so many calibration points (with template 32 the last 8 of them are not needed), and of
+ * the longest index. */
 #define DARTELM_INDEX_LENGTH(points) (4 * (DARTELM_FIELDS + (points)))
 #define DARTELM_LONGEST_INDEX 480
 
@@ -115,12 +138,13 @@ typedef struct dartelm_value {
     uint8_t is_missing; /* a flag */
 } dartelm_value;
 
-/* A sheet's fields: field f stands in values[f - 1]. The writer's level is not stored: a build does not look at it, and what is
- * returned has 0 there. */
+/* A sheet's fields: field f stands in values[f - 1]. Values behind the template's last field are not looked at, and what is
+ * returned has zeros there. The writer's level is not stored: a build does not look at it, and what is returned has 0 there. */
 typedef struct dartelm_fields {
     dartelm_value values[DARTELM_FIELDS];
-    uint8_t end_bit; /* a flag: a closing text follows */
-    uint8_t level;   /* the writer's, DARTELM_LEVEL_OWNER to DARTELM_LEVEL_MAKER */
+    uint8_t end_bit;     /* a flag: a closing text follows */
+    uint8_t level;       /* the writer's, DARTELM_LEVEL_OWNER to DARTELM_LEVEL_MAKER */
+    uint8_t template_id; /* DARTELM_TEMPLATE_BRIDGE or DARTELM_TEMPLATE_RESISTANCE */
 } dartelm_fields;
 
 /* What a check answers. */
@@ -131,6 +155,7 @@ typedef struct dartelm_check_answer {
     uint64_t points;     /* calibration points */
     uint64_t characters; /* characters of the closing text */
     uint8_t end_bit;     /* a flag: a closing text follows */
+    uint8_t template_id; /* DARTELM_TEMPLATE_BRIDGE or DARTELM_TEMPLATE_RESISTANCE */
 } dartelm_check_answer;
 
 /* One field. */
@@ -147,7 +172,7 @@ typedef struct dartelm_sheet_answer {
     uint64_t bits;        /* bits of the stream up to the end, a zero that ends the text counted */
     uint64_t points;      /* calibration points */
     uint64_t characters;  /* characters of the closing text */
-    uint64_t field_count; /* fields that the sheet has: 21 */
+    uint64_t field_count; /* fields that the sheet has: 21, or 19 of template 32 */
     dartelm_fields fields;
 } dartelm_sheet_answer;
 
@@ -221,7 +246,7 @@ uint8_t dartelm_kind_of(size_t bytes);
 /* Checks an image. Refused with 1 to 7 and 17. */
 dartelm_check_answer dartelm_check(uint8_t kind, const uint8_t *image, size_t image_length);
 
-/* Reads field 1 to 21. Refused as a check is, and with 8 for another field. */
+/* Reads field 1 to 21, of template 32 field 1 to 19. Refused as a check is, and with 8 for another field. */
 dartelm_field_answer dartelm_field(uint8_t kind, const uint8_t *image, size_t image_length, uint64_t field);
 
 /* Makes the index of an image in a buffer: for each field in order, then for each calibration point, its first bit in the stream
@@ -230,10 +255,11 @@ dartelm_field_answer dartelm_field(uint8_t kind, const uint8_t *image, size_t im
 dartelm_write_answer dartelm_index(uint8_t kind, const uint8_t *image, size_t image_length, uint8_t *buffer,
                                    size_t buffer_length);
 
-/* Fetches field 1 to 21 where an index says that it stands: through the image's own index it is what dartelm_field gives. Only the
- * page sums and this field are looked at. Refused with 1, 2 and 17 for the image, 8 for another field, 18 for an index of fewer
- * than 84 bytes; with 5 where the index gives the field bits that it cannot have, or that the stream has not; and with 5 and 6 for
- * the field's bits. Any bytes may be handed in as an index. */
+/* Fetches a field where an index says that it stands: through the image's own index it is what dartelm_field gives. Only the page
+ * sums, the first template's number (any but 32 is taken as 33) and this field are looked at. Refused with 1, 2 and 17 for the
+ * image, 8 for a field that the template has not, 18 for an index of fewer than 84 bytes, or 76 with template 32; with 5 where the
+ * index gives the field bits that it cannot have, or that the stream has not; and with 5 and 6 for the field's bits. Any bytes may
+ * be handed in as an index. */
 dartelm_field_answer dartelm_fetch(uint8_t kind, const uint8_t *image, size_t image_length, const uint8_t *index,
                                    size_t index_length, uint64_t field);
 
@@ -266,10 +292,11 @@ dartelm_proposal_answer dartelm_propose(uint8_t kind, const uint8_t *image, size
 dartelm_write_answer dartelm_commit(uint8_t kind, uint8_t *image, size_t image_length, uint8_t level, uint64_t field,
                                     uint64_t present_code, uint64_t new_code);
 
-/* Takes a reading at an input in nV/V. Refused as a check is, and with 13, 14 and 15. */
+/* Takes a reading at an input in nV/V. Refused as a check is, with 4 for a sheet of template 32, and with 13, 14 and 15. */
 dartelm_reading_answer dartelm_reading(uint8_t kind, const uint8_t *image, size_t image_length, int64_t input);
 
-/* The text of a code of field 3, 18 or 19: a letter, a date as 2018-01-02, three letters. Refused with 8 and 10. */
+/* The text of a code of field 3, 18 or 19, as template 33 has them: a letter, a date as 2018-01-02, three letters. Refused with 8
+ * and 10. */
 dartelm_text_answer dartelm_text(uint64_t field, uint64_t code);
 
 /* The code of a text of field 3, 18 or 19. Refused with 8, 9 and 10. */
@@ -305,11 +332,13 @@ DARTELM_SIZE(dartelm_fields, 344);
 DARTELM_AT(dartelm_fields, values, 0);
 DARTELM_AT(dartelm_fields, end_bit, 336);
 DARTELM_AT(dartelm_fields, level, 337);
+DARTELM_AT(dartelm_fields, template_id, 338);
 DARTELM_ANSWER(dartelm_check_answer, 48);
 DARTELM_AT(dartelm_check_answer, bits, 16);
 DARTELM_AT(dartelm_check_answer, points, 24);
 DARTELM_AT(dartelm_check_answer, characters, 32);
 DARTELM_AT(dartelm_check_answer, end_bit, 40);
+DARTELM_AT(dartelm_check_answer, template_id, 41);
 DARTELM_ANSWER(dartelm_field_answer, 32);
 DARTELM_AT(dartelm_field_answer, value, 16);
 DARTELM_ANSWER(dartelm_sheet_answer, 392);

@@ -4,7 +4,7 @@
 use crate::plain::{self, Level, Proposal, Reading, Refusal, Summary, Text, Value};
 use crate::structs::{
     ByFlags, CharacterAnswer, CheckAnswer, CodeAnswer, FieldAnswer, Fields, PageAnswer, PairAnswer, ProposalAnswer,
-    ReadingAnswer, SheetAnswer, TextAnswer, WriteAnswer, level_of,
+    ReadingAnswer, SheetAnswer, TextAnswer, WriteAnswer, level_of, template_of,
 };
 
 /// The calls of the header; the provided ones give the plain implementation's types.
@@ -27,9 +27,9 @@ pub trait Calls {
     fn fetch(&self, kind: u8, image: &[u8], index: &[u8], field: u64) -> FieldAnswer;
 
     fn checked(&self, kind: u8, image: &[u8]) -> Result<Summary, Refusal> {
-        let CheckAnswer { number, place, bits, points, characters, end_bit } = self.check(kind, image);
+        let CheckAnswer { number, place, bits, points, characters, end_bit, template } = self.check(kind, image);
         accepted(number, place)?;
-        Ok(Summary { bits, points, end_bit: u64::from(end_bit), characters })
+        Ok(Summary { bits, points, end_bit: u64::from(end_bit), characters, template: template_of(template) })
     }
 
     fn field_read(&self, kind: u8, image: &[u8], field: u64) -> Result<Value, Refusal> {
@@ -134,9 +134,14 @@ impl Calls for Plain {
 
     fn check(&self, kind: u8, image: &[u8]) -> CheckAnswer {
         match plain::check(kind, image) {
-            Ok(Summary { bits, points, end_bit, characters }) => {
-                CheckAnswer { bits, points, characters, end_bit: end_bit as u8, ..CheckAnswer::default() }
-            }
+            Ok(Summary { bits, points, end_bit, characters, template }) => CheckAnswer {
+                bits,
+                points,
+                characters,
+                end_bit: end_bit as u8,
+                template: template.number(),
+                ..CheckAnswer::default()
+            },
             Err(Refusal { number, place }) => CheckAnswer { number, place, ..CheckAnswer::default() },
         }
     }
@@ -148,15 +153,16 @@ impl Calls for Plain {
     /// A check, and then the fields one by one.
     fn sheet(&self, kind: u8, image: &[u8]) -> SheetAnswer {
         let check = self.check(kind, image);
-        let CheckAnswer { number, place, bits, points, characters, end_bit } = check;
+        let CheckAnswer { number, place, bits, points, characters, end_bit, template } = check;
         if number != 0 {
             return SheetAnswer { number, place, ..SheetAnswer::default() };
         }
-        let mut fields = Fields { end_bit, ..Fields::default() };
-        for (value, field) in fields.values.iter_mut().zip(1..) {
+        let mut fields = Fields { end_bit, template, ..Fields::default() };
+        let field_count = template_of(template).last() as u64;
+        for (value, field) in fields.values.iter_mut().zip(1..=field_count) {
             *value = self.field(kind, image, field).value;
         }
-        SheetAnswer { number, place, bits, points, characters, field_count: 21, fields }
+        SheetAnswer { number, place, bits, points, characters, field_count, fields }
     }
 
     fn pair(&self, kind: u8, image: &[u8], index: u64) -> PairAnswer {
@@ -175,7 +181,7 @@ impl Calls for Plain {
 
     fn build(&self, kind: u8, image: &mut [u8], fields: Fields, text: &[u8], points: &[i64]) -> WriteAnswer {
         let values = fields.values.map(ByFlags::value);
-        wrote(plain::build(kind, image, &values, fields.end_bit != 0, text, points))
+        wrote(plain::build(kind, image, template_of(fields.template), &values, fields.end_bit != 0, text, points))
     }
 
     fn change(&self, kind: u8, image: &mut [u8], level: u8, field: u64, value: ByFlags) -> WriteAnswer {

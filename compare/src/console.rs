@@ -3,7 +3,7 @@
 use std::fmt::{self, Display, Formatter};
 
 use crate::calls::Calls;
-use crate::plain::{Level, Refusal, Value};
+use crate::plain::{Level, Refusal, Summary, Template, Value};
 use crate::structs::{ByFlags, Fields};
 
 /// A line's command with what it is handed.
@@ -18,7 +18,9 @@ pub enum Command {
         kind: u8,
         length: usize,
         level: Level,
-        values: Box<[Value; 21]>,
+        template: Template,
+        /// As many as the template has fields.
+        values: Vec<Value>,
         end_bit: bool,
         text: Vec<u8>,
         points: Vec<i64>,
@@ -68,23 +70,24 @@ pub fn parse(line: &str) -> Option<Command> {
         ["fetch", kind, image, index, field] => {
             Command::Fetch(unsigned(kind)?, bytes(image)?, bytes(index)?, unsigned(field)?)
         }
-        ["build", kind, length, by, ref rest @ ..] if rest.len() == 24 => {
-            let mut values = Box::new([Value::Missing; 21]);
-            for (place, word) in values.iter_mut().zip(rest) {
-                *place = value(word)?;
+        ["build", kind, length, by, block, ref values @ .., end_bit, text, points] => {
+            let template = template(block)?;
+            if values.len() != template.last() {
+                return None;
             }
             Command::Build {
                 kind: unsigned(kind)?,
                 length: unsigned(length)?,
                 level: level(by)?,
-                values,
-                end_bit: match rest[21] {
+                template,
+                values: values.iter().map(|word| value(word)).collect::<Option<_>>()?,
+                end_bit: match end_bit {
                     "0" => false,
                     "1" => true,
                     _ => return None,
                 },
-                text: bytes(rest[22])?,
-                points: match rest[23] {
+                text: bytes(text)?,
+                points: match points {
                     "-" => Vec::new(),
                     list => list.split(',').map(signed).collect::<Option<_>>()?,
                 },
@@ -144,6 +147,14 @@ fn level(word: &str) -> Option<Level> {
     }
 }
 
+fn template(word: &str) -> Option<Template> {
+    match word {
+        "33" => Some(Template::Bridge),
+        "32" => Some(Template::Resistance),
+        _ => None,
+    }
+}
+
 // ---- writing ----
 
 struct Hex<'a>(&'a [u8]);
@@ -193,9 +204,9 @@ impl Display for Command {
             }
             Command::Pair(kind, image, index) => write!(to, "pair {kind} {} {index}", Hex(image)),
             Command::Char(kind, image, index) => write!(to, "char {kind} {} {index}", Hex(image)),
-            Command::Build { kind, length, level, values, end_bit, text, points } => {
-                write!(to, "build {kind} {length} {level}")?;
-                for value in values.iter() {
+            Command::Build { kind, length, level, template, values, end_bit, text, points } => {
+                write!(to, "build {kind} {length} {level} {}", template.number())?;
+                for value in values {
                     write!(to, " {value}")?;
                 }
                 write!(to, " {} {} ", u8::from(*end_bit), Hex(text))?;
@@ -242,8 +253,8 @@ impl Command {
     fn accepted(&self, calls: &dyn Calls) -> Result<String, Refusal> {
         Ok(match self {
             Command::Check(kind, image) => {
-                let summary = calls.checked(*kind, image)?;
-                format!("ok {} {} {} {}", summary.bits, summary.points, summary.end_bit, summary.characters)
+                let Summary { bits, points, end_bit, characters, template } = calls.checked(*kind, image)?;
+                format!("ok {bits} {points} {end_bit} {characters} {}", template.number())
             }
             Command::Page(kind, image, page) => {
                 let page = calls.page(*kind, image, *page);
@@ -255,11 +266,18 @@ impl Command {
                 format!("{point} {deviation}")
             }
             Command::Char(kind, image, index) => calls.character_read(*kind, image, *index)?.to_string(),
-            Command::Build { kind, length, level, values, end_bit, text, points } => {
+            Command::Build { kind, length, level, template, values, end_bit, text, points } => {
                 // A buffer longer than any image is as wrong as one of 513 bytes.
                 let mut image = vec![0; (*length).min(513)];
-                let values = values.map(ByFlags::from);
-                let fields = Fields { values, end_bit: u8::from(*end_bit), level: u8::from(*level) };
+                let mut fields = Fields {
+                    end_bit: u8::from(*end_bit),
+                    level: u8::from(*level),
+                    template: template.number(),
+                    ..Fields::default()
+                };
+                for (place, value) in fields.values.iter_mut().zip(values) {
+                    *place = ByFlags::from(*value);
+                }
                 calls.built(*kind, &mut image, fields, text, points)?;
                 format!("ok {}", Hex(&image))
             }
@@ -335,8 +353,12 @@ mod tests {
             "commit 0 - 1 2 -3 maker",
             "commit 0 - 1 2 3",
             "build 0 40 maker m",
-            &format!("build 0 40 {fields}1 6162 -"),
-            &format!("build 0 40 any {fields}1 6162 -"),
+            &format!("build 0 40 33 {fields}1 6162 -"),
+            &format!("build 0 40 any 33 {fields}1 6162 -"),
+            &format!("build 0 40 maker {fields}1 6162 -"),
+            &format!("build 0 40 maker 32 {fields}1 6162 -"),
+            &format!("build 0 40 maker 34 {fields}1 6162 -"),
+            &format!("build 0 40 maker 33 {}w1 m 1 6162 -", "w1 m s7fc00000 ".repeat(6)),
             "index 0 -",
             "index 0 - 0",
             "fetch 0 - -",
@@ -364,8 +386,9 @@ mod tests {
             "code 18 -",
             "index 1 00ff -",
             "fetch 2 - 0a0b 21",
-            &format!("build 0 40 owner {fields}1 6162 -"),
-            &format!("build 0 40 maker {fields}0 - 5,-6"),
+            &format!("build 0 40 owner 33 {fields}1 6162 -"),
+            &format!("build 0 40 maker 33 {fields}0 - 5,-6"),
+            &format!("build 0 40 calibration 32 {}m 0 - -", "w1 m s7fc00000 ".repeat(6)),
         ] {
             assert_eq!(parse(line).unwrap().to_string(), line);
         }

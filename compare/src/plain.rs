@@ -30,12 +30,41 @@ pub enum Level {
 }
 
 impl Level {
-    /// Whether a field that can be changed may be written.
-    fn may_write(self, field: u64) -> bool {
+    /// Whether a field that can be changed may be written. The location, a template's last field, is the
+    /// owner's too.
+    fn may_write(self, template: Template, field: usize) -> bool {
+        let calibrated: &[usize] = match template {
+            Template::Bridge => &[7, 8, 10, 11, 18, 19, 20],
+            Template::Resistance => &[7, 8, 10, 11, 14, 16, 17, 18],
+        };
         match self {
-            Level::Owner => field == 21,
-            Level::CalibrationRoom => [7, 8, 10, 11, 18, 19, 20, 21].contains(&field),
+            Level::Owner => field == template.last(),
+            Level::CalibrationRoom => field == template.last() || calibrated.contains(&field),
             Level::Maker => true,
+        }
+    }
+}
+
+/// What the first block is: 33 or 32.
+#[derive(Clone, Copy, Debug, PartialEq, Eq)]
+pub enum Template {
+    Bridge,
+    Resistance,
+}
+
+impl Template {
+    pub fn number(self) -> u8 {
+        match self {
+            Template::Bridge => 33,
+            Template::Resistance => 32,
+        }
+    }
+
+    /// Its last field; the ending is the next.
+    pub fn last(self) -> usize {
+        match self {
+            Template::Bridge => 21,
+            Template::Resistance => 19,
         }
     }
 }
@@ -54,6 +83,7 @@ pub struct Summary {
     pub points: u64,
     pub end_bit: u64,
     pub characters: u64,
+    pub template: Template,
 }
 
 #[derive(Clone, Copy, Debug)]
@@ -101,6 +131,43 @@ const RESPONSE: [i64; 63] = [
     2821633, 3645550, 4710051, 6085385, 7862318, 10158115, 13124284, 16956575, 21907895, 28305001,
     36570061, 47248519, 61045086, 78870251, 101900365, 131655271, 170098610, 219767404, 283939486, 366849816,
     473969963, 612369192, 791180996,
+];
+
+/// Excitation currents, in tenths of a nanoampere: 10,000 x (1 + 2 x 0.02356427402545)^c to the nearest.
+#[rustfmt::skip]
+const CURRENT: [i64; 255] = [
+    10000, 10471, 10965, 11482, 12023, 12589, 13183, 13804,
+    14454, 15136, 15849, 16596, 17378, 18197, 19055, 19953,
+    20893, 21878, 22909, 23988, 25119, 26303, 27542, 28840,
+    30200, 31623, 33113, 34674, 36308, 38019, 39811, 41687,
+    43652, 45709, 47863, 50119, 52481, 54954, 57544, 60256,
+    63096, 66069, 69183, 72444, 75858, 79433, 83176, 87096,
+    91201, 95499, 100000, 104713, 109648, 114815, 120226, 125893,
+    131826, 138038, 144544, 151356, 158489, 165959, 173780, 181970,
+    190546, 199526, 208930, 218776, 229087, 239883, 251189, 263027,
+    275423, 288403, 301995, 316228, 331131, 346737, 363078, 380189,
+    398107, 416869, 436516, 457088, 478630, 501187, 524807, 549541,
+    575440, 602560, 630957, 660693, 691831, 724436, 758578, 794328,
+    831764, 870964, 912011, 954993, 1000000, 1047129, 1096478, 1148154,
+    1202264, 1258925, 1318257, 1380384, 1445440, 1513561, 1584893, 1659587,
+    1737801, 1819701, 1905461, 1995262, 2089296, 2187762, 2290868, 2398833,
+    2511886, 2630268, 2754229, 2884032, 3019952, 3162278, 3311311, 3467369,
+    3630781, 3801894, 3981072, 4168694, 4365158, 4570882, 4786301, 5011872,
+    5248075, 5495409, 5754399, 6025596, 6309573, 6606934, 6918310, 7244360,
+    7585776, 7943282, 8317638, 8709636, 9120108, 9549926, 10000000, 10471285,
+    10964782, 11481536, 12022644, 12589254, 13182567, 13803843, 14454398, 15135612,
+    15848932, 16595869, 17378008, 18197009, 19054607, 19952623, 20892961, 21877616,
+    22908677, 23988329, 25118864, 26302680, 27542287, 28840315, 30199517, 31622777,
+    33113112, 34673685, 36307805, 38018940, 39810717, 41686938, 43651583, 45708819,
+    47863009, 50118723, 52480746, 54954087, 57543994, 60255959, 63095734, 66069345,
+    69183097, 72443596, 75857758, 79432823, 83176377, 87096359, 91201084, 95499259,
+    100000000, 104712855, 109647820, 114815362, 120226443, 125892541, 131825674, 138038426,
+    144543977, 151356125, 158489319, 165958691, 173780083, 181970086, 190546072, 199526231,
+    208929613, 218776162, 229086765, 239883292, 251188643, 263026799, 275422870, 288403150,
+    301995172, 316227766, 331131121, 346736850, 363078055, 380189396, 398107171, 416869383,
+    436515832, 457088190, 478630092, 501187234, 524807460, 549540874, 575439937, 602559586,
+    630957344, 660693448, 691830971, 724435960, 758577575, 794328235, 831763771, 870963590,
+    912010839, 954992586, 1000000000, 1047128548, 1096478196, 1148153621, 1202264435,
 ];
 
 // ---- the chip ----
@@ -265,15 +332,14 @@ impl Pen<'_> {
 enum Rule {
     Plain { width: u32, least: u32, most: u32 },
     Stepped { width: u32, start: i64, step: i64 },
-    Geometric,
+    Geometric { width: u32, values: &'static [i64] },
     Single,
 }
 
 impl Rule {
     fn width(self) -> u32 {
         match self {
-            Rule::Plain { width, .. } | Rule::Stepped { width, .. } => width,
-            Rule::Geometric => 6,
+            Rule::Plain { width, .. } | Rule::Stepped { width, .. } | Rule::Geometric { width, .. } => width,
             Rule::Single => 32,
         }
     }
@@ -292,7 +358,7 @@ impl Rule {
             Rule::Plain { .. } => Value::Whole(i64::from(code)),
             _ if u64::from(code) == mask(self.width()) => Value::Missing,
             Rule::Stepped { start, step, .. } => Value::Whole(start + step * i64::from(code)),
-            Rule::Geometric => Value::Whole(RESPONSE[code as usize]),
+            Rule::Geometric { values, .. } => Value::Whole(values[code as usize]),
             Rule::Single => Value::Single(f32::from_bits(code)),
         }
     }
@@ -313,12 +379,12 @@ impl Rule {
                 }
                 Ok(((figure - start + step / 2) / step) as u32)
             }
-            (Rule::Geometric, Value::Whole(figure)) => {
-                if figure < RESPONSE[0] || figure > RESPONSE[62] {
+            (Rule::Geometric { values, .. }, Value::Whole(figure)) => {
+                if figure < values[0] || figure > values[values.len() - 1] {
                     return Err(10);
                 }
-                let above = RESPONSE.partition_point(|value| *value < figure);
-                if above > 0 && figure * figure < RESPONSE[above - 1] * RESPONSE[above] {
+                let above = values.partition_point(|value| *value < figure);
+                if above > 0 && figure * figure < values[above - 1] * values[above] {
                     return Ok(above as u32 - 1);
                 }
                 Ok(above as u32)
@@ -348,50 +414,106 @@ const fn steps(width: u32, start: i64, step: i64) -> Rule {
     Rule::Stepped { width, start, step }
 }
 
-/// Rules of fields 1 to 21; those of 10 and 11 for each precision stand below.
-const RULES: [Rule; 21] = [
-    range(14, 17, 16381),
-    any(15),
-    range(5, 1, 26),
-    any(6),
-    any(24),
-    range(6, 0, 45),
-    Rule::Single,
-    Rule::Single,
+const RESPONSE_TIME: Rule = Rule::Geometric { width: 6, values: &RESPONSE };
+const EXCITATION_CURRENT: Rule = Rule::Geometric { width: 8, values: &CURRENT };
+const DATE: Rule = steps(16, 0, 1);
+
+/// Fields 1 to 8, the same before both templates.
+const FIRST: [Rule; 8] =
+    [range(14, 17, 16381), any(15), range(5, 1, 26), any(6), any(24), range(6, 0, 45), Rule::Single, Rule::Single];
+
+/// Template 33 from field 9 on; 10 and 11 stand below for each precision.
+const BRIDGE: [Rule; 13] = [
     range(2, 0, 2),
-    ELECTRICAL[0],
-    ELECTRICAL[0],
+    BRIDGE_ENDS[0],
+    BRIDGE_ENDS[0],
     range(2, 0, 2),
     steps(18, 10, 1),
-    Rule::Geometric,
+    RESPONSE_TIME,
     steps(9, 1, 1),
     steps(9, 1, 1),
     steps(9, 1, 1),
-    steps(16, 0, 1),
+    DATE,
     any(15),
     any(12),
     any(11),
 ];
 
-const ELECTRICAL: [Rule; 3] = [steps(11, -1_000_000_000, 1_000_000), steps(19, -6_550_000, 25), Rule::Single];
+/// In nV/V.
+const BRIDGE_ENDS: [Rule; 3] = [steps(11, -1_000_000_000, 1_000_000), steps(19, -6_550_000, 25), Rule::Single];
 
-/// First bits of fields 1 to 21 with precision 0.
-const FIRST_BITS: [u64; 21] =
+/// Template 32 from field 9 on; the same.
+const RESISTANCE: [Rule; 11] = [
+    any(2),
+    RESISTANCE_ENDS[0],
+    RESISTANCE_ENDS[0],
+    any(2),
+    RESPONSE_TIME,
+    EXCITATION_CURRENT,
+    EXCITATION_CURRENT,
+    DATE,
+    any(15),
+    any(12),
+    any(11),
+];
+
+/// In ohms.
+const RESISTANCE_ENDS: [Rule; 4] = [steps(7, 0, 10), steps(10, 0, 1_000), steps(16, 0, 1), Rule::Single];
+
+/// First bits of the fields at precision 0.
+const BRIDGE_BITS: [u64; 21] =
     [0, 14, 29, 34, 40, 74, 80, 112, 144, 146, 157, 168, 170, 188, 194, 203, 212, 221, 237, 252, 264];
+const RESISTANCE_BITS: [u64; 19] =
+    [0, 14, 29, 34, 40, 74, 80, 112, 144, 146, 153, 160, 162, 168, 176, 184, 200, 215, 227];
 
-/// The rule of field 1 to 21.
-fn rule(field: usize, precision: usize) -> Rule {
-    if field == 10 || field == 11 { ELECTRICAL[precision] } else { RULES[field - 1] }
+impl Template {
+    /// The rules of fields 10 and 11, by precision.
+    fn ends(self) -> &'static [Rule] {
+        match self {
+            Template::Bridge => &BRIDGE_ENDS,
+            Template::Resistance => &RESISTANCE_ENDS,
+        }
+    }
 }
 
-fn first_bit(field: usize, precision: usize) -> u64 {
-    let wider = u64::from(ELECTRICAL[precision].width() - 11);
-    let before = match field {
-        0..=10 => 0,
-        11 => 1,
-        _ => 2,
-    };
-    FIRST_BITS[field - 1] + before * wider
+/// What the rules and the places of a sheet's fields go by.
+#[derive(Clone, Copy)]
+struct Layout {
+    template: Template,
+    precision: usize,
+}
+
+impl Layout {
+    /// The rule of a field that the template has.
+    fn rule(self, field: usize) -> Rule {
+        match (field, self.template) {
+            (1..=8, _) => FIRST[field - 1],
+            (10 | 11, template) => template.ends()[self.precision],
+            (_, Template::Bridge) => BRIDGE[field - 9],
+            (_, Template::Resistance) => RESISTANCE[field - 9],
+        }
+    }
+
+    fn first_bit(self, field: usize) -> u64 {
+        let ends = self.template.ends();
+        let wider = u64::from(ends[self.precision].width() - ends[0].width());
+        let before = match field {
+            0..=10 => 0,
+            11 => 1,
+            _ => 2,
+        };
+        let narrow = match self.template {
+            Template::Bridge => BRIDGE_BITS[field - 1],
+            Template::Resistance => RESISTANCE_BITS[field - 1],
+        };
+        narrow + before * wider
+    }
+
+    /// The bit behind the template's last field.
+    fn end(self) -> u64 {
+        let last = self.template.last();
+        self.first_bit(last) + u64::from(self.rule(last).width())
+    }
 }
 
 // ---- check and read ----
@@ -399,7 +521,7 @@ fn first_bit(field: usize, precision: usize) -> u64 {
 /// An accepted image.
 struct Open {
     chip: Chip,
-    precision: usize,
+    layout: Layout,
     summary: Summary,
     /// First bit of the first point, if there is one.
     pairs: u64,
@@ -430,22 +552,27 @@ fn paged(kind: u8, image: &[u8]) -> Answer<Chip> {
 fn open(kind: u8, image: &[u8]) -> Answer<Open> {
     let chip = paged(kind, image)?;
     let mut walk = Walk::new(chip, image);
-    for rule in &RULES[..5] {
+    for rule in &FIRST[..5] {
         let bit = walk.at;
         rule.judge(walk.take(rule.width())?, bit)?;
     }
     let selector = walk.at;
-    if walk.take(2)? != 0 || walk.take(8)? != 33 {
+    if walk.take(2)? != 0 {
         return refuse(4, selector);
     }
-    let mut precision = 0;
-    for field in 6..=21 {
-        let rule = rule(field, precision);
+    let template = match walk.take(8)? {
+        33 => Template::Bridge,
+        32 => Template::Resistance,
+        _ => return refuse(4, selector),
+    };
+    let mut layout = Layout { template, precision: 0 };
+    for field in 6..=template.last() {
+        let rule = layout.rule(field);
         let bit = walk.at;
         let code = walk.take(rule.width())?;
         rule.judge(code, bit)?;
         if field == 9 {
-            precision = code as usize;
+            layout.precision = code as usize;
         }
     }
     let mut points = 0;
@@ -498,18 +625,31 @@ fn open(kind: u8, image: &[u8]) -> Answer<Open> {
     }
     Ok(Open {
         chip,
-        precision,
-        summary: Summary { bits: walk.at, points: u64::from(points), end_bit: u64::from(end_bit), characters },
+        layout,
+        summary: Summary {
+            bits: walk.at,
+            points: u64::from(points),
+            end_bit: u64::from(end_bit),
+            characters,
+            template,
+        },
         pairs,
         text,
     })
 }
 
+/// A field that the template has.
+fn known(template: Template, field: u64) -> Answer<usize> {
+    if field < 1 || field > template.last() as u64 {
+        return refuse(8, field);
+    }
+    Ok(field as usize)
+}
+
 impl Open {
     fn field(&self, image: &[u8], field: usize) -> Value {
-        let rule = rule(field, self.precision);
-        let bit = first_bit(field, self.precision);
-        rule.value(self.chip.get(image, bit, rule.width()))
+        let rule = self.layout.rule(field);
+        rule.value(self.chip.get(image, self.layout.first_bit(field), rule.width()))
     }
 
     fn stepped(&self, image: &[u8], bit: u64, rule: Rule) -> i64 {
@@ -577,10 +717,7 @@ pub fn page(kind: u8, image: &[u8], page: u64) -> &[u8] {
 
 pub fn field(kind: u8, image: &[u8], field: u64) -> Answer<Value> {
     let open = open(kind, image)?;
-    if !(1..=21).contains(&field) {
-        return refuse(8, field);
-    }
-    Ok(open.field(image, field as usize))
+    Ok(open.field(image, known(open.layout.template, field)?))
 }
 
 pub fn pair(kind: u8, image: &[u8], index: u64) -> Answer<(i64, i64)> {
@@ -604,12 +741,13 @@ pub fn character(kind: u8, image: &[u8], index: u64) -> Answer<u8> {
 /// Pairs of offset and length, 16 bits each, low byte first: the fields, then the points.
 pub fn index(kind: u8, image: &[u8], buffer: &mut [u8]) -> Answer<()> {
     let open = open(kind, image)?;
-    let (precision, points) = (open.precision, open.summary.points);
-    let needed = 4 * (21 + points);
+    let (layout, points) = (open.layout, open.summary.points);
+    let last = layout.template.last();
+    let needed = 4 * (last as u64 + points);
     if (buffer.len() as u64) < needed {
         return refuse(18, needed);
     }
-    let fields = (1..=21).map(|field| (first_bit(field, precision), rule(field, precision).width() as u16));
+    let fields = (1..=last).map(|field| (layout.first_bit(field), layout.rule(field).width() as u16));
     let pairs = (0..points).map(|index| (open.pairs + PAIR_BITS * index, PAIR_BITS as u16));
     for ((offset, length), entry) in fields.chain(pairs).zip(buffer.chunks_exact_mut(4)) {
         entry[..2].copy_from_slice(&(offset as u16).to_le_bytes());
@@ -620,17 +758,16 @@ pub fn index(kind: u8, image: &[u8], buffer: &mut [u8]) -> Answer<()> {
 
 pub fn fetch(kind: u8, image: &[u8], index: &[u8], field: u64) -> Answer<Value> {
     let chip = paged(kind, image)?;
-    if !(1..=21).contains(&field) {
-        return refuse(8, field);
+    let template = if chip.get(image, 66, 8) == 32 { Template::Resistance } else { Template::Bridge };
+    let field = known(template, field)?;
+    let needed = 4 * template.last();
+    if index.len() < needed {
+        return refuse(18, needed as u64);
     }
-    if index.len() < 84 {
-        return refuse(18, 84);
-    }
-    let field = field as usize;
     let entry = &index[4 * (field - 1)..4 * field];
     let offset = u64::from(u16::from_le_bytes([entry[0], entry[1]]));
     let length = u32::from(u16::from_le_bytes([entry[2], entry[3]]));
-    let mut rules = (0..3).map(|precision| rule(field, precision));
+    let mut rules = (0..template.ends().len()).map(|precision| Layout { template, precision }.rule(field));
     let Some(rule) = rules.find(|rule| rule.width() == length) else {
         return refuse(5, offset);
     };
@@ -647,6 +784,7 @@ pub fn fetch(kind: u8, image: &[u8], index: &[u8], field: u64) -> Answer<Value> 
 pub fn build(
     kind: u8,
     image: &mut [u8],
+    template: Template,
     values: &[Value; 21],
     end_bit: bool,
     text: &[u8],
@@ -659,21 +797,22 @@ pub fn build(
         return refuse(16, points.len() as u64);
     }
     let mut codes = [0u32; 21];
-    let mut precision = 0;
-    for field in 1..=21 {
-        match rule(field, precision).code(values[field - 1]) {
+    let mut layout = Layout { template, precision: 0 };
+    let ending = template.last() + 1;
+    for field in 1..ending {
+        match layout.rule(field).code(values[field - 1]) {
             Ok(code) => codes[field - 1] = code,
             Err(number) => return refuse(number, field as u64),
         }
         if field == 9 {
-            precision = codes[8] as usize;
+            layout.precision = codes[8] as usize;
         }
     }
     if !end_bit && !text.is_empty() {
-        return refuse(9, 22);
+        return refuse(9, ending as u64);
     }
     if text.iter().any(|character| !(1..=127).contains(character)) {
-        return refuse(10, 22);
+        return refuse(10, ending as u64);
     }
     let mut last = 0;
     for (index, pair) in points.chunks_exact(2).enumerate() {
@@ -692,17 +831,17 @@ pub fn build(
     let count = points.len() as u64 / 2;
     let block = if count > 0 { 18 + PAIR_BITS * count } else { 0 };
     let text_bits = 7 * text.len().min(0xffff) as u64;
-    let needed = first_bit(21, precision) + 11 + block + 3 + text_bits;
+    let needed = layout.end() + block + 3 + text_bits;
     if needed > chip.stream_bits() {
         return refuse(11, needed.min(0xffff));
     }
 
     let mut pen = Pen { image, register: chip.register, next: 0, held: 0, holds: 0 };
-    for field in 1..=21 {
+    for field in 1..ending {
         if field == 6 {
-            pen.put(33 << 2, 10);
+            pen.put(u32::from(template.number()) << 2, 10);
         }
-        pen.put(codes[field - 1], rule(field, precision).width());
+        pen.put(codes[field - 1], layout.rule(field).width());
     }
     if count > 0 {
         pen.put(40 << 2, 10);
@@ -726,16 +865,15 @@ pub fn build(
 impl Open {
     /// The rule and the first bit of a field that a writer may change alone.
     fn changeable(&self, level: Level, field: u64) -> Answer<(Rule, u64)> {
-        if !(1..=21).contains(&field) {
-            return refuse(8, field);
-        }
-        if field == 9 {
+        let layout = self.layout;
+        let known = known(layout.template, field)?;
+        if known == 9 {
             return refuse(12, 9);
         }
-        if !level.may_write(field) {
+        if !level.may_write(layout.template, known) {
             return refuse(20, field);
         }
-        Ok((rule(field as usize, self.precision), first_bit(field as usize, self.precision)))
+        Ok((layout.rule(known), layout.first_bit(known)))
     }
 
     /// Puts a code into a field, and the check bytes of its pages right.
@@ -786,7 +924,10 @@ pub fn commit(kind: u8, image: &mut [u8], level: Level, field: u64, present: u64
 
 pub fn reading(kind: u8, image: &[u8], input: i64) -> Answer<Reading> {
     let open = open(kind, image)?;
-    if open.precision == 2 {
+    if open.layout.template == Template::Resistance {
+        return refuse(4, 64);
+    }
+    if open.layout.precision == 2 {
         return refuse(15, 9);
     }
     let single = |field| match open.field(image, field) {
@@ -981,16 +1122,35 @@ mod tests {
     }
 
     #[test]
-    fn responses_are_stored_by_ratio() {
-        let stored = |figure| Rule::Geometric.code(Value::Whole(figure));
-        assert_eq!([100, 113, 114, 129].map(stored), [Ok(0), Ok(0), Ok(1), Ok(1)]);
-        for (code, pair) in RESPONSE.windows(2).enumerate() {
-            let (a, b) = (pair[0], pair[1]);
-            let middle = ((a * b) as f64).sqrt() as i64;
-            for figure in [a, middle - 1, middle, middle + 1, middle + 2, b] {
-                let up = (figure * figure >= a * b) as u32;
-                assert_eq!(stored(figure), Ok(code as u32 + up));
+    fn currents_are_the_powers_to_the_nearest() {
+        // 1 + 2 x 0.02356427402545 is 10,471,285,480,509 / 10^13.
+        let mut power = vec![20_000];
+        let mut unit = vec![1];
+        for current in CURRENT {
+            let current = current as u64;
+            assert!(!less(&power, &times(&unit, 2 * current - 1)));
+            assert!(less(&power, &times(&unit, 2 * current + 1)));
+            power = times(&power, 10_471_285_480_509);
+            unit = times(&unit, 10_000_000_000_000);
+        }
+        assert!(CURRENT.is_sorted());
+    }
+
+    #[test]
+    fn geometric_figures_are_stored_by_ratio() {
+        let stored = |rule: Rule, figure| rule.code(Value::Whole(figure));
+        assert_eq!([100, 113, 114, 129].map(|figure| stored(RESPONSE_TIME, figure)), [Ok(0), Ok(0), Ok(1), Ok(1)]);
+        for (rule, values) in [(RESPONSE_TIME, &RESPONSE[..]), (EXCITATION_CURRENT, &CURRENT[..])] {
+            for (code, pair) in values.windows(2).enumerate() {
+                let (a, b) = (pair[0], pair[1]);
+                let middle = ((a * b) as f64).sqrt() as i64;
+                for figure in [a, middle - 1, middle, middle + 1, middle + 2, b] {
+                    let up = (figure * figure >= a * b) as u32;
+                    assert_eq!(stored(rule, figure), Ok(code as u32 + up));
+                }
             }
+            assert_eq!(stored(rule, values[0] - 1), Err(10));
+            assert_eq!(stored(rule, values[values.len() - 1] + 1), Err(10));
         }
     }
 
@@ -1077,7 +1237,7 @@ mod tests {
     #[test]
     fn the_documents_edges() {
         let mut image = [0xaa; 40];
-        build(0, &mut image, &sheet(), false, &[], &[]).unwrap();
+        build(0, &mut image, Template::Bridge, &sheet(), false, &[], &[]).unwrap();
         assert_eq!(image[..8], [0x11, 0x40, 0, 0x20, 0, 1, 0, 0]);
         assert_eq!(check(0, &image).unwrap().bits, 294);
         assert_eq!(reading(0, &image, 1_000_000).unwrap().fraction, 333_333_333);
@@ -1093,7 +1253,7 @@ mod tests {
         values[10] = Value::Single(1.0);
         let before = image;
         let refusal = Refusal { number: 11, place: 320 };
-        assert_eq!(build(0, &mut image, &values, false, &[], &[]), Err(refusal));
+        assert_eq!(build(0, &mut image, Template::Bridge, &values, false, &[], &[]), Err(refusal));
         assert_eq!(image, before);
 
         values = sheet();
@@ -1101,7 +1261,7 @@ mod tests {
         values[9] = Value::Whole(2_499_999);
         values[10] = Value::Whole(2_500_000);
         values[14] = Value::Whole(511);
-        build(0, &mut image, &values, false, &[], &[]).unwrap();
+        build(0, &mut image, Template::Bridge, &values, false, &[], &[]).unwrap();
         assert_eq!(field(0, &image, 10), Ok(Value::Whole(2_000_000)));
         assert_eq!(field(0, &image, 11), Ok(Value::Whole(3_000_000)));
         assert_eq!(field(0, &image, 15), Ok(Value::Whole(511)));
@@ -1117,7 +1277,7 @@ mod tests {
     #[test]
     fn levels() {
         let mut image = [0; 128];
-        build(1, &mut image, &sheet(), false, &[], &[]).unwrap();
+        build(1, &mut image, Template::Bridge, &sheet(), false, &[], &[]).unwrap();
         let writes = |level| {
             let values = sheet();
             let proposed = |field: u64| propose(1, &image, level, field, values[field as usize - 1]);
@@ -1143,6 +1303,55 @@ mod tests {
     }
 
     #[test]
+    fn resistance_senders() {
+        use Value::*;
+        let mut values = [Missing; 21];
+        values[..8].copy_from_slice(&sheet()[..8]);
+        values[8..19].copy_from_slice(&[
+            Whole(2),
+            Whole(80),
+            Whole(194),
+            Whole(3),
+            Whole(100),
+            Whole(10_000_000),
+            Missing,
+            Whole(7306),
+            Whole(1057),
+            Whole(365),
+            Whole(7),
+        ]);
+        let mut image = [0; 128];
+        let build = |image: &mut [u8; 128], values: &[Value; 21], text: &[u8]| {
+            super::build(1, image, Template::Resistance, values, false, text, &[])
+        };
+        let refusal = |number, place| Err(Refusal { number, place });
+        assert_eq!(build(&mut image, &values, b"a"), refusal(9, 20));
+        assert_eq!(build(&mut image, &values, b""), Ok(()));
+        let summary = check(1, &image).unwrap();
+        assert_eq!((summary.bits, summary.template), (259, Template::Resistance));
+        for field in 1..=19 {
+            let read = super::field(1, &image, field).unwrap();
+            assert_eq!(propose(1, &image, Level::Maker, field, read).is_ok(), field != 9);
+        }
+        assert_eq!(super::field(1, &image, 20).err(), Some(Refusal { number: 8, place: 20 }));
+        assert_eq!(reading(1, &image, 0).err(), Some(Refusal { number: 4, place: 64 }));
+        let writes = |level| {
+            let proposed = |field: u64| propose(1, &image, level, field, values[field as usize - 1]);
+            (1..=19).filter(|field| proposed(*field).is_ok()).collect::<Vec<_>>()
+        };
+        assert_eq!(writes(Level::Owner), [19]);
+        assert_eq!(writes(Level::CalibrationRoom), [7, 8, 10, 11, 14, 16, 17, 18, 19]);
+
+        // An index of 19 pairs, and any first template but 32 taken as 33.
+        let mut entries = [0; 76];
+        assert_eq!(index(1, &image, &mut entries[..75]), refusal(18, 76));
+        assert_eq!(index(1, &image, &mut entries), Ok(()));
+        assert_eq!(fetch(1, &image, &entries, 10), Ok(Whole(80)));
+        assert_eq!(fetch(1, &image, &entries[..75], 10).err(), Some(Refusal { number: 18, place: 76 }));
+        assert_eq!(fetch(1, &image, &entries, 20).err(), Some(Refusal { number: 8, place: 20 }));
+    }
+
+    #[test]
     fn deviations_round_halves_upward() {
         assert_eq!(nearest(-200, 400), 0);
         assert_eq!(nearest(200, 400), 1);
@@ -1150,17 +1359,24 @@ mod tests {
     }
 
     #[test]
-    fn table_of_first_bits() {
-        for precision in 0..3 {
-            let mut bit = 0;
-            for field in 1..=21 {
-                if field == 6 {
-                    bit += 10;
+    fn tables_of_first_bits() {
+        let totals: [(Template, &[u64]); 2] =
+            [(Template::Bridge, &[209, 225, 251]), (Template::Resistance, &[172, 178, 190, 222])];
+        for (template, totals) in totals {
+            assert_eq!(totals.len(), template.ends().len());
+            for (precision, total) in totals.iter().enumerate() {
+                let layout = Layout { template, precision };
+                let mut bit = 0;
+                for field in 1..=template.last() {
+                    if field == 6 {
+                        bit += 10;
+                    }
+                    assert_eq!(layout.first_bit(field), bit);
+                    bit += u64::from(layout.rule(field).width());
                 }
-                assert_eq!(first_bit(field, precision), bit);
-                bit += u64::from(rule(field, precision).width());
+                assert_eq!(bit, 66 + total);
+                assert_eq!(layout.end(), bit);
             }
-            assert_eq!(bit, 66 + [209, 225, 251][precision]);
         }
     }
 }

@@ -1,6 +1,6 @@
 //! The structs of `include/dartelm.h`. Floats are compared by their bits.
 
-use crate::plain::{Level, Value};
+use crate::plain::{Level, Template, Value};
 
 /// A field's value by two flags.
 #[derive(Clone, Copy, Debug, Default)]
@@ -60,13 +60,22 @@ impl From<Level> for u8 {
     }
 }
 
-/// The values of fields 1 to 21, the end bit, and the writer's level.
+/// The template of a byte: any but 32 is 33.
+pub fn template_of(byte: u8) -> Template {
+    match byte {
+        32 => Template::Resistance,
+        _ => Template::Bridge,
+    }
+}
+
+/// The values of a template's fields, the end bit, the writer's level, and the template's number.
 #[derive(Clone, Copy, Debug, Default, PartialEq)]
 #[repr(C)]
 pub struct Fields {
     pub values: [ByFlags; 21],
     pub end_bit: u8,
     pub level: u8,
+    pub template: u8,
 }
 
 #[derive(Clone, Copy, Debug, Default, PartialEq)]
@@ -78,6 +87,7 @@ pub struct CheckAnswer {
     pub points: u64,
     pub characters: u64,
     pub end_bit: u8,
+    pub template: u8,
 }
 
 #[derive(Clone, Copy, Debug, Default, PartialEq)]

@@ -55,7 +55,12 @@ impl Case {
         let mut case = Case {
             kind,
             image: vec![0; [40, 128, 512][usize::from(kind)]],
-            fields: Fields { values: values().map(ByFlags::from), end_bit: 1, level: Level::Maker.into() },
+            fields: Fields {
+                values: values().map(ByFlags::from),
+                end_bit: 1,
+                level: Level::Maker.into(),
+                template: 33,
+            },
             text,
             points: (0..count)
                 .flat_map(|i| [i * 1_000_000_000 / count.max(1), (i * 7_919 % 200 - 100) * 10_000])

@@ -9,7 +9,7 @@ use std::process::ExitCode;
 use compare::calls::{Calls, Plain};
 use compare::console::Command;
 use compare::ffi::Product;
-use compare::plain::{self, Level, Value};
+use compare::plain::{self, Level, Template, Value};
 use compare::random::Random;
 use compare::structs::{
     ByFlags, CharacterAnswer, CheckAnswer, CodeAnswer, FieldAnswer, Fields, PageAnswer, PairAnswer, ProposalAnswer,
@@ -23,7 +23,7 @@ mod layout;
 #[path = "differ/values.rs"]
 mod values;
 
-use layout::{get, image_length, pages, stream_bits, width};
+use layout::{Layout, get, image_length, pages, stream_bits};
 
 const CALLS: [&str; 16] = [
     "check", "page", "field", "pair", "char", "build", "change", "reading", "text", "code", "sheet", "kind", "index",
@@ -255,9 +255,9 @@ impl Differ {
 
     fn field_number(&mut self) -> u64 {
         match self.random.below(100) {
-            0..=3 => self.random.pick(&[0, 22, 23, 1 << 32 | 1, 1 << 63, u64::MAX]),
+            0..=3 => self.random.pick(&[0, 19, 20, 21, 22, 23, 1 << 32 | 1, 1 << 63, u64::MAX]),
             4 => self.random.word(),
-            _ => 1 + self.random.below(21),
+            _ => 1 + self.random.below(self.layout().last() as u64),
         }
     }
 
@@ -309,10 +309,10 @@ impl Differ {
 
     /// A field number, and a value that mostly suits it.
     fn field_and_value(&mut self) -> (u64, ByFlags) {
-        let precision = self.precision();
+        let layout = self.layout();
         let field = self.field_number();
-        let known = if (1..=21).contains(&field) { field as usize } else { 1 };
-        let value = if self.random.percent(75) { self.good(known, precision) } else { self.bad(known, precision) };
+        let known = if (1..=layout.last() as u64).contains(&field) { field as usize } else { 1 };
+        let value = if self.random.percent(75) { self.good(known, layout) } else { self.bad(known, layout) };
         (field, value)
     }
 
@@ -331,7 +331,7 @@ impl Differ {
     /// An index made in a buffer that is mostly long enough, and often just so.
     fn make_index(&mut self) {
         let points = plain::check(self.kind, self.image()).map_or(0, |summary| summary.points);
-        let needed = 4 * (21 + points) as usize;
+        let needed = 4 * (self.layout().last() + points as usize);
         let any = self.random.below(600) as usize;
         self.lent.index_length = self.random.pick(&[any, needed - 1, needed, needed, needed + 1, needed + 7, 608]);
         if self.random.percent(50) {
@@ -359,15 +359,18 @@ impl Differ {
             // Where the image is refused, the buffer stays.
             let _ = plain::index(self.kind, &image, self.lent.index_mut());
         }
-        if self.random.percent(25) && (1..=21).contains(&field) {
+        let layout = self.layout();
+        let last = layout.last();
+        if self.random.percent(25) && (1..=last as u64).contains(&field) {
             let at = 4 * (field as usize - 1);
             let bits = stream_bits(self.kind) as u64;
-            let width = width(field as usize, self.precision()) as u64;
+            let width = layout.width(field as usize) as u64;
             let near = bits + 2 - self.random.below(40);
             let inside = self.random.below(bits);
             let any = self.random.below(1 << 16);
             let offset = self.random.pick(&[0, 64, 146, bits - width, bits - width + 1, near, inside, any]);
-            let length = self.random.pick(&[width, width, width, 0, 11, 19, 32, width + 1, width | 256, any]);
+            let end = self.random.pick(&[7, 10, 11, 16, 19, 32]);
+            let length = self.random.pick(&[width, width, width, 0, end, end, end, width + 1, width | 256, any]);
             let entry = &mut self.lent.index_mut()[at..at + 4];
             if self.random.percent(70) {
                 entry[..2].copy_from_slice(&(offset as u16).to_le_bytes());
@@ -375,7 +378,7 @@ impl Differ {
             entry[2..].copy_from_slice(&(length as u16).to_le_bytes());
         }
         if self.random.percent(20) {
-            self.lent.index_length = self.random.pick(&[480, 85, 84, 83, 0]);
+            self.lent.index_length = self.random.pick(&[480, 85, 84, 83, 4 * last, 4 * last - 1, 0]);
         }
         let index = self.lent.index().to_vec();
         let kind = self.chip();
@@ -528,8 +531,13 @@ impl Differ {
         self.untouched(CODE, before == text);
     }
 
-    fn precision(&self) -> usize {
-        get(self.kind, self.image(), 144, 2).min(2) as usize
+    /// The image's layout, by the bits that tell it.
+    fn layout(&self) -> Layout {
+        let precision = get(self.kind, self.image(), 144, 2) as usize;
+        match get(self.kind, self.image(), 66, 8) {
+            32 => Layout { template: Template::Resistance, precision },
+            _ => Layout { template: Template::Bridge, precision: precision.min(2) },
+        }
     }
 
     fn image(&self) -> &[u8] {
@@ -537,28 +545,31 @@ impl Differ {
     }
 
     fn build(&mut self) -> u8 {
-        let precision = self.pick_precision();
+        let layout = self.pick_layout();
+        let last = layout.last();
         let mut fields = Fields::default();
+        // Behind the last field there may be anything.
         for (i, place) in fields.values.iter_mut().enumerate() {
-            *place = self.good(i + 1, precision);
+            *place = self.good((i + 1).min(last), layout);
         }
-        fields.values[8] = self.given(Value::Whole(precision as i64));
-        if precision < 2 && self.random.percent(85) {
-            let (e, f) = self.ends(precision);
+        fields.values[8] = self.given(Value::Whole(layout.precision as i64));
+        if layout.width(10) < 32 && self.random.percent(85) {
+            let (e, f) = self.ends(layout);
             fields.values[9] = self.given(Value::Whole(e));
             fields.values[10] = self.given(Value::Whole(f));
         }
         if self.random.percent(25) {
             for _ in 0..self.random.within(1, 3) {
-                let field = self.random.within(1, 21) as usize;
-                fields.values[field - 1] = self.bad(field, precision);
+                let field = self.random.within(1, last as i64) as usize;
+                fields.values[field - 1] = self.bad(field, layout);
             }
         }
-        let points = self.point_list(precision);
-        let text = self.closing_text(precision, points.len() / 2);
+        let points = self.point_list(layout);
+        let text = self.closing_text(layout, points.len() / 2);
         let ended = !text.is_empty() || self.random.percent(30);
         fields.end_bit = if ended && !self.random.percent(3) { self.yes() } else { 0 };
         fields.level = self.level();
+        fields.template = self.template(layout.template);
         let before = (text.clone(), points.clone());
         let kind = self.chip();
         let answer = self.both(
@@ -568,7 +579,8 @@ impl Differ {
                 kind,
                 length: image.len(),
                 level: level_of(fields.level),
-                values: Box::new(fields.values.map(ByFlags::value)),
+                template: layout.template,
+                values: fields.values[..last].iter().map(|value| value.value()).collect(),
                 end_bit: fields.end_bit != 0,
                 text: text.clone(),
                 points: points.clone(),

@@ -5,6 +5,8 @@ use crate::printing;
 use build::Sheet;
 use build::Slot;
 use fields::Level;
+use fields::Template;
+use fields::TemplateAnswer;
 use fields::Value;
 use words::Filled;
 use words::Number;
@@ -12,11 +14,31 @@ use words::Worth;
 use words::Writer;
 use words::front_mut;
 use words::word;
+ghost use Prim.Native.Nat.{_≤_};
 
-// The first word that is a value; the end bit, the text and the points stand behind the values.
-const VALUES: u64 = 4;
+// The first word that is a value.
+const VALUES: u64 = 5;
 
-const END_BIT: u64 = VALUES + 21;
+// The word of the end bit, behind the values of a template's fields; the text and the points follow it.
+fn end_bit_word(template: Template) -> u64
+    ensures { λ r. ⌜ r ≤ 26 ⌝ }
+{
+    VALUES + fields::last_field(template)
+}
+
+// The template that word 4 names, if the line has the words of a build from it.
+fn template_in(line: &[u8]) -> TemplateAnswer {
+    let Number::Is(number) = words::number_of(word(line, 4)) else {
+        return TemplateAnswer::Unknown;
+    };
+    let TemplateAnswer::Is(template) = fields::template_of(number) else {
+        return TemplateAnswer::Unknown;
+    };
+    if words::word_count(line) != end_bit_word(template) + 3 {
+        return TemplateAnswer::Unknown;
+    }
+    TemplateAnswer::Is(template)
+}
 
 // The value of a field.
 fn slot(line: &[u8], index: u64) -> Slot {
@@ -28,10 +50,10 @@ fn slot(line: &[u8], index: u64) -> Slot {
     }
 }
 
-// Whether the words of the fields are values.
-fn are_values(line: &[u8]) -> bool {
+// Whether the words of the fields, before that of the end bit, are values.
+fn are_values(line: &[u8], end: u64) -> bool {
     let mut index = VALUES;
-    while index < END_BIT {
+    while index < end {
         match words::value_of(word(line, index)) {
             Worth::Is(_) => {}
             Worth::Not => return false,
@@ -42,30 +64,34 @@ fn are_values(line: &[u8]) -> bool {
 }
 
 // The sheet record of a line's values.
-fn sheet_of(line: &[u8], end_bit: bool, level: Level) -> Sheet {
+fn sheet_of(line: &[u8], template: Template, end_bit: bool, level: Level) -> Sheet {
+    let last = fields::last_field(template);
     let mut fields = [Slot {
         value: Value::Missing,
     }; 21];
     let mut at: usize = 0;
-    while at < 21 {
+    while at < last as usize {
         fields[at] = slot(line, VALUES + at as u64);
         at += 1;
     }
     Sheet {
+        template,
         fields,
         end_bit,
         level,
     }
 }
 
-// A build of these in a buffer lent, from the text and the points, the line's last words.
-fn build_in(image: &mut [u8], kind: u8, line: &[u8], sheet: Sheet) {
+// A build of these in a buffer lent, from the text and the points, the words behind the end bit's.
+fn build_in(image: &mut [u8], kind: u8, line: &[u8], end: u64, sheet: Sheet)
+    requires { ⌜ end ≤ 26 ⌝ }
+{
     let mut text = [0u8; ROOM];
-    let Filled::To(characters) = words::bytes_of(word(line, END_BIT + 1), &mut text) else {
+    let Filled::To(characters) = words::bytes_of(word(line, end + 1), &mut text) else {
         return printing::unknown();
     };
     let mut points = [0i64; ROOM];
-    let Filled::To(figures) = words::figures_of(word(line, END_BIT + 2), &mut points) else {
+    let Filled::To(figures) = words::figures_of(word(line, end + 2), &mut points) else {
         return printing::unknown();
     };
     let text = words::front(&text, characters);
@@ -74,7 +100,7 @@ fn build_in(image: &mut [u8], kind: u8, line: &[u8], sheet: Sheet) {
     printing::written(answer, image);
 }
 
-// The kind, the buffer's length and the level, words 1 to 3, the values, the end bit, the text and the points.
+// The kind, the buffer's length, the level and the template, words 1 to 4, the values, the end bit, the text and the points.
 pub fn build(line: &[u8]) {
     let Number::Is(kind) = words::number_of(word(line, 1)) else {
         return printing::unknown();
@@ -85,13 +111,17 @@ pub fn build(line: &[u8]) {
     let Writer::Is(level) = words::level_of(word(line, 3)) else {
         return printing::unknown();
     };
-    let Number::Is(end_bit) = words::number_of(word(line, END_BIT)) else {
+    let TemplateAnswer::Is(template) = template_in(line) else {
+        return printing::unknown();
+    };
+    let end = end_bit_word(template);
+    let Number::Is(end_bit) = words::number_of(word(line, end)) else {
         return printing::unknown();
     };
     if end_bit > 1 {
         return printing::unknown();
     }
-    if !are_values(line) {
+    if !are_values(line, end) {
         return printing::unknown();
     }
     let mut room = [0u8; ROOM];
@@ -100,6 +130,7 @@ pub fn build(line: &[u8]) {
         image,
         asked::kind_of(kind),
         line,
-        sheet_of(line, end_bit == 1, level),
+        end,
+        sheet_of(line, template, end_bit == 1, level),
     );
 }

@@ -21,7 +21,10 @@ fn accepted(summary: Summary) {
     } else {
         put(b" 0 ");
     }
-    printing::number(summary.characters);
+    put_number(summary.characters);
+    put(b" ");
+    let template = summary.template;
+    printing::number(fields::template_number(template));
 }
 
 pub fn check(kind: u8, image: &[u8]) {

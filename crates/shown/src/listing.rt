@@ -1,4 +1,4 @@
-// A sheet line by line: its fields, its calibration points, its ending, its bits.
+// A sheet line by line: its template, its fields, its calibration points, its ending, its bits.
 use crate::naming::print_name;
 use crate::output::put;
 use crate::output::put_character;
@@ -6,6 +6,7 @@ use crate::output::put_figure;
 use crate::output::put_number;
 use crate::reasons::refused;
 use crate::values::print_value;
+use fields::Template;
 use sheet::CharacterAnswer;
 use sheet::Checked;
 use sheet::FieldAnswer;
@@ -13,7 +14,7 @@ use sheet::PairAnswer;
 use sheet::Summary;
 
 // A field's line, or its refusal's; the numbers stand in two columns.
-fn print_field(kind: u8, image: &[u8], field: u64) {
+fn print_field(kind: u8, image: &[u8], template: Template, field: u64) {
     match sheet::read_field(kind, image, field) {
         FieldAnswer::Refused(r) => refused(r),
         FieldAnswer::Holds(value) => {
@@ -22,9 +23,9 @@ fn print_field(kind: u8, image: &[u8], field: u64) {
             }
             put_number(field);
             put(b" ");
-            print_name(field);
+            print_name(template, field);
             put(b": ");
-            print_value(field, value);
+            print_value(template, field, value);
             put(b"\n");
         }
     }
@@ -55,14 +56,14 @@ fn print_character(kind: u8, image: &[u8], index: u64) {
 }
 
 enum Part {
-    Field,
+    Field(Template),
     Point,
     Character,
 }
 
 fn print_part(kind: u8, image: &[u8], part: Part, index: u64) {
     match part {
-        Part::Field => print_field(kind, image, index),
+        Part::Field(template) => print_field(kind, image, template, index),
         Part::Point => print_point(kind, image, index),
         Part::Character => print_character(kind, image, index),
     }
@@ -88,13 +89,23 @@ fn print_ending(kind: u8, image: &[u8], summary: Summary) {
     put(b"end bit: 0\nno text\n");
 }
 
-// Prints the whole sheet of an image, a line a field, a calibration point, the ending and the bits up to the end; or
-// the check's refusal.
+// The template's fields.
+fn print_fields(kind: u8, image: &[u8], template: Template) {
+    let last = fields::last_field(template);
+    print_parts(kind, image, Part::Field(template), 1, last + 1);
+}
+
+// Prints the whole sheet of an image, a line for the template, for each field and each calibration point, the ending and the bits
+// up to the end; or the check's refusal.
 pub fn show(kind: u8, image: &[u8]) {
     match sheet::check(kind, image) {
         Checked::Refused(r) => refused(r),
         Checked::Accepted(summary) => {
-            print_parts(kind, image, Part::Field, 1, 22);
+            let template = summary.template;
+            put(b"template: ");
+            put_number(fields::template_number(template));
+            put(b"\n");
+            print_fields(kind, image, template);
             print_parts(kind, image, Part::Point, 0, summary.points);
             print_ending(kind, image, summary);
             put(b"bits: ");

@@ -1,13 +1,30 @@
 // A field's value in its unit, or as text.
-use crate::naming::print_bridge;
+use crate::naming::print_case;
 use crate::naming::print_single_unit;
 use crate::naming::print_unit;
 use crate::output::put;
 use crate::output::put_figure;
 use crate::singles::print_single;
+use fields::Template;
 use fields::Value;
 use integers::plus;
 use texts::TextAnswer;
+
+// The number by which a field's text is asked for: 3, 18 for a date, 19 for initials; 0 where a field has none.
+fn text_field(template: Template, field: u64) -> u64 {
+    match template {
+        Template::Bridge => match field {
+            3 | 18 | 19 => field,
+            _ => 0,
+        },
+        Template::Resistance => match field {
+            3 => 3,
+            16 => 18,
+            17 => 19,
+            _ => 0,
+        },
+    }
+}
 
 // The text of a code of field 3, 18 or 19, or the code itself where it has none.
 fn print_text(field: u64, figure: i64) {
@@ -20,28 +37,30 @@ fn print_text(field: u64, figure: i64) {
     }
 }
 
-// A whole number: text for 3, 18 and 19, a name beside the bridge type's, else the unit.
-fn print_whole(field: u64, figure: i64) {
-    match field {
-        3 | 18 | 19 => print_text(field, figure),
-        12 => {
-            put_figure(figure);
-            print_bridge(plus(figure));
-        }
-        _ => {
-            put_figure(figure);
-            print_unit(field);
-        }
+// A figure with its unit; beside that of field 12 a name.
+fn print_figure(template: Template, field: u64, figure: i64) {
+    put_figure(figure);
+    if field == 12 {
+        return print_case(template, plus(figure));
+    }
+    print_unit(template, field);
+}
+
+// A whole number, as text where the field has one.
+fn print_whole(template: Template, field: u64, figure: i64) {
+    match text_field(template, field) {
+        0 => print_figure(template, field, figure),
+        asked => print_text(asked, figure),
     }
 }
 
 // The value of a field.
-pub fn print_value(field: u64, value: Value) {
+pub fn print_value(template: Template, field: u64, value: Value) {
     match value {
-        Value::Whole(figure) => print_whole(field, figure),
+        Value::Whole(figure) => print_whole(template, field, figure),
         Value::Single(x) => {
             print_single(x);
-            print_single_unit(field);
+            print_single_unit(template, field);
         }
         Value::Missing => put(b"missing"),
     }

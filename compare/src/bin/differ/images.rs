@@ -1,8 +1,8 @@
 //! Images: laid bit by bit with anything wrong now and then, and damaged.
 
-use compare::plain;
+use compare::plain::{self, Template};
 
-use crate::layout::{Row, bits_without_text, capacity, first_bit, image_length, mend, put, row, stream_bits, width};
+use crate::layout::{Layout, Row, image_length, mend, put, stream_bits};
 use crate::{Differ, MARGIN};
 
 impl Differ {
@@ -18,19 +18,23 @@ impl Differ {
         }
     }
 
-    pub fn pick_precision(&mut self) -> usize {
-        match self.random.below(20) {
+    pub fn pick_layout(&mut self) -> Layout {
+        if self.random.percent(40) {
+            return Layout { template: Template::Resistance, precision: self.random.below(4) as usize };
+        }
+        let precision = match self.random.below(20) {
             0 => 2,
             1 | 2 if self.kind > 0 => 2,
             choice => (choice % 2) as usize,
-        }
+        };
+        Layout { template: Template::Bridge, precision }
     }
 
     /// A code of a field: mostly one that is accepted.
-    pub fn field_code(&mut self, field: usize, precision: usize, wrong: u64) -> u64 {
-        let ones = (1u64 << width(field, precision)) - 1;
+    pub fn field_code(&mut self, field: usize, layout: Layout, wrong: u64) -> u64 {
+        let ones = (1u64 << layout.width(field)) - 1;
         if self.random.percent(wrong) {
-            return match row(field, precision) {
+            return match layout.row(field) {
                 Row::Single => {
                     let any = self.random.word() & ones | 0x7f80_0000;
                     self.random.pick(&[0x7f80_0000, 0xff80_0000, 0xffff_fffe, 0x7fff_ffff, any])
@@ -38,7 +42,7 @@ impl Differ {
                 _ => self.random.word() & ones,
             };
         }
-        match row(field, precision) {
+        match layout.row(field) {
             Row::Plain(least, most) => self.random.within(least, most) as u64,
             _ if self.random.percent(4) => ones,
             Row::Single => u64::from(self.finite().to_bits()),
@@ -50,28 +54,30 @@ impl Differ {
     pub fn lay(&mut self) {
         let kind = self.kind;
         let mut image = self.image().to_vec();
-        let precision = self.pick_precision();
+        let layout = self.pick_layout();
         let mut bit = 0;
         let mut lay = |image: &mut Vec<u8>, width: usize, code: u64| {
             put(kind, image, bit, width, code);
             bit += width;
         };
-        for field in 1..=21 {
+        for field in 1..=layout.last() {
+            let width = layout.width(field);
             if field == 6 {
                 let selector = if self.random.percent(1) { self.random.below(4) } else { 0 };
                 lay(&mut image, 2, selector);
-                let template = if self.random.percent(1) { self.random.pick(&[32, 34, 40, 161, 0, 255]) } else { 33 };
-                lay(&mut image, 8, template);
+                let number = u64::from(layout.template.number());
+                let other = self.random.pick(&[32, 33, 34, 40, 160, 161, 0, 255]);
+                lay(&mut image, 8, if self.random.percent(2) { other } else { number });
             }
-            let mut code = self.field_code(field, precision, 1);
-            if field == 9 && code < 3 {
-                code = precision as u64;
+            let mut code = self.field_code(field, layout, 1);
+            if field == 9 && (code < 3 || layout.template == Template::Resistance) {
+                code = layout.precision as u64;
             }
-            if (field == 10 || field == 11) && precision < 2 && self.random.percent(80) {
-                let half = 1 << (width(field, precision) - 1);
+            if (field == 10 || field == 11) && width < 32 && self.random.percent(80) {
+                let half = 1 << (width - 1);
                 code = self.random.below(half - 1) + if field == 11 { half } else { 0 };
             }
-            lay(&mut image, width(field, precision), code);
+            lay(&mut image, width, code);
         }
         let mut points = 0;
         // Kind 0 has no room for a point.
@@ -81,7 +87,7 @@ impl Differ {
             let template = if self.random.percent(2) { self.random.pick(&[33, 41, 168, 0, 255]) } else { 40 };
             lay(&mut image, 8, template);
             lay(&mut image, 1, u64::from(self.random.percent(2)));
-            let most = capacity(kind, precision) as u64;
+            let most = layout.capacity(kind) as u64;
             points = match self.random.below(20) {
                 0 => 0,
                 1 => self.random.below(128),
@@ -124,7 +130,7 @@ impl Differ {
         let selector = if self.random.percent(6) { self.random.below(4) } else { 3 };
         lay(&mut image, 2, selector);
         lay(&mut image, 1, u64::from(self.random.percent(60)));
-        let rest = stream_bits(kind) - bits_without_text(precision, points as usize).min(stream_bits(kind));
+        let rest = stream_bits(kind) - layout.bits_without_text(points as usize).min(stream_bits(kind));
         let length = match self.random.below(4) {
             0 => 0,
             1 => rest / 7,
@@ -166,14 +172,14 @@ impl Differ {
     pub fn damage(&mut self) {
         let kind = self.kind;
         let bits = stream_bits(kind) as u64;
-        let precision = self.precision();
+        let layout = self.layout();
         let points = plain::check(kind, self.image()).map_or(0, |summary| summary.points);
         let mut image = self.image().to_vec();
         let length = image.len() as u64;
         let mut mended = true;
-        let after = first_bit(21, precision) + 11;
+        let after = layout.first_bit(layout.last() + 1);
         let pairs = after + 18;
-        match self.random.below(14) {
+        match self.random.below(15) {
             0 => {
                 mended = false;
                 for _ in 0..self.random.within(1, 3) {
@@ -186,9 +192,9 @@ impl Differ {
                 }
             }
             2..=4 => {
-                let field = self.random.within(1, 21) as usize;
-                let code = self.field_code(field, precision, 50);
-                put(kind, &mut image, first_bit(field, precision), width(field, precision), code);
+                let field = self.random.within(1, layout.last() as i64) as usize;
+                let code = self.field_code(field, layout, 50);
+                put(kind, &mut image, layout.first_bit(field), layout.width(field), code);
             }
             5 => {
                 let precision = self.random.below(4);
@@ -213,6 +219,7 @@ impl Differ {
                 mended = false;
                 self.blank(&mut image);
             }
+            12 => put(kind, &mut image, 66, 8, self.random.pick(&[32, 33, 34, 40])),
             _ => {
                 let bit = self.random.below(bits) as usize;
                 let tail = self.random.below(200) as usize;

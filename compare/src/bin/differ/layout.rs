@@ -1,4 +1,6 @@
-//! The chip and the table of fields, as the generator knows them.
+//! The chip and the tables of fields, as the generator knows them.
+
+use compare::plain::Template;
 
 pub const BILLION: i64 = 1_000_000_000;
 
@@ -58,57 +60,119 @@ pub enum Row {
     Plain(i64, i64),
     /// Lowest and highest figure, step.
     Stepped(i64, i64, i64),
-    Response,
+    /// Start, ratio and last code.
+    Geometric(f64, f64, u64),
     Single,
 }
 
-pub fn row(field: usize, precision: usize) -> Row {
-    match field {
-        1 => Row::Plain(17, 16381),
-        3 => Row::Plain(1, 26),
-        6 => Row::Plain(0, 45),
-        9 | 12 => Row::Plain(0, 2),
-        2 | 4 | 5 | 19 | 20 | 21 => Row::Plain(0, (1 << width(field, precision)) - 1),
-        7 | 8 => Row::Single,
-        10 | 11 => match precision {
-            0 => Row::Stepped(-BILLION, 1_046_000_000, 1_000_000),
-            1 => Row::Stepped(-6_550_000, -6_550_000 + 25 * 524_286, 25),
-            _ => Row::Single,
-        },
-        13 => Row::Stepped(10, 10 + 262_142, 1),
-        14 => Row::Response,
-        18 => Row::Stepped(0, 65_534, 1),
-        _ => Row::Stepped(1, 511, 1),
+impl Row {
+    /// The lowest and the highest figure.
+    pub fn ends(self) -> (i64, i64) {
+        match self {
+            Row::Plain(least, most) | Row::Stepped(least, most, _) => (least, most),
+            Row::Geometric(_, _, last) => (self.scaled(0), self.scaled(last)),
+            Row::Single => (0, 0),
+        }
+    }
+
+    /// A geometric row's value of a code.
+    pub fn scaled(self, code: u64) -> i64 {
+        match self {
+            Row::Geometric(start, ratio, _) => (start * ratio.powi(code as i32)).round() as i64,
+            _ => 0,
+        }
     }
 }
 
-pub fn width(field: usize, precision: usize) -> usize {
-    const WIDTHS: [usize; 21] = [14, 15, 5, 6, 24, 6, 32, 32, 2, 0, 0, 2, 18, 6, 9, 9, 9, 16, 15, 12, 11];
-    match field {
-        10 | 11 => [11, 19, 32][precision],
-        _ => WIDTHS[field - 1],
+/// What the fields of a sheet go by.
+#[derive(Clone, Copy)]
+pub struct Layout {
+    pub template: Template,
+    pub precision: usize,
+}
+
+const BRIDGE: [usize; 21] = [14, 15, 5, 6, 24, 6, 32, 32, 2, 0, 0, 2, 18, 6, 9, 9, 9, 16, 15, 12, 11];
+const RESISTANCE: [usize; 19] = [14, 15, 5, 6, 24, 6, 32, 32, 2, 0, 0, 2, 6, 8, 8, 16, 15, 12, 11];
+
+impl Layout {
+    /// How many fields there are.
+    pub fn last(self) -> usize {
+        self.template.last()
+    }
+
+    pub fn row(self, field: usize) -> Row {
+        match field {
+            1 => Row::Plain(17, 16381),
+            3 => Row::Plain(1, 26),
+            6 => Row::Plain(0, 45),
+            7 | 8 => Row::Single,
+            2 | 4 | 5 => Row::Plain(0, (1 << self.width(field)) - 1),
+            _ => match self.template {
+                Template::Bridge => self.bridge(field),
+                Template::Resistance => self.resistance(field),
+            },
+        }
+    }
+
+    fn bridge(self, field: usize) -> Row {
+        match field {
+            9 | 12 => Row::Plain(0, 2),
+            10 | 11 => match self.precision {
+                0 => Row::Stepped(-BILLION, 1_046_000_000, 1_000_000),
+                1 => Row::Stepped(-6_550_000, -6_550_000 + 25 * 524_286, 25),
+                _ => Row::Single,
+            },
+            13 => Row::Stepped(10, 10 + 262_142, 1),
+            14 => RESPONSE,
+            15..=17 => Row::Stepped(1, 511, 1),
+            18 => Row::Stepped(0, 65_534, 1),
+            _ => Row::Plain(0, (1 << self.width(field)) - 1),
+        }
+    }
+
+    fn resistance(self, field: usize) -> Row {
+        match field {
+            10 | 11 => match self.precision {
+                0 => Row::Stepped(0, 1_260, 10),
+                1 => Row::Stepped(0, 1_022_000, 1_000),
+                2 => Row::Stepped(0, 65_534, 1),
+                _ => Row::Single,
+            },
+            13 => RESPONSE,
+            14 | 15 => CURRENT,
+            16 => Row::Stepped(0, 65_534, 1),
+            _ => Row::Plain(0, (1 << self.width(field)) - 1),
+        }
+    }
+
+    pub fn width(self, field: usize) -> usize {
+        match (self.template, field) {
+            (Template::Bridge, 10 | 11) => [11, 19, 32][self.precision],
+            (Template::Resistance, 10 | 11) => [7, 10, 16, 32][self.precision],
+            (Template::Bridge, _) => BRIDGE[field - 1],
+            (Template::Resistance, _) => RESISTANCE[field - 1],
+        }
+    }
+
+    pub fn first_bit(self, field: usize) -> usize {
+        let before: usize = (1..field).map(|field| self.width(field)).sum();
+        before + if field > 5 { 10 } else { 0 }
+    }
+
+    /// Bits of a sheet with selector 3 and the end bit, without text.
+    pub fn bits_without_text(self, points: usize) -> usize {
+        let block = if points > 0 { 18 + 37 * points } else { 0 };
+        self.first_bit(self.last() + 1) + block + 3
+    }
+
+    /// The most points that a kind holds.
+    pub fn capacity(self, kind: u8) -> usize {
+        stream_bits(kind).saturating_sub(self.bits_without_text(0) + 18) / 37
     }
 }
 
-pub fn first_bit(field: usize, precision: usize) -> usize {
-    let before: usize = (1..field).map(|field| width(field, precision)).sum();
-    before + if field > 5 { 10 } else { 0 }
-}
-
-pub fn response(code: u64) -> i64 {
-    (100.0 * 1.292f64.powi(code as i32)).round() as i64
-}
-
-/// Bits of a sheet with selector 3 and the end bit, without text.
-pub fn bits_without_text(precision: usize, points: usize) -> usize {
-    let block = if points > 0 { 18 + 37 * points } else { 0 };
-    first_bit(21, precision) + 11 + block + 3
-}
-
-/// The most points that a kind holds.
-pub fn capacity(kind: u8, precision: usize) -> usize {
-    stream_bits(kind).saturating_sub(bits_without_text(precision, 0) + 18) / 37
-}
+pub const RESPONSE: Row = Row::Geometric(100.0, 1.292, 62);
+pub const CURRENT: Row = Row::Geometric(10_000.0, 1.0 + 2.0 * 0.02356427402545, 254);
 
 pub fn gcd(a: i64, b: i64) -> i64 {
     if b == 0 { a.abs() } else { gcd(b, a % b) }

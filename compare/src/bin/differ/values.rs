@@ -1,10 +1,10 @@
 //! What the calls are handed: values, inputs, points, texts; good ones, at the edges, and bad ones.
 
-use compare::plain::{self, Value};
+use compare::plain::{self, Template, Value};
 use compare::structs::ByFlags;
 
 use crate::Differ;
-use crate::layout::{BILLION, Row, bits_without_text, capacity, gcd, response, row, stream_bits};
+use crate::layout::{BILLION, Layout, Row, gcd, stream_bits};
 
 impl Differ {
     pub fn finite(&mut self) -> f32 {
@@ -29,6 +29,15 @@ impl Differ {
     pub fn level(&mut self) -> u8 {
         let any = self.random.word() as u8;
         self.random.pick(&[0, 1, 1, 2, 2, 2, 2, 3, any])
+    }
+
+    /// A template as a byte: mostly its number; 33 also as any byte but 32.
+    pub fn template(&mut self, template: Template) -> u8 {
+        let any = self.random.word() as u8;
+        match template {
+            Template::Bridge if self.random.percent(20) && any != 32 => any,
+            _ => template.number(),
+        }
     }
 
     /// A value by flags, with anything in the members that it does not need.
@@ -75,24 +84,22 @@ impl Differ {
                     _ => self.random.within(least, most),
                 }
             }
-            Row::Response => {
-                let code = self.random.below(62);
+            Row::Geometric(_, _, last) => {
+                let code = self.random.below(last);
+                let (low, high) = (row.scaled(code), row.scaled(code + 1));
                 match self.random.below(4) {
-                    0 => response(code),
-                    1 => response(code + 1),
-                    2 => {
-                        let middle = (response(code) * response(code + 1)) as f64;
-                        middle.sqrt() as i64 + self.random.within(-1, 1)
-                    }
-                    _ => self.random.within(response(code), response(code + 1)),
+                    0 => low,
+                    1 => high,
+                    2 => ((low * high) as f64).sqrt() as i64 + self.random.within(-1, 1),
+                    _ => self.random.within(low, high),
                 }
             }
             Row::Single => 0,
         }
     }
 
-    pub fn good(&mut self, field: usize, precision: usize) -> ByFlags {
-        let row = row(field, precision);
+    pub fn good(&mut self, field: usize, layout: Layout) -> ByFlags {
+        let row = layout.row(field);
         let value = match row {
             Row::Plain(..) => Value::Whole(self.figure(row)),
             _ if self.random.percent(4) => Value::Missing,
@@ -102,8 +109,8 @@ impl Differ {
         self.given(value)
     }
 
-    pub fn bad(&mut self, field: usize, precision: usize) -> ByFlags {
-        let row = row(field, precision);
+    pub fn bad(&mut self, field: usize, layout: Layout) -> ByFlags {
+        let row = layout.row(field);
         let value = match (self.random.below(4), row) {
             (0, _) => Value::Missing,
             (1, Row::Single) => Value::Whole(self.random.within(-5, 5)),
@@ -124,10 +131,7 @@ impl Differ {
                 ])))
             }
             _ => {
-                let (least, most) = match row {
-                    Row::Plain(least, most) | Row::Stepped(least, most, _) => (least, most),
-                    _ => (100, response(62)),
-                };
+                let (least, most) = row.ends();
                 let any = self.random.word() as i64;
                 let wide = self.random.within(least - 3_000, most + 3_000);
                 Value::Whole(self.random.pick(&[
@@ -147,13 +151,13 @@ impl Differ {
     }
 
     /// Electrical ends for a reading: wide ones and powers of two among them, so that halves are met.
-    pub fn ends(&mut self, precision: usize) -> (i64, i64) {
-        let Row::Stepped(least, most, step) = row(10, precision) else {
+    pub fn ends(&mut self, layout: Layout) -> (i64, i64) {
+        let Row::Stepped(least, most, step) = layout.row(10) else {
             return (0, 0);
         };
         let steps = (most - least) / step;
         let span = match self.random.below(4) {
-            0 => 1 << self.random.below(if precision == 0 { 11 } else { 19 }),
+            0 => 1 << self.random.below(layout.width(10) as u64),
             1 => self.random.within(steps / 2, steps),
             2 => self.random.pick(&[1, 2, 3, 16, 1000, 1024]),
             _ => self.random.within(1, steps),
@@ -227,8 +231,8 @@ impl Differ {
         }
     }
 
-    pub fn point_list(&mut self, precision: usize) -> Vec<i64> {
-        let most = capacity(self.kind, precision) as i64;
+    pub fn point_list(&mut self, layout: Layout) -> Vec<i64> {
+        let most = layout.capacity(self.kind) as i64;
         let count = match self.random.below(20) {
             0..=5 => 0,
             6 => 1,
@@ -311,8 +315,8 @@ impl Differ {
         }
     }
 
-    pub fn closing_text(&mut self, precision: usize, points: usize) -> Vec<u8> {
-        let left = stream_bits(self.kind).saturating_sub(bits_without_text(precision, points));
+    pub fn closing_text(&mut self, layout: Layout, points: usize) -> Vec<u8> {
+        let left = stream_bits(self.kind).saturating_sub(layout.bits_without_text(points));
         let length = match self.random.below(20) {
             0..=4 => 0,
             5..=10 => self.random.within(0, left as i64 / 7),
@@ -321,7 +325,7 @@ impl Differ {
             16 => left as i64 / 7 - 1,
             17 => self.random.within(0, 600),
             18 if self.random.percent(10) => {
-                let edge = (65_535 - bits_without_text(precision, points) as i64) / 7;
+                let edge = (65_535 - layout.bits_without_text(points) as i64) / 7;
                 edge + self.random.within(-2, 2)
             }
             18 if self.random.percent(5) => self.random.within(9_000, 20_000),

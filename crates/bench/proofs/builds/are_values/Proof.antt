@@ -7,8 +7,8 @@ pub are-values-spec : {M : Type 1} → statement M
 are-values-spec =
     tie.close
     (tie.spec
-    (λ line index₀ index. Unit {0})
-    (λ line index₀ index. 25 - index)
+    (λ line end index₀ index. Unit {0})
+    (λ line end index₀ index. end - index)
     (λ c. search needs)
     (λ c κs. search needs)
     (λ c κs. search needs)

@@ -1,8 +1,10 @@
--- What is left of the fields is the measure.
+-- What is left of the template's fields is the measure; it has 21 at most.
 use mathlib.Core.Path.{_≡_}
-use Prim.Native.Nat.{_-_}
+use Prim.Native.Nat.{_-_, _≤_}
 use lib.ListN.{length}
+use native.Mathlib.Omega.{arith}
 use borrow.Author.Needs.{needs}
+use Rattle.fields.proofs.TemplateFacts.{last-most}
 use Rattle.bench.proofs.builds.sheet_of.Statement.{statement}
 use Rattle.bench.proofs.builds.sheet_of.Tie as tie
 
@@ -10,9 +12,10 @@ pub sheet-of-spec : {M : Type 1} → statement M
 sheet-of-spec =
     tie.close
     (tie.spec
-    (λ line end-bit level fields₀ at₀ fields at. length fields ≡ 21)
-    (λ line end-bit level fields₀ at₀ fields at. 21 - at)
-    (λ c. search needs)
+    (λ line template end-bit level last fields₀ at₀ fields at. (last ≤ 21) × (length fields ≡ 21))
+    (λ line template end-bit level last fields₀ at₀ fields at. last - at)
+    (λ c κs. search needs)
+    (λ c. (omega (arith, c .last-field .ensures, last-most (c .before .before .args .template)), search needs))
     (λ c. search needs)
     (λ c κs. search needs)
     (λ c. search needs)

@@ -1,0 +1,14 @@
+-- A template has 21 fields at most.
+use native.Mathlib.Omega.{arith}
+use borrow.Author.Needs.{needs}
+use Rattle.fields.proofs.TemplateFacts.{last-most}
+use Rattle.bench.proofs.builds.end_bit_word.Statement.{statement}
+use Rattle.bench.proofs.builds.end_bit_word.Tie as tie
+
+pub end-bit-word-spec : {M : Type 1} → statement M
+end-bit-word-spec =
+    tie.close
+    (tie.spec
+    (λ c κs. search needs)
+    (λ c. record { fits = omega (arith, c .last-field .ensures, last-most (c .before .args .template)) })
+    (λ c. omega (arith, c .last-field .ensures, last-most (c .before .args .template))))

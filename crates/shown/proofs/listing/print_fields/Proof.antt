@@ -1,0 +1,15 @@
+-- A template has 21 fields at most.
+use native.Mathlib.Omega.{arith}
+use borrow.Author.Needs.{needs}
+use Rattle.fields.proofs.TemplateFacts.{last-most}
+use Rattle.shown.proofs.listing.print_fields.Statement.{statement}
+use Rattle.shown.proofs.listing.print_fields.Tie as tie
+
+pub print-fields-spec : {M : Type 1} → statement M
+print-fields-spec =
+    tie.close
+    (tie.spec
+    (λ c κs. search needs)
+    (λ c. record { fits = omega (arith, c .last-field .ensures, last-most (c .before .before .args .template)) })
+    (λ c κs. search needs)
+    (λ c. search needs))
