@@ -13,3 +13,6 @@ pub mod DecodeLaws
 pub mod EncodeLaws
 pub mod StoredLaws
 pub mod MarkLaws
+pub mod SingleValues
+pub mod SingleRounding
+pub mod SingleLaws

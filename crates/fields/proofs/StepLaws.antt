@@ -53,11 +53,11 @@ module _ (start : ℤ) (step : ℕ) (figure : ℤ) (some : 0 < step) (h : ltZ fi
   code-high = rw code-quotient (omega (arith, above, div-add-mod' (2 * gap + step) (2 * step), mod-lt (2 * gap + step) {m = 2 * step} (omega arith)))
 
 -- A figure moves by half a step at most, and by a whole half only upward.
-small : (t : ℤ) (step : ℕ) → 2 * up t ≤ 2 * dn t + step → 2 * dn t ≤ 2 * up t + step → 2 * natAbs t ≤ step
+pub small : (t : ℤ) (step : ℕ) → 2 * up t ≤ 2 * dn t + step → 2 * dn t ≤ 2 * up t + step → 2 * natAbs t ≤ step
 small (pos n) step l h = omega arith
 small (negsuc n) step l h = omega arith
 
-smaller : (t : ℤ) (step : ℕ) → up t < dn t → 2 * dn t < 2 * up t + step → 2 * natAbs t < step
+pub smaller : (t : ℤ) (step : ℕ) → up t < dn t → 2 * dn t < 2 * up t + step → 2 * natAbs t < step
 smaller (pos n) step l h = omega arith
 smaller (negsuc n) step l h = omega arith
 

@@ -1,6 +1,7 @@
 -- Document 01's number and values for each case of an answer.
 use mathlib.Core.Option.{Option, none, some}
 use Prim.Native.Nat.{ℕ}
+use lib.IntN.{ℤ}
 use Rattle.refusal.specs.Outcome.{Outcome, good, refused}
 use Rattle.fields.specs.declared.Value.{Value}
 use Rattle.fields.specs.declared.Decoded.{Decoded}
@@ -15,6 +16,8 @@ use Rattle.fields.specs.declared.TemplateAnswer.the-variants.{Is, Unknow
 use Rattle.fields.specs.declared.Codes.{Codes}
 use Rattle.fields.specs.declared.Previous.{Previous}
 use Rattle.fields.specs.declared.Previous.the-variants.{Nothing, Pair as Behind}
+use Rattle.fields.specs.declared.Rounded.{Rounded}
+use Rattle.fields.specs.declared.Rounded.the-variants.{To, Outside}
 
 abbrev pub decodedSaid : Decoded → Outcome Value
 decodedSaid (Means v) = good v
@@ -37,3 +40,7 @@ templateSaid Unknown = none
 abbrev pub previousSaid : Previous → Option Codes
 previousSaid Nothing = none
 previousSaid (Behind codes) = some codes
+
+abbrev pub roundedSaid : Rounded → Option ℤ
+roundedSaid (To n) = some n
+roundedSaid Outside = none

@@ -5,6 +5,7 @@ pub mod Levels
 pub mod Calibration
 pub mod Stored
 pub mod Figure
+pub mod Singles
 pub mod Answers
 pub mod Tables
 pub mod Judgement

@@ -13,6 +13,7 @@ mod levels; // levels.rt: who may write a field
 mod limits; // limits.rt: the last codes of a field's bits
 mod rows; // rows.rt: the rows of the table of fields
 mod scales; // scales.rt: geometric codes
+mod singles; // singles.rt: a Single in V/V to the nearest nV/V
 mod steps; // steps.rt: stepped codes
 mod templates; // templates.rt: the order of the fields
 
@@ -33,6 +34,7 @@ pub use figure::physical_figure;
 pub use judging::judge;
 pub use levels::may_write;
 pub use scales::scale_value;
+pub use singles::nanovolts;
 pub use templates::basic_fields;
 pub use templates::bits_before;
 pub use templates::is_choice;
@@ -143,4 +145,10 @@ pub enum Judged {
 pub enum Encoded {
     Code(u64),
     Refused(Refusal),
+}
+
+// A Single in V/V at the nearest nV/V, or that it lies outside −2 to 2 V/V.
+pub enum Rounded {
+    To(i64),
+    Outside,
 }

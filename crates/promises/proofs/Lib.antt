@@ -11,6 +11,7 @@ pub mod PlannedSheet
 pub mod Written
 pub mod Rebuilt
 pub mod NeededBits
+pub mod ReadingLaws
 pub mod StoredPoints
 pub mod Distance
 pub mod Lending

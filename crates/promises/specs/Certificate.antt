@@ -8,20 +8,19 @@ use Rattle.refusal.specs.Outcome.{Outcome, good, refused}
 use Rattle.fields.specs.declared.Value.{Value}
 use Rattle.fields.specs.Calibration.{D, R}
 use Rattle.fields.specs.Figure.{billion}
-use Rattle.layout.specs.Image.{figure}
 use Rattle.sheet.specs.Check.{readField}
 use Rattle.build.specs.declared.Sheet.{Sheet}
 use Rattle.build.specs.Build.{pairsLent, build}
 use Rattle.reading.specs.declared.Reading.{Reading}
 use Rattle.line.specs.Certificate.{Slopes, Within}
 use Rattle.line.specs.Line.{certificateLine}
-use Rattle.reading.specs.Reading.{takeReading}
+use Rattle.reading.specs.Reading.{electricalFigure, takeReading}
 use Rattle.promises.specs.Lent.{Lendable}
 use Rattle.promises.specs.Alterations.{Alteration, RealAlterations, altered}
 
--- The figure of a field as it is read; an accepted reading has both ends as whole numbers.
+-- An electrical value as it is read, in whole nV/V: a Single to the nearest.
 abbrev pub whole : Outcome Value → ℤ
-whole (good v) = figure v
+whole (good v) = electricalFigure v
 whole (refused r) = pos 0
 
 -- e and f as a reading reads them from an image.

@@ -6,7 +6,7 @@ use mathlib.Core.List.{List, [], _∷_, _++_, map}
 use Prim.Native.Nat.{ℕ, _+_, _*_, _≤_}
 use lib.ListN.{replicate}
 use lib.IntN.{ℤ, pos, negℤ, natAbs, _-ℤ_, _*ℤ_}
-use lib.Ieee.{binary32, ofInt}
+use lib.Ieee.{binary32, ofInt, ofBits}
 use Rattle.refusal.specs.declared.Refusal.{Refusal}
 use Rattle.refusal.specs.Outcome.{Outcome, good, refused, _>>=_}
 use Rattle.refusal.specs.Rows.{wrongBlock}
@@ -30,17 +30,20 @@ use Rattle.reading.specs.Reading.{position, takeReading}
 use Rattle.promises.specs.Alterations.{Alteration, changes, commits, altered}
 
 -- A sheet of template 33 at a precision, with the ends of its span.
-abbrev pub sheetAt : ℕ → ℤ → ℤ → Sheet
-sheetAt precision e f = record {
+abbrev pub sheetWith : ℕ → Value → Value → Sheet
+sheetWith precision least greatest = record {
   template = Bridge;
   fields =
       map (λ n. slot (Whole (pos n))) (17 ∷ 1 ∷ 1 ∷ 0 ∷ 1 ∷ 0 ∷ []) ++
-      (slot (Single (ofInt binary32 (pos 0))) ∷ slot (Single (ofInt binary32 (pos 10))) ∷ slot (Whole (pos precision)) ∷ slot (Whole e) ∷ slot (Whole f) ∷ slot (Whole (pos 2)) ∷ []) ++
+      (slot (Single (ofInt binary32 (pos 0))) ∷ slot (Single (ofInt binary32 (pos 10))) ∷ slot (Whole (pos precision)) ∷ slot least ∷ slot greatest ∷ slot (Whole (pos 2)) ∷ []) ++
       map slot (replicate 6 Missing) ++
       map (λ n. slot (Whole (pos n))) (0 ∷ 0 ∷ 0 ∷ []);
   «end_bit» = false;
   level = Maker;
 }
+
+abbrev pub sheetAt : ℕ → ℤ → ℤ → Sheet
+sheetAt precision e f = sheetWith precision (Whole e) (Whole f)
 
 -- One of template 32.
 abbrev pub resistanceAt : ℕ → ℤ → ℤ → Sheet
@@ -123,8 +126,11 @@ printed =
     []
 
 -- A change of field 11, and one of field 9, which is refused.
+abbrev pub changedTo : ℕ → Value → List Alteration
+changedTo kind greatest = changes (record { kind = kind; level = CalibrationRoom; field = 11; value = greatest }) ∷ changes (record { kind = kind; level = Maker; field = 9; value = Whole (pos 1) }) ∷ []
+
 abbrev pub twoChanges : ℕ → ℤ → List Alteration
-twoChanges kind f = changes (record { kind = kind; level = CalibrationRoom; field = 11; value = Whole f }) ∷ changes (record { kind = kind; level = Maker; field = 9; value = Whole (pos 1) }) ∷ []
+twoChanges kind f = changedTo kind (Whole f)
 
 -- A commit of field 11 from 2,000,000 to 3,000,000 at precision 0, and another that still expects the former, which is refused.
 abbrev pub twoCommits : ℕ → List Alteration
@@ -137,7 +143,17 @@ twoCommits kind =
 abbrev pub steep : List ℤ
 steep = pos 7_650 ∷ pos 500 ∷ pos 22_950 ∷ negℤ (pos 152_500) ∷ []
 
--- Demand 3 can be met: a build, changes or commits and an accepted reading for each kind, at precisions 0 and 1.
+-- −2^−10, 2^−10 and the Single nearest to 0.002, in V/V: −976,562.5, 976,562.5 and 2,000,000.09.. nV/V.
+abbrev pub below : Value
+below = Single (ofBits binary32 0xba80_0000)
+
+abbrev pub above : Value
+above = Single (ofBits binary32 0x3a80_0000)
+
+abbrev pub other : Value
+other = Single (ofBits binary32 0x3b03_126f)
+
+-- Demand 3 can be met: a build, changes or commits and an accepted reading for each kind, at each precision that it has room for.
 abbrev pub met : List Case
 met =
     reads 0 40 (sheetAt 0 (pos 0) (pos 2_000_000)) [] (twoChanges 0 (pos 3_000_000)) (pos 1_000_000) (pos 333_333_333) ∷
@@ -147,6 +163,8 @@ met =
     reads 1 128 (sheetAt 1 (pos 0) (pos 2_000_000)) (pos 0 ∷ pos 5_000 ∷ []) (twoChanges 1 (pos 3_000_000)) (pos 1_000_000) (pos 333_338_333) ∷
     reads 2 512 (sheetAt 0 (pos 0) (pos 2_000_000)) (pos 0 ∷ pos 5_000 ∷ []) (twoChanges 2 (pos 3_000_000)) (pos 1_000_000) (pos 333_338_333) ∷
     reads 2 512 (sheetAt 1 (pos 0) (pos 2_000_000)) steep (twoChanges 2 (pos 3_000_000)) (pos 61) (negℤ (pos 28_997)) ∷
+    reads 1 128 (sheetWith 2 below other) [] (changedTo 1 above) (pos 0) (pos 499_999_744) ∷
+    reads 2 512 (sheetWith 2 below above) (pos 0 ∷ pos 5_000 ∷ []) (changedTo 2 other) (pos 1_000_000) (pos 664_046_938) ∷
     []
 
 -- Document 02, Note 7: a sheet of template 32 is built, at each precision but the Singles', and no reading is taken from it.

@@ -1,5 +1,6 @@
 pub mod Positions
 pub mod Opening
+pub mod EndLaws
 pub mod Spans
 pub mod Orders
 pub mod Fractions

@@ -28,27 +28,28 @@ use Rattle.fields.specs.Lines.{Line, lineOf}
 use Rattle.fields.specs.Calibration.{D, calPoint}
 use Rattle.fields.proofs.TemplateFacts.{span-listed, span-lines}
 use Rattle.fields.proofs.FloatLaws.{no-nan}
-use Rattle.fields.proofs.RuleLaws.{stepped-whole, plain-bounds}
+use Rattle.fields.proofs.SingleLaws.{nanovolts-within}
+use Rattle.fields.proofs.RuleLaws.{stepped-whole}
 use Rattle.fields.proofs.CalibrationLaws.{follows-rises}
 use Rattle.layout.specs.Contents.{Found, FoundPair, Calibration, bare, table, Contents, codesIn}
 use Rattle.layout.specs.Image.{figure, field, layoutOf, pairsIn, pairIn, points}
 use Rattle.layout.specs.Places.{fieldPlace}
 use Rattle.layout.proofs.Fields.{FieldAt}
 use Rattle.layout.proofs.Calibrations.{PairAt, PairsAt, CalibrationAt}
-use Rattle.layout.proofs.Places.{field-at, choice-is-code}
+use Rattle.layout.proofs.Places.{field-at}
 use Rattle.line.specs.Ranges.{Figures, Table}
 use Rattle.line.proofs.Distances.{near-abs}
 use Rattle.sheet.specs.declared.opening.Opened.{Opened}
 use Rattle.sheet.specs.Opened.{Opens}
 use Rattle.sheet.proofs.HeldLaws.{holding}
-use Rattle.reading.specs.Reading.{isResistance, float, isMissing}
+use Rattle.reading.specs.Reading.{isResistance, electricalFigure, float, isMissing, isOutside}
 
 -- ---- the sorts
 
--- A figure from −B to B, or missing.
+-- A whole figure is from −B to B.
 abbrev pub Figured : ℕ → Value → Type 0
 Figured B (Whole z) = natAbs z ≤ B
-Figured B (Single x) = ⊥
+Figured B (Single x) = Unit {0}
 Figured B Missing = Unit {0}
 
 -- A finite float, or missing.
@@ -59,8 +60,19 @@ Floated Missing = Unit {0}
 
 pub figured-small : {B : ℕ} (v : Value) → Figured B v → natAbs (figure v) ≤ B
 figured-small (Whole z) h = h
-figured-small (Single x) h = absurd h
+figured-small (Single x) h = omega arith
 figured-small Missing h = omega arith
+
+-- A Single from −2 to 2 V/V is small too.
+pub electrical-small : (v : Value) → Figured (2 ^ 32) v → isOutside v ≡ false → natAbs (electricalFigure v) ≤ 2 ^ 32
+electrical-small (Whole z) h i = h
+electrical-small (Single x) h i = omega (arith, nanovolts-within x i)
+electrical-small Missing h i = omega arith
+
+floated-figured : (v : Value) → Floated v → Figured (2 ^ 32) v
+floated-figured (Whole z) h = absurd h
+floated-figured (Single x) h = tt
+floated-figured Missing h = tt
 
 pub floated-real : (v : Value) → Floated v → isMissing v ≡ false → T (not (isNan (float v)))
 floated-real (Whole z) h m = absurd h
@@ -132,11 +144,11 @@ calibration-table at (table pairs) h = pairs-table none (at + 18) pairs (h .stan
 
 -- ---- the sheet
 
--- Fields 10 and 11 at precision 0 and 1.
-end-figured : (p : ℕ) {at : ℕ} {x : Found} → p ≤ 2 → (p ≡ 2 → ⊥) → FieldAt (bridgeEnd p) at x → Figured (2 ^ 32) (x .value)
-end-figured zero l n h = figured h (2 ^ 32) refl (omega arith)
-end-figured (suc zero) l n h = figured h (2 ^ 32) refl (omega arith)
-end-figured (suc (suc p)) l n h = absurd (n (omega arith))
+-- Fields 10 and 11, at any precision.
+end-figured : (p : ℕ) {at : ℕ} {x : Found} → FieldAt (bridgeEnd p) at x → Figured (2 ^ 32) (x .value)
+end-figured zero h = figured h (2 ^ 32) refl (omega arith)
+end-figured (suc zero) h = figured h (2 ^ 32) refl (omega arith)
+end-figured (suc (suc p)) {x = x} h = floated-figured (x .value) (floated h refl)
 
 pub opened-table : {kind : ℕ} {image : List ℕ} {o : Opened} {c : Contents} → Opens kind image o c → Table (points c)
 opened-table {c = c} h = calibration-table _ (c .calibration) (holding h .formed .calibrated)
@@ -159,15 +171,8 @@ module _ {kind : ℕ} {image : List ℕ} {o : Opened} {c : Contents} (h : Opens 
   pub opened-high : Floated (field c 8 .value)
   opened-high = floated (stands 8 (omega arith) (omega arith) (span-lines .1)) refl
 
-  precision-most : layoutOf c .precision ≤ 2
-  precision-most =
-      let l = span-lines .2 in
-      rw (choice-is-code (holding h .formed) 9 (omega arith) (span-listed (c .template) (omega arith)) (ap (λ (y : Line). y .sets) (line-is 9 ∙ l)))
-      (plain-bounds 2 0 2 _ (field c 9 .code) (field c 9 .value) (stands 9 (omega arith) (omega arith) l .means) .1)
+  pub opened-least : Figured (2 ^ 32) (field c 10 .value)
+  opened-least = end-figured (layoutOf c .precision) (stands 10 (omega arith) (omega arith) (span-lines .3))
 
-  module _ (n : layoutOf c .precision ≡ 2 → ⊥) where
-    pub opened-least : Figured (2 ^ 32) (field c 10 .value)
-    opened-least = end-figured (layoutOf c .precision) precision-most n (stands 10 (omega arith) (omega arith) (span-lines .3))
-
-    pub opened-greatest : Figured (2 ^ 32) (field c 11 .value)
-    opened-greatest = end-figured (layoutOf c .precision) precision-most n (stands 11 (omega arith) (omega arith) (span-lines .4))
+  pub opened-greatest : Figured (2 ^ 32) (field c 11 .value)
+  opened-greatest = end-figured (layoutOf c .precision) (stands 11 (omega arith) (omega arith) (span-lines .4))

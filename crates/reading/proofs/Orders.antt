@@ -1,4 +1,4 @@
--- A reading in the order of its rows: check, 4, 15 and 13, 14, and what it shows.
+-- A reading in the order of its rows: check, 4, 13 and 21, 14, and what it shows.
 use mathlib.Core.Path.{_≡_, sym, ap, _∙_}
 use mathlib.Core.Bool.{true, false}
 use mathlib.Core.List.{List}

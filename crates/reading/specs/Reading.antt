@@ -1,23 +1,24 @@
--- Document 01, "Reading", and document 02, Note 7: take a reading. Order: check, 4, 15, 13, 14. A reading is told in its steps: the span that its
--- fields give, the position of the input in it, the fraction, and the physical figure.
+-- Document 01, "Reading", and document 02, Notes 7 and 8: take a reading. Order: check, 4, 13 for a missing one, 21, 13 for e ≥ f, 14. A reading is
+-- told in its steps: the span that its fields give, the position of the input in it, the fraction, and the physical figure.
 use mathlib.Core.Bool.{Bool, true, false, _||_}
 use mathlib.Core.List.{List, [], _∷_}
 use Prim.Native.Nat.{ℕ}
-use lib.Dec.{eqb}
 use lib.IntN.{ℤ, pos, negℤ, natAbs, _+ℤ_, _-ℤ_, _*ℤ_}
 use lib.Signed.{leZ, ltZ}
 use lib.Ieee.{Float, nan}
 use Rattle.integers.specs.Nearest.{_over_, nearest}
+use Rattle.refusal.specs.declared.Refusal.{Refusal}
 use Rattle.refusal.specs.Outcome.{Outcome, good, refused, _>>_, _>>=_, refuse_if_}
-use Rattle.refusal.specs.Rows.{wrongBlock, noSpan, outsideSpan, singleSpan}
+use Rattle.refusal.specs.Rows.{wrongBlock, noSpan, outsideSpan, endOutside}
 use Rattle.fields.specs.declared.Value.{Value}
 use Rattle.fields.specs.declared.Value.the-variants.{Whole, Single, Missing}
 use Rattle.fields.specs.declared.Template.{Template}
 use Rattle.fields.specs.declared.Template.the-variants.{Bridge, Resistance}
 use Rattle.fields.specs.declared.Pair.{Pair}
 use Rattle.fields.specs.Figure.{billion, floatFraction, physicalFigure}
+use Rattle.fields.specs.Singles.{outsideTwo, nanovolts}
 use Rattle.layout.specs.Contents.{Contents}
-use Rattle.layout.specs.Image.{contents, field, layoutOf, figure, points}
+use Rattle.layout.specs.Image.{contents, field, points}
 use Rattle.layout.specs.Places.{firstSelector}
 use Rattle.line.specs.Line.{deviation}
 use Rattle.reading.specs.declared.Reading.{Reading}
@@ -33,12 +34,18 @@ isResistance Resistance = true
 
 -- ---- the span
 
--- e and f, the least and greatest electrical value, in nV/V.
+-- An electrical value in nV/V: as it is stored at precisions 0 and 1, a Single to the nearest.
+abbrev pub electricalFigure : Value → ℤ
+electricalFigure (Whole z) = z
+electricalFigure (Single x) = nanovolts x
+electricalFigure Missing = pos 0
+
+-- e and f, the least and greatest electrical value.
 abbrev pub least : Contents → ℤ
-least c = figure (field c 10 .value)
+least c = electricalFigure (field c 10 .value)
 
 abbrev pub greatest : Contents → ℤ
-greatest c = figure (field c 11 .value)
+greatest c = electricalFigure (field c 11 .value)
 
 -- A Single's float.
 abbrev pub float : Value → Float
@@ -51,18 +58,24 @@ isMissing Missing = true
 isMissing (Whole z) = false
 isMissing (Single x) = false
 
--- Row 13: the first missing of some fields.
-abbrev pub noneMissing : Contents → List ℕ → Outcome (Unit {0})
-noneMissing c [] = good tt
-noneMissing c (f ∷ fs) = do
-  refuse noSpan f if isMissing (field c f .value)
-  noneMissing c fs
+-- A Single outside −2 to 2 V/V.
+abbrev pub isOutside : Value → Bool
+isOutside (Single x) = outsideTwo x
+isOutside (Whole z) = false
+isOutside Missing = false
 
--- Rows 15 and 13, and the ends that a reading is taken from: fields 7 and 8, and e below f.
+-- A row whose place is the first of some fields that has such a value.
+abbrev pub refuseFirst : (ℕ → Refusal) → (Value → Bool) → Contents → List ℕ → Outcome (Unit {0})
+refuseFirst row test c [] = good tt
+refuseFirst row test c (f ∷ fs) = do
+  refuse row f if test (field c f .value)
+  refuseFirst row test c fs
+
+-- Rows 13 and 21, and the ends that a reading is taken from: fields 7 and 8, and e below f.
 unfoldable pub spanOf : Contents → Outcome Span
 spanOf c = do
-  refuse singleSpan if eqb (layoutOf c .precision) 2
-  noneMissing c (7 ∷ 8 ∷ 10 ∷ 11 ∷ [])
+  refuseFirst noSpan isMissing c (7 ∷ 8 ∷ 10 ∷ 11 ∷ [])
+  refuseFirst endOutside isOutside c (10 ∷ 11 ∷ [])
   refuse noSpan 11 if leZ (greatest c) (least c)
   good (record { low = float (field c 7 .value); high = float (field c 8 .value); least = least c; greatest = greatest c })
 

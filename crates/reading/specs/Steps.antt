@@ -5,13 +5,33 @@ use Prim.Native.Nat.{_+_, _^_, _≤_}
 use lib.Dec.{T}
 use lib.IntN.{ℤ, pos, natAbs, _-ℤ_}
 use lib.Ieee.{isNan}
-use lib.Signed.{_<ℤ_}
+use lib.Signed.{leZ, _<ℤ_}
 use Rattle.integers.specs.Parts.{up, dn}
-use Rattle.refusal.specs.Outcome.{Outcome, good, refused}
+use Rattle.refusal.specs.Outcome.{Outcome, good, refused, _>>_, refuse_if_}
+use Rattle.refusal.specs.Rows.{noSpan, endOutside}
+use Rattle.fields.specs.declared.Value.{Value}
+use Rattle.reading.specs.declared.ends.Ends.{Ends}
+use Rattle.reading.specs.declared.ends.EndsAnswer.{EndsAnswer}
+use Rattle.reading.specs.declared.ends.EndsAnswer.the-variants.{Are, Refused as NoEnds}
 use Rattle.reading.specs.declared.position.Offset.{Offset}
 use Rattle.reading.specs.declared.span.Span.{Span}
 use Rattle.reading.specs.declared.span.SpanAnswer.{SpanAnswer}
 use Rattle.reading.specs.declared.span.SpanAnswer.the-variants.{Is, Refused}
+use Rattle.reading.specs.Reading.{electricalFigure, isMissing, isOutside}
+
+-- Rows 13 and 21 of the values of fields 10 and 11.
+unfoldable pub endsOf : Value → Value → Outcome Ends
+endsOf v w = do
+  refuse noSpan 10 if isMissing v
+  refuse noSpan 11 if isMissing w
+  refuse endOutside 10 if isOutside v
+  refuse endOutside 11 if isOutside w
+  refuse noSpan 11 if leZ (electricalFigure w) (electricalFigure v)
+  good (record { least = electricalFigure v; greatest = electricalFigure w })
+
+abbrev pub endsSaid : EndsAnswer → Outcome Ends
+endsSaid (Are ends) = good ends
+endsSaid (NoEnds r) = refused r
 
 abbrev pub spanSaid : SpanAnswer → Outcome Span
 spanSaid (Is s) = good s

@@ -1,4 +1,6 @@
 // The ends of the span.
+use crate::ends::EndsAnswer;
+use crate::ends::ends_of;
 use fields::Value;
 use refusal::Refusal;
 use sheet::Opened;
@@ -24,34 +26,25 @@ pub enum SpanAnswer {
     Refused(Refusal),
 }
 
-// The ends of the span of an opened sheet of template 33; or 15 for precision 2; or 13 with the first that is missing, or with 11 where
-// the least is not below the greatest.
+// The ends of the span of an opened sheet of template 33; or 13 with the first that is missing; or 21 with the first electrical
+// one outside −2 to 2 V/V; or 13 with 11 where the least is not below the greatest.
 pub fn span_in(sheet: Opened, image: &[u8]) -> SpanAnswer
     requires { ⌜ Held sheet (now image) × (isResistance (sheet .layout .template) ≡ false) ⌝ }
     ensures { λ r. ⌜ ((kind : ℕ) (c : Contents) → Opens kind (now (image .entry)) sheet c → spanSaid r ≡ spanOf c) ⌝ }
 {
-    if sheet.layout.precision == 2 {
-        return SpanAnswer::Refused(refusal::single_span());
-    }
     let Value::Single(low) = value_in(sheet, image, 7) else {
         return SpanAnswer::Refused(refusal::no_span(7));
     };
     let Value::Single(high) = value_in(sheet, image, 8) else {
         return SpanAnswer::Refused(refusal::no_span(8));
     };
-    let Value::Whole(least) = value_in(sheet, image, 10) else {
-        return SpanAnswer::Refused(refusal::no_span(10));
-    };
-    let Value::Whole(greatest) = value_in(sheet, image, 11) else {
-        return SpanAnswer::Refused(refusal::no_span(11));
-    };
-    if greatest <= least {
-        return SpanAnswer::Refused(refusal::no_span(11));
+    match ends_of(value_in(sheet, image, 10), value_in(sheet, image, 11)) {
+        EndsAnswer::Refused(r) => SpanAnswer::Refused(r),
+        EndsAnswer::Are(ends) => SpanAnswer::Is(Span {
+            low,
+            high,
+            least: ends.least,
+            greatest: ends.greatest,
+        }),
     }
-    SpanAnswer::Is(Span {
-        low,
-        high,
-        least,
-        greatest,
-    })
 }

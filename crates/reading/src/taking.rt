@@ -45,7 +45,7 @@ fn is_resistance(template: Template) -> bool
     }
 }
 
-// A reading of an opened sheet of template 33: 15, then 13, then 14.
+// A reading of an opened sheet of template 33: 13 and 21, then 14.
 fn bridge_reading(sheet: Opened, image: &[u8], input: i64) -> ReadingAnswer
     requires { ⌜ Held sheet (now image) × (isResistance (sheet .layout .template) ≡ false) ⌝ }
     ensures { λ r. ⌜ ((kind : ℕ) (c : Contents) → Opens kind (now (image .entry)) sheet c → readingSaid r ≡ takeReading kind (now (image .entry)) input) ⌝ }
@@ -75,8 +75,8 @@ fn reading_in(sheet: Opened, image: &[u8], input: i64) -> ReadingAnswer
 }
 
 // A reading of an image at an input in nV/V: the fraction q and the physical figure. Else the check's refusal; 4 for template
-// 32; 15 for precision 2; 13 where field 7, 8, 10 or 11 is missing or e is not below f; 14 for an input too far outside the
-// span.
+// 32; 13 where field 7, 8, 10 or 11 is missing; 21 where 10 or 11 is a Single outside −2 to 2 V/V; 13 where e is not below f; 14
+// for an input too far outside the span.
 pub fn take_reading(kind: u8, image: &[u8], input: i64) -> ReadingAnswer
     ensures { λ r. ⌜ readingSaid r ≡ takeReading kind (now (image .entry)) input ⌝ }
 {

@@ -61,10 +61,6 @@ noSpan field = returned 13 field
 abbrev pub outsideSpan : Refusal
 outsideSpan = returned 14 0
 
--- 15: reading with precision 2.
-abbrev pub singleSpan : Refusal
-singleSpan = returned 15 9
-
 -- 16: points list odd or over 254 long.
 abbrev pub wrongList : ℕ → Refusal
 wrongList length = returned 16 length
@@ -84,3 +80,7 @@ otherCode field = returned 19 field
 -- 20 (Note 6): the writer's level may not write the field.
 abbrev pub levelTooLow : ℕ → Refusal
 levelTooLow field = returned 20 field
+
+-- 21 (Note 8): reading: a Single outside −2 to 2 V/V. The place is the first of 10 and 11 that is one.
+abbrev pub endOutside : ℕ → Refusal
+endOutside field = returned 21 field

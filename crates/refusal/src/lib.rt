@@ -5,6 +5,7 @@ mod rows;
 
 pub use rows::blank_chip;
 pub use rows::changed_alone;
+pub use rows::end_outside;
 pub use rows::level_too_low;
 pub use rows::no_span;
 pub use rows::no_such;
@@ -16,7 +17,6 @@ pub use rows::outside_span;
 pub use rows::outside_table;
 pub use rows::past_end;
 pub use rows::short_index;
-pub use rows::single_span;
 pub use rows::too_long;
 pub use rows::wrong_block;
 pub use rows::wrong_image;
@@ -65,8 +65,6 @@ pub const NO_SPAN: u8 = 13;
 
 pub const OUTSIDE_SPAN: u8 = 14;
 
-pub const SINGLE_SPAN: u8 = 15;
-
 pub const WRONG_LIST: u8 = 16;
 
 pub const BLANK_CHIP: u8 = 17;
@@ -76,3 +74,5 @@ pub const SHORT_INDEX: u8 = 18;
 pub const OTHER_CODE: u8 = 19;
 
 pub const LEVEL_TOO_LOW: u8 = 20;
+
+pub const END_OUTSIDE: u8 = 21;

@@ -15,12 +15,12 @@ ghost use Rattle.refusal.specs.Rows.{
   changedAlone,
   noSpan,
   outsideSpan,
-  singleSpan,
   wrongList,
   blankChip,
   shortIndex,
   otherCode,
   levelTooLow,
+  endOutside,
 };
 use crate::Refusal;
 
@@ -157,15 +157,6 @@ pub fn outside_span() -> Refusal
     }
 }
 
-pub fn single_span() -> Refusal
-    ensures { λ r. ⌜ r ≡ singleSpan ⌝ }
-{
-    Refusal {
-        number: crate::SINGLE_SPAN,
-        place: 9,
-    }
-}
-
 pub fn wrong_list(length: u64) -> Refusal
     ensures { λ r. ⌜ r ≡ wrongList length ⌝ }
 {
@@ -207,6 +198,15 @@ pub fn level_too_low(field: u64) -> Refusal
 {
     Refusal {
         number: crate::LEVEL_TOO_LOW,
+        place: field,
+    }
+}
+
+pub fn end_outside(field: u64) -> Refusal
+    ensures { λ r. ⌜ r ≡ endOutside field ⌝ }
+{
+    Refusal {
+        number: crate::END_OUTSIDE,
         place: field,
     }
 }
