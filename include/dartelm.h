@@ -1,7 +1,7 @@
 /* Dartelm: the IEEE 1451.4 data sheet (TEDS) in a sender's memory chip, from its image to a reading. For C99 and C++.
  *
  * Every call returns one struct by value. Its number is 0 where the call is accepted; else it is a refusal's, DARTELM_WRONG_IMAGE
- * to DARTELM_LEVEL_TOO_LOW, with the refusal's place beside it, and every other member is 0. (0 as a float is +0.0. A Single that
+ * to DARTELM_END_OUTSIDE, with the refusal's place beside it, and every other member is 0. (0 as a float is +0.0. A Single that
  * is returned is finite.) A refused call writes nothing; no call writes anything but the image of a build, a change or a commit,
  * and the buffer of an index.
  *
@@ -52,12 +52,13 @@ enum {
     DARTELM_NO_SPAN = 13,       /* A reading needs fields 7, 8, 10 and 11, and 10 below 11. Place: the first that is missing,
                                  * else 11. */
     DARTELM_OUTSIDE_SPAN = 14,  /* A reading's input is too far outside the span. Place: 0. */
-    DARTELM_SINGLE_SPAN = 15,   /* A reading at precision 2. Place: 9. */
     DARTELM_WRONG_LIST = 16,    /* A list of points that is odd or longer than 254. Place: its length. */
     DARTELM_BLANK_CHIP = 17,    /* Every page is blank: nothing has been written to this chip. Place: 0. */
     DARTELM_SHORT_INDEX = 18,   /* A buffer too short for an index, or an index too short to be one. Place: the bytes needed. */
     DARTELM_OTHER_CODE = 19,    /* A commit: another code stands in the field than the present one. Place: the field. */
-    DARTELM_LEVEL_TOO_LOW = 20  /* A writer of this level may not write the field. Place: the field. */
+    DARTELM_LEVEL_TOO_LOW = 20, /* A writer of this level may not write the field. Place: the field. */
+    DARTELM_END_OUTSIDE = 21    /* A reading at precision 2: a Single outside -2 to 2 V/V. Place: the first of fields 10 and 11
+                                 * that is. */
 };
 
 /* The template of a sheet's first block, which says what its fields are. A byte that is handed in and is neither is taken as
@@ -292,7 +293,8 @@ dartelm_proposal_answer dartelm_propose(uint8_t kind, const uint8_t *image, size
 dartelm_write_answer dartelm_commit(uint8_t kind, uint8_t *image, size_t image_length, uint8_t level, uint64_t field,
                                     uint64_t present_code, uint64_t new_code);
 
-/* Takes a reading at an input in nV/V. Refused as a check is, with 4 for a sheet of template 32, and with 13, 14 and 15. */
+/* Takes a reading at an input in nV/V. Refused as a check is, with 4 for a sheet of template 32, and with 13, 14 and 21. At
+ * precision 2 the Singles of fields 10 and 11 are taken to the nearest nV/V, halves upward. */
 dartelm_reading_answer dartelm_reading(uint8_t kind, const uint8_t *image, size_t image_length, int64_t input);
 
 /* The text of a code of field 3, 18 or 19, as template 33 has them: a letter, a date as 2018-01-02, three letters. Refused with 8

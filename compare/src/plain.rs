@@ -922,26 +922,45 @@ pub fn commit(kind: u8, image: &mut [u8], level: Level, field: u64, present: u64
 
 // ---- reading ----
 
+/// A Single of -2 to 2 V/V in nV/V: to the nearest, halves upward.
+pub fn nanovolts(single: f32) -> Option<i64> {
+    if !(-2.0..=2.0).contains(&single) {
+        return None;
+    }
+    let bits = single.to_bits();
+    let exponent = (bits >> 23 & 0xff).max(1);
+    let digits = i64::from(bits & 0x7f_ffff | if bits & 0x7f80_0000 > 0 { 0x80_0000 } else { 0 });
+    let billion = if bits >> 31 == 1 { -BILLION * digits } else { BILLION * digits };
+    // Over 2^22 at least; past 2^54 it is less than a half.
+    match 150 - exponent {
+        shift @ ..60 => Some((billion + (1 << (shift - 1))) >> shift),
+        _ => Some(0),
+    }
+}
+
 pub fn reading(kind: u8, image: &[u8], input: i64) -> Answer<Reading> {
     let open = open(kind, image)?;
     if open.layout.template == Template::Resistance {
         return refuse(4, 64);
     }
-    if open.layout.precision == 2 {
-        return refuse(15, 9);
-    }
     let single = |field| match open.field(image, field) {
         Value::Single(figure) => Ok(f64::from(figure)),
         _ => refuse(13, field as u64),
     };
-    let whole = |field| match open.field(image, field) {
+    let end = |field| match open.field(image, field) {
+        Value::Missing => refuse(13, field as u64),
+        end => Ok(end),
+    };
+    let in_nanovolts = |field, end| match end {
+        Value::Single(figure) => nanovolts(figure).map_or_else(|| refuse(21, field), Ok),
         Value::Whole(figure) => Ok(figure),
-        _ => refuse(13, field as u64),
+        Value::Missing => refuse(13, field),
     };
     let least = single(7)?;
     let greatest = single(8)?;
-    let e = whole(10)?;
-    let f = whole(11)?;
+    let ends = (end(10)?, end(11)?);
+    let e = in_nanovolts(10, ends.0)?;
+    let f = in_nanovolts(11, ends.1)?;
     if e >= f {
         return refuse(13, 11);
     }
@@ -1349,6 +1368,50 @@ mod tests {
         assert_eq!(fetch(1, &image, &entries, 10), Ok(Whole(80)));
         assert_eq!(fetch(1, &image, &entries[..75], 10).err(), Some(Refusal { number: 18, place: 76 }));
         assert_eq!(fetch(1, &image, &entries, 20).err(), Some(Refusal { number: 8, place: 20 }));
+    }
+
+    #[test]
+    fn singles_in_nanovolts() {
+        assert_eq!(nanovolts(0.0), Some(0));
+        assert_eq!(nanovolts(-0.0), Some(0));
+        assert_eq!(nanovolts(2.0), Some(2 * BILLION));
+        assert_eq!(nanovolts(-2.0), Some(-2 * BILLION));
+        assert_eq!(nanovolts(f32::from_bits(0x4000_0001)), None);
+        assert_eq!(nanovolts(f32::from_bits(0xc000_0001)), None);
+        assert_eq!(nanovolts(f32::MIN_POSITIVE), Some(0));
+        assert_eq!(nanovolts(-f32::from_bits(1)), Some(0));
+        // 2^-10 is 976,562.5 nV/V, and j x 2^-10 lies on a half for every odd j.
+        for j in -2048i64..=2048 {
+            let doubled = j * 1_953_125;
+            assert_eq!(nanovolts(j as f32 / 1024.0), Some((doubled + 1).div_euclid(2)));
+        }
+        // 24 bits times 5^9 and a power of two are an f64.
+        for i in 0..1 << 16 {
+            let single = f32::from_bits(0x2e00_0000 + i * 0x1200 + i % 7);
+            for single in [single, -single] {
+                let expected = (f64::from(single) * 1e9 + 0.5).floor();
+                assert_eq!(nanovolts(single), Some(expected as i64), "{single:e}");
+            }
+        }
+    }
+
+    #[test]
+    fn full_precision() {
+        let reads = |ends: [Value; 2], input| {
+            let mut values = sheet();
+            values[8] = Value::Whole(2);
+            values[9..11].copy_from_slice(&ends);
+            let mut image = [0; 128];
+            build(1, &mut image, Template::Bridge, &values, false, &[], &[]).unwrap();
+            reading(1, &image, input).map(|reading| reading.fraction).map_err(|refusal| (refusal.number, refusal.place))
+        };
+        use Value::{Missing, Single};
+        assert_eq!(reads([Single(0.0), Single(0.004)], 2_000_000), Ok(500_000_000));
+        assert_eq!(reads([Single(3.0), Missing], 0), Err((13, 11)));
+        assert_eq!(reads([Single(3.0), Single(1.0)], 0), Err((21, 10)));
+        assert_eq!(reads([Single(1.0), Single(-3.0)], 0), Err((21, 11)));
+        assert_eq!(reads([Single(1.0), Single(-1.0)], 0), Err((13, 11)));
+        assert_eq!(reads([Single(1.0e-9), Single(1.2e-9)], 0), Err((13, 11)));
     }
 
     #[test]

@@ -50,17 +50,19 @@ fn values() -> [Value; 21] {
     ]
 }
 
+/// The same at precision 2.
+fn full_precision() -> [Value; 21] {
+    let mut values = values();
+    values[8..11].copy_from_slice(&[Value::Whole(2), Value::Single(0.0), Value::Single(0.003)]);
+    values
+}
+
 impl Case {
-    fn new(kind: u8, count: i64, text: &'static [u8]) -> Case {
+    fn new(kind: u8, values: [Value; 21], count: i64, text: &'static [u8]) -> Case {
         let mut case = Case {
             kind,
             image: vec![0; [40, 128, 512][usize::from(kind)]],
-            fields: Fields {
-                values: values().map(ByFlags::from),
-                end_bit: 1,
-                level: Level::Maker.into(),
-                template: 33,
-            },
+            fields: Fields { values: values.map(ByFlags::from), end_bit: 1, level: Level::Maker.into(), template: 33 },
             text,
             points: (0..count)
                 .flat_map(|i| [i * 1_000_000_000 / count.max(1), (i * 7_919 % 200 - 100) * 10_000])
@@ -183,7 +185,7 @@ fn main() {
     println!("| Kind | Points | Call | Product, ns | Plain, ns | Product / plain |");
     println!("|---|---|---|---|---|---|");
     for (kind, points, text) in CASES {
-        let mut case = Case::new(kind, points, text);
+        let mut case = Case::new(kind, values(), points, text);
         let rows: [(&str, Run, Run); 9] = [
             ("check", &over(Product, check), &over(Plain, check)),
             ("field 1", &over(Product, first_field), &over(Plain, first_field)),
@@ -200,11 +202,16 @@ fn main() {
             println!("| {kind} | {points} | {name} | {ours:.0} | {theirs:.0} | {:.2} |", ours / theirs);
         }
     }
+    for (kind, points) in [(1, 0), (2, 20)] {
+        let mut case = Case::new(kind, full_precision(), points, b"Dash");
+        let (ours, theirs) = measure(&over(Product, reading), &over(Plain, reading), &mut case);
+        println!("| {kind} | {points} | reading, precision 2 | {ours:.0} | {theirs:.0} | {:.2} |", ours / theirs);
+    }
     println!();
     println!("| Kind | Points | All fields in one call, ns | 21 field reads, ns |");
     println!("|---|---|---|---|");
     for (kind, points, text) in CASES {
-        let mut case = Case::new(kind, points, text);
+        let mut case = Case::new(kind, values(), points, text);
         let (one, each) = measure(&over(Product, sheet), &over(Product, each_field), &mut case);
         println!("| {kind} | {points} | {one:.0} | {each:.0} |");
     }

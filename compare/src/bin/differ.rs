@@ -47,7 +47,7 @@ const PROPOSE: usize = 14;
 const COMMIT: usize = 15;
 
 /// Refusal numbers, and 0.
-const NUMBERS: usize = 21;
+const NUMBERS: usize = 22;
 
 const MOST_SHOWN: u64 = 10;
 
@@ -553,10 +553,10 @@ impl Differ {
             *place = self.good((i + 1).min(last), layout);
         }
         fields.values[8] = self.given(Value::Whole(layout.precision as i64));
-        if layout.width(10) < 32 && self.random.percent(85) {
+        if self.random.percent(85) {
             let (e, f) = self.ends(layout);
-            fields.values[9] = self.given(Value::Whole(e));
-            fields.values[10] = self.given(Value::Whole(f));
+            fields.values[9] = self.given(e);
+            fields.values[10] = self.given(f);
         }
         if self.random.percent(25) {
             for _ in 0..self.random.within(1, 3) {

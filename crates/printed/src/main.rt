@@ -66,11 +66,11 @@ fn print_rows() {
     shown::refused(refusal::changed_alone(9));
     shown::refused(refusal::no_span(11));
     shown::refused(refusal::outside_span());
-    shown::refused(refusal::single_span());
     shown::refused(refusal::wrong_list(3));
     shown::refused(refusal::short_index(84));
     shown::refused(refusal::other_code(20));
     shown::refused(refusal::level_too_low(13));
+    shown::refused(refusal::end_outside(10));
 }
 
 fn main() {

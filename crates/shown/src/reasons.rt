@@ -4,9 +4,9 @@ use crate::output::put_entry;
 use crate::output::put_number;
 use refusal::Refusal;
 
-// A line a row, from 0, which is none: what its place is, with no word for it where a row has more than one sort of place,
-// and what it means.
-const ROWS: [u8; 989] = *b"place;no row of the table\n\
+// A line a row, from 0, which is none, nor is 15 any more: what its place is, with no word for it where a row has more than one
+// sort of place, and what it means.
+const ROWS: [u8; 1032] = *b"place;no row of the table\n\
     place;no such kind of chip, or an image of another length\n\
     page;the bytes of this page do not add up\n\
     bit;what begins here would pass the end of the chip\n\
@@ -21,12 +21,13 @@ const ROWS: [u8; 989] = *b"place;no row of the table\n\
     field;the precision is not changed alone\n\
     field;no reading: this value is missing, or the electrical values do not rise\n\
     place;no reading: the input is outside the span\n\
-    field;no reading: the precision is 2\n\
+    place;no row of the table\n\
     length;a list of points that is odd or too long\n\
     place;blank: nothing has been written to this chip\n\
     bytes;an index needs so many, and there are fewer\n\
     field;another code stands there than the one expected\n\
-    field;the writer's level is too low to write it";
+    field;the writer's level is too low to write it\n\
+    field;no reading: this value lies outside -2 to 2 V/V";
 
 // Prints a refusal's number, place and meaning, on a line.
 pub fn refused(r: Refusal) {

@@ -22,9 +22,9 @@ impl Differ {
         if self.random.percent(40) {
             return Layout { template: Template::Resistance, precision: self.random.below(4) as usize };
         }
-        let precision = match self.random.below(20) {
-            0 => 2,
-            1 | 2 if self.kind > 0 => 2,
+        // Kind 0 has no room for precision 2.
+        let precision = match self.random.below(if self.kind > 0 { 3 } else { 20 }) {
+            choice @ 0..=2 => choice as usize,
             choice => (choice % 2) as usize,
         };
         Layout { template: Template::Bridge, precision }
@@ -45,6 +45,7 @@ impl Differ {
         match layout.row(field) {
             Row::Plain(least, most) => self.random.within(least, most) as u64,
             _ if self.random.percent(4) => ones,
+            Row::Single if field > 9 => u64::from(self.end().to_bits()),
             Row::Single => u64::from(self.finite().to_bits()),
             _ => self.random.below(ones),
         }

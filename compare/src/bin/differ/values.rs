@@ -103,6 +103,7 @@ impl Differ {
         let value = match row {
             Row::Plain(..) => Value::Whole(self.figure(row)),
             _ if self.random.percent(4) => Value::Missing,
+            Row::Single if field > 9 => Value::Single(self.end()),
             Row::Single => Value::Single(self.finite()),
             _ => Value::Whole(self.figure(row)),
         };
@@ -150,10 +151,26 @@ impl Differ {
         self.given(value)
     }
 
+    /// A Single for an electrical end: mostly of -2 to 2 V/V, on a half of an nV/V, around a whole one, or at the edges.
+    pub fn end(&mut self) -> f32 {
+        match self.random.below(12) {
+            0 => self.random.pick(&[2.0, -2.0, 0.0, -0.0]),
+            1 => self.random.pick(&[0x4000_0001, 0xc000_0001, 0x3fff_ffff, 0xbfff_ffff].map(f32::from_bits)),
+            2 | 3 => self.random.within(-2_100, 2_100) as f32 / 1_024.0,
+            4 => self.random.within(-40, 40) as f32 * 0.25e-9,
+            5 => self.random.within(-2_000_000_000, 2_000_000_000) as f32 * 1e-9,
+            6 => self.finite(),
+            _ => self.random.within(-5_000_000, 5_000_000) as f32 * 1e-9,
+        }
+    }
+
     /// Electrical ends for a reading: wide ones and powers of two among them, so that halves are met.
-    pub fn ends(&mut self, layout: Layout) -> (i64, i64) {
+    pub fn ends(&mut self, layout: Layout) -> (Value, Value) {
         let Row::Stepped(least, most, step) = layout.row(10) else {
-            return (0, 0);
+            let (a, b) = (self.end(), self.end());
+            let rising = a < b || self.random.percent(10);
+            let (e, f) = if rising { (a, b) } else { (b, a) };
+            return (Value::Single(e), Value::Single(f));
         };
         let steps = (most - least) / step;
         let span = match self.random.below(4) {
@@ -167,7 +184,7 @@ impl Differ {
             1 => steps - span,
             _ => self.random.within(0, steps - span),
         };
-        (least + step * low, least + step * (low + span))
+        (Value::Whole(least + step * low), Value::Whole(least + step * (low + span)))
     }
 
     /// An input for a reading of the image.
@@ -175,6 +192,7 @@ impl Differ {
         let kind = self.kind;
         let end = |field| match plain::field(kind, self.image(), field) {
             Ok(Value::Whole(figure)) => Some(figure),
+            Ok(Value::Single(figure)) => plain::nanovolts(figure),
             _ => None,
         };
         let points = plain::check(kind, self.image()).map_or(0, |summary| summary.points);
