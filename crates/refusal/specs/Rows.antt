@@ -21,7 +21,7 @@ pastEnd bit = returned 3 bit
 abbrev pub wrongBlock : ℕ → Refusal
 wrongBlock selectorBit = returned 4 selectorBit
 
--- 5: code outside the table; count 0; all ones in a point or deviation; domain 1.
+-- 5: code outside the table; count 0; all ones in a point or deviation.
 abbrev pub outsideTable : ℕ → Refusal
 outsideTable bit = returned 5 bit
 
@@ -80,3 +80,7 @@ shortIndex bytes = returned 18 bytes
 -- 19 (Note 5): commit: the present code is no longer there.
 abbrev pub otherCode : ℕ → Refusal
 otherCode field = returned 19 field
+
+-- 22 (Note 9): points plus deviations not rising as stored, in domain 1. The place is as in 7.
+abbrev pub sumsNotRising : ℕ → Refusal
+sumsNotRising place = returned 22 place

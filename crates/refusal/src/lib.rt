@@ -16,6 +16,7 @@ pub use rows::outside_table;
 pub use rows::past_end;
 pub use rows::short_index;
 pub use rows::single_span;
+pub use rows::sums_not_rising;
 pub use rows::too_long;
 pub use rows::wrong_block;
 pub use rows::wrong_image;
@@ -73,3 +74,5 @@ pub const BLANK_CHIP: u8 = 17;
 pub const SHORT_INDEX: u8 = 18;
 
 pub const OTHER_CODE: u8 = 19;
+
+pub const SUMS_NOT_RISING: u8 = 22;

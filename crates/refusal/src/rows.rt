@@ -20,6 +20,7 @@ ghost use Rattle.refusal.specs.Rows.{
   blankChip,
   shortIndex,
   otherCode,
+  sumsNotRising,
 };
 use crate::Refusal;
 
@@ -198,5 +199,14 @@ pub fn other_code(field: u64) -> Refusal
     Refusal {
         number: crate::OTHER_CODE,
         place: field,
+    }
+}
+
+pub fn sums_not_rising(place: u64) -> Refusal
+    ensures { λ r. ⌜ r ≡ sumsNotRising place ⌝ }
+{
+    Refusal {
+        number: crate::SUMS_NOT_RISING,
+        place,
     }
 }

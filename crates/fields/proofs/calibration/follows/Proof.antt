@@ -1,5 +1,6 @@
 use borrow.Author.Needs.{needs}
 use borrow.Author.Tests.{le-leb, lt-leb}
+use mathlib.Core.Path.{_∙_}
 use Rattle.fields.specs.Calibration.{follows}
 use Rattle.fields.proofs.calibration.follows.Statement.{statement}
 use Rattle.fields.proofs.calibration.follows.Tie as tie
@@ -12,5 +13,6 @@ follows-spec =
     (λ c. search needs)
     (λ c. search needs)
     (λ c. rw (c .before .before .before .before .before2 .given .1, le-leb _ _ (c .if1 .taken)))
+    (λ c κs. search needs)
     (λ c. search needs)
-    (λ c. rw (c .before .before .before .before .before2 .given .1, lt-leb _ _ (c .if1 .left))))
+    (λ c. let p = c .before in rw (p .before .before .before .before .before2 .given .1, lt-leb _ _ (p .if1 .left)) (c .climbs .ensures)))
