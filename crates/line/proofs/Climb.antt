@@ -16,7 +16,7 @@ use Rattle.line.specs.Crossing.{sum}
 use Rattle.line.proofs.Distances.{above-parts, scaled}
 use Rattle.line.proofs.Order.{Ahead, AtMost, through}
 use Rattle.line.proofs.Weights.{at, run, rise, run-parts, run-some, between-parts}
-use Rattle.line.proofs.Bends.{Is, Piecewise, everywhere}
+use Rattle.line.proofs.Bends.{Is, everywhere}
 
 -- x plus the correction c there.
 abbrev pub raised : Fraction → Correction → Fraction
@@ -61,7 +61,7 @@ module _ (p r : Pair) (rises : p .point <ℤ r .point) (climbs : sum p ≤ℤ su
   pub climb-parts : up (sum r) + dn (sum p) ≡ dn (sum r) + up (sum p) + climb p r
   climb-parts = above-parts (sum p) (sum r) climbs
 
-  pub climb-some : sum p <ℤ sum r → 0 < climb p r
+  climb-some : sum p <ℤ sum r → 0 < climb p r
   climb-some h = omega (arith, climb-parts, ltZ-parts (sum p) (sum r) (h .lt))
 
   climb-is : climb p r + dn (rise p r) ≡ run p r + up (rise p r)

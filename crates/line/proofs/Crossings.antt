@@ -17,7 +17,7 @@ use Rattle.line.specs.Crossing.{sum, SumsRise, Meets, Crossing, ceiling,
 use Rattle.line.proofs.Distances.{less, above-parts, scaled}
 use Rattle.line.proofs.Order.{Ahead, AtMost, Below, at-most, below, order, through, by-order, is-up-to, is-behind}
 use Rattle.line.proofs.Weights.{at, run, run-parts, run-some}
-use Rattle.line.proofs.Climb.{raised, raised-parts, climb, climb-parts, climb-some, line-between, each-two, Climbs, Rising, rising}
+use Rattle.line.proofs.Climb.{raised, raised-parts, climb, climb-parts, line-between, each-two, Climbs, Rising, rising}
 
 -- `ceiling` is what it says.
 pub ceiling-least : (n d u : ℕ) → 0 < d → (n ≤ u * d) ↔ (ceiling n d ≤ u)

@@ -5,15 +5,15 @@ use mathlib.Core.List.{List, [], _∷_}
 use Prim.Native.Nat.{ℕ, zero, suc, _+_, _≤_, _<_}
 use native.Mathlib.Numerals.{add-one}
 use native.Mathlib.Omega.{arith}
-use lib.IntN.{ℤ, pos, _*ℤ_}
+use lib.IntN.{ℤ, pos, _+ℤ_, _*ℤ_}
 use lib.ListN.{length, getD}
 use lib.Signed.{leZ, _≤ℤ_, _<ℤ_}
 use Rattle.integers.specs.Nearest.{_over_, nearest}
-use Rattle.integers.proofs.PartLaws.{same, leZ-parts, ltZ-parts, nleZ-parts, parts-<ℤ, le-leZ, lt-leZ, is-true, is-false}
+use Rattle.integers.proofs.PartLaws.{same, add-parts, leZ-parts, ltZ-parts, nleZ-parts, parts-<ℤ, le-leZ, lt-leZ, is-true, is-false}
 use Rattle.integers.proofs.NearestLaws.{nearest-exact}
 use Rattle.fields.specs.declared.Pair.{Pair}
 use Rattle.line.specs.Line.{Correction, atEnd, between, correctionAfter, correction, deviation}
-use Rattle.line.specs.Crossing.{sum, SumsRise, crossingHeld, crossingBetween, crossingAfter, crossing}
+use Rattle.line.specs.Crossing.{sum, crossingHeld, crossingBetween, crossingAfter, crossing}
 use Rattle.line.specs.Certificate.{Neighbours, Rises}
 use Rattle.line.specs.Ranges.{Figures, AllFigures, Between, Table}
 use Rattle.fields.specs.Calibration.{noPair}
@@ -128,65 +128,44 @@ next-between of p pairs t i n e b v ev l q eq = rw (ev, eq) (record {
   second = figures-at pairs (t .figures) n l;
 })
 
--- ---- the deviation
+-- ---- the deviation and the crossing
 
-abbrev rounded : Correction → ℤ
+abbrev pub rounded : Correction → ℤ
 rounded c = nearest (c .num over c .run)
 
 held-rounded : (a : Pair) → rounded (atEnd 1 a) ≡ a .deviation
 held-rounded a = nearest-exact (a .deviation) 1 (omega arith)
 
-by-point : (p b : ℤ) (c e : Correction) → rounded (cond (leZ p (b *ℤ pos 1)) c e) ≡ cond (leZ p b) (rounded c) (rounded e)
-by-point p b c e = rw (same (b *ℤ pos 1) b (omega (arith, scaled b 1))) (go (leZ p b))
-  where
-    go : (t : Bool) → rounded (cond t c e) ≡ cond t (rounded c) (rounded e)
-    go true = refl
-    go false = refl
-
 module _ (p : ℤ) where
-  deviation-pieced : Pieced pointOf p (λ a. a .deviation) (λ a b. rounded (between p 1 a b)) (λ a pairs. rounded (correctionAfter p 1 a pairs)) (λ pairs. deviation pairs p)
+  by-point : (b : ℤ) (c e : Correction) → p +ℤ rounded (cond (leZ p (b *ℤ pos 1)) c e) ≡ cond (leZ p b) (p +ℤ rounded c) (p +ℤ rounded e)
+  by-point b c e = rw (same (b *ℤ pos 1) b (omega (arith, scaled b 1))) (go (leZ p b))
+    where
+      go : (t : Bool) → p +ℤ rounded (cond t c e) ≡ cond t (p +ℤ rounded c) (p +ℤ rounded e)
+      go true = refl
+      go false = refl
+
+  -- p plus the deviation there goes by the points.
+  pub deviation-pieced :
+      Pieced pointOf p (λ a. p +ℤ a .deviation) (λ a b. p +ℤ rounded (between p 1 a b)) (λ a pairs. p +ℤ rounded (correctionAfter p 1 a pairs)) (λ pairs. p +ℤ deviation pairs p)
   unfolding deviation correction correctionAfter
   deviation-pieced = record {
-    last = held-rounded;
-    next = λ a b pairs. by-point p (b .point) (between p 1 a b) (correctionAfter p 1 b pairs);
-    first = λ a pairs. by-point p (a .point) (atEnd 1 a) (correctionAfter p 1 a pairs) ∙ ap (λ (z : ℤ). cond (leZ p (a .point)) z (rounded (correctionAfter p 1 a pairs))) (held-rounded a);
+    last = λ a. ap (λ (z : ℤ). p +ℤ z) (held-rounded a);
+    next = λ a b pairs. by-point (b .point) (between p 1 a b) (correctionAfter p 1 b pairs);
+    first = λ a pairs.
+        by-point (a .point) (atEnd 1 a) (correctionAfter p 1 a pairs)
+        ∙ ap (λ (z : ℤ). cond (leZ p (a .point)) (p +ℤ z) (p +ℤ rounded (correctionAfter p 1 a pairs))) (held-rounded a);
   }
 
-  pub none-deviates : (points : List Pair) → length points ≡ 0 → pos 0 ≡ deviation points p
-  unfolding deviation correction
-  none-deviates [] e = sym (nearest-exact (pos 0) 1 (omega arith))
-  none-deviates (q ∷ points) e = absurd (omega arith)
-
-  module _ (points : List Pair) where
-    pub first-deviates : Before pointOf points p 0 → 0 < length points → (q : Pair) → q ≡ getD points 0 noPair → q .deviation ≡ deviation points p
-    first-deviates = first-piece pointOf p _ _ _ _ deviation-pieced points
-
-    module _ (t : Table points) (i n : ℕ) (e : n ≡ i + 1) (b : Before pointOf points p n) (v : Pair) (ev : v ≡ getD points i noPair) where
-      pub last-deviates : n ≡ length points → v .deviation ≡ deviation points p
-      last-deviates = last-piece pointOf p _ _ _ _ deviation-pieced points (t .rises) i n e b v ev
-
-      pub next-deviates : n < length points → (q : Pair) → q ≡ getD points n noPair → rounded (between p 1 v q) ≡ deviation points p
-      next-deviates = next-piece pointOf p _ _ _ _ deviation-pieced points (t .rises) i n e b v ev
-
--- ---- the crossing
-
-module _ (p : ℤ) where
-  crossing-pieced : Pieced sum p (crossingHeld p) (crossingBetween p) (crossingAfter p) (λ pairs. crossing pairs p)
+  -- The crossing goes by the sums.
+  pub crossing-pieced : Pieced sum p (crossingHeld p) (crossingBetween p) (crossingAfter p) (λ pairs. crossing pairs p)
   unfolding crossing crossingAfter
   crossing-pieced = record { last = λ a. refl; next = λ a b pairs. refl; first = λ a pairs. refl }
 
-  pub none-crosses : (points : List Pair) → length points ≡ 0 → p ≡ crossing points p
+  -- Without points both are p.
+  pub none-deviates : p ≡ p +ℤ deviation [] p
+  unfolding deviation correction
+  none-deviates = rw (nearest-exact (pos 0) 1 (omega arith)) (same p (p +ℤ pos 0) (omega (arith, add-parts p (pos 0))))
+
+  pub none-crosses : p ≡ crossing [] p
   unfolding crossing
-  none-crosses [] e = refl
-  none-crosses (q ∷ points) e = absurd (omega arith)
-
-  module _ (points : List Pair) where
-    pub first-crosses : Before sum points p 0 → 0 < length points → (q : Pair) → q ≡ getD points 0 noPair → crossingHeld p q ≡ crossing points p
-    first-crosses = first-piece sum p _ _ _ _ crossing-pieced points
-
-    module _ (sums : SumsRise points) (i n : ℕ) (e : n ≡ i + 1) (b : Before sum points p n) (v : Pair) (ev : v ≡ getD points i noPair) where
-      pub last-crosses : n ≡ length points → crossingHeld p v ≡ crossing points p
-      last-crosses = last-piece sum p _ _ _ _ crossing-pieced points sums i n e b v ev
-
-      pub next-crosses : n < length points → (q : Pair) → q ≡ getD points n noPair → crossingBetween p v q ≡ crossing points p
-      next-crosses = next-piece sum p _ _ _ _ crossing-pieced points sums i n e b v ev
+  none-crosses = refl

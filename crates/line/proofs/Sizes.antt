@@ -11,12 +11,13 @@ use Rattle.integers.specs.Nearest.{Fraction, _over_, nearest}
 use Rattle.integers.proofs.PartLaws.{add-parts, abs-parts, leZ-parts, parts-≤ℤ}
 use Rattle.integers.proofs.NearestLaws.{Low, High, nearest-low, nearest-high}
 use Rattle.fields.specs.declared.Pair.{Pair}
+use Rattle.line.specs.Before.{pointOf}
 use Rattle.line.specs.Line.{Correction, atEnd, between, correctionAfter, correction, deviation, certificateLine}
 use Rattle.line.specs.Certificate.{Rises}
 use Rattle.line.specs.Crossing.{SumsRise, Meets, crossing, OneCrossing}
-use Rattle.line.specs.Ranges.{AllFigures, Table}
-use Rattle.line.proofs.Distances.{Near, near-as, near-times, near-mean, near-abs, scaled}
-use Rattle.line.proofs.Order.{AtMost, by-test}
+use Rattle.line.specs.Ranges.{AllFigures, Table, Between}
+use Rattle.line.proofs.Distances.{Near, near-as, near-times, near-mean, near-abs, less, scaled}
+use Rattle.line.proofs.Order.{AtMost, whole-at-most, by-test}
 use Rattle.line.proofs.Weights.{at, run-some, weights-run, weights-num}
 use Rattle.line.proofs.Climb.{raised-parts}
 use Rattle.line.proofs.Crossings.{crosses}
@@ -71,6 +72,11 @@ unfolding deviation
 deviation-small points p t =
     let s = correction-small (p over 1) points t in
     nearest-small (2 ^ 32) (correction p 1 points .num over correction p 1 points .run) (s .some) (near-as (omega arith) (omega arith) (s .size))
+
+pub between-deviates : (p : ℤ) (a b : Pair) → Between pointOf p a b → natAbs (nearest (between p 1 a b .num over between p 1 a b .run)) ≤ 2 ^ 32
+between-deviates p a b h =
+    let s = between-small (p over 1) a b (h .rise) (h .first .deviation) (h .second .deviation) (whole-at-most (a .point) p (less (a .point) p (h .past))) (whole-at-most p (b .point) (h .left)) in
+    nearest-small (2 ^ 32) (between p 1 a b .num over between p 1 a b .run) (s .some) (near-as (omega arith) (omega arith) (s .size))
 
 -- The crossing is within 2^32 of p: the line there is at least p, and so it is at p + 2^32.
 pub crossing-small : (points : List Pair) (p : ℤ) → Table points → SumsRise points → natAbs p ≤ 2 ^ 31 → natAbs (crossing points p) ≤ 2 ^ 33

@@ -14,7 +14,6 @@ use Rattle.integers.proofs.Bridge.{parts-fit}
 use Rattle.fields.specs.declared.Pair.{Pair}
 use Rattle.line.specs.Crossing.{sum, ceiling, crossingBetween}
 use Rattle.line.specs.Ranges.{Between}
-use Rattle.line.proofs.Distances.{less}
 use Rattle.line.proofs.Told.{gap-parts}
 use Rattle.line.proofs.Crossings.{ceiling-least}
 

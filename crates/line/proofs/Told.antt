@@ -4,13 +4,13 @@ use Prim.Native.Nat.{ℕ, _+_, _*_, _-_, _^_, _≤_, _<_}
 use native.Mathlib.Nat.{mul-le-mul-right}
 use native.Mathlib.Omega.{arith}
 use lib.IntN.{ℤ, pos, subℕ, _-ℤ_}
-use lib.Signed.{_≤ℤ_, _<ℤ_}
+use lib.Signed.{_≤ℤ_}
 use mir.Syntax.{w64}
 use mir.Val.{SFits, toZ, ofZ}
 use mir.Facts.{toZ-ofZ}
 use Rattle.integers.specs.Parts.{up, dn}
 use Rattle.integers.specs.Nearest.{_over_, nearest}
-use Rattle.integers.proofs.PartLaws.{same, sub-is, sub-parts-ℤ, abs-parts, leZ-parts, ltZ-parts, parts-<ℤ}
+use Rattle.integers.proofs.PartLaws.{same, sub-is, sub-parts-ℤ, abs-parts, leZ-parts, ltZ-parts}
 use Rattle.integers.proofs.Bridge.{seen, parts-fit}
 use Rattle.fields.specs.declared.Pair.{Pair}
 use Rattle.line.specs.Before.{pointOf}

@@ -1,6 +1,6 @@
 // Document 01, "Reading": a reading of a sender's image. `take_reading` asks nothing of its caller: any kind, any slice, any
 // i64. Nothing is kept between calls, and every number comes from the image that is lent.
-mod deviation; // deviation.rt: the deviation at a position
+mod fraction; // fraction.rt: the fraction at a position
 mod position; // position.rt: where an input lies in the span
 mod span; // span.rt: the ends of the span
 mod taking; // taking.rt: a reading in the order of its refusals

@@ -1,5 +1,4 @@
 use borrow.Author.Needs.{needs}
-use mathlib.Core.Path.{ap}
 use native.Mathlib.Omega.{arith}
 use Rattle.fields.proofs.CalibrationLaws.{sum-falls, sum-climbs}
 use Rattle.fields.proofs.calibration.climbs.Statement.{statement}

@@ -1,6 +1,5 @@
 use borrow.Author.Needs.{needs}
 use borrow.Author.Tests.{le-leb, lt-leb}
-use mathlib.Core.Path.{_∙_}
 use Rattle.fields.specs.Calibration.{follows}
 use Rattle.fields.proofs.calibration.follows.Statement.{statement}
 use Rattle.fields.proofs.calibration.follows.Tie as tie
