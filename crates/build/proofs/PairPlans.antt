@@ -92,7 +92,7 @@ table-planned domain p pairs ts e =
     let (ps, e1, f1) = good-bind (pairPieces domain none 0 (p ∷ pairs)) _ ts e in
     record { pieces = ps; plans = e1; joined = good-same f1 }
 
-no-table : (domain : Domain) (ts : List Piece) → tablePieces domain [] ≡ good ts → [] ≡ ts
+pub no-table : (domain : Domain) (ts : List Piece) → tablePieces domain [] ≡ good ts → [] ≡ ts
 unfolding tablePieces
 no-table domain ts e = good-same e
 

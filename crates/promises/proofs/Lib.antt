@@ -11,7 +11,9 @@ pub mod Written
 pub mod Rebuilt
 pub mod NeededBits
 pub mod StoredPoints
+pub mod KeptLent
 pub mod Distance
+pub mod Crossed
 pub mod Lending
 pub mod Calling
 pub mod EdgesHold

@@ -7,6 +7,7 @@ pub mod Alterations
 pub mod Proposals
 pub mod Index
 pub mod Certificate
+pub mod Crossing
 pub mod Calls
 pub mod Edges
 pub mod Attained

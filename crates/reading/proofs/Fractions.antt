@@ -21,7 +21,7 @@ use Rattle.layout.specs.Image.{pairIn, pairsIn}
 use Rattle.layout.proofs.Calibrations.{CalibrationAt}
 use Rattle.line.specs.Before.{Before}
 use Rattle.line.specs.Line.{correctionAfter, deviation}
-use Rattle.line.specs.Crossing.{crossingAfter}
+use Rattle.line.specs.Crossing.{crossingAfter, crossing}
 use Rattle.line.specs.Ranges.{Table}
 use Rattle.line.proofs.Distances.{near-abs}
 use Rattle.line.proofs.Sizes.{deviation-small, crossing-small}
@@ -73,6 +73,17 @@ table-shows (table found pairs) domain p e = let same : domain ≡ found = cc in
 pub no-table-shows : (k : Calibration) (p : ℤ) → domainIn k ≡ NoTable → p ≡ fraction k p
 no-table-shows bare p e = refl
 no-table-shows (table found pairs) p e = absurd (let z : _≡_ {A = ℕ} 0 1 = cc in omega arith)
+
+-- Where the table is not of the other domain, a calibration has one of the two.
+pub by-deviation : (k : Calibration) (p : ℤ) → (domainIn k ≡ Is Physical → ⊥) → fraction k p ≡ p +ℤ deviation (map pairIn (pairsIn k)) p
+by-deviation bare p h = none-deviates p
+by-deviation (table Electrical pairs) p h = refl
+by-deviation (table Physical pairs) p h = absurd (h refl)
+
+pub by-crossing : (k : Calibration) (p : ℤ) → (domainIn k ≡ Is Electrical → ⊥) → fraction k p ≡ crossing (map pairIn (pairsIn k)) p
+by-crossing bare p h = none-crosses p
+by-crossing (table Electrical pairs) p h = absurd (h refl)
+by-crossing (table Physical pairs) p h = refl
 
 -- ---- small
 

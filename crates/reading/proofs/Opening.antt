@@ -137,7 +137,7 @@ pairs-table domain before at (p ∷ r ∷ pairs) h =
           follows-rises domain (codesIn p) _ (codesIn r) (h .1 .0 .follows),
         )))
 
-calibration-table : (at : ℕ) (c : Calibration) → CalibrationAt at c → Table (map pairIn (pairsIn c))
+pub calibration-table : (at : ℕ) (c : Calibration) → CalibrationAt at c → Table (map pairIn (pairsIn c))
 calibration-table at bare h = record { rises = tt; figures = tt }
 calibration-table at (table domain pairs) h = pairs-table domain none (at + 18) pairs (h .stand)
 
@@ -159,7 +159,7 @@ pub pairs-rise : (domain : Domain) (before : Option Codes) (at : ℕ) (pairs : L
 pairs-rise Electrical before at pairs h = pairs-table Electrical before at pairs h .rises
 pairs-rise Physical before at pairs h = pairs-sums before at pairs h
 
-calibration-rises : (at : ℕ) (c : Calibration) (domain : Domain) → CalibrationAt at c → domainIn c ≡ Is domain → RisesIn domain (map pairIn (pairsIn c))
+pub calibration-rises : (at : ℕ) (c : Calibration) (domain : Domain) → CalibrationAt at c → domainIn c ≡ Is domain → RisesIn domain (map pairIn (pairsIn c))
 calibration-rises at bare domain h e = tt
 calibration-rises at (table found pairs) domain h e =
     let same : found ≡ domain = cc in
