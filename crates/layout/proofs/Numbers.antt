@@ -1,8 +1,7 @@
--- The numbers that a stream is turned down with: never 17, a blank chip's.
+-- The numbers that a stream is turned down with: never 15, which no row has, or 17, a blank chip's.
 use mathlib.Core.Bool.{Bool, true, false, not, _||_, _&&_, cond}
 use mathlib.Core.List.{List, [], _∷_}
 use mathlib.Core.Option.{Option, none, some}
-use mathlib.Core.Logic.{_≢_}
 use Prim.Native.Nat.{ℕ, zero, suc, _+_, _/_}
 use native.Mathlib.Omega.{arith}
 use lib.Dec.{eqb, ltb, leb}
@@ -11,7 +10,7 @@ use lib.Signed.{leZ}
 use Rattle.refusal.specs.declared.Refusal.{Refusal}
 use Rattle.refusal.specs.Outcome.{Outcome, good, refused}
 use Rattle.refusal.specs.Rows.{wrongBlock, outsideTable, notFinite, notRising, sumsNotRising}
-use Rattle.refusal.proofs.Outcomes.{Other, other-cond, other-test, other-then}
+use Rattle.refusal.proofs.Outcomes.{Elsewhere, Other, other-cond, other-test, other-then}
 use Rattle.fields.specs.declared.Row.{Row}
 use Rattle.fields.specs.declared.Rule.{Rule}
 use Rattle.fields.specs.declared.Rule.the-variants.{Plain, Stepped, Geometric, Single}
@@ -44,7 +43,7 @@ use Rattle.layout.specs.Contents.{
 -- Every refusal of a format has another number.
 abbrev Others : {A : Type 0} → Format A → Type 0
 Others (ends a) = Unit {0}
-Others (stops r) = r .number ≢ 17
+Others (stops r) = Elsewhere (r .number)
 Others (takes w next) = (code : ℕ) → Others (next code)
 Others (looks next) = (at left : ℕ) → Others (next at left)
 
@@ -60,7 +59,7 @@ others-given : {A : Type 0} (o : Outcome A) → Other o → Others (given o)
 others-given (good a) h = tt
 others-given (refused r) h = h
 
-others-test : (r : Refusal) (t : Bool) → r .number ≢ 17 → Others (refuse r if t)
+others-test : (r : Refusal) (t : Bool) → Elsewhere (r .number) → Others (refuse r if t)
 others-test r true h = h
 others-test r false h = tt
 

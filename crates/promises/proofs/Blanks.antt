@@ -48,8 +48,8 @@ module _ (kind : ℕ) (image : List ℕ) (z : Sizes) (sizes : imageSizes kind (l
 
       other : (o : Outcome (Unit {0})) (p : Outcome (Parsed Contents)) → Other o → Other p → (o >> (p >>= λ x. good (x .found))) ≡ refused blankChip → ⊥
       other (good u) (good x) h k d = let n : _≡_ {A = ℕ} 0 1 = cc in absurd (omega arith)
-      other (good u) (refused r) h k d = absurd (omega (arith, other-number (refused r) blankChip d k))
-      other (refused r) p h k d = absurd (omega (arith, other-number (refused r) blankChip d h))
+      other (good u) (refused r) h k d = absurd (other-number (refused r) blankChip d k .1 refl)
+      other (refused r) p h k d = absurd (other-number (refused r) blankChip d h .1 refl)
 
       go : (b : Bool) → blankFrom z image (z .pages) 0 ≡ b → (sums z image >> after) ≡ refused blankChip → getD image i 0 ≡ 255
       go true h d =

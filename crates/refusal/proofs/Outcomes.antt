@@ -74,22 +74,26 @@ pub bind-same : {A B : Type 0} (o : Outcome A) {f g : A → Outcome B} → ((a :
 bind-same (good a) h = h a
 bind-same (refused r) h = refl
 
--- Refused, if at all, with another number than 17, a blank chip's.
+-- Numbers that no stream is turned down with: 15, which no row has any more, and 17, a blank chip's.
+abbrev pub Elsewhere : ℕ → Type 0
+Elsewhere n = (n ≢ 15) × (n ≢ 17)
+
+-- Refused, if at all, with another number.
 abbrev pub Other : {A : Type 0} → Outcome A → Type 0
 Other (good a) = Unit {0}
-Other (refused r) = r .number ≢ 17
+Other (refused r) = Elsewhere (r .number)
 
 pub other-cond : {A : Type 0} (t : Bool) (o p : Outcome A) → Other o → Other p → Other (cond t o p)
 other-cond true o p h k = h
 other-cond false o p h k = k
 
-pub other-test : (r : Refusal) (t : Bool) → r .number ≢ 17 → Other (refuse r if t)
+pub other-test : (r : Refusal) (t : Bool) → Elsewhere (r .number) → Other (refuse r if t)
 other-test r true h = h
 other-test r false h = tt
 
-pub other-then : {B : Type 0} (r : Refusal) (t : Bool) (next : Outcome B) → r .number ≢ 17 → Other next → Other (refuse r if t >> next)
+pub other-then : {B : Type 0} (r : Refusal) (t : Bool) (next : Outcome B) → Elsewhere (r .number) → Other next → Other (refuse r if t >> next)
 other-then r true next h k = h
 other-then r false next h k = k
 
-pub other-number : {A : Type 0} (o : Outcome A) (r : Refusal) → o ≡ refused r → Other o → r .number ≢ 17
+pub other-number : {A : Type 0} (o : Outcome A) (r : Refusal) → o ≡ refused r → Other o → Elsewhere (r .number)
 other-number o r e h = subst Other e h
