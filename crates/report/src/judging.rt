@@ -1,0 +1,79 @@
+// A tray, image by image.
+ghost use mathlib.Core.Path.{_≡_};
+ghost use mathlib.Core.Bool.{true};
+ghost use Prim.Native.Nat.{_+_, _^_, _<_};
+ghost use Rattle.memory.specs.Image.{sizesOf, imageSizes};
+ghost use Rattle.sheet.specs.Check.{checkSaid};
+ghost use Rattle.report.specs.Tray.{bitsOf};
+ghost use Rattle.report.specs.Judging.{bytesOf, isWhole, begun, closed, Sound, JudgedAs};
+use crate::Judged;
+use crate::SoFar;
+use crate::lines;
+use memory::SizesAnswer;
+use sheet::Checked;
+
+// The most images of a tray.
+const MOST: u64 = 1_000;
+
+// The bytes that an image of a kind has; none for a kind above 2.
+pub fn image_bytes(kind: u8) -> usize
+    ensures { λ r. ⌜ r ≡ bytesOf (sizesOf kind) ⌝ }
+{
+    match kind {
+        0 => 40,
+        1 => 128,
+        2 => 512,
+        _ => 0,
+    }
+}
+
+// A tray of which nothing is judged.
+pub fn begin() -> SoFar
+    ensures { λ r. ⌜ r ≡ begun ⌝ }
+{
+    SoFar {
+        images: 0,
+        bits: 0,
+        more: true,
+    }
+}
+
+// A tray in which no further image was found.
+pub fn close(tray: SoFar) -> SoFar
+    ensures { λ r. ⌜ r ≡ closed tray ⌝ }
+{
+    SoFar {
+        images: tray.images,
+        bits: tray.bits,
+        more: false,
+    }
+}
+
+// Whether there is such a kind, and it has so many bytes.
+fn is_whole(kind: u8, bytes: usize) -> bool
+    ensures { λ r. ⌜ r ≡ isWhole (imageSizes kind bytes) ⌝ }
+{
+    match memory::image_sizes(kind, bytes) {
+        SizesAnswer::Are(_) => true,
+        SizesAnswer::Refused(_) => false,
+    }
+}
+
+// Whether a further image is to be judged: not behind a kind above 2 or an image cut short, and not behind the last.
+fn has_more(whole: bool, images: u64) -> bool {
+    if whole {
+        return images < MOST;
+    }
+    false
+}
+
+// Bits, and those of an image where it is accepted.
+fn added(bits: u64, checked: Checked) -> u64
+    requires { ⌜ bits + bitsOf (checkSaid checked) < 2 ^ 64 ⌝ }
+    ensures { λ r. ⌜ r ≡ bits + bitsOf (checkSaid checked) ⌝ }
+{
+    match checked {
+        Checked::Accepted(summary) => bits + summary.bits,
+        Checked::Refused(_) => bits,
+    }
+}
