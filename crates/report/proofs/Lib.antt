@@ -1,2 +1,4 @@
 pub mod DecimalLaws
 pub mod LineLaws
+pub mod BitLaws
+pub mod JudgeLaws

@@ -2,7 +2,7 @@
 use mathlib.Core.Path.{_≡_}
 use mathlib.Core.Bool.{Bool, true, false, _&&_}
 use mathlib.Core.List.{List, _++_}
-use Prim.Native.Nat.{ℕ, suc, _+_, _*_, _≤_, _<_}
+use Prim.Native.Nat.{ℕ, _+_, _*_, _≤_, _<_}
 use lib.Dec.{ltb}
 use lib.ListN.{length, take}
 use Rattle.refusal.specs.Outcome.{Outcome, good, refused}
@@ -36,9 +36,9 @@ closed s = record { images = s .images; bits = s .bits; more = false }
 abbrev pub with : SoFar → ℕ → List ℕ → SoFar
 with s kind image =
     record {
-      images = suc (s .images);
+      images = s .images + 1;
       bits = s .bits + bitsOf (check kind image);
-      more = isWhole (imageSizes kind (length image)) && ltb (suc (s .images)) 1_000;
+      more = isWhole (imageSizes kind (length image)) && ltb (s .images + 1) 1_000;
     }
 
 -- ---- the lines
@@ -75,5 +75,6 @@ pub record Sound (s : SoFar) : Type 0 where
 
 -- The line of an image is that of its check, at the next position.
 pub record JudgedAs (s : SoFar) (kind : ℕ) (image : List ℕ) (j : Judged) : Type 0 where
-  pub line : Reads (j .line) (line (suc (s .images)) (check kind image))
+  pub line : Reads (j .line) (line (s .images + 1) (check kind image))
   pub tray : j .tray ≡ with s kind image
+  pub sound : Sound (j .tray)

@@ -1,7 +1,8 @@
 // A tray, image by image.
 ghost use mathlib.Core.Path.{_≡_};
-ghost use mathlib.Core.Bool.{true};
+ghost use mathlib.Core.Bool.{true, _&&_};
 ghost use Prim.Native.Nat.{_+_, _^_, _<_};
+ghost use lib.Dec.{ltb};
 ghost use Rattle.memory.specs.Image.{sizesOf, imageSizes};
 ghost use Rattle.sheet.specs.Check.{checkSaid};
 ghost use Rattle.report.specs.Tray.{bitsOf};
@@ -60,7 +61,9 @@ fn is_whole(kind: u8, bytes: usize) -> bool
 }
 
 // Whether a further image is to be judged: not behind a kind above 2 or an image cut short, and not behind the last.
-fn has_more(whole: bool, images: u64) -> bool {
+fn has_more(whole: bool, images: u64) -> bool
+    ensures { λ r. ⌜ r ≡ (whole && ltb images 1_000) ⌝ }
+{
     if whole {
         return images < MOST;
     }
@@ -76,4 +79,21 @@ fn added(bits: u64, checked: Checked) -> u64
         Checked::Accepted(summary) => bits + summary.bits,
         Checked::Refused(_) => bits,
     }
+}
+
+// Judges an image, of which these bytes came: its line, and what the tray has come to with it. A kind above 2 and an image cut
+// short are refused with 1 and end the tray, and so does the last image that a tray may have.
+pub fn judge(tray: SoFar, kind: u8, image: &[u8]) -> Judged
+    requires { ⌜ Sound tray × (tray .more ≡ true) ⌝ }
+    ensures { λ r. ⌜ JudgedAs tray kind (now (image .entry)) r ⌝ }
+{
+    let checked = sheet::check(kind, image);
+    let images = tray.images + 1;
+    let line = lines::line(images, checked);
+    let tray = SoFar {
+        images,
+        bits: added(tray.bits, checked),
+        more: has_more(is_whole(kind, image.len()), images),
+    };
+    Judged { line, tray }
 }

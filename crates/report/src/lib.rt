@@ -7,6 +7,7 @@ mod lines; // lines.rt: the bytes of a line
 pub use judging::begin;
 pub use judging::close;
 pub use judging::image_bytes;
+pub use judging::judge;
 pub use lines::total_line;
 
 // A line with its newline: the first bytes of an array.
