@@ -12,8 +12,9 @@ use Rattle.layout.proofs.Accepted.{contents-accepted}
 use Rattle.sheet.specs.declared.Summary.{Summary}
 use Rattle.sheet.specs.Check.{summary, check}
 use Rattle.report.specs.Tray.{bitsOf}
+use Rattle.report.specs.Trays.{FewBits}
 
-pub few-bits : (kind : ℕ) (image : List ℕ) (s : Summary) → check kind image ≡ good s → s .bits ≤ 3_968
+pub few-bits : FewBits
 unfolding check
 few-bits kind image s e =
     let (c, read, same) = good-bind (contents kind image) (λ c. good (summary c)) s e in

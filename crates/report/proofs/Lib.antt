@@ -2,3 +2,4 @@ pub mod DecimalLaws
 pub mod LineLaws
 pub mod BitLaws
 pub mod JudgeLaws
+pub mod TrayLaws

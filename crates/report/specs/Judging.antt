@@ -1,8 +1,8 @@
 -- A tray judged image by image, as its bytes are read.
 use mathlib.Core.Path.{_≡_}
-use mathlib.Core.Bool.{Bool, true, false, _&&_}
+use mathlib.Core.Bool.{Bool, true, false, _&&_, cond}
 use mathlib.Core.List.{List, _++_}
-use Prim.Native.Nat.{ℕ, _+_, _*_, _≤_, _<_}
+use Prim.Native.Nat.{ℕ, _+_, _-_, _*_, _≤_, _<_}
 use lib.Dec.{ltb}
 use lib.ListN.{length, take}
 use Rattle.refusal.specs.Outcome.{Outcome, good, refused}
@@ -12,7 +12,7 @@ use Rattle.sheet.specs.Check.{check}
 use Rattle.report.specs.declared.Line.{Line}
 use Rattle.report.specs.declared.SoFar.{SoFar}
 use Rattle.report.specs.declared.Judged.{Judged}
-use Rattle.report.specs.Tray.{bitsOf, line}
+use Rattle.report.specs.Tray.{checks, bitsOf, line, linesFrom, total, totalLine}
 
 -- ---- the images
 
@@ -41,6 +41,15 @@ with s kind image =
       more = isWhole (imageSizes kind (length image)) && ltb (s .images + 1) 1_000;
     }
 
+-- What is still to be told of a tray whose further bytes are these: none of its images where it has ended.
+abbrev pub left : SoFar → ℕ
+left s = cond (s .more) (1_000 - s .images) 0
+
+unfoldable pub reportFrom : SoFar → List ℕ → List ℕ
+reportFrom s bytes =
+    let outcomes = checks (left s) bytes in
+    linesFrom (s .images + 1) outcomes ++ totalLine (s .bits + total outcomes)
+
 -- ---- the lines
 
 -- What a line reads.
@@ -52,6 +61,12 @@ pub record Reads (l : Line) (bytes : List ℕ) : Type 0 where
   pub room : length (l .bytes) ≡ 43
   pub short : l .length ≤ 43
   pub is : bytesIn l ≡ bytes
+
+-- A text put into a buffer behind its first bytes, and where it ends.
+pub record Put (before : List ℕ) (at : ℕ) (text after : List ℕ) (end : ℕ) : Type 0 where
+  pub long : length after ≡ length before
+  pub ends : end ≡ at + length text
+  pub is : take end after ≡ take at before ++ text
 
 -- A line with room for so many bytes behind it.
 pub record Room (l : Line) (bytes : ℕ) : Type 0 where

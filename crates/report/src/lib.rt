@@ -3,12 +3,14 @@
 // where it lies in memory (`tell`).
 mod judging; // judging.rt: a tray, image by image
 mod lines; // lines.rt: the bytes of a line
+mod telling; // telling.rt: a tray that lies in memory
 
 pub use judging::begin;
 pub use judging::close;
 pub use judging::image_bytes;
 pub use judging::judge;
 pub use lines::total_line;
+pub use telling::tell;
 
 // A line with its newline: the first bytes of an array.
 pub struct Line {

@@ -5,9 +5,17 @@ ghost use Prim.Native.Nat.{_+_, _≤_};
 ghost use lib.ListN.{length};
 ghost use Rattle.sheet.specs.Check.{checkSaid};
 ghost use Rattle.report.specs.Tray.{decimal, line as lineOf, totalLine};
-ghost use Rattle.report.specs.Judging.{Reads, Room, Longer};
+ghost use Rattle.report.specs.Judging.{Reads, Put, Room, Longer};
 use crate::Line;
 use sheet::Checked;
+
+// Puts a text into a buffer from a place on, and says where it ends.
+pub fn put(out: &mut [u8], at: usize, text: &[u8]) -> usize
+    requires { ⌜ at + length (now text) ≤ length (now out) ⌝ }
+    ensures { λ r. ⌜ Put (now (out .entry)) at (now (text .entry)) (now (out .exit)) r ⌝ }
+{
+    at + bytes::copy(text, &mut out[at..])
+}
 
 // A line with nothing in it.
 fn start() -> Line
@@ -26,7 +34,7 @@ fn with(line: Line, text: &[u8]) -> Line
 {
     let mut bytes = line.bytes;
     let at = line.length;
-    let length = at + bytes::copy(text, &mut bytes[at..]);
+    let length = put(&mut bytes, at, text);
     Line { bytes, length }
 }
 

@@ -1,0 +1,38 @@
+// The report on a tray that lies in memory: the calls that judge a tray as it is read, in turn.
+ghost use mathlib.Core.Path.{_≡_};
+ghost use Prim.Native.Nat.{_+_, _≤_};
+ghost use lib.ListN.{length, take};
+ghost use Rattle.report.specs.Tray.{report};
+ghost use Rattle.report.specs.Judging.{bytesIn, Reads, Put};
+use crate::Line;
+use crate::judging;
+use crate::lines;
+
+// Puts a line into a buffer from a place on, and says where it ends.
+fn put_line(out: &mut [u8], at: usize, line: Line) -> usize
+    requires { ⌜ Reads line (bytesIn line) × (at + 43 ≤ length (now out)) ⌝ }
+    ensures { λ r. ⌜ Put (now (out .entry)) at (bytesIn line) (now (out .exit)) r ⌝ }
+{
+    let bytes = line.bytes;
+    lines::put(out, at, words::front(&bytes, line.length))
+}
+
+// Puts the report on a tray at the start of a buffer that has room for 1,001 lines, and says how many bytes it has.
+pub fn tell(tray: &[u8], out: &mut [u8; 43_043]) -> usize
+    ensures { λ r. ⌜ take r (now (out .exit)) ≡ report (now (tray .entry)) ⌝ }
+{
+    let mut so_far = judging::begin();
+    let mut at = 0;
+    let mut end = 0;
+    while so_far.more && at < tray.len() {
+        let kind = tray[at];
+        let from = at + 1;
+        let image = words::front(&tray[from..], judging::image_bytes(kind));
+        let judged = judging::judge(so_far, kind, image);
+        let line = judged.line;
+        end = put_line(out, end, line);
+        so_far = judged.tray;
+        at = from + image.len();
+    }
+    put_line(out, end, lines::total_line(so_far.bits))
+}
