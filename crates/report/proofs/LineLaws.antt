@@ -1,33 +1,30 @@
 -- A line, piece by piece.
 use mathlib.Core.Path.{_≡_, ap, _∙_}
 use mathlib.Core.List.{List, [], _++_, append-assoc}
-use Prim.Native.Nat.{ℕ, _+_, _-_, _≤_}
+use Prim.Native.Nat.{ℕ, _+_, _≤_}
 use native.Mathlib.Omega.{arith}
 use borrow.Rule.Slice.PartMut.{midOf, postOf, putMid, same-len-mid}
 use lib.ListN.{length, take, drop, length-append}
 use lib.Seq.{take-at, take-length, length-take-le}
 use Rattle.report.specs.declared.Line.{Line}
-use Rattle.report.specs.Judging.{bytesIn, Reads, Room, Longer}
+use Rattle.report.specs.Judging.{bytesIn, Reads, Put, Room, Longer}
 
--- A text copied to where a list's first bytes end.
-pub copied : (xs text new : List ℕ) (at k : ℕ) → at ≤ length xs → new ≡ take (length text) text ++ drop (length text) (midOf at k xs) →
-    take (at + length text) (putMid at k xs new) ≡ take at xs ++ text
-copied xs text new at k l e =
-    let rest = drop (length text) (midOf at k xs) ++ postOf at k xs in
-    let n : length (take at xs ++ text) ≡ at + length text = length-append (take at xs) text ∙ ap (λ (j : ℕ). j + length text) (length-take-le at xs l) in
-    rw (e, take-length text, append-assoc text, ← append-assoc (take at xs) text) (take-at (take at xs ++ text) rest (at + length text) n)
-
-pub longer : (l : Line) (text new : List ℕ) (n : ℕ) → Room l (length text) → n ≡ length text →
-    new ≡ take (length text) text ++ drop (length text) (midOf (l .length) (43 - l .length) (l .bytes)) →
-    length new ≡ length (midOf (l .length) (43 - l .length) (l .bytes)) →
-    Longer l text (record { bytes = putMid (l .length) (43 - l .length) (l .bytes) new; length = l .length + n })
-longer l text new n h i e k =
+-- A text copied to where a buffer's first bytes end, over the k bytes that stand there.
+pub put-as : (before text new : List ℕ) (at k n : ℕ) → at ≤ length before → n ≡ length text →
+    new ≡ take (length text) text ++ drop (length text) (midOf at k before) → length new ≡ length (midOf at k before) →
+    Put before at text (putMid at k before new) (at + n)
+put-as before text new at k n l i e m =
+    let behind = drop (length text) (midOf at k before) ++ postOf at k before in
+    let front : length (take at before ++ text) ≡ at + length text = length-append (take at before) text ∙ ap (λ (j : ℕ). j + length text) (length-take-le at before l) in
     record {
-      room = same-len-mid (l .length) (43 - l .length) (l .bytes) new k ∙ h .room;
-      short = omega (arith, i, h .fits);
-      long = ap (λ (j : ℕ). l .length + j) i;
-      is = rw i (copied (l .bytes) text new (l .length) (43 - l .length) (omega arith) e);
+      long = same-len-mid at k before new m;
+      ends = ap (λ (j : ℕ). at + j) i;
+      is = rw (i, e, take-length text, append-assoc text, ← append-assoc (take at before) text) (take-at (take at before ++ text) behind (at + length text) front);
     }
+
+pub put-longer : (l : Line) (text after : List ℕ) (end : ℕ) → Room l (length text) → Put (l .bytes) (l .length) text after end →
+    Longer l text (record { bytes = after; length = end })
+put-longer l text after end h p = record { room = p .long ∙ h .room; short = omega (arith, p .ends, h .fits); long = p .ends; is = p .is }
 
 pub longer-more : {l m n : Line} {xs ys : List ℕ} → Longer l xs m → Longer m ys n → Longer l (xs ++ ys) n
 longer-more {l} {m} {n} {xs} {ys} a b =

@@ -177,6 +177,6 @@ unfolding checks
 cut-tray sent kind bytes z l short =
     let more : 1_000 - length sent ≡ suc (999 - length sent) = omega arith in
     let e : checks 1_000 (sentBytes sent ++ (kind ∷ bytes)) ≡ map checkOf sent ++ (refused wrongImage ∷ []) =
-          checks-sent 1_000 sent (kind ∷ bytes) z (omega arith) ∙ rw (more, cut-first kind bytes short, none-left (999 - length sent)) in
+    checks-sent 1_000 sent (kind ∷ bytes) z (omega arith) ∙ rw (more, cut-first kind bytes short, none-left (999 - length sent)) in
     let t : total (map checkOf sent ++ (refused wrongImage ∷ [])) ≡ sumOf sent = omega (arith, total-append (map checkOf sent) (refused wrongImage ∷ []), total-sent sent) in
     report-of (sentBytes sent ++ (kind ∷ bytes)) (map checkOf sent ++ (refused wrongImage ∷ [])) (sumOf sent) e t

@@ -30,3 +30,9 @@ pub struct Judged {
     pub line: Line,
     pub tray: SoFar,
 }
+
+// A whole report: the first bytes of an array, which has room for 1,001 lines.
+pub struct Report {
+    pub bytes: [u8; 43_043],
+    pub length: usize,
+}

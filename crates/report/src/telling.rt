@@ -1,10 +1,11 @@
-// The report on a tray that lies in memory: the calls that judge a tray as it is read, in turn.
+// A tray that lies in memory: the calls that judge a tray as it is read, in turn.
 ghost use mathlib.Core.Path.{_≡_};
 ghost use Prim.Native.Nat.{_+_, _≤_};
 ghost use lib.ListN.{length, take};
 ghost use Rattle.report.specs.Tray.{report};
 ghost use Rattle.report.specs.Judging.{bytesIn, Reads, Put};
 use crate::Line;
+use crate::Report;
 use crate::judging;
 use crate::lines;
 
@@ -17,8 +18,9 @@ fn put_line(out: &mut [u8], at: usize, line: Line) -> usize
     lines::put(out, at, words::front(&bytes, line.length))
 }
 
-// Puts the report on a tray at the start of a buffer that has room for 1,001 lines, and says how many bytes it has.
-pub fn tell(tray: &[u8], out: &mut [u8; 43_043]) -> usize
+// Puts the report on a tray at the start of a buffer, and says how many bytes it has.
+fn put_report(tray: &[u8], out: &mut [u8]) -> usize
+    requires { ⌜ length (now out) ≡ 43_043 ⌝ }
     ensures { λ r. ⌜ take r (now (out .exit)) ≡ report (now (tray .entry)) ⌝ }
 {
     let mut so_far = judging::begin();
@@ -35,4 +37,13 @@ pub fn tell(tray: &[u8], out: &mut [u8; 43_043]) -> usize
         at = from + image.len();
     }
     put_line(out, end, lines::total_line(so_far.bits))
+}
+
+// The report on a tray.
+pub fn tell(tray: &[u8]) -> Report
+    ensures { λ r. ⌜ take (r .length) (r .bytes) ≡ report (now (tray .entry)) ⌝ }
+{
+    let mut bytes = [0u8; 43_043];
+    let length = put_report(tray, &mut bytes);
+    Report { bytes, length }
 }
