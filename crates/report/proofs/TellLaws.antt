@@ -14,6 +14,7 @@ use Rattle.report.specs.declared.SoFar.{SoFar}
 use Rattle.report.specs.declared.Judged.{Judged}
 use Rattle.report.specs.Tray.{line, totalLine, report}
 use Rattle.report.specs.Judging.{bytesOf, begun, with, reportFrom, bytesIn, Reads, Put, Sound, JudgedAs}
+use Rattle.report.proofs.JudgeLaws.{begun-sound}
 use Rattle.report.proofs.TrayLaws.{told-from-the-start, told-in-turn, told-at-the-end}
 
 -- The lines put so far, and what is still to be told of the bytes from a place on, are the report.
@@ -28,7 +29,7 @@ pub tell-start : (tray out : List ℕ) (s : SoFar) → length out ≡ 43_043 →
 tell-start tray out s l e =
     rw e
     (record {
-      sound = record { few = omega arith; small = omega arith; last = λ _. omega arith };
+      sound = begun-sound;
       inside = omega arith;
       room = l;
       short = omega arith;
