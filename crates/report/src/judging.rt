@@ -70,15 +70,22 @@ fn has_more(whole: bool, images: u64) -> bool
     false
 }
 
-// Bits, and those of an image where it is accepted.
+// An image's bits: none where it is refused.
+fn bits_of(checked: Checked) -> u64
+    ensures { λ r. ⌜ r ≡ bitsOf (checkSaid checked) ⌝ }
+{
+    match checked {
+        Checked::Accepted(summary) => summary.bits,
+        Checked::Refused(_) => 0,
+    }
+}
+
+// The bits of the images so far, and those of a further one.
 fn added(bits: u64, checked: Checked) -> u64
     requires { ⌜ bits + bitsOf (checkSaid checked) < 2 ^ 64 ⌝ }
     ensures { λ r. ⌜ r ≡ bits + bitsOf (checkSaid checked) ⌝ }
 {
-    match checked {
-        Checked::Accepted(summary) => bits + summary.bits,
-        Checked::Refused(_) => bits,
-    }
+    bits + bits_of(checked)
 }
 
 // Judges an image, of which these bytes came: its line, and what the tray has come to with it. A kind above 2 and an image cut
