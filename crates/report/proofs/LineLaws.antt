@@ -7,7 +7,8 @@ use borrow.Rule.Slice.PartMut.{midOf, postOf, putMid, same-len-mid}
 use lib.ListN.{length, take, drop, length-append}
 use lib.Seq.{take-at, take-length, length-take-le}
 use Rattle.report.specs.declared.Line.{Line}
-use Rattle.report.specs.Judging.{bytesIn, Reads, Put, Room, Longer}
+use Rattle.report.specs.Judging.{bytesIn, Reads}
+use Rattle.report.specs.Lines.{Put, Room, Longer}
 
 -- A text copied to where a buffer's first bytes end, over the k bytes that stand there.
 pub put-as : (before text new : List ℕ) (at k n : ℕ) → at ≤ length before → n ≡ length text →

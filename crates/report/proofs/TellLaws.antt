@@ -13,7 +13,8 @@ use Rattle.report.specs.declared.Line.{Line}
 use Rattle.report.specs.declared.SoFar.{SoFar}
 use Rattle.report.specs.declared.Judged.{Judged}
 use Rattle.report.specs.Tray.{line, totalLine, report}
-use Rattle.report.specs.Judging.{bytesOf, begun, with, reportFrom, bytesIn, Reads, Put, Sound, JudgedAs}
+use Rattle.report.specs.Judging.{bytesOf, begun, with, reportFrom, bytesIn, Reads, Sound, JudgedAs}
+use Rattle.report.specs.Lines.{Put}
 use Rattle.report.proofs.JudgeLaws.{begun-sound}
 use Rattle.report.proofs.TrayLaws.{told-from-the-start, told-in-turn, told-at-the-end}
 

@@ -22,9 +22,9 @@ use Rattle.layout.specs.Image.{contents}
 use Rattle.sheet.specs.declared.Summary.{Summary}
 use Rattle.sheet.specs.Check.{check}
 use Rattle.report.specs.declared.SoFar.{SoFar}
-use Rattle.report.specs.Tray.{First, cut, firstOf, checks, line, linesFrom, bitsOf, total, totalLine, report}
+use Rattle.report.specs.Tray.{digitsUpTo, First, cut, firstOf, checks, line, linesFrom, bitsOf, total, totalLine, report}
 use Rattle.report.specs.Judging.{bytesOf, isWhole, begun, with, left, reportFrom, Sound}
-use Rattle.report.specs.Trays.{Sent, sentBytes, Sized, checkOf, sumOf, WholeTray, FullTray, CutShort, CutTray, ToldFromTheStart, ToldInTurn, ToldAtTheEnd}
+use Rattle.report.specs.Trays.{Sent, sentBytes, Sized, checkOf, sumOf, WholeTray, FullTray, CutShort, CutTray, PrintedExample, ToldFromTheStart, ToldInTurn, ToldAtTheEnd}
 
 -- ---- an image and its bytes
 
@@ -180,3 +180,7 @@ cut-tray sent kind bytes z l short =
     checks-sent 1_000 sent (kind ∷ bytes) z (omega arith) ∙ rw (more, cut-first kind bytes short, none-left (999 - length sent)) in
     let t : total (map checkOf sent ++ (refused wrongImage ∷ [])) ≡ sumOf sent = omega (arith, total-append (map checkOf sent) (refused wrongImage ∷ []), total-sent sent) in
     report-of (sentBytes sent ++ (kind ∷ bytes)) (map checkOf sent ++ (refused wrongImage ∷ [])) (sumOf sent) e t
+
+pub printed-example : PrintedExample
+unfolding digitsUpTo
+printed-example a b s page z e n f = whole-tray (a ∷ b ∷ []) z (omega arith) ∙ rw (e, f, n)

@@ -62,24 +62,6 @@ pub record Reads (l : Line) (bytes : List ℕ) : Type 0 where
   pub short : l .length ≤ 43
   pub is : bytesIn l ≡ bytes
 
--- A text put into a buffer behind its first bytes, and where it ends.
-pub record Put (before : List ℕ) (at : ℕ) (text after : List ℕ) (end : ℕ) : Type 0 where
-  pub long : length after ≡ length before
-  pub ends : end ≡ at + length text
-  pub is : take end after ≡ take at before ++ text
-
--- A line with room for so many bytes behind it.
-pub record Room (l : Line) (bytes : ℕ) : Type 0 where
-  pub room : length (l .bytes) ≡ 43
-  pub fits : l .length + bytes ≤ 43
-
--- A line that reads what another does, and more.
-pub record Longer (l : Line) (more : List ℕ) (m : Line) : Type 0 where
-  pub room : length (m .bytes) ≡ 43
-  pub short : m .length ≤ 43
-  pub long : m .length ≡ l .length + length more
-  pub is : bytesIn m ≡ bytesIn l ++ more
-
 -- ---- what holds
 
 -- No image has more than 3,968 bits, and no tray more than 1,000 images.

@@ -5,7 +5,7 @@ use mathlib.Core.List.{List, [], _∷_, _++_, map}
 use Prim.Native.Nat.{ℕ, _+_, _≤_, _<_}
 use lib.ListN.{length, take, drop}
 use Rattle.refusal.specs.Outcome.{Outcome, good, refused}
-use Rattle.refusal.specs.Rows.{wrongImage}
+use Rattle.refusal.specs.Rows.{wrongImage, wrongSum}
 use Rattle.memory.specs.declared.Sizes.{Sizes}
 use Rattle.memory.specs.Image.{sizesOf, imageBytes, imageSizes}
 use Rattle.sheet.specs.declared.Summary.{Summary}
@@ -58,6 +58,17 @@ abbrev pub CutTray : Type 0
 CutTray =
     (sent : List Sent) (kind : ℕ) (bytes : List ℕ) → Sized sent → length sent < 1_000 → CutShort kind bytes →
     report (sentBytes sent ++ (kind ∷ bytes)) ≡ linesFrom 1 (map checkOf sent ++ (refused wrongImage ∷ [])) ++ totalLine (sumOf sent)
+
+-- An image of 294 bits followed by one with a wrong page sum prints three lines: "1 294", "2 -2", "total 294".
+abbrev pub threeLines : List ℕ
+threeLines =
+    (49 ∷ 32 ∷ 50 ∷ 57 ∷ 52 ∷ 10 ∷ []) ++ (50 ∷ 32 ∷ 45 ∷ 50 ∷ 10 ∷ []) ++
+    (116 ∷ 111 ∷ 116 ∷ 97 ∷ 108 ∷ 32 ∷ 50 ∷ 57 ∷ 52 ∷ 10 ∷ [])
+
+abbrev pub PrintedExample : Type 0
+PrintedExample =
+    (a b : Sent) (s : Summary) (page : ℕ) → Sized (a ∷ b ∷ []) → checkOf a ≡ good s → s .bits ≡ 294 → checkOf b ≡ refused (wrongSum page) →
+    report (sentBytes (a ∷ b ∷ [])) ≡ threeLines
 
 -- ---- a tray judged image by image
 

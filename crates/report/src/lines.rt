@@ -5,7 +5,8 @@ ghost use Prim.Native.Nat.{_+_, _≤_};
 ghost use lib.ListN.{length};
 ghost use Rattle.sheet.specs.Check.{checkSaid};
 ghost use Rattle.report.specs.Tray.{decimal, line as lineOf, totalLine};
-ghost use Rattle.report.specs.Judging.{Reads, Put, Room, Longer};
+ghost use Rattle.report.specs.Judging.{Reads};
+ghost use Rattle.report.specs.Lines.{Put, Room, Longer};
 use crate::Line;
 use sheet::Checked;
 

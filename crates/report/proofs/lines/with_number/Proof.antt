@@ -4,7 +4,7 @@ use Prim.Native.Nat.{ℕ, _≤_}
 use native.Mathlib.Omega.{arith}
 use borrow.Author.Needs.{needs}
 use lib.ListN.{length}
-use Rattle.report.specs.Judging.{Longer}
+use Rattle.report.specs.Lines.{Longer}
 use Rattle.report.proofs.DecimalLaws.{spelt-decimal}
 use Rattle.report.proofs.lines.with_number.Statement.{statement}
 use Rattle.report.proofs.lines.with_number.Tie as tie

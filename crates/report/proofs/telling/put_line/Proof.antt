@@ -5,7 +5,7 @@ use native.Mathlib.Omega.{arith}
 use borrow.Author.Needs.{needs}
 use lib.ListN.{length}
 use lib.Seq.{length-take-le}
-use Rattle.report.specs.Judging.{Put}
+use Rattle.report.specs.Lines.{Put}
 use Rattle.report.proofs.telling.put_line.Statement.{statement}
 use Rattle.report.proofs.telling.put_line.Tie as tie
 
