@@ -36,9 +36,9 @@ longer-more {l} {m} {n} {xs} {ys} a b =
       is = b .is ∙ ap (λ (zs : List ℕ). zs ++ ys) (a .is) ∙ append-assoc (bytesIn l) xs ys;
     }
 
-pub longer-reads : {l m : Line} {xs : List ℕ} → Reads l [] → Longer l xs m → Reads m xs
-longer-reads {l} {m} {xs} r a = record { room = a .room; short = a .short; is = a .is ∙ ap (λ (zs : List ℕ). zs ++ xs) (r .is) }
+pub longer-reads : (l : Line) {m : Line} {xs : List ℕ} → Reads l [] → Longer l xs m → Reads m xs
+longer-reads l {m} {xs} r a = record { room = a .room; short = a .short; is = a .is ∙ ap (λ (zs : List ℕ). zs ++ xs) (r .is) }
 
 -- A position, and what ends its line.
-pub line-reads : {l m n : Line} (xs ys zs : List ℕ) → Reads l [] → Longer l xs m → Longer m (ys ++ zs) n → Reads n (xs ++ ys ++ zs)
-line-reads xs ys zs r a b = rw (append-assoc xs ys zs) (longer-reads r (longer-more a b))
+pub line-reads : (l : Line) {m n : Line} (xs ys zs : List ℕ) → Reads l [] → Longer l xs m → Longer m (ys ++ zs) n → Reads n (xs ++ ys ++ zs)
+line-reads l xs ys zs r a b = rw (append-assoc xs ys zs) (longer-reads l r (longer-more a b))

@@ -2,18 +2,17 @@
 use mathlib.Core.Path.{_≡_, refl, sym, ap, ap₂, _∙_}
 use mathlib.Core.Bool.{true, false}
 use mathlib.Core.List.{List, [], _∷_, _++_, append-assoc}
-use Prim.Native.Nat.{ℕ, suc, _+_, _-_, _*_, _≤_, _<_}
+use Prim.Native.Nat.{ℕ, _+_, _-_, _*_, _≤_, _<_}
 use native.Mathlib.Numerals.{add-one}
 use native.Mathlib.Omega.{arith}
 use lib.ListN.{length, take, drop, getD, length-take, length-drop, drop-of-length-le}
 use lib.Seq.{drop-cons, drop-drop, take-all, length-take-le}
 use Rattle.memory.specs.Image.{sizesOf}
-use Rattle.sheet.specs.Check.{check}
 use Rattle.report.specs.declared.Line.{Line}
 use Rattle.report.specs.declared.SoFar.{SoFar}
 use Rattle.report.specs.declared.Judged.{Judged}
 use Rattle.report.specs.Tray.{line, totalLine, report}
-use Rattle.report.specs.Judging.{bytesOf, begun, with, reportFrom, bytesIn, Reads, Sound, JudgedAs}
+use Rattle.report.specs.Judging.{bytesOf, begun, reportFrom, bytesIn, Starts, Reads, Sound, JudgedAs}
 use Rattle.report.specs.Lines.{Put}
 use Rattle.report.proofs.JudgeLaws.{begun-sound}
 use Rattle.report.proofs.TrayLaws.{told-from-the-start, told-in-turn, told-at-the-end}
@@ -37,8 +36,8 @@ tell-start tray out s l e =
       is = told-from-the-start tray;
     })
 
-pub reads-itself : {l : Line} {bytes : List ℕ} → Reads l bytes → Reads l (bytesIn l)
-reads-itself h = record { room = h .room; short = h .short; is = refl }
+pub reads-itself : (l : Line) {text : List ℕ} → Reads l text → Reads l (bytesIn l)
+reads-itself l h = record { room = h .room; short = h .short; is = refl }
 
 module _ {tray out : List ℕ} {s : SoFar} {at end : ℕ} (t : Telling tray out s at end) where
   pub tell-on : (image after : List ℕ) (count : ℕ) (j : Judged) (to : ℕ) → s .more ≡ true → at < length tray →
@@ -66,11 +65,16 @@ module _ {tray out : List ℕ} {s : SoFar} {at end : ℕ} (t : Telling tray out 
 
   -- At the end of the tray, or of its bytes.
   module _ (l : Line) (after : List ℕ) (to : ℕ) (h : Reads l (totalLine (s .bits))) (p : Put out end (bytesIn l) after to) where
-    told : reportFrom s (drop at tray) ≡ totalLine (s .bits) → take to after ≡ report tray
-    told e = p .is ∙ ap (λ (xs : List ℕ). take end out ++ xs) (h .is ∙ sym e) ∙ t .is
+    told : reportFrom s (drop at tray) ≡ totalLine (s .bits) → Starts 43_043 after to (report tray)
+    told e =
+        record {
+          room = p .long ∙ t .room;
+          short = omega (arith, t .sound .few, t .short, p .ends, h .short, length-take-le (l .length) (l .bytes) (omega (arith, h)));
+          is = p .is ∙ ap (λ (xs : List ℕ). take end out ++ xs) (h .is ∙ sym e) ∙ t .is;
+        }
 
-    pub tell-closed : s .more ≡ false → take to after ≡ report tray
+    pub tell-closed : s .more ≡ false → Starts 43_043 after to (report tray)
     tell-closed m = told (told-at-the-end s (drop at tray) .0 m)
 
-    pub tell-end : length tray ≤ at → take to after ≡ report tray
+    pub tell-end : length tray ≤ at → Starts 43_043 after to (report tray)
     tell-end i = told (ap (reportFrom s) (drop-of-length-le tray {i = at} i) ∙ told-at-the-end s [] .1)

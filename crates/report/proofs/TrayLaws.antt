@@ -9,12 +9,12 @@ use native.Mathlib.Omega.{arith}
 use native.Mathlib.Decide.{decLt}
 use borrow.Author.Tests.{lt-ltb, le-ltb, eq-eqb, ne-eqb, eqb-true, not-false}
 use lib.Dec.{eqb, ltb}
-use lib.ListN.{length, take, drop, length-append, drop-of-length-le}
+use lib.ListN.{length, take, drop, length-append}
 use lib.Seq.{take-at, drop-at, take-all, length-take-le}
 use Rattle.refusal.specs.declared.Refusal.{Refusal}
 use Rattle.refusal.specs.Outcome.{Outcome, good, refused}
 use Rattle.refusal.specs.Rows.{wrongImage}
-use Rattle.refusal.proofs.Outcomes.{good-same, good-bind, passed, no-value}
+use Rattle.refusal.proofs.Outcomes.{good-bind, passed, no-value}
 use Rattle.memory.specs.declared.Sizes.{Sizes}
 use Rattle.memory.specs.Image.{sizesOf, imageBytes, imageSizes}
 use Rattle.memory.proofs.Chips.{sizes-kind}
@@ -23,7 +23,7 @@ use Rattle.sheet.specs.declared.Summary.{Summary}
 use Rattle.sheet.specs.Check.{check}
 use Rattle.report.specs.declared.SoFar.{SoFar}
 use Rattle.report.specs.Tray.{digitsUpTo, First, cut, firstOf, checks, line, linesFrom, bitsOf, total, totalLine, report}
-use Rattle.report.specs.Judging.{bytesOf, isWhole, begun, with, left, reportFrom, Sound}
+use Rattle.report.specs.Judging.{bytesOf, isWhole, with, left, reportFrom}
 use Rattle.report.specs.Trays.{Sent, sentBytes, Sized, checkOf, sumOf, WholeTray, FullTray, CutShort, CutTray, PrintedExample, ToldFromTheStart, ToldInTurn, ToldAtTheEnd}
 
 -- ---- an image and its bytes

@@ -12,7 +12,8 @@ use Rattle.sheet.specs.Check.{check}
 use Rattle.report.specs.declared.Line.{Line}
 use Rattle.report.specs.declared.SoFar.{SoFar}
 use Rattle.report.specs.declared.Judged.{Judged}
-use Rattle.report.specs.Tray.{checks, bitsOf, line, linesFrom, total, totalLine}
+use Rattle.report.specs.declared.Report.{Report}
+use Rattle.report.specs.Tray.{checks, mostImages, bitsOf, line, linesFrom, total, totalLine}
 
 -- ---- the images
 
@@ -38,12 +39,12 @@ with s kind image =
     record {
       images = s .images + 1;
       bits = s .bits + bitsOf (check kind image);
-      more = isWhole (imageSizes kind (length image)) && ltb (s .images + 1) 1_000;
+      more = isWhole (imageSizes kind (length image)) && ltb (s .images + 1) mostImages;
     }
 
 -- What is still to be told of a tray whose further bytes are these: none of its images where it has ended.
 abbrev pub left : SoFar → ℕ
-left s = cond (s .more) (1_000 - s .images) 0
+left s = cond (s .more) (mostImages - s .images) 0
 
 unfoldable pub reportFrom : SoFar → List ℕ → List ℕ
 reportFrom s bytes =
@@ -56,19 +57,30 @@ reportFrom s bytes =
 abbrev pub bytesIn : Line → List ℕ
 bytesIn l = take (l .length) (l .bytes)
 
--- A line in its array of 43 bytes: two numbers of 20 digits, a space, a minus sign and a newline.
-pub record Reads (l : Line) (bytes : List ℕ) : Type 0 where
-  pub room : length (l .bytes) ≡ 43
-  pub short : l .length ≤ 43
-  pub is : bytesIn l ≡ bytes
+-- A text at the start of a buffer of so many bytes.
+pub record Starts (size : ℕ) (buffer : List ℕ) (count : ℕ) (text : List ℕ) : Type 0 where
+  pub room : length buffer ≡ size
+  pub short : count ≤ size
+  pub is : take count buffer ≡ text
+
+-- A line has room for two numbers of 20 digits, a space, a minus sign and a newline; a report for 1,001 lines.
+abbrev pub Reads : Line → List ℕ → Type 0
+Reads l text = Starts 43 (l .bytes) (l .length) text
+
+abbrev pub Tells : Report → List ℕ → Type 0
+Tells r text = Starts 43_043 (r .bytes) (r .length) text
 
 -- ---- what holds
 
--- No image has more than 3,968 bits, and no tray more than 1,000 images.
+-- No image has more bits than the largest chip's stream.
+abbrev pub mostBits : ℕ
+mostBits = 3_968
+
+-- What comes of `begun` by images: at most 1,000 of them, and no more bits than they can have.
 pub record Sound (s : SoFar) : Type 0 where
-  pub few : s .images ≤ 1_000
-  pub small : s .bits ≤ 3_968 * s .images
-  pub last : s .more ≡ true → s .images < 1_000
+  pub few : s .images ≤ mostImages
+  pub small : s .bits ≤ mostBits * s .images
+  pub last : s .more ≡ true → s .images < mostImages
 
 -- The line of an image is that of its check, at the next position.
 pub record JudgedAs (s : SoFar) (kind : ℕ) (image : List ℕ) (j : Judged) : Type 0 where

@@ -35,8 +35,11 @@ checks (suc n) [] = []
 checks (suc n) (kind ∷ bytes) = let first = firstOf kind bytes (sizesOf kind) in first .outcome ∷ checks n (first .behind)
 
 -- A tray ends after 1,000 images, and what follows them is not read.
+abbrev pub mostImages : ℕ
+mostImages = 1_000
+
 abbrev pub trayChecks : List ℕ → List (Outcome Summary)
-trayChecks tray = checks 1_000 tray
+trayChecks tray = checks mostImages tray
 
 -- ---- the lines
 

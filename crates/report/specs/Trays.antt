@@ -11,8 +11,8 @@ use Rattle.memory.specs.Image.{sizesOf, imageBytes, imageSizes}
 use Rattle.sheet.specs.declared.Summary.{Summary}
 use Rattle.sheet.specs.Check.{check}
 use Rattle.report.specs.declared.SoFar.{SoFar}
-use Rattle.report.specs.Tray.{line, linesFrom, bitsOf, totalLine, report}
-use Rattle.report.specs.Judging.{bytesOf, begun, with, reportFrom, Sound}
+use Rattle.report.specs.Tray.{mostImages, line, linesFrom, bitsOf, totalLine, report}
+use Rattle.report.specs.Judging.{bytesOf, begun, with, reportFrom, mostBits, Sound}
 
 -- ---- a tray and the separate checks of its images
 
@@ -41,13 +41,13 @@ sumOf (s ∷ sent) = bitsOf (checkOf s) + sumOf sent
 -- One line for each image, and the sum. An empty tray has the last line alone.
 abbrev pub WholeTray : Type 0
 WholeTray =
-    (sent : List Sent) → Sized sent → length sent ≤ 1_000 →
+    (sent : List Sent) → Sized sent → length sent ≤ mostImages →
     report (sentBytes sent) ≡ linesFrom 1 (map checkOf sent) ++ totalLine (sumOf sent)
 
 -- What follows 1,000 images is not read.
 abbrev pub FullTray : Type 0
 FullTray =
-    (sent : List Sent) (behind : List ℕ) → Sized sent → length sent ≡ 1_000 →
+    (sent : List Sent) (behind : List ℕ) → Sized sent → length sent ≡ mostImages →
     report (sentBytes sent ++ behind) ≡ report (sentBytes sent)
 
 -- A kind above 2 or an image cut short gives the line with -1 and ends the tray; the total follows.
@@ -56,7 +56,7 @@ CutShort kind bytes = (z : Sizes) → sizesOf kind ≡ good z → length bytes <
 
 abbrev pub CutTray : Type 0
 CutTray =
-    (sent : List Sent) (kind : ℕ) (bytes : List ℕ) → Sized sent → length sent < 1_000 → CutShort kind bytes →
+    (sent : List Sent) (kind : ℕ) (bytes : List ℕ) → Sized sent → length sent < mostImages → CutShort kind bytes →
     report (sentBytes sent ++ (kind ∷ bytes)) ≡ linesFrom 1 (map checkOf sent ++ (refused wrongImage ∷ [])) ++ totalLine (sumOf sent)
 
 -- An image of 294 bits followed by one with a wrong page sum prints three lines: "1 294", "2 -2", "total 294".
@@ -88,6 +88,6 @@ abbrev pub ToldAtTheEnd : Type 0
 ToldAtTheEnd =
     (s : SoFar) (bytes : List ℕ) → (s .more ≡ false → reportFrom s bytes ≡ totalLine (s .bits)) × (reportFrom s [] ≡ totalLine (s .bits))
 
--- No sum needs more than 64 bits: no image has more than the 3,968 bits of the largest chip's stream.
+-- No sum needs more than 64 bits: no image has more than the 3,968 of the largest chip's stream.
 abbrev pub FewBits : Type 0
-FewBits = (kind : ℕ) (image : List ℕ) (s : Summary) → check kind image ≡ good s → s .bits ≤ 3_968
+FewBits = (kind : ℕ) (image : List ℕ) (s : Summary) → check kind image ≡ good s → s .bits ≤ mostBits

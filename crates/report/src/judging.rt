@@ -5,7 +5,7 @@ ghost use Prim.Native.Nat.{_+_, _^_, _<_};
 ghost use lib.Dec.{ltb};
 ghost use Rattle.memory.specs.Image.{sizesOf, imageSizes};
 ghost use Rattle.sheet.specs.Check.{checkSaid};
-ghost use Rattle.report.specs.Tray.{bitsOf};
+ghost use Rattle.report.specs.Tray.{mostImages, bitsOf};
 ghost use Rattle.report.specs.Judging.{bytesOf, isWhole, begun, closed, Sound, JudgedAs};
 use crate::Judged;
 use crate::SoFar;
@@ -62,7 +62,7 @@ fn is_whole(kind: u8, bytes: usize) -> bool
 
 // Whether a further image is to be judged: not behind a kind above 2 or an image cut short, and not behind the last.
 fn has_more(whole: bool, images: u64) -> bool
-    ensures { λ r. ⌜ r ≡ (whole && ltb images 1_000) ⌝ }
+    ensures { λ r. ⌜ r ≡ (whole && ltb images mostImages) ⌝ }
 {
     if whole {
         return images < MOST;
@@ -89,7 +89,8 @@ fn added(bits: u64, checked: Checked) -> u64
 }
 
 // Judges an image, of which these bytes came: its line, and what the tray has come to with it. A kind above 2 and an image cut
-// short are refused with 1 and end the tray, and so does the last image that a tray may have.
+// short are refused with 1 and end the tray, and so does the last image that a tray may have. It asks that the tray has not
+// ended, and came from `begin` by images alone.
 pub fn judge(tray: SoFar, kind: u8, image: &[u8]) -> Judged
     requires { ⌜ Sound tray × (tray .more ≡ true) ⌝ }
     ensures { λ r. ⌜ JudgedAs tray kind (now (image .entry)) r ⌝ }

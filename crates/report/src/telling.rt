@@ -1,9 +1,9 @@
 // A tray that lies in memory: the calls that judge a tray as it is read, in turn.
 ghost use mathlib.Core.Path.{_≡_};
 ghost use Prim.Native.Nat.{_+_, _≤_};
-ghost use lib.ListN.{length, take};
+ghost use lib.ListN.{length};
 ghost use Rattle.report.specs.Tray.{report};
-ghost use Rattle.report.specs.Judging.{bytesIn, Reads};
+ghost use Rattle.report.specs.Judging.{bytesIn, Starts, Reads, Tells};
 ghost use Rattle.report.specs.Lines.{Put};
 use crate::Line;
 use crate::Report;
@@ -22,7 +22,7 @@ fn put_line(out: &mut [u8], at: usize, line: Line) -> usize
 // Puts the report on a tray at the start of a buffer, and says how many bytes it has.
 fn put_report(tray: &[u8], out: &mut [u8]) -> usize
     requires { ⌜ length (now out) ≡ 43_043 ⌝ }
-    ensures { λ r. ⌜ take r (now (out .exit)) ≡ report (now (tray .entry)) ⌝ }
+    ensures { λ r. ⌜ Starts 43_043 (now (out .exit)) r (report (now (tray .entry))) ⌝ }
 {
     let mut so_far = judging::begin();
     let mut at = 0;
@@ -42,7 +42,7 @@ fn put_report(tray: &[u8], out: &mut [u8]) -> usize
 
 // The report on a tray.
 pub fn tell(tray: &[u8]) -> Report
-    ensures { λ r. ⌜ take (r .length) (r .bytes) ≡ report (now (tray .entry)) ⌝ }
+    ensures { λ r. ⌜ Tells r (report (now (tray .entry))) ⌝ }
 {
     let mut bytes = [0u8; 43_043];
     let length = put_report(tray, &mut bytes);

@@ -1,4 +1,3 @@
-use borrow.Author.Needs.{needs}
 use Rattle.report.proofs.judging.has_more.Statement.{statement}
 use Rattle.report.proofs.judging.has_more.Tie as tie
 

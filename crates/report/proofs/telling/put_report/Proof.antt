@@ -26,7 +26,7 @@ put-line-requires : tie.Need-put-line-requires Inv-loop μ-loop
 put-line-requires c κs =
     let l = c .before .before .before .before .before .before .before .before in
     let i = l .before .loop .inv in
-    (reads-itself (c .before .before .judge .ensures .line), omega (arith, i .short, i .room, i .sound .last (l .loop-test .taken)))
+    (reads-itself _ (c .before .before .judge .ensures .line), omega (arith, i .short, i .room, i .sound .last (l .loop-test .taken)))
 
 loop-again : tie.Need-loop-again Inv-loop μ-loop
 loop-again c =
@@ -42,7 +42,7 @@ loop-again c =
 put-line-requires-2 : tie.Need-put-line-requires-2 Inv-loop μ-loop
 put-line-requires-2 c κs =
     let i = c .before .before .before .loop .inv in
-    (reads-itself (c .total-line .ensures), omega (arith, i .short, i .room, i .sound .few))
+    (reads-itself _ (c .total-line .ensures), omega (arith, i .short, i .room, i .sound .few))
 
 same-length : tie.Need-same-length Inv-loop μ-loop
 same-length c =
