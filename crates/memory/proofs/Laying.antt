@@ -7,7 +7,7 @@ use native.Mathlib.Nat.{mod-lt, mod-eq-of-lt}
 use native.Mathlib.Numerals.{add-one}
 use native.Mathlib.Omega.{arith}
 use lib.ListN.{length, set, length-set}
-use lib.Dec.{ltb}
+use lib.Dec.{ltb, lit<}
 use lib.Pow.{pow-pos}
 use borrow.Author.Tests.{lt-ltb}
 use Rattle.memory.specs.declared.Sizes.{Sizes}
@@ -19,7 +19,7 @@ use Rattle.memory.proofs.Digits.{bytes-set, bytes-number}
 use Rattle.memory.proofs.Streams.{index-lt}
 use Rattle.memory.proofs.Written.{Put, put-is}
 use Rattle.memory.proofs.Turns.{put-none, put-code, number-turn, scatter-none, scatter-turn}
-use Rattle.memory.proofs.Runs.{run-near, run-index, word-low, gather-near}
+use Rattle.memory.proofs.Runs.{eight-in, run-near, run-index, word-low, gather-near}
 
 -- ---- a word into eight bytes
 
@@ -51,6 +51,23 @@ module _ (image : List ℕ) (f word : ℕ) where
   laid-eight {l} h p =
       sym (bytes-number l (p .bytes))
       ∙ ap₂ bytesOf (p .long) (p .stands ∙ ap (putAt (number image) (8 * f) 64) (mod-eq-of-lt h))
+
+  -- All eight.
+  pub laid-word : (b0 b1 b2 b3 b4 b5 b6 b7 : ℕ) → Bytes image → f + 8 ≤ length image → word < 2 ^ 64
+      → b0 ≡ word % 256 → b1 ≡ word / 2 ^ 8 % 256 → b2 ≡ word / 2 ^ 16 % 256 → b3 ≡ word / 2 ^ 24 % 256
+      → b4 ≡ word / 2 ^ 32 % 256 → b5 ≡ word / 2 ^ 40 % 256 → b6 ≡ word / 2 ^ 48 % 256 → b7 ≡ word / 2 ^ 56 % 256
+      → set (set (set (set (set (set (set (set image f b0) (f + 1) b1) (f + 2) b2) (f + 3) b3) (f + 4) b4) (f + 5) b5) (f + 6) b6) (f + 7) b7
+      ≡ bytesOf (length image) (putAt (number image) (8 * f) 64 word)
+  laid-word b0 b1 b2 b3 b4 b5 b6 b7 hb h hw e0 e1 e2 e3 e4 e5 e6 e7 =
+      let l1 = lay-first b0 hb (omega arith) e0 in
+      let l2 = lay-turn 1 b1 _ (eight-in f 1 _ h (lit< tt)) e1 l1 in
+      let l3 = lay-turn 2 b2 _ (eight-in f 2 _ h (lit< tt)) e2 l2 in
+      let l4 = lay-turn 3 b3 _ (eight-in f 3 _ h (lit< tt)) e3 l3 in
+      let l5 = lay-turn 4 b4 _ (eight-in f 4 _ h (lit< tt)) e4 l4 in
+      let l6 = lay-turn 5 b5 _ (eight-in f 5 _ h (lit< tt)) e5 l5 in
+      let l7 = lay-turn 6 b6 _ (eight-in f 6 _ h (lit< tt)) e6 l6 in
+      let l8 = lay-turn 7 b7 _ (eight-in f 7 _ h (lit< tt)) e7 l7 in
+      laid-eight hw l8
 
 -- ---- bytes of a word into the stream
 

@@ -6,9 +6,11 @@ use Prim.Native.Nat.{ℕ, zero, suc, _+_, _-_, _*_, _/_, _%_, _^_, _≤_, _<_}
 use native.Mathlib.Nat.{mod-one, mod-lt, mod-eq-of-lt, lt-of-lt-of-le}
 use native.Mathlib.Omega.{arith}
 use native.Mathlib.Decide.{decLt}
+use mir.Syntax.{w64}
+use mir.Val.{Fits}
 use lib.ListN.{length, drop, getD, length-drop}
 use lib.Seq.{drop-cons}
-use lib.Dec.{ltb}
+use lib.Dec.{ltb, lit<}
 use lib.Bits.{bitOr, bitAnd, or-shifted, or-shifted-r, and-mask}
 use lib.Pow.{pow-pos, pow-mono, high, low, mod-pow-add, mod-mod-pow, shr-lt, shl-exact}
 use borrow.Author.Tests.{lt-ltb, le-ltb}
@@ -64,6 +66,13 @@ module _ (z : Sizes) (i : ℕ) where
 
 -- ---- eight bytes as one word
 
+-- Each of eight bytes within an image, and its index within a usize.
+pub eight-in : (f k n : ℕ) → f + 8 ≤ n → k < 8 → f + k < n
+eight-in f k n h l = omega arith
+
+pub eight-fits : (f k n : ℕ) → f + 8 ≤ n → n < 2 ^ 64 → k < 8 → Fits w64 (f + k)
+eight-fits f k n h m l = record { fits = omega arith }
+
 module _ (bytes : List ℕ) (hb : Bytes bytes) (f : ℕ) where
   -- One more byte above those joined.
   pub join-turn : (k word b : ℕ) → f + k < length bytes → k < 8 → word ≡ fieldAt (number bytes) (8 * f) (8 * k) → b ≡ getD bytes (f + k) 0
@@ -78,6 +87,22 @@ module _ (bytes : List ℕ) (hb : Bytes bytes) (f : ℕ) where
       ∙ ap₂ (λ (x y : ℕ). x * 2 ^ (8 * k) + y) g e
       ∙ sym (field-add N (8 * f) 8 (8 * k))
       ∙ ap (λ (x : ℕ). fieldAt N (8 * f) x) (omega arith)
+
+  -- All eight.
+  pub joined : (b0 b1 b2 b3 b4 b5 b6 b7 : ℕ) → f + 8 ≤ length bytes
+      → b0 ≡ getD bytes f 0 → b1 ≡ getD bytes (f + 1) 0 → b2 ≡ getD bytes (f + 2) 0 → b3 ≡ getD bytes (f + 3) 0
+      → b4 ≡ getD bytes (f + 4) 0 → b5 ≡ getD bytes (f + 5) 0 → b6 ≡ getD bytes (f + 6) 0 → b7 ≡ getD bytes (f + 7) 0
+      → bitOr (bitOr (bitOr (bitOr (bitOr (bitOr (bitOr b0 (b1 * 2 ^ 8 % 2 ^ 64)) (b2 * 2 ^ 16 % 2 ^ 64)) (b3 * 2 ^ 24 % 2 ^ 64)) (b4 * 2 ^ 32 % 2 ^ 64)) (b5 * 2 ^ 40 % 2 ^ 64)) (b6 * 2 ^ 48 % 2 ^ 64)) (b7 * 2 ^ 56 % 2 ^ 64)
+      ≡ fieldAt (number bytes) (8 * f) 64
+  joined b0 b1 b2 b3 b4 b5 b6 b7 h e0 e1 e2 e3 e4 e5 e6 e7 =
+      let w0 : b0 ≡ fieldAt (number bytes) (8 * f) 8 = e0 ∙ sym (number-at bytes hb f (omega arith)) in
+      let w1 = join-turn 1 _ _ (eight-in f 1 _ h (lit< tt)) (lit< tt) w0 e1 in
+      let w2 = join-turn 2 _ _ (eight-in f 2 _ h (lit< tt)) (lit< tt) w1 e2 in
+      let w3 = join-turn 3 _ _ (eight-in f 3 _ h (lit< tt)) (lit< tt) w2 e3 in
+      let w4 = join-turn 4 _ _ (eight-in f 4 _ h (lit< tt)) (lit< tt) w3 e4 in
+      let w5 = join-turn 5 _ _ (eight-in f 5 _ h (lit< tt)) (lit< tt) w4 e5 in
+      let w6 = join-turn 6 _ _ (eight-in f 6 _ h (lit< tt)) (lit< tt) w5 e6 in
+      join-turn 7 _ _ (eight-in f 7 _ h (lit< tt)) (lit< tt) w6 e7
 
   -- The last bytes, from the end on: one more below those joined.
   pub tail-turn : (word b : ℕ) → f < length bytes → length bytes < f + 8 → word ≡ number (drop (suc f) bytes) → b ≡ getD bytes f 0
