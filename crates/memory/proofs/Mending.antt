@@ -5,12 +5,14 @@ use mathlib.Core.List.{List}
 use Prim.Native.Nat.{ℕ, zero, suc, _+_, _-_, _*_, _^_, _≤_, _<_}
 use native.Mathlib.Omega.{arith}
 use native.Mathlib.Decide.{decLt, ℕ-discrete}
+use mir.Syntax.{w64}
+use mir.Val.{Fits}
 use lib.ListN.{length, take, drop, getD, length-drop}
 use lib.Seq.{length-take-le}
 use Rattle.memory.specs.declared.Sizes.{Sizes}
 use Rattle.memory.specs.Bits.{Bytes, number, fieldAt, putAt}
 use Rattle.memory.specs.Image.{imageBytes, streamBytes, streamBits, pageAt, pageOf, pageSum, SumsRight, streamOf, streamNumber, imageOf, sealed, putIn}
-use Rattle.memory.specs.Answers.{InStream}
+use Rattle.memory.specs.Answers.{Whole, InStream}
 use Rattle.memory.proofs.FieldLaws.{put-after, put-before}
 use Rattle.memory.proofs.Digits.{bytes-take, bytes-drop, number-part, number-ext}
 use Rattle.memory.proofs.Streams.{stream-length, stream-bytes}
@@ -108,6 +110,23 @@ module _ (z : Sizes) (image : List ℕ) (whole : length image ≡ imageBytes z) 
           ∙ seal-other z first first-long (pageOf z (at + w - 1)) last-page (pageAt z q) (λ e. m (omega arith))
           ∙ seal-other z put put-long (pageOf z at) first-page (pageAt z q) (λ e. n (omega arith))
           ∙ put-checks z image at w code whole q
+
+module _ {z : Sizes} {image : List ℕ} {at w : ℕ} (here : InStream z image at w) where
+  pub end-fits : Fits w64 (at + w)
+  end-fits = record { fits = omega arith }
+
+  pub end-some : 1 ≤ at + w
+  end-some = omega arith
+
+  -- The page of any bit of the field can be sealed.
+  sealable : (l : List ℕ) (bit p : ℕ) → bit < at + w → 1 ≤ z .pages → length l ≡ length image → p ≡ pageOf z bit → Whole z l × (p < z .pages)
+  sealable l bit p h paged e page = (record { long = e ∙ here .whole .long; small = here .whole .small }, omega arith)
+
+  pub first-sealable : {l : List ℕ} {p : ℕ} → 1 ≤ z .pages → length l ≡ length image → p ≡ pageOf z at → Whole z l × (p < z .pages)
+  first-sealable {l} {p} = sealable l at p (omega arith)
+
+  pub last-sealable : {l : List ℕ} {p : ℕ} → 1 ≤ z .pages → length l ≡ length image → p ≡ pageOf z (at + w - 1) → Whole z l × (p < z .pages)
+  last-sealable {l} {p} = sealable l (at + w - 1) p (omega arith)
 
 -- A field put and its pages sealed, one call after the other.
 pub rewritten : (z : Sizes) (image a b d : List ℕ) (at w code p q : ℕ) → Bytes image → InStream z image at w → code < 2 ^ w

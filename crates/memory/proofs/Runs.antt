@@ -17,7 +17,7 @@ use borrow.Author.Tests.{lt-ltb, le-ltb}
 use Rattle.memory.specs.declared.Sizes.{Sizes}
 use Rattle.memory.specs.Bits.{Bytes, number, fieldAt}
 use Rattle.memory.specs.Image.{imageBytes, streamBytes, streamOf, streamNumber}
-use Rattle.memory.specs.Answers.{streamIndex, runBytes}
+use Rattle.memory.specs.Answers.{InBytes, streamIndex, runBytes}
 use Rattle.memory.proofs.FieldLaws.{field-lt, field-add, field-field}
 use Rattle.memory.proofs.Digits.{bytes-drop, number-lt, number-drop, number-at}
 use Rattle.memory.proofs.Turns.{one-shl}
@@ -63,6 +63,12 @@ module _ (z : Sizes) (i : ℕ) where
       go : Dec (k < bytes) → cond (ltb k bytes) (from + k) (from + k + 1) ≡ streamIndex z (i + k)
       go (yes s) = simp (lt-ltb k bytes s) (omega (arith, run-near k (omega arith)))
       go (no s) = simp (le-ltb k bytes (omega arith)) (omega (arith, run-far k (omega arith) (omega arith)))
+
+-- The first byte of a run stands within the image.
+pub run-in : {z : Sizes} {image : List ℕ} {first count from : ℕ} → InBytes z image first count → from ≡ streamIndex z first → (from ≤ length image) × (from < 2 ^ 32)
+run-in {z} {image} {first} p e =
+    let h = index-lt z first (omega arith) in
+    (omega arith, omega arith)
 
 -- ---- eight bytes as one word
 

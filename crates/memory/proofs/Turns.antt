@@ -4,6 +4,8 @@ use mathlib.Core.List.{List}
 use Prim.Native.Nat.{ℕ, _+_, _-_, _*_, _/_, _%_, _^_, _≤_, _<_}
 use native.Mathlib.Nat.{mod-lt, le-refl, one-mul, mod-one, mod-eq-of-lt, lt-of-le-of-lt, div-mul-le-self}
 use native.Mathlib.Omega.{arith}
+use mir.Syntax.{w64}
+use mir.Val.{Fits}
 use lib.ListN.{length, set, length-set}
 use lib.Seq.{getD-set-other}
 use lib.Bits.{bitOr, bitAnd, or-shifted, and-mask}
@@ -11,7 +13,7 @@ use lib.Pow.{pow-pos, mod-pow-add, shl-exact}
 use Rattle.memory.specs.declared.Sizes.{Sizes}
 use Rattle.memory.specs.Bits.{Bytes, number, fieldAt, putAt}
 use Rattle.memory.specs.Image.{imageBytes, streamBytes, pageAt, streamOf, streamNumber, withStream, putIn}
-use Rattle.memory.specs.Answers.{streamIndex}
+use Rattle.memory.specs.Answers.{InStream, InBytes, streamIndex}
 use Rattle.memory.proofs.FieldLaws.{field-lt, field-field, field-mod, low-lt, put-same, put-put, put-in, put-mod}
 use Rattle.memory.proofs.Digits.{bytes-set, number-set}
 use Rattle.memory.proofs.Streams.{stream-length, stream-bytes, stream-set, index-check}
@@ -20,6 +22,26 @@ use Rattle.memory.proofs.Written.{Put}
 -- `1 << width`
 pub one-shl : (width : ℕ) → width ≤ 32 → 1 * 2 ^ width % 2 ^ 64 ≡ 2 ^ width
 one-shl width h = shl-exact 1 width 64 (le-refl 2) (omega arith) ∙ one-mul (2 ^ width)
+
+pub one-shl-pos : (width : ℕ) → width ≤ 32 → 1 ≤ 1 * 2 ^ width % 2 ^ 64
+one-shl-pos width h = omega (arith, one-shl width h, pow-pos width)
+
+-- ---- the bytes that a field touches
+
+pub touched : {z : Sizes} {image : List ℕ} {at width : ℕ} → InStream z image at width → InBytes z image (at / 8) ((at % 8 + width + 7) / 8)
+touched p = record { whole = p .whole; inside = omega arith; some = omega arith; most = omega arith }
+
+pub first-small : {z : Sizes} {image : List ℕ} {first count : ℕ} → InBytes z image first count → first < 2 ^ 32
+first-small p = omega arith
+
+pub low-fits : (at width : ℕ) → width ≤ 32 → Fits w64 (at % 8 + width)
+low-fits at width h = record { fits = omega arith }
+
+pub low-fits-on : (at width : ℕ) → width ≤ 32 → Fits w64 (at % 8 + width + 7)
+low-fits-on at width h = record { fits = omega arith }
+
+pub low-most : (at width : ℕ) → width ≤ 32 → width + at % 8 ≤ 39
+low-most at width h = omega arith
 
 -- ---- taking
 

@@ -1,36 +1,33 @@
 -- `bitfields::take` meets its contract.
-use borrow.Author.Needs.{needs}
-use native.Mathlib.Omega.{arith}
-use lib.Pow.{pow-pos}
+use native.Mathlib.Nat.{mod-lt, lt-trans, lt-of-le-of-lt}
+use lib.Dec.{lit<, lit≤}
 use Rattle.memory.specs.Image.{streamNumber}
-use Rattle.memory.proofs.Turns.{one-shl, take-word}
+use Rattle.memory.proofs.Turns.{one-shl-pos, touched, low-fits, low-fits-on, take-word}
 use Rattle.memory.proofs.bitfields.take.Statement.{statement}
 use Rattle.memory.proofs.bitfields.take.Tie as tie
 
 add-gather : tie.Need-add-gather
-add-gather c = search needs
+add-gather c = low-fits _ _ (c .before .pre .most)
 
 add-gather-2 : tie.Need-add-gather-2
-add-gather-2 c = search needs
+add-gather-2 c = low-fits-on _ _ (c .before .pre .most)
 
 gather-requires : tie.Need-gather-requires
-gather-requires c κs = search needs
+gather-requires c κs = touched (c .before .pre)
 
 shr-result : tie.Need-shr-result
-shr-result c = search needs
+shr-result c = lt-trans (mod-lt _ (lit≤ tt)) (lit< tt)
 
 shl-result : tie.Need-shl-result
-shl-result c = search needs
+shl-result c = lt-of-le-of-lt (c .before .before .pre .most) (lit< tt)
 
 sub-result : tie.Need-sub-result
-sub-result c =
-    let w = c .before .before .args .width in
-    omega (arith, one-shl w (omega arith), pow-pos w)
+sub-result c = one-shl-pos _ (c .before .before .pre .most)
 
 returns : tie.Need-returns
 returns c =
     let a = c .before .before .args in
-    take-word (streamNumber (a .sizes) (a .image .now)) _ (a .at) (a .width) (omega arith) (c .gather .ensures)
+    take-word (streamNumber (a .sizes) (a .image .now)) _ (a .at) (a .width) (c .before .before .pre .most) (c .gather .ensures)
 
 pub take-spec : {M : Type 1} → statement M
 take-spec =
