@@ -68,7 +68,7 @@ int main(int argc, char **argv)
     fields.level = DARTELM_LEVEL_MAKER;
     fields.template_id = DARTELM_TEMPLATE_BRIDGE;
 
-    /* Calibration point and deviation by turns, in billionths of the span. */
+    /* Calibration point and deviation by turns, in billionths of the span, against the electrical figure. */
     static const int64_t points[] = {
         0,         0,      200000000, 150000, 400000000,  420000,
         600000000, 380000, 800000000, 90000,  1000000000, -210000,
@@ -76,8 +76,9 @@ int main(int argc, char **argv)
     static const char closing[] = "rolling road 2, left drum";
 
     uint8_t image[128];
-    dartelm_write_answer built = dartelm_build(1, image, sizeof image, fields, closing, strlen(closing),
-                                               points, sizeof points / sizeof points[0]);
+    dartelm_write_answer built =
+        dartelm_build(1, image, sizeof image, fields, closing, strlen(closing), DARTELM_DOMAIN_ELECTRICAL, points,
+                      sizeof points / sizeof points[0]);
     if (built.number != DARTELM_ACCEPTED) {
         printf("refused %u at %" PRIu64 "\n", built.number, built.place);
         return 1;

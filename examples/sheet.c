@@ -133,6 +133,9 @@ int main(int argc, char **argv)
     for (unsigned field = 1; field <= sheet.field_count; field++) {
         show(sheet.fields.template_id, field, sheet.fields.values[field - 1]);
     }
+    if (sheet.domain != DARTELM_NO_DOMAIN) {
+        printf("domain %u\n", sheet.domain);
+    }
     for (uint64_t i = 0; i < sheet.points; i++) {
         dartelm_pair_answer pair = dartelm_pair(kind, image, length, i);
         printf("point %" PRIu64 ": %" PRId64 ", deviation %" PRId64 "\n", i, pair.point, pair.deviation);

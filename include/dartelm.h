@@ -1,7 +1,7 @@
 /* Dartelm: the IEEE 1451.4 data sheet (TEDS) in a sender's memory chip, from its image to a reading. For C99 and C++.
  *
  * Every call returns one struct by value. Its number is 0 where the call is accepted; else it is a refusal's, DARTELM_WRONG_IMAGE
- * to DARTELM_END_OUTSIDE, with the refusal's place beside it, and every other member is 0. (0 as a float is +0.0. A Single that
+ * to DARTELM_SUMS_NOT_RISING, with the refusal's place beside it, and every other member is 0. (0 as a float is +0.0. A Single that
  * is returned is finite.) A refused call writes nothing; no call writes anything but the image of a build, a change or a commit,
  * and the buffer of an index.
  *
@@ -29,36 +29,37 @@ extern "C" {
 #endif
 
 /* This header's number, which rises when a call or a struct changes; dartelm_version() is the archive's. */
-#define DARTELM_VERSION 3
+#define DARTELM_VERSION 4
 
 /* ---- numbers ---- */
 
 /* Why a call is refused, and what its place is. */
 enum {
     DARTELM_ACCEPTED = 0,
-    DARTELM_WRONG_IMAGE = 1,    /* Kind not 0 to 2, or a wrong image length. Place: 0. */
-    DARTELM_WRONG_SUM = 2,      /* A page does not add up. Place: the page, from 0. */
-    DARTELM_PAST_END = 3,       /* The stream ends before the sheet does. Place: the first bit of what is cut off. */
-    DARTELM_WRONG_BLOCK = 4,    /* A block that is not known here; a reading from template 32. Place: its selector's bit. */
-    DARTELM_OUTSIDE_TABLE = 5,  /* A code that the table has not. Place: its first bit. */
-    DARTELM_NOT_FINITE = 6,     /* A Single that is infinite, or a NaN. Place: its first bit. */
-    DARTELM_NOT_RISING = 7,     /* Calibration points that do not rise. Place: the later one's bit; in a build its index. */
-    DARTELM_NO_SUCH = 8,        /* No such field, calibration point or character. Place: the number given. */
-    DARTELM_WRONG_SORT = 9,     /* Wrong sort of value, missing where it may not be, text with end bit 0, text of a wrong
-                                 * length. Place: the field (for the closing text the number behind the last field's). */
-    DARTELM_OUT_OF_RANGE = 10,  /* A value, text or code that the field cannot hold. Place: the field, or a point's index. */
-    DARTELM_TOO_LONG = 11,      /* More than the chip holds. Place: the bits needed, 65,535 if they are more than that. */
-    DARTELM_CHANGED_ALONE = 12, /* Field 9 cannot be changed alone. Place: 9. */
-    DARTELM_NO_SPAN = 13,       /* A reading needs fields 7, 8, 10 and 11, and 10 below 11. Place: the first that is missing,
-                                 * else 11. */
-    DARTELM_OUTSIDE_SPAN = 14,  /* A reading's input is too far outside the span. Place: 0. */
-    DARTELM_WRONG_LIST = 16,    /* A list of points that is odd or longer than 254. Place: its length. */
-    DARTELM_BLANK_CHIP = 17,    /* Every page is blank: nothing has been written to this chip. Place: 0. */
-    DARTELM_SHORT_INDEX = 18,   /* A buffer too short for an index, or an index too short to be one. Place: the bytes needed. */
-    DARTELM_OTHER_CODE = 19,    /* A commit: another code stands in the field than the present one. Place: the field. */
-    DARTELM_LEVEL_TOO_LOW = 20, /* A writer of this level may not write the field. Place: the field. */
-    DARTELM_END_OUTSIDE = 21    /* A reading at precision 2: a Single outside -2 to 2 V/V. Place: the first of fields 10 and 11
-                                 * that is. */
+    DARTELM_WRONG_IMAGE = 1,      /* Kind not 0 to 2, or a wrong image length. Place: 0. */
+    DARTELM_WRONG_SUM = 2,        /* A page does not add up. Place: the page, from 0. */
+    DARTELM_PAST_END = 3,         /* The stream ends before the sheet does. Place: the first bit of what is cut off. */
+    DARTELM_WRONG_BLOCK = 4,      /* A block that is not known here; a reading from template 32. Place: its selector's bit. */
+    DARTELM_OUTSIDE_TABLE = 5,    /* A code that the table has not. Place: its first bit. */
+    DARTELM_NOT_FINITE = 6,       /* A Single that is infinite, or a NaN. Place: its first bit. */
+    DARTELM_NOT_RISING = 7,       /* Calibration points that do not rise. Place: the later one's bit; in a build its index. */
+    DARTELM_NO_SUCH = 8,          /* No such field, calibration point or character. Place: the number given. */
+    DARTELM_WRONG_SORT = 9,       /* Wrong sort of value, missing where it may not be, text with end bit 0, text of a wrong
+                                   * length. Place: the field (for the closing text the number behind the last field's). */
+    DARTELM_OUT_OF_RANGE = 10,    /* A value, text or code that the field cannot hold. Place: the field, or a point's index. */
+    DARTELM_TOO_LONG = 11,        /* More than the chip holds. Place: the bits needed, 65,535 if they are more than that. */
+    DARTELM_CHANGED_ALONE = 12,   /* Field 9 cannot be changed alone. Place: 9. */
+    DARTELM_NO_SPAN = 13,         /* A reading needs fields 7, 8, 10 and 11, and 10 below 11. Place: the first that is missing,
+                                   * else 11. */
+    DARTELM_OUTSIDE_SPAN = 14,    /* A reading's input is too far outside the span. Place: 0. */
+    DARTELM_WRONG_LIST = 16,      /* A list of points that is odd or longer than 254. Place: its length. */
+    DARTELM_BLANK_CHIP = 17,      /* Every page is blank: nothing has been written to this chip. Place: 0. */
+    DARTELM_SHORT_INDEX = 18,     /* A buffer too short for an index, or an index too short to be one. Place: the bytes needed. */
+    DARTELM_OTHER_CODE = 19,      /* A commit: another code stands in the field than the present one. Place: the field. */
+    DARTELM_LEVEL_TOO_LOW = 20,   /* A writer of this level may not write the field. Place: the field. */
+    DARTELM_END_OUTSIDE = 21,     /* A reading at precision 2: a Single outside -2 to 2 V/V. Place: the first of fields 10 and 11
+                                   * that is. */
+    DARTELM_SUMS_NOT_RISING = 22  /* Domain 1: calibration points plus deviations that do not rise. Place: as in 7. */
 };
 
 /* The template of a sheet's first block, which says what its fields are. A byte that is handed in and is neither is taken as
@@ -117,6 +118,13 @@ enum {
     DARTELM_LEVEL_MAKER = 2             /* every field that can be changed alone */
 };
 
+/* What calibration deviations are listed against. Any other byte that is handed in is taken as 1. */
+enum {
+    DARTELM_DOMAIN_ELECTRICAL = 0, /* where the input lies in the span */
+    DARTELM_DOMAIN_PHYSICAL = 1,   /* what is shown: the least fraction that together with its deviation is at least that */
+    DARTELM_NO_DOMAIN = 255        /* told where there are no calibration points */
+};
+
 /* What dartelm_kind_of gives for a length that no kind of chip has: a kind that every call refuses, with 1. */
 #define DARTELM_NO_KIND 255
 
@@ -157,6 +165,7 @@ typedef struct dartelm_check_answer {
     uint64_t characters; /* characters of the closing text */
     uint8_t end_bit;     /* a flag: a closing text follows */
     uint8_t template_id; /* DARTELM_TEMPLATE_BRIDGE or DARTELM_TEMPLATE_RESISTANCE */
+    uint8_t domain;      /* of the calibration points, DARTELM_DOMAIN_ELECTRICAL to DARTELM_NO_DOMAIN */
 } dartelm_check_answer;
 
 /* One field. */
@@ -175,6 +184,7 @@ typedef struct dartelm_sheet_answer {
     uint64_t characters;  /* characters of the closing text */
     uint64_t field_count; /* fields that the sheet has: 21, or 19 of template 32 */
     dartelm_fields fields;
+    uint8_t domain; /* of the calibration points, DARTELM_DOMAIN_ELECTRICAL to DARTELM_NO_DOMAIN */
 } dartelm_sheet_answer;
 
 /* A calibration point and its deviation. */
@@ -244,7 +254,7 @@ uint32_t dartelm_version(void);
 /* The kind of the chip whose image has so many bytes: 0 (40 bytes), 1 (128), 2 (512), else DARTELM_NO_KIND. */
 uint8_t dartelm_kind_of(size_t bytes);
 
-/* Checks an image. Refused with 1 to 7 and 17. */
+/* Checks an image. Refused with 1 to 7, 17 and 22. */
 dartelm_check_answer dartelm_check(uint8_t kind, const uint8_t *image, size_t image_length);
 
 /* Reads field 1 to 21, of template 32 field 1 to 19. Refused as a check is, and with 8 for another field. */
@@ -274,9 +284,11 @@ dartelm_pair_answer dartelm_pair(uint8_t kind, const uint8_t *image, size_t imag
 dartelm_character_answer dartelm_character(uint8_t kind, const uint8_t *image, size_t image_length, uint64_t index);
 
 /* Builds an image. The text's characters are 1 to 127; points are calibration point and deviation by turns, in billionths of the
- * span. Refused with 1, 7, 9 to 11 and 16: then the image keeps every byte. */
+ * span, and the domain is theirs: without points it is not looked at. Refused with 1, 7, 9 to 11, 16 and 22: then the image keeps
+ * every byte. */
 dartelm_write_answer dartelm_build(uint8_t kind, uint8_t *image, size_t image_length, dartelm_fields fields,
-                                   const char *text, size_t text_length, const int64_t *points, size_t points_length);
+                                   const char *text, size_t text_length, uint8_t domain, const int64_t *points,
+                                   size_t points_length);
 
 /* Changes one field of an image, and the check bytes of its pages, as a writer of a level. Refused as a check is, and with 8, 9,
  * 10, 12 and 20: then the image keeps every byte. */
@@ -341,14 +353,16 @@ DARTELM_AT(dartelm_check_answer, points, 24);
 DARTELM_AT(dartelm_check_answer, characters, 32);
 DARTELM_AT(dartelm_check_answer, end_bit, 40);
 DARTELM_AT(dartelm_check_answer, template_id, 41);
+DARTELM_AT(dartelm_check_answer, domain, 42);
 DARTELM_ANSWER(dartelm_field_answer, 32);
 DARTELM_AT(dartelm_field_answer, value, 16);
-DARTELM_ANSWER(dartelm_sheet_answer, 392);
+DARTELM_ANSWER(dartelm_sheet_answer, 400);
 DARTELM_AT(dartelm_sheet_answer, bits, 16);
 DARTELM_AT(dartelm_sheet_answer, points, 24);
 DARTELM_AT(dartelm_sheet_answer, characters, 32);
 DARTELM_AT(dartelm_sheet_answer, field_count, 40);
 DARTELM_AT(dartelm_sheet_answer, fields, 48);
+DARTELM_AT(dartelm_sheet_answer, domain, 392);
 DARTELM_ANSWER(dartelm_pair_answer, 32);
 DARTELM_AT(dartelm_pair_answer, point, 16);
 DARTELM_AT(dartelm_pair_answer, deviation, 24);

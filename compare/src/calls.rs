@@ -1,10 +1,10 @@
 //! The calls of `include/dartelm.h`: once for the product (`ffi::Product`), once for the plain implementation, so that both are
 //! handed the same and are compared in the same.
 
-use crate::plain::{self, Level, Proposal, Reading, Refusal, Summary, Text, Value};
+use crate::plain::{self, Domain, Level, Proposal, Reading, Refusal, Sheet, Summary, Text, Value};
 use crate::structs::{
-    ByFlags, CharacterAnswer, CheckAnswer, CodeAnswer, FieldAnswer, Fields, PageAnswer, PairAnswer, ProposalAnswer,
-    ReadingAnswer, SheetAnswer, TextAnswer, WriteAnswer, level_of, template_of,
+    ByFlags, CharacterAnswer, CheckAnswer, CodeAnswer, FieldAnswer, Fields, NO_DOMAIN, PageAnswer, PairAnswer,
+    ProposalAnswer, ReadingAnswer, SheetAnswer, TextAnswer, WriteAnswer, domain_byte, domain_of, level_of, template_of,
 };
 
 /// The calls of the header; the provided ones give the plain implementation's types.
@@ -15,7 +15,8 @@ pub trait Calls {
     fn sheet(&self, kind: u8, image: &[u8]) -> SheetAnswer;
     fn pair(&self, kind: u8, image: &[u8], index: u64) -> PairAnswer;
     fn character(&self, kind: u8, image: &[u8], index: u64) -> CharacterAnswer;
-    fn build(&self, kind: u8, image: &mut [u8], fields: Fields, text: &[u8], points: &[i64]) -> WriteAnswer;
+    fn build(&self, kind: u8, image: &mut [u8], fields: Fields, text: &[u8], domain: u8, points: &[i64])
+    -> WriteAnswer;
     fn change(&self, kind: u8, image: &mut [u8], level: u8, field: u64, value: ByFlags) -> WriteAnswer;
     fn propose(&self, kind: u8, image: &[u8], level: u8, field: u64, value: ByFlags) -> ProposalAnswer;
     fn commit(&self, kind: u8, image: &mut [u8], level: u8, field: u64, present: u64, new: u64) -> WriteAnswer;
@@ -27,9 +28,17 @@ pub trait Calls {
     fn fetch(&self, kind: u8, image: &[u8], index: &[u8], field: u64) -> FieldAnswer;
 
     fn checked(&self, kind: u8, image: &[u8]) -> Result<Summary, Refusal> {
-        let CheckAnswer { number, place, bits, points, characters, end_bit, template } = self.check(kind, image);
+        let CheckAnswer { number, place, bits, points, characters, end_bit, template, domain } =
+            self.check(kind, image);
         accepted(number, place)?;
-        Ok(Summary { bits, points, end_bit: u64::from(end_bit), characters, template: template_of(template) })
+        Ok(Summary {
+            bits,
+            points,
+            end_bit: u64::from(end_bit),
+            characters,
+            template: template_of(template),
+            domain: (domain != NO_DOMAIN).then(|| domain_of(domain)),
+        })
     }
 
     fn field_read(&self, kind: u8, image: &[u8], field: u64) -> Result<Value, Refusal> {
@@ -61,8 +70,16 @@ pub trait Calls {
         Ok(character)
     }
 
-    fn built(&self, kind: u8, image: &mut [u8], fields: Fields, text: &[u8], points: &[i64]) -> Result<(), Refusal> {
-        let WriteAnswer { number, place } = self.build(kind, image, fields, text, points);
+    fn built(
+        &self,
+        kind: u8,
+        image: &mut [u8],
+        fields: Fields,
+        text: &[u8],
+        domain: Domain,
+        points: &[i64],
+    ) -> Result<(), Refusal> {
+        let WriteAnswer { number, place } = self.build(kind, image, fields, text, domain_byte(Some(domain)), points);
         accepted(number, place)
     }
 
@@ -134,12 +151,13 @@ impl Calls for Plain {
 
     fn check(&self, kind: u8, image: &[u8]) -> CheckAnswer {
         match plain::check(kind, image) {
-            Ok(Summary { bits, points, end_bit, characters, template }) => CheckAnswer {
+            Ok(Summary { bits, points, end_bit, characters, template, domain }) => CheckAnswer {
                 bits,
                 points,
                 characters,
                 end_bit: end_bit as u8,
                 template: template.number(),
+                domain: domain_byte(domain),
                 ..CheckAnswer::default()
             },
             Err(Refusal { number, place }) => CheckAnswer { number, place, ..CheckAnswer::default() },
@@ -153,7 +171,7 @@ impl Calls for Plain {
     /// A check, and then the fields one by one.
     fn sheet(&self, kind: u8, image: &[u8]) -> SheetAnswer {
         let check = self.check(kind, image);
-        let CheckAnswer { number, place, bits, points, characters, end_bit, template } = check;
+        let CheckAnswer { number, place, bits, points, characters, end_bit, template, domain } = check;
         if number != 0 {
             return SheetAnswer { number, place, ..SheetAnswer::default() };
         }
@@ -162,7 +180,7 @@ impl Calls for Plain {
         for (value, field) in fields.values.iter_mut().zip(1..=field_count) {
             *value = self.field(kind, image, field).value;
         }
-        SheetAnswer { number, place, bits, points, characters, field_count, fields }
+        SheetAnswer { number, place, bits, points, characters, field_count, fields, domain }
     }
 
     fn pair(&self, kind: u8, image: &[u8], index: u64) -> PairAnswer {
@@ -179,9 +197,24 @@ impl Calls for Plain {
         }
     }
 
-    fn build(&self, kind: u8, image: &mut [u8], fields: Fields, text: &[u8], points: &[i64]) -> WriteAnswer {
-        let values = fields.values.map(ByFlags::value);
-        wrote(plain::build(kind, image, template_of(fields.template), &values, fields.end_bit != 0, text, points))
+    fn build(
+        &self,
+        kind: u8,
+        image: &mut [u8],
+        fields: Fields,
+        text: &[u8],
+        domain: u8,
+        points: &[i64],
+    ) -> WriteAnswer {
+        let sheet = Sheet {
+            template: template_of(fields.template),
+            values: fields.values.map(ByFlags::value),
+            end_bit: fields.end_bit != 0,
+            text,
+            domain: domain_of(domain),
+            points,
+        };
+        wrote(plain::build(kind, image, &sheet))
     }
 
     fn change(&self, kind: u8, image: &mut [u8], level: u8, field: u64, value: ByFlags) -> WriteAnswer {

@@ -3,7 +3,7 @@
 use std::fmt::{self, Display, Formatter};
 
 use crate::calls::Calls;
-use crate::plain::{Level, Refusal, Summary, Template, Value};
+use crate::plain::{Domain, Level, Refusal, Summary, Template, Value};
 use crate::structs::{ByFlags, Fields};
 
 /// A line's command with what it is handed.
@@ -23,6 +23,7 @@ pub enum Command {
         values: Vec<Value>,
         end_bit: bool,
         text: Vec<u8>,
+        domain: Domain,
         points: Vec<i64>,
     },
     Change(u8, Vec<u8>, u64, Value, Level),
@@ -70,7 +71,7 @@ pub fn parse(line: &str) -> Option<Command> {
         ["fetch", kind, image, index, field] => {
             Command::Fetch(unsigned(kind)?, bytes(image)?, bytes(index)?, unsigned(field)?)
         }
-        ["build", kind, length, by, block, ref values @ .., end_bit, text, points] => {
+        ["build", kind, length, by, block, ref values @ .., end_bit, text, against, points] => {
             let template = template(block)?;
             if values.len() != template.last() {
                 return None;
@@ -87,6 +88,7 @@ pub fn parse(line: &str) -> Option<Command> {
                     _ => return None,
                 },
                 text: bytes(text)?,
+                domain: domain(against)?,
                 points: match points {
                     "-" => Vec::new(),
                     list => list.split(',').map(signed).collect::<Option<_>>()?,
@@ -155,6 +157,14 @@ fn template(word: &str) -> Option<Template> {
     }
 }
 
+fn domain(word: &str) -> Option<Domain> {
+    match word {
+        "0" => Some(Domain::Electrical),
+        "1" => Some(Domain::Physical),
+        _ => None,
+    }
+}
+
 // ---- writing ----
 
 struct Hex<'a>(&'a [u8]);
@@ -188,6 +198,15 @@ impl Display for Level {
     }
 }
 
+impl Display for Domain {
+    fn fmt(&self, to: &mut Formatter) -> fmt::Result {
+        to.write_str(match self {
+            Domain::Electrical => "0",
+            Domain::Physical => "1",
+        })
+    }
+}
+
 impl Display for Refusal {
     fn fmt(&self, to: &mut Formatter) -> fmt::Result {
         write!(to, "no {} {}", self.number, self.place)
@@ -204,12 +223,12 @@ impl Display for Command {
             }
             Command::Pair(kind, image, index) => write!(to, "pair {kind} {} {index}", Hex(image)),
             Command::Char(kind, image, index) => write!(to, "char {kind} {} {index}", Hex(image)),
-            Command::Build { kind, length, level, template, values, end_bit, text, points } => {
+            Command::Build { kind, length, level, template, values, end_bit, text, domain, points } => {
                 write!(to, "build {kind} {length} {level} {}", template.number())?;
                 for value in values {
                     write!(to, " {value}")?;
                 }
-                write!(to, " {} {} ", u8::from(*end_bit), Hex(text))?;
+                write!(to, " {} {} {domain} ", u8::from(*end_bit), Hex(text))?;
                 if points.is_empty() {
                     return to.write_str("-");
                 }
@@ -253,8 +272,9 @@ impl Command {
     fn accepted(&self, calls: &dyn Calls) -> Result<String, Refusal> {
         Ok(match self {
             Command::Check(kind, image) => {
-                let Summary { bits, points, end_bit, characters, template } = calls.checked(*kind, image)?;
-                format!("ok {bits} {points} {end_bit} {characters} {}", template.number())
+                let Summary { bits, points, end_bit, characters, template, domain } = calls.checked(*kind, image)?;
+                let domain = domain.map_or("-".to_string(), |domain| domain.to_string());
+                format!("ok {bits} {points} {end_bit} {characters} {} {domain}", template.number())
             }
             Command::Page(kind, image, page) => {
                 let page = calls.page(*kind, image, *page);
@@ -266,7 +286,7 @@ impl Command {
                 format!("{point} {deviation}")
             }
             Command::Char(kind, image, index) => calls.character_read(*kind, image, *index)?.to_string(),
-            Command::Build { kind, length, level, template, values, end_bit, text, points } => {
+            Command::Build { kind, length, level, template, values, end_bit, text, domain, points } => {
                 // A buffer longer than any image is as wrong as one of 513 bytes.
                 let mut image = vec![0; (*length).min(513)];
                 let mut fields = Fields {
@@ -278,7 +298,7 @@ impl Command {
                 for (place, value) in fields.values.iter_mut().zip(values) {
                     *place = ByFlags::from(*value);
                 }
-                calls.built(*kind, &mut image, fields, text, points)?;
+                calls.built(*kind, &mut image, fields, text, *domain, points)?;
                 format!("ok {}", Hex(&image))
             }
             Command::Change(kind, image, field, value, level) => {
@@ -353,12 +373,15 @@ mod tests {
             "commit 0 - 1 2 -3 maker",
             "commit 0 - 1 2 3",
             "build 0 40 maker m",
-            &format!("build 0 40 33 {fields}1 6162 -"),
-            &format!("build 0 40 any 33 {fields}1 6162 -"),
-            &format!("build 0 40 maker {fields}1 6162 -"),
-            &format!("build 0 40 maker 32 {fields}1 6162 -"),
-            &format!("build 0 40 maker 34 {fields}1 6162 -"),
-            &format!("build 0 40 maker 33 {}w1 m 1 6162 -", "w1 m s7fc00000 ".repeat(6)),
+            &format!("build 0 40 33 {fields}1 6162 0 -"),
+            &format!("build 0 40 any 33 {fields}1 6162 0 -"),
+            &format!("build 0 40 maker {fields}1 6162 0 -"),
+            &format!("build 0 40 maker 32 {fields}1 6162 0 -"),
+            &format!("build 0 40 maker 34 {fields}1 6162 0 -"),
+            &format!("build 0 40 maker 33 {fields}1 6162 -"),
+            &format!("build 0 40 maker 33 {fields}1 6162 2 -"),
+            &format!("build 0 40 maker 33 {fields}1 6162 - -"),
+            &format!("build 0 40 maker 33 {}w1 m 1 6162 0 -", "w1 m s7fc00000 ".repeat(6)),
             "index 0 -",
             "index 0 - 0",
             "fetch 0 - -",
@@ -386,9 +409,9 @@ mod tests {
             "code 18 -",
             "index 1 00ff -",
             "fetch 2 - 0a0b 21",
-            &format!("build 0 40 owner 33 {fields}1 6162 -"),
-            &format!("build 0 40 maker 33 {fields}0 - 5,-6"),
-            &format!("build 0 40 calibration 32 {}m 0 - -", "w1 m s7fc00000 ".repeat(6)),
+            &format!("build 0 40 owner 33 {fields}1 6162 0 -"),
+            &format!("build 0 40 maker 33 {fields}0 - 1 5,-6"),
+            &format!("build 0 40 calibration 32 {}m 0 - 1 -", "w1 m s7fc00000 ".repeat(6)),
         ] {
             assert_eq!(parse(line).unwrap().to_string(), line);
         }

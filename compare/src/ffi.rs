@@ -23,6 +23,7 @@ mod dartelm {
             fields: Fields,
             text: *const u8,
             text_length: usize,
+            domain: u8,
             points: *const i64,
             points_length: usize,
         ) -> WriteAnswer;
@@ -102,11 +103,21 @@ impl Calls for Product {
         unsafe { dartelm::dartelm_character(kind, image.as_ptr(), image.len(), index) }
     }
 
-    fn build(&self, kind: u8, image: &mut [u8], fields: Fields, text: &[u8], points: &[i64]) -> WriteAnswer {
+    fn build(
+        &self,
+        kind: u8,
+        image: &mut [u8],
+        fields: Fields,
+        text: &[u8],
+        domain: u8,
+        points: &[i64],
+    ) -> WriteAnswer {
         let (image, image_length) = (image.as_mut_ptr(), image.len());
         let (text, text_length) = (text.as_ptr(), text.len());
         let (points, points_length) = (points.as_ptr(), points.len());
-        unsafe { dartelm::dartelm_build(kind, image, image_length, fields, text, text_length, points, points_length) }
+        unsafe {
+            dartelm::dartelm_build(kind, image, image_length, fields, text, text_length, domain, points, points_length)
+        }
     }
 
     fn change(&self, kind: u8, image: &mut [u8], level: u8, field: u64, value: ByFlags) -> WriteAnswer {

@@ -69,6 +69,13 @@ impl Template {
     }
 }
 
+/// What the deviations of block 40 are listed against: the electrical figure (0) or the physical one (1).
+#[derive(Clone, Copy, Debug, PartialEq, Eq)]
+pub enum Domain {
+    Electrical,
+    Physical,
+}
+
 /// Number and place of a refused call, as in the table "Turning down".
 #[derive(Clone, Copy, Debug, PartialEq, Eq)]
 pub struct Refusal {
@@ -84,6 +91,8 @@ pub struct Summary {
     pub end_bit: u64,
     pub characters: u64,
     pub template: Template,
+    /// Of the points, if there are any.
+    pub domain: Option<Domain>,
 }
 
 #[derive(Clone, Copy, Debug)]
@@ -529,6 +538,11 @@ struct Open {
     text: u64,
 }
 
+/// A point plus its deviation by their codes, above the least.
+fn sum(point: u32, deviation: u32) -> u64 {
+    15_300 * u64::from(point) + 1_000 * u64::from(deviation)
+}
+
 /// An image's pages: 1, 17, then 2 for the first that is not good.
 fn paged(kind: u8, image: &[u8]) -> Answer<Chip> {
     let Some(chip) = chip(kind, image.len()) else {
@@ -575,6 +589,7 @@ fn open(kind: u8, image: &[u8]) -> Answer<Open> {
             layout.precision = code as usize;
         }
     }
+    let mut domain = None;
     let mut points = 0;
     let mut pairs = 0;
     let mut selector = walk.at;
@@ -583,17 +598,15 @@ fn open(kind: u8, image: &[u8]) -> Answer<Open> {
         if walk.take(8)? != 40 {
             return refuse(4, selector);
         }
-        let bit = walk.at;
-        if walk.take(1)? != 0 {
-            return refuse(5, bit);
-        }
+        let physical = walk.take(1)? == 1;
+        domain = Some(if physical { Domain::Physical } else { Domain::Electrical });
         let bit = walk.at;
         points = walk.take(7)?;
         if points == 0 {
             return refuse(5, bit);
         }
         pairs = walk.at;
-        let mut last = 0;
+        let mut last = (0, 0);
         for index in 0..points {
             let bit = walk.at;
             let point = walk.take(16)?;
@@ -601,13 +614,17 @@ fn open(kind: u8, image: &[u8]) -> Answer<Open> {
                 return refuse(5, bit);
             }
             let after = walk.at;
-            if walk.take(21)? == 0x1f_ffff {
+            let deviation = walk.take(21)?;
+            if deviation == 0x1f_ffff {
                 return refuse(5, after);
             }
-            if index > 0 && point <= last {
+            if index > 0 && point <= last.0 {
                 return refuse(7, bit);
             }
-            last = point;
+            if index > 0 && physical && sum(point, deviation) <= sum(last.0, last.1) {
+                return refuse(22, bit);
+            }
+            last = (point, deviation);
         }
         selector = walk.at;
         which = walk.take(2)?;
@@ -632,6 +649,7 @@ fn open(kind: u8, image: &[u8]) -> Answer<Open> {
             end_bit: u64::from(end_bit),
             characters,
             template,
+            domain,
         },
         pairs,
         text,
@@ -691,6 +709,33 @@ impl Open {
             let b = self.point(image, low);
             let t = self.deviation(image, low);
             s + nearest((t - s) * (p - a), b - a)
+        }
+    }
+
+    /// The least whole q for which q plus the exact deviation at q is at least p. The sums of the points and their deviations
+    /// rise, and the line between two of them with them.
+    fn crossing(&self, image: &[u8], p: i64) -> i64 {
+        let points = self.summary.points;
+        let (mut low, mut high) = (0, points);
+        while low < high {
+            let middle = (low + high) / 2;
+            if self.point(image, middle) + self.deviation(image, middle) < p {
+                low = middle + 1;
+            } else {
+                high = middle;
+            }
+        }
+        if low == 0 {
+            p - self.deviation(image, 0)
+        } else if low == points {
+            p - self.deviation(image, points - 1)
+        } else {
+            let a = self.point(image, low - 1);
+            let b = self.point(image, low);
+            let from = a + self.deviation(image, low - 1);
+            let to = b + self.deviation(image, low);
+            // q - a is at least (p - from) x (b - a) / (to - from).
+            a - (-(p - from) * (b - a)).div_euclid(to - from)
         }
     }
 }
@@ -781,15 +826,20 @@ pub fn fetch(kind: u8, image: &[u8], index: &[u8], field: u64) -> Answer<Value> 
 
 // ---- write ----
 
-pub fn build(
-    kind: u8,
-    image: &mut [u8],
-    template: Template,
-    values: &[Value; 21],
-    end_bit: bool,
-    text: &[u8],
-    points: &[i64],
-) -> Answer<()> {
+/// What a build is handed; values behind the template's last field are not looked at.
+#[derive(Clone, Copy)]
+pub struct Sheet<'a> {
+    pub template: Template,
+    pub values: [Value; 21],
+    pub end_bit: bool,
+    pub text: &'a [u8],
+    pub domain: Domain,
+    /// Point and deviation by turns.
+    pub points: &'a [i64],
+}
+
+pub fn build(kind: u8, image: &mut [u8], sheet: &Sheet) -> Answer<()> {
+    let Sheet { template, ref values, end_bit, text, domain, points } = *sheet;
     let Some(chip) = chip(kind, image.len()) else {
         return refuse(1, 0);
     };
@@ -814,19 +864,23 @@ pub fn build(
     if text.iter().any(|character| !(1..=127).contains(character)) {
         return refuse(10, ending as u64);
     }
-    let mut last = 0;
+    let physical = domain == Domain::Physical;
+    let mut last = (0, 0);
     for (index, pair) in points.chunks_exact(2).enumerate() {
         let index = index as u64;
         let Ok(point) = POINT.code(Value::Whole(pair[0])) else {
             return refuse(10, index);
         };
-        if DEVIATION.code(Value::Whole(pair[1])).is_err() {
+        let Ok(deviation) = DEVIATION.code(Value::Whole(pair[1])) else {
             return refuse(10, index);
-        }
-        if index > 0 && point <= last {
+        };
+        if index > 0 && point <= last.0 {
             return refuse(7, index);
         }
-        last = point;
+        if index > 0 && physical && sum(point, deviation) <= sum(last.0, last.1) {
+            return refuse(22, index);
+        }
+        last = (point, deviation);
     }
     let count = points.len() as u64 / 2;
     let block = if count > 0 { 18 + PAIR_BITS * count } else { 0 };
@@ -845,7 +899,7 @@ pub fn build(
     }
     if count > 0 {
         pen.put(40 << 2, 10);
-        pen.put((count as u32) << 1, 8);
+        pen.put(u32::from(physical) | (count as u32) << 1, 8);
         for pair in points.chunks_exact(2) {
             pen.put(POINT.code(Value::Whole(pair[0])).unwrap_or(0), 16);
             pen.put(DEVIATION.code(Value::Whole(pair[1])).unwrap_or(0), 21);
@@ -973,7 +1027,10 @@ pub fn reading(kind: u8, image: &[u8], input: i64) -> Answer<Reading> {
         return refuse(14, 0);
     }
     let p = nearest(above * BILLION, span);
-    let fraction = p + open.deviation_at(image, p);
+    let fraction = match open.summary.domain {
+        Some(Domain::Physical) => open.crossing(image, p),
+        _ => p + open.deviation_at(image, p),
+    };
     let figure = least + (greatest - least) * (fraction as f64 / 1e9);
     Ok(Reading { fraction, figure })
 }
@@ -1226,6 +1283,11 @@ mod tests {
         assert_eq!(&text(19, 1 | 2 << 5 | 30 << 10).unwrap().characters[..3], b"AB_");
     }
 
+    /// Template 33, without points and text.
+    fn bridge(values: [Value; 21]) -> Sheet<'static> {
+        Sheet { template: Template::Bridge, values, end_bit: false, text: &[], domain: Domain::Electrical, points: &[] }
+    }
+
     fn sheet() -> [Value; 21] {
         use Value::*;
         [
@@ -1256,7 +1318,7 @@ mod tests {
     #[test]
     fn the_documents_edges() {
         let mut image = [0xaa; 40];
-        build(0, &mut image, Template::Bridge, &sheet(), false, &[], &[]).unwrap();
+        build(0, &mut image, &bridge(sheet())).unwrap();
         assert_eq!(image[..8], [0x11, 0x40, 0, 0x20, 0, 1, 0, 0]);
         assert_eq!(check(0, &image).unwrap().bits, 294);
         assert_eq!(reading(0, &image, 1_000_000).unwrap().fraction, 333_333_333);
@@ -1272,7 +1334,7 @@ mod tests {
         values[10] = Value::Single(1.0);
         let before = image;
         let refusal = Refusal { number: 11, place: 320 };
-        assert_eq!(build(0, &mut image, Template::Bridge, &values, false, &[], &[]), Err(refusal));
+        assert_eq!(build(0, &mut image, &bridge(values)), Err(refusal));
         assert_eq!(image, before);
 
         values = sheet();
@@ -1280,7 +1342,7 @@ mod tests {
         values[9] = Value::Whole(2_499_999);
         values[10] = Value::Whole(2_500_000);
         values[14] = Value::Whole(511);
-        build(0, &mut image, Template::Bridge, &values, false, &[], &[]).unwrap();
+        build(0, &mut image, &bridge(values)).unwrap();
         assert_eq!(field(0, &image, 10), Ok(Value::Whole(2_000_000)));
         assert_eq!(field(0, &image, 11), Ok(Value::Whole(3_000_000)));
         assert_eq!(field(0, &image, 15), Ok(Value::Whole(511)));
@@ -1296,7 +1358,7 @@ mod tests {
     #[test]
     fn levels() {
         let mut image = [0; 128];
-        build(1, &mut image, Template::Bridge, &sheet(), false, &[], &[]).unwrap();
+        build(1, &mut image, &bridge(sheet())).unwrap();
         let writes = |level| {
             let values = sheet();
             let proposed = |field: u64| propose(1, &image, level, field, values[field as usize - 1]);
@@ -1340,14 +1402,14 @@ mod tests {
             Whole(7),
         ]);
         let mut image = [0; 128];
-        let build = |image: &mut [u8; 128], values: &[Value; 21], text: &[u8]| {
-            super::build(1, image, Template::Resistance, values, false, text, &[])
-        };
+        let mut sheet =
+            Sheet { template: Template::Resistance, domain: Domain::Physical, text: b"a", ..bridge(values) };
         let refusal = |number, place| Err(Refusal { number, place });
-        assert_eq!(build(&mut image, &values, b"a"), refusal(9, 20));
-        assert_eq!(build(&mut image, &values, b""), Ok(()));
+        assert_eq!(build(1, &mut image, &sheet), refusal(9, 20));
+        sheet.text = b"";
+        assert_eq!(build(1, &mut image, &sheet), Ok(()));
         let summary = check(1, &image).unwrap();
-        assert_eq!((summary.bits, summary.template), (259, Template::Resistance));
+        assert_eq!((summary.bits, summary.template, summary.domain), (259, Template::Resistance, None));
         for field in 1..=19 {
             let read = super::field(1, &image, field).unwrap();
             assert_eq!(propose(1, &image, Level::Maker, field, read).is_ok(), field != 9);
@@ -1402,7 +1464,7 @@ mod tests {
             values[8] = Value::Whole(2);
             values[9..11].copy_from_slice(&ends);
             let mut image = [0; 128];
-            build(1, &mut image, Template::Bridge, &values, false, &[], &[]).unwrap();
+            build(1, &mut image, &bridge(values)).unwrap();
             reading(1, &image, input).map(|reading| reading.fraction).map_err(|refusal| (refusal.number, refusal.place))
         };
         use Value::{Missing, Single};
@@ -1412,6 +1474,63 @@ mod tests {
         assert_eq!(reads([Single(1.0), Single(-3.0)], 0), Err((21, 11)));
         assert_eq!(reads([Single(1.0), Single(-1.0)], 0), Err((13, 11)));
         assert_eq!(reads([Single(1.0e-9), Single(1.2e-9)], 0), Err((13, 11)));
+    }
+
+    /// A sheet whose p is the input, with points.
+    fn tabled(domain: Domain, points: &[i64]) -> Answer<[u8; 512]> {
+        let mut values = sheet();
+        values[8] = Value::Whole(0);
+        values[10] = Value::Whole(BILLION);
+        let mut image = [0; 512];
+        build(2, &mut image, &Sheet { domain, points, ..bridge(values) })?;
+        Ok(image)
+    }
+
+    #[test]
+    fn sums_rise_in_domain_1() {
+        let built = |domain, points: &[i64]| tabled(domain, points).map(|image| check(2, &image).unwrap().domain);
+        let refusal = |number, place| Err(Refusal { number, place });
+        let equal = [0, 0, 153_000, -153_000];
+        assert_eq!(built(Domain::Electrical, &equal), Ok(Some(Domain::Electrical)));
+        assert_eq!(built(Domain::Physical, &equal), refusal(22, 1));
+        assert_eq!(built(Domain::Physical, &[0, 0, 153_000, -152_000]), Ok(Some(Domain::Physical)));
+        assert_eq!(built(Domain::Physical, &[0, 0, 0, -153_000]), refusal(7, 1));
+        assert_eq!(built(Domain::Physical, &[]), Ok(None));
+        // As stored: 22,949 is at 15,300, and 7,650 too.
+        assert_eq!(built(Domain::Physical, &[0, 0, 22_949, -20_000]), refusal(22, 1));
+        assert_eq!(built(Domain::Physical, &[0, 0, 7_650, -10_000]), Ok(Some(Domain::Physical)));
+
+        let mut image = tabled(Domain::Electrical, &equal).unwrap();
+        let open = open(2, &image).unwrap();
+        open.chip.put(&mut image, open.pairs - 8, 1, 1);
+        (0..16).for_each(|page| open.chip.seal(&mut image, page));
+        assert_eq!(check(2, &image).err(), Some(Refusal { number: 22, place: open.pairs + 37 }));
+    }
+
+    #[test]
+    fn crossings() {
+        let points = [0, 4_000, 61_200, -3_000, 765_000, 306_000, 994_500, 400_000, 994_500 + 15_300, 385_000];
+        let image = tabled(Domain::Physical, &points).unwrap();
+        let open = open(2, &image).unwrap();
+        let stored = [0, 1, 2, 3, 4].map(|i| pair(2, &image, i).unwrap());
+        // Whether q plus the deviation at q is at least p.
+        let met = |q: i64, p: i64| {
+            let (first, last) = (stored[0], stored[4]);
+            if q <= first.0 {
+                return q + first.1 >= p;
+            }
+            if q >= last.0 {
+                return q + last.1 >= p;
+            }
+            let i = stored.iter().position(|(point, _)| q < *point).unwrap();
+            let ((a, s), (b, t)) = (stored[i - 1], stored[i]);
+            (q + s - p) * (b - a) + (t - s) * (q - a) >= 0
+        };
+        for p in (-20_000..1_500_000).step_by(7).chain(3_990..4_010).chain(58_190..58_210) {
+            let q = open.crossing(&image, p);
+            assert!(met(q, p) && !met(q - 1, p), "{p}");
+            assert_eq!(reading(2, &image, p).unwrap().fraction, q);
+        }
     }
 
     #[test]

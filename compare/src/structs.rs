@@ -1,6 +1,6 @@
 //! The structs of `include/dartelm.h`. Floats are compared by their bits.
 
-use crate::plain::{Level, Template, Value};
+use crate::plain::{Domain, Level, Template, Value};
 
 /// A field's value by two flags.
 #[derive(Clone, Copy, Debug, Default)]
@@ -68,6 +68,26 @@ pub fn template_of(byte: u8) -> Template {
     }
 }
 
+/// The domain of a byte that is handed in: any but 0 is 1.
+pub fn domain_of(byte: u8) -> Domain {
+    match byte {
+        0 => Domain::Electrical,
+        _ => Domain::Physical,
+    }
+}
+
+/// What is told where there are no points.
+pub const NO_DOMAIN: u8 = 255;
+
+/// A domain as it is told.
+pub fn domain_byte(domain: Option<Domain>) -> u8 {
+    match domain {
+        Some(Domain::Electrical) => 0,
+        Some(Domain::Physical) => 1,
+        None => NO_DOMAIN,
+    }
+}
+
 /// The values of a template's fields, the end bit, the writer's level, and the template's number.
 #[derive(Clone, Copy, Debug, Default, PartialEq)]
 #[repr(C)]
@@ -88,6 +108,7 @@ pub struct CheckAnswer {
     pub characters: u64,
     pub end_bit: u8,
     pub template: u8,
+    pub domain: u8,
 }
 
 #[derive(Clone, Copy, Debug, Default, PartialEq)]
@@ -108,6 +129,7 @@ pub struct SheetAnswer {
     pub characters: u64,
     pub field_count: u64,
     pub fields: Fields,
+    pub domain: u8,
 }
 
 #[derive(Clone, Copy, Debug, Default, PartialEq)]

@@ -141,8 +141,9 @@ fn change<C: Calls>(calls: &C, case: &mut Case, turn: usize) -> u8 {
 
 #[inline(never)]
 fn build<C: Calls>(calls: &C, case: &mut Case, _: usize) -> u8 {
-    let (text, points) = (black_box(case.text), black_box(&case.points));
-    let answer = calls.build(black_box(case.kind), black_box(&mut case.image), *black_box(&case.fields), text, points);
+    let (text, domain, points) = (black_box(case.text), black_box(0), black_box(&case.points));
+    let (kind, image, fields) = (black_box(case.kind), black_box(&mut case.image), *black_box(&case.fields));
+    let answer = calls.build(kind, image, fields, text, domain, points);
     black_box(&answer).number
 }
 

@@ -13,7 +13,7 @@ use compare::plain::{self, Level, Template, Value};
 use compare::random::Random;
 use compare::structs::{
     ByFlags, CharacterAnswer, CheckAnswer, CodeAnswer, FieldAnswer, Fields, PageAnswer, PairAnswer, ProposalAnswer,
-    ReadingAnswer, SheetAnswer, TextAnswer, WriteAnswer, level_of,
+    ReadingAnswer, SheetAnswer, TextAnswer, WriteAnswer, domain_of, level_of,
 };
 
 #[path = "differ/images.rs"]
@@ -47,7 +47,7 @@ const PROPOSE: usize = 14;
 const COMMIT: usize = 15;
 
 /// Refusal numbers, and 0.
-const NUMBERS: usize = 22;
+const NUMBERS: usize = 23;
 
 const MOST_SHOWN: u64 = 10;
 
@@ -564,7 +564,8 @@ impl Differ {
                 fields.values[field - 1] = self.bad(field, layout);
             }
         }
-        let points = self.point_list(layout);
+        let domain = self.domain();
+        let points = self.point_list(layout, domain_of(domain));
         let text = self.closing_text(layout, points.len() / 2);
         let ended = !text.is_empty() || self.random.percent(30);
         fields.end_bit = if ended && !self.random.percent(3) { self.yes() } else { 0 };
@@ -583,9 +584,10 @@ impl Differ {
                 values: fields.values[..last].iter().map(|value| value.value()).collect(),
                 end_bit: fields.end_bit != 0,
                 text: text.clone(),
+                domain: domain_of(domain),
                 points: points.clone(),
             },
-            |calls, lent| calls.build(kind, lent.image_mut(), fields, &text, &points),
+            |calls, lent| calls.build(kind, lent.image_mut(), fields, &text, domain, &points),
         );
         self.untouched(BUILD, before == (text, points));
         answer.number

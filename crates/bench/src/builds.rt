@@ -4,6 +4,7 @@ use crate::asked::ROOM;
 use crate::printing;
 use build::Sheet;
 use build::Slot;
+use fields::Domain;
 use fields::Level;
 use fields::Template;
 use fields::TemplateAnswer;
@@ -19,7 +20,7 @@ ghost use Prim.Native.Nat.{_≤_};
 // The first word that is a value.
 const VALUES: u64 = 5;
 
-// The word of the end bit, behind the values of a template's fields; the text and the points follow it.
+// The word of the end bit, behind the values of a template's fields; the text, the domain and the points follow it.
 fn end_bit_word(template: Template) -> u64
     ensures { λ r. ⌜ r ≤ 26 ⌝ }
 {
@@ -34,7 +35,7 @@ fn template_in(line: &[u8]) -> TemplateAnswer {
     let TemplateAnswer::Is(template) = fields::template_of(number) else {
         return TemplateAnswer::Unknown;
     };
-    if words::word_count(line) != end_bit_word(template) + 3 {
+    if words::word_count(line) != end_bit_word(template) + 4 {
         return TemplateAnswer::Unknown;
     }
     TemplateAnswer::Is(template)
@@ -82,8 +83,8 @@ fn sheet_of(line: &[u8], template: Template, end_bit: bool, level: Level) -> She
     }
 }
 
-// A build of these in a buffer lent, from the text and the points, the words behind the end bit's.
-fn build_in(image: &mut [u8], kind: u8, line: &[u8], end: u64, sheet: Sheet)
+// A build of these in a buffer lent, from the text, the domain and the points, the words behind the end bit's.
+fn build_in(image: &mut [u8], kind: u8, line: &[u8], end: u64, sheet: Sheet, domain: Domain)
     requires { ⌜ end ≤ 26 ⌝ }
 {
     let mut text = [0u8; ROOM];
@@ -91,16 +92,17 @@ fn build_in(image: &mut [u8], kind: u8, line: &[u8], end: u64, sheet: Sheet)
         return printing::unknown();
     };
     let mut points = [0i64; ROOM];
-    let Filled::To(figures) = words::figures_of(word(line, end + 2), &mut points) else {
+    let Filled::To(figures) = words::figures_of(word(line, end + 3), &mut points) else {
         return printing::unknown();
     };
     let text = words::front(&text, characters);
     let points = words::front_figures(&points, figures);
-    let answer = build::build(kind, image, sheet, text, points);
+    let answer = build::build(kind, image, sheet, text, domain, points);
     printing::written(answer, image);
 }
 
-// The kind, the buffer's length, the level and the template, words 1 to 4, the values, the end bit, the text and the points.
+// The kind, the buffer's length, the level and the template, words 1 to 4, the values, the end bit, the text, the domain and the
+// points.
 pub fn build(line: &[u8]) {
     let Number::Is(kind) = words::number_of(word(line, 1)) else {
         return printing::unknown();
@@ -121,6 +123,12 @@ pub fn build(line: &[u8]) {
     if end_bit > 1 {
         return printing::unknown();
     }
+    let Number::Is(domain) = words::number_of(word(line, end + 2)) else {
+        return printing::unknown();
+    };
+    if domain > 1 {
+        return printing::unknown();
+    }
     if !are_values(line, end) {
         return printing::unknown();
     }
@@ -132,5 +140,6 @@ pub fn build(line: &[u8]) {
         line,
         end,
         sheet_of(line, template, end_bit == 1, level),
+        fields::domain_of(domain),
     );
 }

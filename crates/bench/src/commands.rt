@@ -15,14 +15,14 @@ use words::Number;
 use words::front;
 use words::word;
 
-const HELP: [u8; 644] = *b"check KIND IMAGE\n\
+const HELP: [u8; 666] = *b"check KIND IMAGE\n\
     page KIND IMAGE PAGE\n\
     field KIND IMAGE FIELD\n\
     pair KIND IMAGE INDEX\n\
     char KIND IMAGE INDEX\n\
     reading KIND IMAGE INPUT\n\
     show KIND IMAGE\n\
-    build KIND LENGTH LEVEL TEMPLATE V1 .. Vn ENDBIT TEXT POINTS\n\
+    build KIND LENGTH LEVEL TEMPLATE V1 .. Vn ENDBIT TEXT DOMAIN POINTS\n\
     change KIND IMAGE FIELD VALUE LEVEL\n\
     index KIND IMAGE BUFFER\n\
     fetch KIND IMAGE BUFFER FIELD\n\
@@ -33,7 +33,7 @@ const HELP: [u8; 644] = *b"check KIND IMAGE\n\
     help\n\
     KIND 0, 1 or 2; IMAGE, TEXT and BUFFER in hexadecimal, - for none; VALUE w7, s3f800000 or m;\n\
     LEVEL owner, calibration or maker; TEMPLATE 33, of 21 values, or 32, of 19;\n\
-    POINTS point,deviation,.. or -; a refusal is: no NUMBER PLACE\n";
+    DOMAIN 0 or 1; POINTS point,deviation,.. or -; a refusal is: no NUMBER PLACE\n";
 
 // Answers a line.
 pub fn answer(line: &[u8]) {
@@ -45,7 +45,7 @@ pub fn answer(line: &[u8]) {
         5 => of_four(line, name),
         6 => of_five(line, name),
         7 => of_six(line, name),
-        27 | 29 => of_sheet(line, name),
+        28 | 30 => of_sheet(line, name),
         _ => printing::unknown(),
     }
 }

@@ -4,6 +4,7 @@ use fields::Value;
 use libc::STDOUT_FILENO;
 use refusal::Refusal;
 use refusal::Written;
+use sheet::TableDomain;
 use shown::put;
 use shown::put_figure;
 use shown::put_number;
@@ -63,6 +64,14 @@ pub fn double(x: f64) {
         return put(b"nan");
     }
     io::print_hex(STDOUT_FILENO, f64::to_bits(x), 16);
+}
+
+// A table's domain, `-` where there is no table, at an answer's end.
+pub fn domain(table: TableDomain) {
+    match table {
+        TableDomain::NoTable => put(b"-\n"),
+        TableDomain::Is(domain) => number(fields::domain_code(domain)),
+    }
 }
 
 // An answer of a field's value.

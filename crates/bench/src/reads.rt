@@ -24,7 +24,10 @@ fn accepted(summary: Summary) {
     put_number(summary.characters);
     put(b" ");
     let template = summary.template;
-    printing::number(fields::template_number(template));
+    put_number(fields::template_number(template));
+    put(b" ");
+    let domain = summary.domain;
+    printing::domain(domain);
 }
 
 pub fn check(kind: u8, image: &[u8]) {

@@ -20,6 +20,7 @@ use Rattle.memory.specs.Image.{imageBytes, imageSizes, streamBits, imageOf}
 use Rattle.memory.specs.Pieces.{Piece, pack, needed}
 use Rattle.memory.proofs.PieceLaws.{needed-append}
 use Rattle.fields.specs.declared.Judged.the-variants.{Stands, Refused}
+use Rattle.fields.specs.declared.Domain.{Domain}
 use Rattle.fields.specs.declared.Template.{Template}
 use Rattle.fields.specs.Lines.{basic, numberOf, lastField, ending}
 use Rattle.fields.specs.Answers.{judgedSaid}
@@ -46,18 +47,18 @@ pub table-few : (n : ℕ) → n ≤ 127 → tableBits n ≤ 4_717
 table-few zero h = omega arith
 table-few (suc n) h = omega arith
 
-module _ (template : Template) (fields : List CodedField) (endBit : Bool) (text : List ℕ) (points : List ℤ) (t : Tested fields text points) where
+module _ (template : Template) (fields : List CodedField) (endBit : Bool) (text : List ℕ) (domain : Domain) (points : List ℤ) (t : Tested fields text domain points) where
   abbrev pieces : List Piece
-  pieces = codedSheet template fields endBit text points
+  pieces = codedSheet template fields endBit text domain points
 
   sheet-needed : needed pieces ≡ needed (codedFields template fields) + tableBits (length points / 2) + 3 + 7 * length text
   sheet-needed =
-      let ts : List Piece = piecesOf (tablePieces (pairsLent points)) in
+      let ts : List Piece = piecesOf (tablePieces domain (pairsLent points)) in
       omega (
         arith,
         needed-append (codedFields template fields) (ts ++ codedEnding endBit text),
         needed-append ts (codedEnding endBit text),
-        table-needed (pairsLent points) ts (t .table),
+        table-needed domain (pairsLent points) ts (t .table),
         ap tableBits (pairs-length points),
         text-needed text,
       )
@@ -80,16 +81,16 @@ module _ (template : Template) (fields : List CodedField) (endBit : Bool) (text 
 
 -- ---- the pieces in order
 
-module _ (z : Sizes) (template : Template) (fields : List CodedField) (endBit : Bool) (text : List ℕ) (points : List ℤ) where
+module _ (z : Sizes) (template : Template) (fields : List CodedField) (endBit : Bool) (text : List ℕ) (domain : Domain) (points : List ℤ) where
   abbrev inOrder : List Piece
   inOrder =
-      slice 0 (length basic) (map fieldPiece fields) ++ (blockPieces (numberOf template) ++ (slice (length basic) (lastField template) (map fieldPiece fields) ++ (piecesOf (tablePieces (pairsLent points)) ++ codedEnding endBit text)))
+      slice 0 (length basic) (map fieldPiece fields) ++ (blockPieces (numberOf template) ++ (slice (length basic) (lastField template) (map fieldPiece fields) ++ (piecesOf (tablePieces domain (pairsLent points)) ++ codedEnding endBit text)))
 
-  ordered : codedSheet template fields endBit text points ≡ inOrder
+  ordered : codedSheet template fields endBit text domain points ≡ inOrder
   ordered = simp append-assoc
 
-  pub sheet-filling : {a : List ℕ} {k : Cursor} → Room z a k (codedSheet template fields endBit text points) → Filling z a k (codedSheet template fields endBit text points) a k inOrder
-  sheet-filling {a} {k} r = subst (Filling z a k (codedSheet template fields endBit text points) a k) ordered (filling-none z r)
+  pub sheet-filling : {a : List ℕ} {k : Cursor} → Room z a k (codedSheet template fields endBit text domain points) → Filling z a k (codedSheet template fields endBit text domain points) a k inOrder
+  sheet-filling {a} {k} r = subst (Filling z a k (codedSheet template fields endBit text domain points) a k) ordered (filling-none z r)
 
 -- ---- the tests
 
@@ -110,13 +111,13 @@ module _ {sheet : Sheet} {p : Plan} (f : FieldsPlanned sheet p) where
 pub text-fits : (f : ℕ) (endBit : Bool) (text : List ℕ) → Accepted (endingPieces f endBit text) → (i : ℕ) → getD text i 0 < 128
 text-fits f endBit text ok = character-lt text (ending-planned f endBit text _ ok .characters)
 
-module _ (z : Sizes) (sheet : Sheet) (text : List ℕ) (points : List ℤ) where
-  pub built-list : wrongLength points ≡ true → builtIn z sheet text points ≡ refused (wrongList (length points))
+module _ (z : Sizes) (sheet : Sheet) (text : List ℕ) (domain : Domain) (points : List ℤ) where
+  pub built-list : wrongLength points ≡ true → builtIn z sheet text domain points ≡ refused (wrongList (length points))
   unfolding builtIn plan
   built-list e = rw e
 
   module _ (right : wrongLength points ≡ false) where
-    pub built-fields : {r : Refusal} → fieldPieces sheet ≡ refused r → builtIn z sheet text points ≡ refused r
+    pub built-fields : {r : Refusal} → fieldPieces sheet ≡ refused r → builtIn z sheet text domain points ≡ refused r
     unfolding builtIn plan
     built-fields e = rw (right, e)
 
@@ -124,7 +125,7 @@ module _ (z : Sizes) (sheet : Sheet) (text : List ℕ) (points : List ℤ) where
       abbrev ends : Outcome (List Piece)
       ends = endingPieces (ending (templateIn sheet)) (sheet .«end_bit») text
 
-      pub built-ending : {r : Refusal} → ends ≡ refused r → builtIn z sheet text points ≡ refused r
+      pub built-ending : {r : Refusal} → ends ≡ refused r → builtIn z sheet text domain points ≡ refused r
       unfolding builtIn plan
       built-ending e = rw (right, fields, e)
 
@@ -132,21 +133,21 @@ module _ (z : Sizes) (sheet : Sheet) (text : List ℕ) (points : List ℤ) where
         ends-are : ends ≡ good (codedEnding (sheet .«end_bit») text)
         ends-are = ok ∙ ap good (sym (ending-planned (ending (templateIn sheet)) (sheet .«end_bit») text (piecesOf ends) ok .are))
 
-        pub built-points : {r : Refusal} → tablePieces (pairsLent points) ≡ refused r → builtIn z sheet text points ≡ refused r
+        pub built-points : {r : Refusal} → tablePieces domain (pairsLent points) ≡ refused r → builtIn z sheet text domain points ≡ refused r
         unfolding builtIn plan
         built-points e = rw (right, fields, ends-are, e)
 
-        pub built-fitted : Accepted (tablePieces (pairsLent points)) →
-            builtIn z sheet text points ≡ fitted z (fs ++ (piecesOf (tablePieces (pairsLent points)) ++ codedEnding (sheet .«end_bit») text))
+        pub built-fitted : Accepted (tablePieces domain (pairsLent points)) →
+            builtIn z sheet text domain points ≡ fitted z (fs ++ (piecesOf (tablePieces domain (pairsLent points)) ++ codedEnding (sheet .«end_bit») text))
         unfolding builtIn plan fitted
         built-fitted e = rw (right, fields, ends-are, e)
 
-module _ (kind : ℕ) (buffer : List ℕ) (sheet : Sheet) (text : List ℕ) (points : List ℤ) where
-  pub build-refused : {r : Refusal} → imageSizes kind (length buffer) ≡ refused r → build kind buffer sheet text points ≡ refused r
+module _ (kind : ℕ) (buffer : List ℕ) (sheet : Sheet) (text : List ℕ) (domain : Domain) (points : List ℤ) where
+  pub build-refused : {r : Refusal} → imageSizes kind (length buffer) ≡ refused r → build kind buffer sheet text domain points ≡ refused r
   unfolding build
   build-refused e = bind-refused _ e
 
-  pub build-sized : {z : Sizes} → imageSizes kind (length buffer) ≡ good z → build kind buffer sheet text points ≡ builtIn z sheet text points
+  pub build-sized : {z : Sizes} → imageSizes kind (length buffer) ≡ good z → build kind buffer sheet text domain points ≡ builtIn z sheet text domain points
   unfolding build
   build-sized e = rw e
 

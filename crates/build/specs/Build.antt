@@ -1,5 +1,5 @@
--- Document 01, and document 02, Note 7: build an image. Order: 1, 16, the fields each 9 then 10, the ending 9 then 10, points each 10 for point, 10
--- for deviation, then 7; last 11. What is to be written is a list of pieces, widths and codes one after the other.
+-- Document 01, and document 02, Notes 7 and 9: build an image. Order: 1, 16, the fields each 9 then 10, the ending 9 then 10, points each 10 for
+-- point, 10 for deviation, then 7 and 22; last 11. What is to be written is a list of pieces, widths and codes one after the other.
 use mathlib.Core.Bool.{Bool, false, not, _||_, _&&_}
 use mathlib.Core.List.{List, [], _∷_, _++_, map}
 use mathlib.Core.Option.{Option, none, some}
@@ -17,9 +17,10 @@ use Rattle.fields.specs.declared.Value.the-variants.{Whole, Missing}
 use Rattle.fields.specs.declared.Template.{Template}
 use Rattle.fields.specs.declared.Pair.{Pair}
 use Rattle.fields.specs.declared.Codes.{Codes}
+use Rattle.fields.specs.declared.Domain.{Domain}
 use Rattle.fields.specs.Rules.{encode}
 use Rattle.fields.specs.Lines.{Line, chose, basic, templateLines, numberOf, ending}
-use Rattle.fields.specs.Calibration.{calPoint, calDeviation, codesOf, follows}
+use Rattle.fields.specs.Calibration.{domainCode, calPoint, calDeviation, codesOf, follows}
 use Rattle.layout.specs.Pieces.{blockPieces, endCode}
 use Rattle.build.specs.declared.Slot.{Slot}
 use Rattle.build.specs.declared.Sheet.{Sheet}
@@ -72,49 +73,55 @@ pairsLent [] = []
 pairsLent (a ∷ []) = []
 pairsLent (a ∷ s ∷ l) = record { point = a; deviation = s } ∷ pairsLent l
 
--- The codes of pair i, behind the pair before it: 10 for the point, 10 for its deviation, then 7.
-unfoldable pub pairCodes : Option Codes → ℕ → Pair → Outcome Codes
-pairCodes before i p = do
+-- The codes of pair i: 10 for the point, 10 for its deviation.
+unfoldable pub codesFor : ℕ → Pair → Outcome Codes
+codesFor i p = do
   point ← encode calPoint i (Whole (p .point))
   deviation ← encode calDeviation i (Whole (p .deviation))
-  follows before i (codesOf point deviation)
   good (codesOf point deviation)
 
+-- Behind the pair before it: then 7, and 22 in domain 1.
+unfoldable pub pairCodes : Domain → Option Codes → ℕ → Pair → Outcome Codes
+pairCodes domain before i p = do
+  codes ← codesFor i p
+  follows domain before i codes
+  good codes
+
 -- The pairs from index i on.
-unfoldable pub pairPieces : Option Codes → ℕ → List Pair → Outcome (List Piece)
-pairPieces before i [] = good []
-pairPieces before i (p ∷ pairs) = do
-  codes ← pairCodes before i p
-  rest ← pairPieces (some codes) (suc i) pairs
+unfoldable pub pairPieces : Domain → Option Codes → ℕ → List Pair → Outcome (List Piece)
+pairPieces domain before i [] = good []
+pairPieces domain before i (p ∷ pairs) = do
+  codes ← pairCodes domain before i p
+  rest ← pairPieces domain (some codes) (suc i) pairs
   good (piece (calPoint .width) (codes .point) ∷ piece (calDeviation .width) (codes .deviation) ∷ rest)
 
--- Selector 0, template 40, domain 0, the count and the pairs; nothing from an empty list.
-unfoldable pub tablePieces : List Pair → Outcome (List Piece)
-tablePieces [] = good []
-tablePieces (p ∷ pairs) = do
-  pieces ← pairPieces none 0 (p ∷ pairs)
-  good (blockPieces 40 ++ (piece 1 0 ∷ piece 7 (length (p ∷ pairs)) ∷ pieces))
+-- Selector 0, template 40, the domain, the count and the pairs; nothing from an empty list, which has no domain.
+unfoldable pub tablePieces : Domain → List Pair → Outcome (List Piece)
+tablePieces domain [] = good []
+tablePieces domain (p ∷ pairs) = do
+  pieces ← pairPieces domain none 0 (p ∷ pairs)
+  good (blockPieces 40 ++ (piece 1 (domainCode domain) ∷ piece 7 (length (p ∷ pairs)) ∷ pieces))
 
 -- ---- the image
 
 -- All that a build writes, one piece after the other.
-unfoldable pub plan : Sheet → List ℕ → List ℤ → Outcome (List Piece)
-plan sheet text points = do
+unfoldable pub plan : Sheet → List ℕ → Domain → List ℤ → Outcome (List Piece)
+plan sheet text domain points = do
   refuse wrongList (length points) if eqb (length points % 2) 1 || ltb 254 (length points)
   fields ← fieldPieces sheet
   end ← endingPieces (ending (templateIn sheet)) (sheet .«end_bit») text
-  table ← tablePieces (pairsLent points)
+  table ← tablePieces domain (pairsLent points)
   good (fields ++ (table ++ end))
 
 -- In an image of these sizes. Bits after the end are zero, and with them the zero character that ends a text.
-unfoldable pub builtIn : Sizes → Sheet → List ℕ → List ℤ → Outcome (List ℕ)
-builtIn z sheet text points = do
-  pieces ← plan sheet text points
+unfoldable pub builtIn : Sizes → Sheet → List ℕ → Domain → List ℤ → Outcome (List ℕ)
+builtIn z sheet text domain points = do
+  pieces ← plan sheet text domain points
   refuse tooLong (needed pieces) if ltb (streamBits z) (needed pieces)
   good (imageOf z (pack pieces))
 
 -- The image that a build makes in a buffer of a kind.
-unfoldable pub build : ℕ → List ℕ → Sheet → List ℕ → List ℤ → Outcome (List ℕ)
-build kind buffer sheet text points = do
+unfoldable pub build : ℕ → List ℕ → Sheet → List ℕ → Domain → List ℤ → Outcome (List ℕ)
+build kind buffer sheet text domain points = do
   z ← imageSizes kind (length buffer)
-  builtIn z sheet text points
+  builtIn z sheet text domain points

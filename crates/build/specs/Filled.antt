@@ -3,7 +3,7 @@
 use mathlib.Core.Path.{_≡_}
 use mathlib.Core.Bool.{Bool}
 use mathlib.Core.List.{List, [], _∷_, _++_, map}
-use Prim.Native.Nat.{ℕ, _+_, _*_, _^_, _≤_, _<_}
+use Prim.Native.Nat.{ℕ, suc, _+_, _*_, _^_, _≤_, _<_}
 use lib.Dec.{ltb}
 use lib.IntN.{ℤ}
 use Rattle.refusal.specs.Outcome.{Outcome, good, refused, _>>_, refuse_if_}
@@ -14,12 +14,14 @@ use Rattle.memory.specs.Bits.{Bytes}
 use Rattle.memory.specs.Image.{streamBits, streamNumber, imageOf}
 use Rattle.memory.specs.Answers.{Whole}
 use Rattle.memory.specs.Pieces.{Piece, piece, pack, needed}
+use Rattle.fields.specs.declared.Pair.{Pair}
 use Rattle.fields.specs.declared.Codes.{Codes}
+use Rattle.fields.specs.declared.Domain.{Domain}
 use Rattle.fields.specs.declared.Template.{Template}
 use Rattle.fields.specs.Calibration.{calPoint, calDeviation}
 use Rattle.layout.specs.Pieces.{endCode}
 use Rattle.build.specs.declared.plan.CodedField.{CodedField}
-use Rattle.build.specs.Build.{pairsLent, tablePieces}
+use Rattle.build.specs.Build.{pairsLent, codesFor, tablePieces}
 use Rattle.build.specs.Tested.{piecesOf, codedFields}
 
 -- ---- what stands in the stream
@@ -48,13 +50,18 @@ abbrev pub codedPair : Outcome Codes → List Piece
 codedPair (good codes) = piece (calPoint .width) (codes .point) ∷ piece (calDeviation .width) (codes .deviation) ∷ []
 codedPair (refused r) = []
 
+-- The pairs from index i on.
+abbrev pub codedPairs : ℕ → List Pair → List Piece
+codedPairs i [] = []
+codedPairs i (p ∷ pairs) = codedPair (codesFor i p) ++ codedPairs (suc i) pairs
+
 abbrev pub codedEnding : Bool → List ℕ → List Piece
 codedEnding endBit text = piece 2 3 ∷ piece 1 (endCode endBit) ∷ map (piece 7) text
 
 -- All of a sheet.
-abbrev pub codedSheet : Template → List CodedField → Bool → List ℕ → List ℤ → List Piece
-codedSheet template fields endBit text points =
-    codedFields template fields ++ (piecesOf (tablePieces (pairsLent points)) ++ codedEnding endBit text)
+abbrev pub codedSheet : Template → List CodedField → Bool → List ℕ → Domain → List ℤ → List Piece
+codedSheet template fields endBit text domain points =
+    codedFields template fields ++ (piecesOf (tablePieces domain (pairsLent points)) ++ codedEnding endBit text)
 
 -- Their image, where the stream has the bits that they need.
 unfoldable pub fitted : Sizes → List Piece → Outcome (List ℕ)

@@ -11,6 +11,7 @@ use Rattle.fields.specs.declared.Value.{Value}
 use Rattle.fields.specs.declared.Row.{Row}
 use Rattle.fields.specs.declared.Pair.{Pair}
 use Rattle.fields.specs.declared.Codes.{Codes}
+use Rattle.fields.specs.declared.Domain.{Domain}
 use Rattle.fields.specs.declared.Encoded.{Encoded}
 use Rattle.fields.specs.declared.Encoded.the-variants.{Code}
 use Rattle.fields.specs.declared.Judged.the-variants.{Stands}
@@ -83,8 +84,8 @@ codesSaid (Are codes) = good codes
 codesSaid (Refused r) = refused r
 
 -- ---- what is left to be written: codes and characters that fit, and points that nothing refuses
-pub record Tested (fields : List CodedField) (text : List ℕ) (points : List ℤ) : Type 0 where
+pub record Tested (fields : List CodedField) (text : List ℕ) (domain : Domain) (points : List ℤ) : Type 0 where
   pub fit : FieldsFit fields
   pub characters : (i : ℕ) → getD text i 0 < 128
-  pub table : Accepted (tablePieces (pairsLent points))
+  pub table : Accepted (tablePieces domain (pairsLent points))
   pub list : length points ≤ 254

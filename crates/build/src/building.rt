@@ -7,6 +7,7 @@ use crate::plan::is_wrong_list;
 use crate::plan::plan_fields;
 use crate::plan::template_in;
 use crate::write::write;
+use fields::Domain;
 use fields::Judged;
 use fields::Template;
 use memory::Sizes;
@@ -54,12 +55,13 @@ fn write_planned(
     plan: Plan,
     end_bit: bool,
     text: &[u8],
+    domain: Domain,
     points: &[i64],
 ) -> Written
     requires { ⌜ Whole sizes (now image) × (imageBytes sizes ≤ 512) ⌝ }
-    requires { ⌜ Tested (plan .fields) (now text) (now points) ⌝ }
+    requires { ⌜ Tested (plan .fields) (now text) domain (now points) ⌝ }
     requires { ⌜ (plan .bits ≡ needed (codedFields template (plan .fields))) × (plan .bits < 2 ^ 16) ⌝ }
-    ensures { λ r. ⌜ (let outcome = fitted sizes (codedSheet template (plan .fields) «end_bit» (now (text .entry)) (now (points .entry))) in
+    ensures { λ r. ⌜ (let outcome = fitted sizes (codedSheet template (plan .fields) «end_bit» (now (text .entry)) domain (now (points .entry))) in
         (writtenSaid r (now (image .exit)) ≡ outcome) × (now (image .exit) ≡ afterwards (now (image .entry)) outcome)) ⌝ }
 {
     let bits = bits_needed(plan.bits, points.len() as u64 / 2, text.len() as u64);
@@ -67,14 +69,30 @@ fn write_planned(
         return Written::Refused(refusal::too_long(bits));
     }
     let fields = plan.fields;
-    write(sizes, image, template, fields, end_bit, text, points);
+    write(
+        sizes,
+        image,
+        template,
+        fields,
+        end_bit,
+        text,
+        domain,
+        points,
+    );
     Written::Done
 }
 
 // All tests, in document 01's order; then what they leave.
-fn build_in(sizes: Sizes, image: &mut [u8], sheet: Sheet, text: &[u8], points: &[i64]) -> Written
+fn build_in(
+    sizes: Sizes,
+    image: &mut [u8],
+    sheet: Sheet,
+    text: &[u8],
+    domain: Domain,
+    points: &[i64],
+) -> Written
     requires { ⌜ Whole sizes (now image) × (imageBytes sizes ≤ 512) ⌝ }
-    ensures { λ r. ⌜ (let outcome = builtIn sizes sheet (now (text .entry)) (now (points .entry)) in
+    ensures { λ r. ⌜ (let outcome = builtIn sizes sheet (now (text .entry)) domain (now (points .entry)) in
         (writtenSaid r (now (image .exit)) ≡ outcome) × (now (image .exit) ≡ afterwards (now (image .entry)) outcome)) ⌝ }
 {
     let n = points.len();
@@ -90,22 +108,39 @@ fn build_in(sizes: Sizes, image: &mut [u8], sheet: Sheet, text: &[u8], points: &
     if let Judged::Refused(r) = check_ending(template, sheet.end_bit, text) {
         return Written::Refused(r);
     }
-    if let Judged::Refused(r) = check_points(points) {
+    if let Judged::Refused(r) = check_points(domain, points) {
         return Written::Refused(r);
     }
-    write_planned(sizes, image, template, plan, sheet.end_bit, text, points)
+    write_planned(
+        sizes,
+        image,
+        template,
+        plan,
+        sheet.end_bit,
+        text,
+        domain,
+        points,
+    )
 }
 
 // Writes the image of a sheet: the fields and the end bit by value, the closing text, and the points and deviations by turns,
-// both lent. What the buffer held before is gone. Refused is 1 for the kind or the buffer's length, 16 for the points list,
-// 9 or 10 for a field, the ending or a point, 7 for points that do not rise, and 11 where the stream has fewer bits than are
-// needed; then no byte is written.
-pub fn build(kind: u8, image: &mut [u8], sheet: Sheet, text: &[u8], points: &[i64]) -> Written
-    ensures { λ r. ⌜ (let outcome = buildOf kind (now (image .entry)) sheet (now (text .entry)) (now (points .entry)) in
+// both lent, in a domain; an empty list has none, and the one handed in is not looked at. What the buffer held before is
+// gone. Refused is 1 for the kind or the buffer's length, 16 for the points list, 9 or 10 for a field, the ending or a point,
+// 7 for points that do not rise, 22 in domain 1 for points plus deviations that do not rise as stored, and 11 where the
+// stream has fewer bits than are needed; then no byte is written.
+pub fn build(
+    kind: u8,
+    image: &mut [u8],
+    sheet: Sheet,
+    text: &[u8],
+    domain: Domain,
+    points: &[i64],
+) -> Written
+    ensures { λ r. ⌜ (let outcome = buildOf kind (now (image .entry)) sheet (now (text .entry)) domain (now (points .entry)) in
         (writtenSaid r (now (image .exit)) ≡ outcome) × (now (image .exit) ≡ afterwards (now (image .entry)) outcome)) ⌝ }
 {
     match memory::image_sizes(kind, image.len()) {
         SizesAnswer::Refused(r) => Written::Refused(r),
-        SizesAnswer::Are(sizes) => build_in(sizes, image, sheet, text, points),
+        SizesAnswer::Are(sizes) => build_in(sizes, image, sheet, text, domain, points),
     }
 }

@@ -1,6 +1,7 @@
 // What a build tests before it writes: the fields, the ending, and the points.
 use crate::Sheet;
 use fields::Codes;
+use fields::Domain;
 use fields::Encoded;
 use fields::Judged;
 use fields::Layout;
@@ -10,7 +11,6 @@ use fields::Value;
 use refusal::Refusal;
 ghost use mathlib.Core.Path.{_≡_};
 ghost use mathlib.Core.Bool.{_||_};
-ghost use mathlib.Core.Option.{none};
 ghost use Prim.Native.Nat.{_*_, _+_, _%_, _<_, _≤_};
 ghost use lib.Dec.{eqb, ltb};
 ghost use lib.ListN.{length};
@@ -18,7 +18,7 @@ ghost use Rattle.refusal.specs.Outcome.{refuse_if_};
 ghost use Rattle.refusal.specs.Rows.{outOfRange};
 ghost use Rattle.fields.specs.Lines.{chose, lineOf, rowOf, lastField, ending};
 ghost use Rattle.fields.specs.Answers.{judgedSaid, previousSaid};
-ghost use Rattle.build.specs.Build.{templateIn, unfit, endingPieces, pairsLent, pairCodes, tablePieces};
+ghost use Rattle.build.specs.Build.{templateIn, unfit, endingPieces, pairsLent, codesFor, pairCodes, tablePieces};
 ghost use Rattle.build.specs.Tested.{tested, pairAt, codesSaid, Encodes, FieldsPlanned};
 
 // A field that is to be written: its bits and its code.
@@ -34,7 +34,7 @@ pub struct Plan {
     pub bits: u64,
 }
 
-// The codes of a pair, or 10.
+// The codes of a pair, or 10, 7 or 22.
 pub enum PairAnswer {
     Are(Codes),
     Refused(Refusal),
@@ -150,7 +150,7 @@ pub fn check_ending(template: Template, end_bit: bool, text: &[u8]) -> Judged
 // The codes of pair i: 10 for the point, 10 for its deviation.
 pub fn code_pair(points: &[i64], i: usize) -> PairAnswer
     requires { ⌜ 2 * i + 1 < length (now points) ⌝ }
-    ensures { λ r. ⌜ codesSaid r ≡ pairCodes none i (pairAt (now (points .entry)) i) ⌝ }
+    ensures { λ r. ⌜ codesSaid r ≡ codesFor i (pairAt (now (points .entry)) i) ⌝ }
 {
     let at = 2 * i;
     let place = i as u64;
@@ -158,34 +158,37 @@ pub fn code_pair(points: &[i64], i: usize) -> PairAnswer
         Encoded::Refused(r) => PairAnswer::Refused(r),
         Encoded::Code(point) => match fields::encode_deviation(place, points[at + 1]) {
             Encoded::Refused(r) => PairAnswer::Refused(r),
-            Encoded::Code(deviation) => PairAnswer::Are(Codes { point, deviation }),
+            Encoded::Code(deviation) => PairAnswer::Are(Codes {
+                point: point as u16,
+                deviation: deviation as u32,
+            }),
         },
     }
 }
 
-// The same, then 7 where it does not rise behind the pair before it.
-fn check_pair(before: Previous, points: &[i64], i: usize) -> PairAnswer
+// The same, then 7 where its point does not rise behind the pair before it, and 22 in domain 1 where its sum does not.
+fn check_pair(domain: Domain, before: Previous, points: &[i64], i: usize) -> PairAnswer
     requires { ⌜ 2 * i + 1 < length (now points) ⌝ }
-    ensures { λ r. ⌜ codesSaid r ≡ pairCodes (previousSaid before) i (pairAt (now (points .entry)) i) ⌝ }
+    ensures { λ r. ⌜ codesSaid r ≡ pairCodes domain (previousSaid before) i (pairAt (now (points .entry)) i) ⌝ }
 {
     match code_pair(points, i) {
         PairAnswer::Refused(r) => PairAnswer::Refused(r),
-        PairAnswer::Are(codes) => match fields::follows(before, i as u64, codes) {
+        PairAnswer::Are(codes) => match fields::follows(domain, before, i as u64, codes) {
             Judged::Refused(r) => PairAnswer::Refused(r),
             Judged::Stands => PairAnswer::Are(codes),
         },
     }
 }
 
-// 10 and 7, pair by pair.
-pub fn check_points(points: &[i64]) -> Judged
-    ensures { λ r. ⌜ judgedSaid r ≡ tested (tablePieces (pairsLent (now (points .entry)))) ⌝ }
+// 10, 7 and 22, pair by pair.
+pub fn check_points(domain: Domain, points: &[i64]) -> Judged
+    ensures { λ r. ⌜ judgedSaid r ≡ tested (tablePieces domain (pairsLent (now (points .entry)))) ⌝ }
 {
     let n = points.len() / 2;
     let mut before = Previous::Nothing;
     let mut i: usize = 0;
     while i < n {
-        match check_pair(before, points, i) {
+        match check_pair(domain, before, points, i) {
             PairAnswer::Refused(r) => {
                 return Judged::Refused(r);
             }

@@ -3,12 +3,12 @@
 use crate::plan::CodedField;
 use crate::plan::PairAnswer;
 use crate::plan::code_pair;
+use fields::Domain;
 use fields::Template;
 use memory::Cursor;
 use memory::Sizes;
 ghost use mathlib.Core.Path.{_≡_};
-ghost use mathlib.Core.List.{[], _∷_, map};
-ghost use mathlib.Core.Option.{none};
+ghost use mathlib.Core.List.{map};
 ghost use Prim.Native.Nat.{ℕ, _+_, _*_, _^_, _≤_, _<_};
 ghost use lib.ListN.{length, getD};
 ghost use lib.Seq.{slice};
@@ -16,9 +16,9 @@ ghost use Rattle.memory.specs.Image.{streamBits, imageOf};
 ghost use Rattle.memory.specs.Answers.{Whole};
 ghost use Rattle.memory.specs.Pieces.{piece, pack, needed};
 ghost use Rattle.layout.specs.Pieces.{blockPieces};
-ghost use Rattle.build.specs.Build.{pairsLent, pairCodes, pairPieces, tablePieces};
+ghost use Rattle.build.specs.Build.{pairsLent, codesFor, tablePieces};
 ghost use Rattle.build.specs.Tested.{piecesOf, Accepted, fieldPiece, FieldsFit, pairAt, Tested};
-ghost use Rattle.build.specs.Filled.{Room, Filled, codedPair, codedEnding, codedSheet};
+ghost use Rattle.build.specs.Filled.{Room, Filled, codedPair, codedPairs, codedEnding, codedSheet};
 
 // The fields from index `first` up to `end`.
 fn lay_fields(
@@ -54,26 +54,25 @@ fn lay_block(sizes: Sizes, image: &mut [u8], cursor: Cursor, number: u64) -> Cur
 
 // Pair i, which has its codes.
 fn lay_pair(sizes: Sizes, image: &mut [u8], cursor: Cursor, points: &[i64], i: usize) -> Cursor
-    requires { ⌜ Room sizes (now image) cursor (codedPair (pairCodes none i (pairAt (now points) i))) ⌝ }
+    requires { ⌜ Room sizes (now image) cursor (codedPair (codesFor i (pairAt (now points) i))) ⌝ }
     requires { ⌜ 2 * i + 1 < length (now points) ⌝ }
-    ensures { λ r. ⌜ Filled sizes (now (image .entry)) cursor (codedPair (pairCodes none i (pairAt (now (points .entry)) i))) (now (image .exit)) r ⌝ }
+    ensures { λ r. ⌜ Filled sizes (now (image .entry)) cursor (codedPair (codesFor i (pairAt (now (points .entry)) i))) (now (image .exit)) r ⌝ }
 {
     match code_pair(points, i) {
         PairAnswer::Refused(_) => cursor,
         PairAnswer::Are(codes) => {
             let point_bits = fields::cal_point().width as usize;
             let deviation_bits = fields::cal_deviation().width as usize;
-            let next = cursor.put(sizes, image, point_bits, codes.point);
-            next.put(sizes, image, deviation_bits, codes.deviation)
+            let next = cursor.put(sizes, image, point_bits, codes.point as u64);
+            next.put(sizes, image, deviation_bits, codes.deviation as u64)
         }
     }
 }
 
 // Every pair.
 fn lay_pairs(sizes: Sizes, image: &mut [u8], start: Cursor, points: &[i64]) -> Cursor
-    requires { ⌜ Room sizes (now image) start (piecesOf (pairPieces none 0 (pairsLent (now points)))) ⌝ }
-    requires { ⌜ Accepted (pairPieces none 0 (pairsLent (now points))) ⌝ }
-    ensures { λ r. ⌜ Filled sizes (now (image .entry)) start (piecesOf (pairPieces none 0 (pairsLent (now (points .entry))))) (now (image .exit)) r ⌝ }
+    requires { ⌜ Room sizes (now image) start (codedPairs 0 (pairsLent (now points))) ⌝ }
+    ensures { λ r. ⌜ Filled sizes (now (image .entry)) start (codedPairs 0 (pairsLent (now (points .entry)))) (now (image .exit)) r ⌝ }
 {
     let n = points.len() / 2;
     let mut cursor = start;
@@ -85,18 +84,25 @@ fn lay_pairs(sizes: Sizes, image: &mut [u8], start: Cursor, points: &[i64]) -> C
     cursor
 }
 
-// Block 40: domain 0, the count and the pairs; nothing without points.
-fn lay_table(sizes: Sizes, image: &mut [u8], cursor: Cursor, points: &[i64]) -> Cursor
-    requires { ⌜ Room sizes (now image) cursor (piecesOf (tablePieces (pairsLent (now points)))) ⌝ }
-    requires { ⌜ Accepted (tablePieces (pairsLent (now points))) × (length (now points) ≤ 254) ⌝ }
-    ensures { λ r. ⌜ Filled sizes (now (image .entry)) cursor (piecesOf (tablePieces (pairsLent (now (points .entry))))) (now (image .exit)) r ⌝ }
+// Block 40: the domain, the count and the pairs; nothing without points.
+fn lay_table(
+    sizes: Sizes,
+    image: &mut [u8],
+    cursor: Cursor,
+    domain: Domain,
+    points: &[i64],
+) -> Cursor
+    requires { ⌜ Room sizes (now image) cursor (piecesOf (tablePieces domain (pairsLent (now points)))) ⌝ }
+    requires { ⌜ Accepted (tablePieces domain (pairsLent (now points))) × (length (now points) ≤ 254) ⌝ }
+    ensures { λ r. ⌜ Filled sizes (now (image .entry)) cursor (piecesOf (tablePieces domain (pairsLent (now (points .entry))))) (now (image .exit)) r ⌝ }
 {
     let n = points.len() / 2;
     if n == 0 {
         return cursor;
     }
-    let domain = lay_block(sizes, image, cursor, 40);
-    let count = domain.put(sizes, image, 1, 0);
+    let code = fields::domain_code(domain);
+    let block = lay_block(sizes, image, cursor, 40);
+    let count = block.put(sizes, image, 1, code);
     let pairs = count.put(sizes, image, 7, n as u64);
     lay_pairs(sizes, image, pairs, points)
 }
@@ -136,18 +142,19 @@ fn lay_sheet(
     fields: [CodedField; 21],
     end_bit: bool,
     text: &[u8],
+    domain: Domain,
     points: &[i64],
 ) -> Cursor
-    requires { ⌜ Room sizes (now image) cursor (codedSheet template fields «end_bit» (now text) (now points)) ⌝ }
-    requires { ⌜ Tested fields (now text) (now points) ⌝ }
-    ensures { λ r. ⌜ Filled sizes (now (image .entry)) cursor (codedSheet template fields «end_bit» (now (text .entry)) (now (points .entry))) (now (image .exit)) r ⌝ }
+    requires { ⌜ Room sizes (now image) cursor (codedSheet template fields «end_bit» (now text) domain (now points)) ⌝ }
+    requires { ⌜ Tested fields (now text) domain (now points) ⌝ }
+    ensures { λ r. ⌜ Filled sizes (now (image .entry)) cursor (codedSheet template fields «end_bit» (now (text .entry)) domain (now (points .entry))) (now (image .exit)) r ⌝ }
 {
     let basic = fields::basic_fields() as usize;
     let last = fields::last_field(template) as usize;
     let block = lay_fields(sizes, image, cursor, fields, 0, basic);
     let own = lay_block(sizes, image, block, fields::template_number(template));
     let table = lay_fields(sizes, image, own, fields, basic, last);
-    let ending = lay_table(sizes, image, table, points);
+    let ending = lay_table(sizes, image, table, domain, points);
     lay_ending(sizes, image, ending, end_bit, text)
 }
 
@@ -159,11 +166,12 @@ pub fn write(
     fields: [CodedField; 21],
     end_bit: bool,
     text: &[u8],
+    domain: Domain,
     points: &[i64],
 )
-    requires { ⌜ Whole sizes (now image) × Tested fields (now text) (now points) ⌝ }
-    requires { ⌜ needed (codedSheet template fields «end_bit» (now text) (now points)) ≤ streamBits sizes ⌝ }
-    ensures { λ _. ⌜ now (image .exit) ≡ imageOf sizes (pack (codedSheet template fields «end_bit» (now (text .entry)) (now (points .entry)))) ⌝ }
+    requires { ⌜ Whole sizes (now image) × Tested fields (now text) domain (now points) ⌝ }
+    requires { ⌜ needed (codedSheet template fields «end_bit» (now text) domain (now points)) ≤ streamBits sizes ⌝ }
+    ensures { λ _. ⌜ now (image .exit) ≡ imageOf sizes (pack (codedSheet template fields «end_bit» (now (text .entry)) domain (now (points .entry)))) ⌝ }
 {
     memory::clear(image);
     lay_sheet(
@@ -174,6 +182,7 @@ pub fn write(
         fields,
         end_bit,
         text,
+        domain,
         points,
     );
     memory::seal_pages(sizes, image);

@@ -8,7 +8,10 @@ use Rattle.refusal.specs.Outcome.{Outcome, good, refused}
 use Rattle.fields.specs.declared.Value.{Value}
 use Rattle.fields.specs.declared.Value.the-variants.{Whole}
 use Rattle.fields.specs.Lines.{numberOf}
+use Rattle.fields.specs.Calibration.{domainCode}
 use Rattle.sheet.specs.declared.Summary.{Summary}
+use Rattle.sheet.specs.declared.TableDomain.{TableDomain}
+use Rattle.sheet.specs.declared.TableDomain.the-variants.{NoTable, Is}
 use Rattle.fields.specs.declared.Pair.{Pair}
 use Rattle.layout.specs.Pieces.{endCode}
 use Rattle.change.specs.declared.Proposal.{Proposal}
@@ -47,6 +50,12 @@ pub record Numbers : Type 0 where
   pub characters : ℕ
   pub endBit : ℕ
   pub template : ℕ
+  pub domain : ℕ
+
+-- The domain of a table; 255 where there is no table.
+abbrev pub domainNumber : TableDomain → ℕ
+domainNumber NoTable = 255
+domainNumber (Is domain) = domainCode domain
 
 abbrev pub numbers : Summary → Numbers
 numbers s = record {
@@ -55,14 +64,24 @@ numbers s = record {
   characters = s .characters;
   endBit = endCode (s .«end_bit»);
   template = numberOf (s .template);
+  domain = domainNumber (s .domain);
 }
 
 abbrev pub noNumbers : Numbers
-noNumbers = record { bits = 0; points = 0; characters = 0; endBit = 0; template = 0 }
+noNumbers = record { bits = 0; points = 0; characters = 0; endBit = 0; template = 0; domain = 0 }
 
 abbrev pub checkAnswer : ℕ → ℕ → Numbers → DartelmCheckAnswer
 checkAnswer n p s =
-    record { number = n; place = p; bits = s .bits; points = s .points; characters = s .characters; «end_bit» = s .endBit; template = s .template }
+    record {
+      number = n;
+      place = p;
+      bits = s .bits;
+      points = s .points;
+      characters = s .characters;
+      «end_bit» = s .endBit;
+      template = s .template;
+      domain = s .domain;
+    }
 
 abbrev pub fieldAnswer : ℕ → ℕ → Value → DartelmFieldAnswer
 fieldAnswer n p v = record { number = n; place = p; value = byFlags v }

@@ -7,6 +7,7 @@ use Rattle.refusal.specs.Outcome.{Outcome, good, refused}
 use Rattle.memory.specs.declared.Sizes.{Sizes}
 use Rattle.memory.specs.Image.{imageSizes, pageBytes}
 use Rattle.fields.specs.declared.Value.the-variants.{Whole}
+use Rattle.fields.specs.Calibration.{domainOf}
 use Rattle.texts.specs.Text.{textOf, codeOf}
 use Rattle.sheet.specs.Check.{check, readField, readPair, readCharacter}
 use Rattle.index.specs.Index.{index, fetch}
@@ -29,7 +30,7 @@ use Rattle.dartelm.specs.Answers.{toldAs, told, numbers, noNumbers, chec
 
 -- The number of this archive and its header.
 abbrev pub version : ℕ
-version = 3
+version = 4
 
 -- ---- kinds
 
@@ -65,8 +66,9 @@ characterCall kind image index = told characterAnswer 0 (readCharacter kind imag
 
 -- ---- build, change, commit and index: the outcome, of which the answer and every byte of the image or the buffer afterwards are told
 
-abbrev pub buildCall : ℕ → List ℕ → DartelmFields → List ℕ → List ℤ → Outcome (List ℕ)
-buildCall kind image fields text points = build kind image (sheetOf fields) text points
+-- Domain 0 is electrical, any other physical.
+abbrev pub buildCall : ℕ → List ℕ → DartelmFields → List ℕ → ℕ → List ℤ → Outcome (List ℕ)
+buildCall kind image fields text domain points = build kind image (sheetOf fields) text (domainOf domain) points
 
 abbrev pub changeCall : ℕ → List ℕ → ℕ → ℕ → DartelmValue → Outcome (List ℕ)
 changeCall kind image level field value = change kind image (levelOf level) field (valueOf value)

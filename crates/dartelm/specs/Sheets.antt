@@ -60,6 +60,7 @@ sheetAnswer n p s =
       characters = s .numbers .characters;
       «field_count» = length (s .values);
       fields = fieldsTold s;
+      domain = s .numbers .domain;
     }
 
 abbrev pub sheetCall : ℕ → List ℕ → DartelmSheetAnswer

@@ -2,9 +2,13 @@
 // where it is accepted the place is.
 use crate::values::DartelmFields;
 use crate::values::DartelmValue;
+use fields::Domain;
+use sheet::TableDomain;
+ghost use mathlib.Core.Path.{_≡_};
+ghost use Rattle.dartelm.specs.Answers.{domainNumber};
 
 // An image that was checked: the bits up to the end (a zero that ends the text counted), the calibration points, the
-// characters of the closing text, the end bit and the first template's number.
+// characters of the closing text, the end bit, the first template's number and the domain of the points.
 #[repr(C)]
 pub struct DartelmCheckAnswer {
     pub number: u8,
@@ -14,6 +18,7 @@ pub struct DartelmCheckAnswer {
     pub characters: u64,
     pub end_bit: u8,
     pub template: u8,
+    pub domain: u8,
 }
 
 // A field's value.
@@ -34,6 +39,7 @@ pub struct DartelmSheetAnswer {
     pub characters: u64,
     pub field_count: u64,
     pub fields: DartelmFields,
+    pub domain: u8,
 }
 
 // A calibration point and its deviation, in billionths of the span.
@@ -101,4 +107,17 @@ pub struct DartelmCodeAnswer {
 pub struct DartelmPageAnswer {
     pub count: u64,
     pub bytes: [u8; 31],
+}
+
+// The domain of a table, as a number; 255 where there is no table.
+pub fn domain_number(domain: TableDomain) -> u8
+    ensures { λ r. ⌜ r ≡ domainNumber domain ⌝ }
+{
+    match domain {
+        TableDomain::NoTable => 255,
+        TableDomain::Is(found) => match found {
+            Domain::Electrical => 0,
+            Domain::Physical => 1,
+        },
+    }
 }

@@ -62,7 +62,7 @@ use values::DartelmValue;
 pub extern "C" fn dartelm_version() -> u32
     ensures { λ r. ⌜ r ≡ version ⌝ }
 {
-    3
+    4
 }
 
 // The kind of the images that have so many bytes: 0, 1 or 2; 255 where no kind has.
@@ -92,9 +92,11 @@ pub extern "C" fn dartelm_check(kind: u8, image: &[u8]) -> DartelmCheckAnswer
             characters: 0,
             end_bit: 0,
             template: 0,
+            domain: 0,
         },
         Checked::Accepted(summary) => {
             let template = summary.template;
+            let domain = summary.domain;
             DartelmCheckAnswer {
                 number: 0,
                 place: 0,
@@ -103,6 +105,7 @@ pub extern "C" fn dartelm_check(kind: u8, image: &[u8]) -> DartelmCheckAnswer
                 characters: summary.characters,
                 end_bit: summary.end_bit as u8,
                 template: fields::template_number(template) as u8,
+                domain: answers::domain_number(domain),
             }
         }
     }
@@ -214,19 +217,22 @@ fn wrote(written: Written) -> DartelmWriteAnswer
     }
 }
 
-// Builds an image from a sheet, the closing text, and calibration points and deviations by turns.
+// Builds an image from a sheet, the closing text, and calibration points and deviations by turns in a domain: 0 electrical, any
+// other physical.
 #[no_mangle]
 pub extern "C" fn dartelm_build(
     kind: u8,
     image: &mut [u8],
     fields: DartelmFields,
     text: &[u8],
+    domain: u8,
     points: &[i64],
 ) -> DartelmWriteAnswer
-    ensures { λ r. ⌜ (let outcome = buildCall kind (now (image .entry)) fields (now (text .entry)) (now (points .entry)) in
+    ensures { λ r. ⌜ (let outcome = buildCall kind (now (image .entry)) fields (now (text .entry)) domain (now (points .entry)) in
         (r ≡ told writeAnswer [] outcome) × (now (image .exit) ≡ afterwards (now (image .entry)) outcome)) ⌝ }
 {
-    wrote(build::build(kind, image, values::sheet_of(fields), text, points))
+    let found = fields::domain_of(domain as u64);
+    wrote(build::build(kind, image, values::sheet_of(fields), text, found, points))
 }
 
 // Changes one field, as a writer of a level.

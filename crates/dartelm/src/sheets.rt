@@ -1,5 +1,6 @@
 // All fields of an opened sheet.
 use crate::answers::DartelmSheetAnswer;
+use crate::answers::domain_number;
 use crate::values::DartelmFields;
 use crate::values::by_flags;
 use crate::values::no_value;
@@ -30,6 +31,7 @@ pub fn sheet_in(sheet: Opened, image: &[u8]) -> DartelmSheetAnswer
         at += 1;
     }
     let summary = sheet.summary;
+    let domain = summary.domain;
     let fields = DartelmFields {
         values,
         end_bit: summary.end_bit as u8,
@@ -44,6 +46,7 @@ pub fn sheet_in(sheet: Opened, image: &[u8]) -> DartelmSheetAnswer
         characters: summary.characters,
         field_count: count,
         fields,
+        domain: domain_number(domain),
     }
 }
 
@@ -65,5 +68,6 @@ pub fn no_sheet(r: Refusal) -> DartelmSheetAnswer
         characters: 0,
         field_count: 0,
         fields,
+        domain: 0,
     }
 }

@@ -1,24 +1,83 @@
--- Neighbouring pairs of the calibration table.
+-- The domain of the calibration table, and its neighbouring pairs.
 use mathlib.Core.Path.{_≡_, refl}
-use mathlib.Core.Option.{none, some}
-use Prim.Native.Nat.{ℕ, _<_}
-use borrow.Author.Tests.{leb-false, lt-leb}
+use mathlib.Core.Bool.{true, false, _&&_}
+use mathlib.Core.Option.{Option, none, some}
+use Prim.Native.Nat.{ℕ, zero, suc, _+_, _*_, _≤_, _<_}
+use native.Mathlib.Omega.{arith}
+use borrow.Author.Tests.{leb-false}
 use lib.Dec.{leb}
+use lib.IntN.{pos}
+use lib.Signed.{leZ, _<ℤ_}
+use Rattle.integers.specs.Parts.{up, dn}
+use Rattle.integers.proofs.PartLaws.{add-parts, le-leZ, lt-leZ, nleZ-parts, parts-<ℤ, is-false}
 use Rattle.refusal.specs.Outcome.{good}
-use Rattle.refusal.specs.Rows.{notRising}
+use Rattle.refusal.specs.Rows.{notRising, sumsNotRising}
+use Rattle.refusal.proofs.Outcomes.{passed}
 use Rattle.fields.specs.declared.Codes.{Codes}
-use Rattle.fields.specs.Calibration.{follows}
+use Rattle.fields.specs.declared.Domain.{Domain}
+use Rattle.fields.specs.declared.Domain.the-variants.{Electrical, Physical}
+use Rattle.fields.specs.Rules.{steppedValue}
+use Rattle.fields.specs.Calibration.{D, R, leastDeviation, domainCode, domainOf, isPhysical, storedSum, follows}
 use Rattle.fields.proofs.DecodeLaws.{tested}
 
-pub follows-none : (place : ℕ) (n : Codes) → follows none place n ≡ good tt
+-- ---- the domain
+
+pub domain-coded : (domain : Domain) → domainOf (domainCode domain) ≡ domain
+domain-coded Electrical = refl
+domain-coded Physical = refl
+
+pub code-domained : (code : ℕ) → code ≤ 1 → domainCode (domainOf code) ≡ code
+code-domained zero h = refl
+code-domained (suc zero) h = refl
+code-domained (suc (suc n)) h = absurd (omega arith)
+
+pub domain-other : (code : ℕ) → (code ≡ 0 → ⊥) → Physical ≡ domainOf code
+domain-other zero h = absurd (h refl)
+domain-other (suc n) h = refl
+
+pub domain-most : (domain : Domain) → domainCode domain ≤ 1
+domain-most Electrical = omega arith
+domain-most Physical = omega arith
+
+-- ---- sums
+
+-- In billionths above the least deviation.
+abbrev sumAbove : Codes → ℕ
+sumAbove c = D * c .point + R * c .deviation
+
+sum-parts : (c : Codes) → up (storedSum c) + 1_000_000_000 ≡ dn (storedSum c) + sumAbove c
+sum-parts c =
+    omega (
+      arith,
+      add-parts (steppedValue (pos 0) D (c .point)) (steppedValue leastDeviation R (c .deviation)),
+      add-parts (pos 0) (pos (D * c .point)),
+      add-parts leastDeviation (pos (R * c .deviation)),
+    )
+
+module _ (b n : Codes) where
+  pub sum-falls : sumAbove n ≤ sumAbove b → leZ (storedSum n) (storedSum b) ≡ true
+  sum-falls h = le-leZ (storedSum n) (storedSum b) (omega (arith, sum-parts b, sum-parts n))
+
+  pub sum-climbs : sumAbove b < sumAbove n → leZ (storedSum n) (storedSum b) ≡ false
+  sum-climbs h = lt-leZ (storedSum n) (storedSum b) (omega (arith, sum-parts b, sum-parts n))
+
+-- ---- neighbours
+
+-- A place changes nothing.
+pub follows-anywhere : (domain : Domain) (before : Option Codes) (i j : ℕ) (n : Codes) → follows domain before i n ≡ good tt → follows domain before j n ≡ good tt
 unfolding follows
-follows-none place n = refl
+follows-anywhere domain none i j n e = refl
+follows-anywhere domain (some b) i j n e =
+    let (t, f) = passed (notRising i) (leb (n .point) (b .point)) _ tt e in
+    let u = tested (sumsNotRising i) (isPhysical domain && leZ (storedSum n) (storedSum b)) f in
+    rw (t, u)
 
-module _ (b : Codes) (place : ℕ) (n : Codes) where
-  pub follows-rises : follows (some b) place n ≡ good tt → b .point < n .point
-  unfolding follows
-  follows-rises e = leb-false (n .point) (b .point) (tested (notRising place) (leb (n .point) (b .point)) e)
+pub follows-rises : (domain : Domain) (b : Codes) (place : ℕ) (n : Codes) → follows domain (some b) place n ≡ good tt → b .point < n .point
+unfolding follows
+follows-rises domain b place n e = leb-false (n .point) (b .point) (passed (notRising place) (leb (n .point) (b .point)) _ tt e .0)
 
-  pub rises-follows : b .point < n .point → follows (some b) place n ≡ good tt
-  unfolding follows
-  rises-follows l = rw (lt-leb (n .point) (b .point) l)
+pub follows-climbs : (b : Codes) (place : ℕ) (n : Codes) → follows Physical (some b) place n ≡ good tt → storedSum b <ℤ storedSum n
+unfolding follows
+follows-climbs b place n e =
+    let t = tested (sumsNotRising place) (leZ (storedSum n) (storedSum b)) (passed (notRising place) (leb (n .point) (b .point)) _ tt e .1) in
+    parts-<ℤ (storedSum b) (storedSum n) (nleZ-parts (storedSum n) (storedSum b) (is-false t))

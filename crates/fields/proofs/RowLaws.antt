@@ -15,7 +15,7 @@ use Rattle.fields.specs.declared.Template.the-variants.{Bridge, Resistan
 use Rattle.fields.specs.declared.Layout.{Layout}
 use Rattle.fields.specs.Rows.{optional, bridgeEnd, resistanceEnd}
 use Rattle.fields.specs.Lines.{Line, basic, template33, template32, templateLines, linesOf, lastField, lineOf, rowOf, rowsOf, noLine}
-use Rattle.fields.specs.Calibration.{domain, pointCount, calPoint, calDeviation}
+use Rattle.fields.specs.Calibration.{calDomain, pointCount, calPoint, calDeviation}
 use Rattle.fields.specs.Stored.{Sound, SoundRule, AllSound, RowsSound}
 use Rattle.fields.proofs.CodeLaws.{below-2^32}
 use Rattle.fields.proofs.Table.{at}
@@ -107,7 +107,7 @@ row-sound layout f low high =
 
 -- ---- the calibration table
 
-pub domain-sound : Sound domain
+pub domain-sound : Sound calDomain
 domain-sound = omega arith
 
 pub count-sound : Sound pointCount

@@ -18,7 +18,7 @@ use Rattle.fields.specs.declared.Row.{Row}
 use Rattle.fields.specs.Rules.{topCode, steppedValue, steppedCode, progression, scaleWidth, geometricValue, goesUp, storedAt, decode, encode}
 use Rattle.fields.specs.declared.Template.{Template}
 use Rattle.fields.specs.Lines.{linesOf, rowsOf}
-use Rattle.fields.specs.Calibration.{domain, pointCount, calPoint, calDeviation}
+use Rattle.fields.specs.Calibration.{calDomain, pointCount, calPoint, calDeviation}
 
 -- A stepped or geometric figure at the step its rule gives; any other value as it is.
 abbrev pub keptBy : Rule → ℕ → Value → Value
@@ -59,7 +59,7 @@ AllSound (row ∷ rows) = Sound row × AllSound rows
 abbrev pub RowsSound : Type 0
 RowsSound =
     (template : Template) (latest : ℕ) →
-    AllSound (rowsOf (linesOf template) latest) × AllSound (domain ∷ pointCount ∷ calPoint ∷ calDeviation ∷ [])
+    AllSound (rowsOf (linesOf template) latest) × AllSound (calDomain ∷ pointCount ∷ calPoint ∷ calDeviation ∷ [])
 
 -- ---- for any row
 

@@ -1,6 +1,7 @@
-// Document 01, "Layout": the calibration table, template 40. The rows of its fields, the codes of a pair, and the rule
-// between neighbouring pairs. Figures are in billionths of the span.
+// Document 01, "Layout", and document 02, Note 9: the calibration table, template 40. The rows of its fields, the codes of a
+// pair, and the rules between neighbouring pairs. Figures are in billionths of the span.
 use crate::Codes;
+use crate::Domain;
 use crate::Encoded;
 use crate::Judged;
 use crate::Previous;
@@ -11,6 +12,11 @@ use crate::encoding::stepped;
 use crate::rows::always;
 use refusal::Refusal;
 ghost use mathlib.Core.Path.{_≡_};
+ghost use mathlib.Core.Bool.{_&&_};
+ghost use Prim.Native.Nat.{_+_, _*_};
+ghost use lib.Signed.{leZ};
+ghost use Rattle.refusal.specs.Outcome.{refuse_if_};
+ghost use Rattle.refusal.specs.Rows.{sumsNotRising};
 ghost use Rattle.fields.specs.Rules.{encode as encodeOf};
 ghost use Rattle.fields.specs.Calibration as spec;
 ghost use Rattle.fields.specs.Answers.{encodedSaid, judgedSaid, previousSaid};
@@ -26,10 +32,28 @@ const LEAST_DEVIATION: i64 = -1_000_000_000;
 
 const R: u64 = 1_000;
 
-pub fn domain() -> Row
-    ensures { λ r. ⌜ r ≡ spec.domain ⌝ }
+pub fn cal_domain() -> Row
+    ensures { λ r. ⌜ r ≡ spec.calDomain ⌝ }
 {
-    always(1, Rule::Plain(0, 0))
+    always(1, Rule::Plain(0, 1))
+}
+
+pub fn domain_code(domain: Domain) -> u64
+    ensures { λ r. ⌜ r ≡ spec.domainCode domain ⌝ }
+{
+    match domain {
+        Domain::Electrical => 0,
+        Domain::Physical => 1,
+    }
+}
+
+pub fn domain_of(code: u64) -> Domain
+    ensures { λ r. ⌜ r ≡ spec.domainOf code ⌝ }
+{
+    if code == 0 {
+        return Domain::Electrical;
+    }
+    Domain::Physical
 }
 
 pub fn point_count() -> Row
@@ -65,9 +89,32 @@ pub fn encode_deviation(place: u64, figure: i64) -> Encoded
     stepped(LEAST_DEVIATION, R, DEVIATION_BITS, place, figure)
 }
 
-// Row 7: whether a pair may stand behind the one before it. Points rise strictly, as codes.
-pub fn follows(before: Previous, place: u64, next: Codes) -> Judged
-    ensures { λ r. ⌜ judgedSaid r ≡ spec.follows (previousSaid before) place next ⌝ }
+// A pair's point plus its deviation, in billionths of the span above the least deviation.
+fn sum_above(codes: Codes) -> u64
+    ensures { λ r. ⌜ r ≡ spec.D * codes .point + spec.R * codes .deviation ⌝ }
+{
+    D * codes.point as u64 + R * codes.deviation as u64
+}
+
+// Row 22: whether a pair's sum is above that of the one before it, in domain 1.
+fn climbs(domain: Domain, before: Codes, place: u64, next: Codes) -> Judged
+    ensures { λ r. ⌜ judgedSaid r ≡ (refuse (sumsNotRising place) if spec.isPhysical domain && leZ (spec.storedSum next) (spec.storedSum before)) ⌝ }
+{
+    match domain {
+        Domain::Electrical => Judged::Stands,
+        Domain::Physical => {
+            if sum_above(next) <= sum_above(before) {
+                return Judged::Refused(refusal::sums_not_rising(place));
+            }
+            Judged::Stands
+        }
+    }
+}
+
+// Rows 7 and 22: whether a pair may stand behind the one before it. Points rise strictly, as codes; in domain 1 points plus
+// deviations rise too, as stored.
+pub fn follows(domain: Domain, before: Previous, place: u64, next: Codes) -> Judged
+    ensures { λ r. ⌜ judgedSaid r ≡ spec.follows domain (previousSaid before) place next ⌝ }
 {
     match before {
         Previous::Nothing => Judged::Stands,
@@ -78,7 +125,7 @@ pub fn follows(before: Previous, place: u64, next: Codes) -> Judged
                     place,
                 });
             }
-            Judged::Stands
+            climbs(domain, codes, place, next)
         }
     }
 }

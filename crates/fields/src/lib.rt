@@ -18,8 +18,10 @@ mod steps; // steps.rt: stepped codes
 mod templates; // templates.rt: the order of the fields
 
 pub use calibration::cal_deviation;
+pub use calibration::cal_domain;
 pub use calibration::cal_point;
-pub use calibration::domain;
+pub use calibration::domain_code;
+pub use calibration::domain_of;
 pub use calibration::encode_deviation;
 pub use calibration::encode_point;
 pub use calibration::follows;
@@ -111,10 +113,16 @@ pub struct Pair {
     pub deviation: i64,
 }
 
-// A pair as it is stored.
+// What the deviations of a table stand against: the electrical figure, domain 0, or the physical one, domain 1.
+pub enum Domain {
+    Electrical,
+    Physical,
+}
+
+// A pair as it is stored: a point has 16 bits, a deviation 21.
 pub struct Codes {
-    pub point: u64,
-    pub deviation: u64,
+    pub point: u16,
+    pub deviation: u32,
 }
 
 // The pair before another, if there is one.
@@ -135,7 +143,7 @@ pub enum Decoded {
     Refused(Refusal),
 }
 
-// Whether a code may stand: it does, or 5 or 6; and a pair behind another: it does, or 7.
+// Whether a code may stand: it does, or 5 or 6; and a pair behind another: it does, or 7 or 22.
 pub enum Judged {
     Stands,
     Refused(Refusal),

@@ -14,11 +14,13 @@ use Rattle.refusal.specs.Rows.{wrongBlock}
 use Rattle.memory.specs.Pieces.{Piece, piece, needed}
 use Rattle.memory.proofs.PieceLaws.{needed-append}
 use Rattle.fields.specs.declared.Codes.{Codes}
-use Rattle.fields.specs.Calibration.{domain, pointCount, calPoint, calDeviation, follows}
+use Rattle.fields.specs.declared.Domain.{Domain}
+use Rattle.fields.specs.Calibration.{calDomain, domainCode, domainOf, pointCount, calPoint, calDeviation, follows}
 use Rattle.fields.specs.declared.Value.the-variants.{Whole}
 use Rattle.fields.specs.declared.Rule.the-variants.{Plain}
 use Rattle.fields.specs.Rows.{always}
 use Rattle.fields.proofs.RuleLaws.{plain-good, plain-bounds}
+use Rattle.fields.proofs.CalibrationLaws.{domain-coded, code-domained, domain-most}
 use Rattle.layout.specs.Format.{Format, ends, _>>=_, _>>_, bits, given, refuse_if_}
 use Rattle.layout.specs.Contents.{Found, FoundPair, Calibration, bare, table, paired, codesIn, fieldOf, selectorOf, pairOf, pairsOf, tableOf, blockAt, calibrationOf}
 use Rattle.layout.specs.Image.{pairsIn}
@@ -33,40 +35,40 @@ abbrev pub foundPairPieces : FoundPair → List Piece
 foundPairPieces p = pieceOf (p .point) ∷ pieceOf (p .deviation) ∷ []
 
 -- A pair at a place, behind the one before it.
-pub record PairAt (before : Option Codes) (at : ℕ) (p : FoundPair) : Type 0 where
+pub record PairAt (domain : Domain) (before : Option Codes) (at : ℕ) (p : FoundPair) : Type 0 where
   pub point : FieldAt calPoint at (p .point)
   pub deviation : FieldAt calDeviation (at + 16) (p .deviation)
-  pub follows : follows before at (codesIn p) ≡ good tt
+  pub follows : follows domain before at (codesIn p) ≡ good tt
 
 given-pieces : {A B : Type 0} (S : ℕ) (o : Outcome A) (k : A → Format B) (at : ℕ) (ps : List Piece) (b : B) →
     Parses S (given o >>= k) at ps b → (a : A) × (o ≡ good a) × Parses S (k a) at ps b
 given-pieces S (good a) k at ps b l = (a, refl, l)
 given-pieces S (refused r) k at ps b l = absurd l
 
-module _ (S : ℕ) (before : Option Codes) (at : ℕ) where
+module _ (S : ℕ) (domain : Domain) (before : Option Codes) (at : ℕ) where
   abbrev behind : Found → Found → Format FoundPair
-  behind point deviation = given (follows before (point .at) (codesIn (paired point deviation))) >> ends (paired point deviation)
+  behind point deviation = given (follows domain before (point .at) (codesIn (paired point deviation))) >> ends (paired point deviation)
 
-  pub pair-parses : (p : FoundPair) → PairAt before at p → Parses S (pairOf before) at (foundPairPieces p) p
+  pub pair-parses : (p : FoundPair) → PairAt domain before at p → Parses S (pairOf domain before) at (foundPairPieces p) p
   unfolding pairOf
   pair-parses p h =
-      let f : follows before (p .point .at) (codesIn p) ≡ good tt = ap (λ (n : ℕ). follows before n (codesIn p)) (at-is (h .point)) ∙ h .follows in
+      let f : follows domain before (p .point .at) (codesIn p) ≡ good tt = ap (λ (n : ℕ). follows domain before n (codesIn p)) (at-is (h .point)) ∙ h .follows in
       field-parses S calPoint (λ x. fieldOf calDeviation >>= behind x) at (p .point) _ p (h .point)
       (field-parses S calDeviation (behind (p .point)) (at + 16) (p .deviation) [] p (h .deviation) (rw f refl))
 
-  pub pair-pieces : (ps : List Piece) (p : FoundPair) → Parses S (pairOf before) at ps p → (ps ≡ foundPairPieces p) × PairAt before at p
+  pub pair-pieces : (ps : List Piece) (p : FoundPair) → Parses S (pairOf domain before) at ps p → (ps ≡ foundPairPieces p) × PairAt domain before at p
   unfolding pairOf
   pair-pieces ps p l =
       let a = field-pieces S calPoint (λ x. fieldOf calDeviation >>= behind x) at ps p l in
       let b = field-pieces S calDeviation (behind (a .first)) (at + 16) (a .behind) p (a .parses) in
-      let (u, f, m) = given-pieces S (follows before (a .first .at) _) _ _ (b .behind) p (b .parses) in
+      let (u, f, m) = given-pieces S (follows domain before (a .first .at) _) _ _ (b .behind) p (b .parses) in
       let (z, e) = ends-pieces S (paired (a .first) (b .first)) _ (b .behind) p m in
-      subst (λ (q : FoundPair). (ps ≡ foundPairPieces q) × PairAt before at q) e (
+      subst (λ (q : FoundPair). (ps ≡ foundPairPieces q) × PairAt domain before at q) e (
         a .split ∙ ap (λ q. pieceOf (a .first) ∷ q) (b .split ∙ ap (λ q. pieceOf (b .first) ∷ q) z),
         record {
           point = a .field;
           deviation = b .field;
-          follows = ap (λ (n : ℕ). follows before n (codesIn (paired (a .first) (b .first)))) (sym (at-is (a .field))) ∙ f;
+          follows = ap (λ (n : ℕ). follows domain before n (codesIn (paired (a .first) (b .first)))) (sym (at-is (a .field))) ∙ f;
         },
       )
 
@@ -75,48 +77,48 @@ abbrev pub foundPairsPieces : List FoundPair → List Piece
 foundPairsPieces [] = []
 foundPairsPieces (p ∷ pairs) = foundPairPieces p ++ foundPairsPieces pairs
 
-abbrev pub PairsAt : Option Codes → ℕ → List FoundPair → Type 0
-PairsAt before at [] = Unit {0}
-PairsAt before at (p ∷ pairs) = PairAt before at p × PairsAt (some (codesIn p)) (at + 37) pairs
+abbrev pub PairsAt : Domain → Option Codes → ℕ → List FoundPair → Type 0
+PairsAt domain before at [] = Unit {0}
+PairsAt domain before at (p ∷ pairs) = PairAt domain before at p × PairsAt domain (some (codesIn p)) (at + 37) pairs
 
-pair-needed : (before : Option Codes) (at : ℕ) (p : FoundPair) → PairAt before at p → needed (foundPairPieces p) ≡ 37
-pair-needed before at p h = omega (arith, width-is (h .point), width-is (h .deviation))
+pair-needed : (domain : Domain) (before : Option Codes) (at : ℕ) (p : FoundPair) → PairAt domain before at p → needed (foundPairPieces p) ≡ 37
+pair-needed domain before at p h = omega (arith, width-is (h .point), width-is (h .deviation))
 
-pub pairs-needed : (before : Option Codes) (at : ℕ) (pairs : List FoundPair) → PairsAt before at pairs → needed (foundPairsPieces pairs) ≡ 37 * length pairs
-pairs-needed before at [] h = refl
-pairs-needed before at (p ∷ pairs) h =
-    omega (arith, pair-needed before at p (h .0), needed-append (foundPairPieces p) (foundPairsPieces pairs), pairs-needed (some (codesIn p)) (at + 37) pairs (h .1))
+pub pairs-needed : (domain : Domain) (before : Option Codes) (at : ℕ) (pairs : List FoundPair) → PairsAt domain before at pairs → needed (foundPairsPieces pairs) ≡ 37 * length pairs
+pairs-needed domain before at [] h = refl
+pairs-needed domain before at (p ∷ pairs) h =
+    omega (arith, pair-needed domain before at p (h .0), needed-append (foundPairPieces p) (foundPairsPieces pairs), pairs-needed domain (some (codesIn p)) (at + 37) pairs (h .1))
 
-pub pairs-parses : (S : ℕ) (before : Option Codes) (at : ℕ) (pairs : List FoundPair) → PairsAt before at pairs →
-    Parses S (pairsOf (length pairs) before) at (foundPairsPieces pairs) pairs
+pub pairs-parses : (S : ℕ) (domain : Domain) (before : Option Codes) (at : ℕ) (pairs : List FoundPair) → PairsAt domain before at pairs →
+    Parses S (pairsOf domain (length pairs) before) at (foundPairsPieces pairs) pairs
 unfolding pairsOf
-pairs-parses S before at [] h = refl
-pairs-parses S before at (p ∷ pairs) h =
-    let e : at + 37 ≡ at + needed (foundPairPieces p) = omega (arith, pair-needed before at p (h .0)) in
-    parses-bind S (pairOf before) _ at (foundPairPieces p) (foundPairsPieces pairs) p (p ∷ pairs) (pair-parses S before at p (h .0))
-    (parses-made S (pairsOf (length pairs) (some (codesIn p))) (λ rest. p ∷ rest) _ (foundPairsPieces pairs) pairs
-    (subst (λ (n : ℕ). Parses S (pairsOf (length pairs) (some (codesIn p))) n (foundPairsPieces pairs) pairs) e (pairs-parses S (some (codesIn p)) (at + 37) pairs (h .1))))
+pairs-parses S domain before at [] h = refl
+pairs-parses S domain before at (p ∷ pairs) h =
+    let e : at + 37 ≡ at + needed (foundPairPieces p) = omega (arith, pair-needed domain before at p (h .0)) in
+    parses-bind S (pairOf domain before) _ at (foundPairPieces p) (foundPairsPieces pairs) p (p ∷ pairs) (pair-parses S domain before at p (h .0))
+    (parses-made S (pairsOf domain (length pairs) (some (codesIn p))) (λ rest. p ∷ rest) _ (foundPairsPieces pairs) pairs
+    (subst (λ (n : ℕ). Parses S (pairsOf domain (length pairs) (some (codesIn p))) n (foundPairsPieces pairs) pairs) e (pairs-parses S domain (some (codesIn p)) (at + 37) pairs (h .1))))
 
-pub record PairsPieces (n : ℕ) (before : Option Codes) (at : ℕ) (ps : List Piece) (pairs : List FoundPair) : Type 0 where
+pub record PairsPieces (domain : Domain) (n : ℕ) (before : Option Codes) (at : ℕ) (ps : List Piece) (pairs : List FoundPair) : Type 0 where
   pub count : length pairs ≡ n
   pub split : ps ≡ foundPairsPieces pairs
-  pub stand : PairsAt before at pairs
+  pub stand : PairsAt domain before at pairs
 
-pub pairs-pieces : (S n : ℕ) (before : Option Codes) (at : ℕ) (ps : List Piece) (pairs : List FoundPair) →
-    Parses S (pairsOf n before) at ps pairs → PairsPieces n before at ps pairs
+pub pairs-pieces : (S : ℕ) (domain : Domain) (n : ℕ) (before : Option Codes) (at : ℕ) (ps : List Piece) (pairs : List FoundPair) →
+    Parses S (pairsOf domain n before) at ps pairs → PairsPieces domain n before at ps pairs
 unfolding pairsOf
-pairs-pieces S zero before at ps pairs l =
+pairs-pieces S domain zero before at ps pairs l =
     let (e, f) = ends-pieces S [] at ps pairs l in
-    subst (PairsPieces 0 before at ps) f (record { count = refl; split = e; stand = tt })
-pairs-pieces S (suc n) before at ps pairs l =
-    let h = parses-halves S (pairOf before) (λ p. pairsOf n (some (codesIn p)) >>= λ rest. ends (p ∷ rest)) at ps pairs l in
+    subst (PairsPieces domain 0 before at ps) f (record { count = refl; split = e; stand = tt })
+pairs-pieces S domain (suc n) before at ps pairs l =
+    let h = parses-halves S (pairOf domain before) (λ p. pairsOf domain n (some (codesIn p)) >>= λ rest. ends (p ∷ rest)) at ps pairs l in
     let p : FoundPair = h .middle in
-    let (e, f) = pair-pieces S before at (h .first) p (h .front) in
-    let k : at + needed (h .first) ≡ at + 37 = omega (arith, ap needed e, pair-needed before at p f) in
-    let (others, g, m) = made-pieces S (pairsOf n (some (codesIn p))) (λ rest. p ∷ rest) _ (h .second) pairs (h .back) in
-    let r = pairs-pieces S n (some (codesIn p)) (at + 37) (h .second) others
-    (subst (λ (i : ℕ). Parses S (pairsOf n (some (codesIn p))) i (h .second) others) k m) in
-    subst (PairsPieces (suc n) before at ps) g (record {
+    let (e, f) = pair-pieces S domain before at (h .first) p (h .front) in
+    let k : at + needed (h .first) ≡ at + 37 = omega (arith, ap needed e, pair-needed domain before at p f) in
+    let (others, g, m) = made-pieces S (pairsOf domain n (some (codesIn p))) (λ rest. p ∷ rest) _ (h .second) pairs (h .back) in
+    let r = pairs-pieces S domain n (some (codesIn p)) (at + 37) (h .second) others
+    (subst (λ (i : ℕ). Parses S (pairsOf domain n (some (codesIn p))) i (h .second) others) k m) in
+    subst (PairsPieces domain (suc n) before at ps) g (record {
       count = ap suc (r .count);
       split = sym (h .joined) ∙ ap₂ (λ q s. q ++ s) e (r .split);
       stand = (f, r .stand);
@@ -124,27 +126,27 @@ pairs-pieces S (suc n) before at ps pairs l =
 
 -- ---- the block, and what stands in its place
 
--- Selector 0, template 40, domain 0, the count and the pairs; nothing where there is no table.
+-- Selector 0, template 40, the domain, the count and the pairs; nothing where there is no table.
 abbrev pub calibrationPieces : Calibration → List Piece
 calibrationPieces bare = []
-calibrationPieces (table pairs) = blockPieces 40 ++ (piece 1 0 ∷ piece 7 (length pairs) ∷ foundPairsPieces pairs)
+calibrationPieces (table domain pairs) = blockPieces 40 ++ (piece 1 (domainCode domain) ∷ piece 7 (length pairs) ∷ foundPairsPieces pairs)
 
-pub record TableAt (at : ℕ) (pairs : List FoundPair) : Type 0 where
+pub record TableAt (at : ℕ) (domain : Domain) (pairs : List FoundPair) : Type 0 where
   pub some : 1 ≤ length pairs
   pub most : length pairs ≤ 127
-  pub stand : PairsAt none (at + 18) pairs
+  pub stand : PairsAt domain none (at + 18) pairs
 
 abbrev pub CalibrationAt : ℕ → Calibration → Type 0
 CalibrationAt at bare = Unit {0}
-CalibrationAt at (table pairs) = TableAt at pairs
+CalibrationAt at (table domain pairs) = TableAt at domain pairs
 
 pub table-needed : (at : ℕ) (c : Calibration) → CalibrationAt at c → needed (calibrationPieces c) ≡ tableBits (length (pairsIn c))
 table-needed at bare h = refl
-table-needed at (table pairs) h = go (length pairs) refl (h .some)
+table-needed at (table domain pairs) h = go (length pairs) refl (h .some)
   where
-    go : (n : ℕ) → length pairs ≡ n → 1 ≤ n → needed (calibrationPieces (table pairs)) ≡ tableBits n
+    go : (n : ℕ) → length pairs ≡ n → 1 ≤ n → needed (calibrationPieces (table domain pairs)) ≡ tableBits n
     go zero f l = absurd (omega arith)
-    go (suc n) f l = omega (arith, pairs-needed none (at + 18) pairs (h .stand))
+    go (suc n) f l = omega (arith, pairs-needed domain none (at + 18) pairs (h .stand))
 
 -- A plain code that stands in its row.
 plain-field : (w least greatest at code : ℕ) → least ≤ code → code ≤ greatest → code < 2 ^ w →
@@ -153,45 +155,53 @@ plain-field w least greatest at code l g fits = record { is = refl; fits = fits;
 
 module _ (S at : ℕ) where
   -- Behind the block's template number.
-  abbrev countedPieces : List FoundPair → List Piece
-  countedPieces pairs = piece 1 0 ∷ piece 7 (length pairs) ∷ foundPairsPieces pairs
+  abbrev countedPieces : Domain → List FoundPair → List Piece
+  countedPieces domain pairs = piece 1 (domainCode domain) ∷ piece 7 (length pairs) ∷ foundPairsPieces pairs
 
-  abbrev listed : Found → Format Calibration
-  listed count = pairsOf (count .code) none >>= λ pairs. ends (table pairs)
+  abbrev listed : Domain → Found → Format Calibration
+  listed domain count = pairsOf domain (count .code) none >>= λ pairs. ends (table domain pairs)
 
-  table-parses : (pairs : List FoundPair) → 1 ≤ length pairs → length pairs ≤ 127 → PairsAt none (at + 1 + 7) pairs →
-      Parses S tableOf at (countedPieces pairs) (table pairs)
+  abbrev counted : Found → Format Calibration
+  counted x = fieldOf pointCount >>= listed (domainOf (x .code))
+
+  table-parses : (domain : Domain) (pairs : List FoundPair) → 1 ≤ length pairs → length pairs ≤ 127 → PairsAt domain none (at + 1 + 7) pairs →
+      Parses S tableOf at (countedPieces domain pairs) (table domain pairs)
   unfolding tableOf
-  table-parses pairs l g h =
-      field-parses S domain (λ x. fieldOf pointCount >>= listed) at _ _ (table pairs) (plain-field 1 0 0 at 0 (omega arith) (omega arith) (omega arith))
-      (field-parses S pointCount listed (at + 1) _ _ (table pairs) (plain-field 7 1 127 (at + 1) (length pairs) l g (omega arith))
-      (parses-made S (pairsOf (length pairs) none) table _ (foundPairsPieces pairs) pairs (pairs-parses S none (at + 1 + 7) pairs h)))
+  table-parses domain pairs l g h =
+      let most = domain-most domain in
+      field-parses S calDomain counted at _ _ (table domain pairs) (plain-field 1 0 1 at (domainCode domain) (omega arith) most (omega arith))
+      (subst (λ (d : Domain). Parses S (fieldOf pointCount >>= listed d) (at + 1) (piece 7 (length pairs) ∷ foundPairsPieces pairs) (table domain pairs)) (sym (domain-coded domain))
+      (field-parses S pointCount (listed domain) (at + 1) _ _ (table domain pairs) (plain-field 7 1 127 (at + 1) (length pairs) l g (omega arith))
+      (parses-made S (pairsOf domain (length pairs) none) (table domain) _ (foundPairsPieces pairs) pairs (pairs-parses S domain none (at + 1 + 7) pairs h))))
 
   record TablePieces (ps : List Piece) (c : Calibration) : Type 0 where
+    domain : Domain
     pairs : List FoundPair
-    is : table pairs ≡ c
-    split : ps ≡ countedPieces pairs
+    is : table domain pairs ≡ c
+    split : ps ≡ countedPieces domain pairs
     some : 1 ≤ length pairs
     most : length pairs ≤ 127
-    stand : PairsAt none (at + 1 + 7) pairs
+    stand : PairsAt domain none (at + 1 + 7) pairs
 
   table-pieces : (ps : List Piece) (c : Calibration) → Parses S tableOf at ps c → TablePieces ps c
   unfolding tableOf
   table-pieces ps c l =
-      let a = field-pieces S domain (λ x. fieldOf pointCount >>= listed) at ps c l in
-      let b = field-pieces S pointCount listed (at + 1) (a .behind) c (a .parses) in
+      let a = field-pieces S calDomain counted at ps c l in
+      let d : Domain = domainOf (a .first .code) in
+      let b = field-pieces S pointCount (listed d) (at + 1) (a .behind) c (a .parses) in
       let n : ℕ = b .first .code in
-      let da = plain-bounds 1 0 0 at (a .first .code) _ (a .field .means) in
+      let da = plain-bounds 1 0 1 at (a .first .code) _ (a .field .means) in
       let db = plain-bounds 7 1 127 (at + 1) n _ (b .field .means) in
-      let z : a .first .code ≡ 0 = omega (arith, da .1) in
-      let (pairs, e, m) = made-pieces S (pairsOf n none) table _ (b .behind) c (b .parses) in
-      let r = pairs-pieces S n none (at + 1 + 7) (b .behind) pairs m in
+      let z : a .first .code ≡ domainCode d = sym (code-domained (a .first .code) (da .1)) in
+      let (pairs, e, m) = made-pieces S (pairsOf d n none) (table d) _ (b .behind) c (b .parses) in
+      let r = pairs-pieces S d n none (at + 1 + 7) (b .behind) pairs m in
       record {
+        domain = d;
         pairs = pairs;
         is = e;
         split =
             a .split ∙ ap₂ (λ (w k : ℕ). piece w k ∷ a .behind) (width-is (a .field)) z
-            ∙ ap (λ q. piece 1 0 ∷ q) (b .split ∙ ap₂ (λ (w k : ℕ). piece w k ∷ b .behind) (width-is (b .field)) (sym (r .count)) ∙ ap (λ q. piece 7 (length pairs) ∷ q) (r .split));
+            ∙ ap (λ q. piece 1 (domainCode d) ∷ q) (b .split ∙ ap₂ (λ (w k : ℕ). piece w k ∷ b .behind) (width-is (b .field)) (sym (r .count)) ∙ ap (λ q. piece 7 (length pairs) ∷ q) (r .split));
         some = omega (arith, r .count, db .0);
         most = omega (arith, r .count, db .1);
         stand = r .stand;
@@ -204,12 +214,12 @@ module _ (S at : ℕ) where
   pub calibration-parses : (c : Calibration) → CalibrationAt at c → Parses S calibrationOf at (calibrationPieces c ++ (piece 2 3 ∷ [])) c
   unfolding calibrationOf blockAt selectorOf
   calibration-parses bare h = (refl, omega arith, refl)
-  calibration-parses (table pairs) h =
+  calibration-parses (table domain pairs) h =
       let e : at + 18 ≡ at + 2 + 8 + 1 + 7 = omega arith in
-      let l = table-parses S (at + 2 + 8) pairs (h .some) (h .most) (subst (λ (n : ℕ). PairsAt none n pairs) e (h .stand)) in (
+      let l = table-parses S (at + 2 + 8) domain pairs (h .some) (h .most) (subst (λ (n : ℕ). PairsAt domain none n pairs) e (h .stand)) in (
         refl,
         omega arith,
-        parses-bind S (blockAt at) afterBlock (at + 2) (piece 8 40 ∷ countedPieces S at pairs) (piece 2 3 ∷ []) (table pairs) (table pairs) (refl, omega arith, l) (refl, omega arith, refl),
+        parses-bind S (blockAt at) afterBlock (at + 2) (piece 8 40 ∷ countedPieces S at domain pairs) (piece 2 3 ∷ []) (table domain pairs) (table domain pairs) (refl, omega arith, l) (refl, omega arith, refl),
       )
 
   pub calibration-pieces : (ps : List Piece) (c : Calibration) → Parses S calibrationOf at ps c →
@@ -234,7 +244,7 @@ module _ (S at : ℕ) where
           subst (λ (d : Calibration). (p ∷ ps ≡ calibrationPieces d ++ (piece 2 3 ∷ [])) × CalibrationAt at d) (t .is ∙ i) (
             ap₂ (λ q r. q ∷ r) (selector 0 (eqb-true (p .code) 0 e))
                 (sym (h .joined) ∙ ap₂ (λ q r. q ++ r) (f ∙ ap (λ q. piece 8 40 ∷ q) (t .split)) (g ∙ ap (λ q. piece 2 3 ∷ q) z)),
-            record { some = t .some; most = t .most; stand = subst (λ (k : ℕ). PairsAt none k (t .pairs)) n (t .stand) },
+            record { some = t .some; most = t .most; stand = subst (λ (k : ℕ). PairsAt (t .domain) none k (t .pairs)) n (t .stand) },
           )
       go false e m =
           let (t, k) = refuse-pieces S (wrongBlock at) (not (eqb (p .code) 3)) (ends bare) (at + 2) ps c m in

@@ -17,8 +17,9 @@ use Rattle.memory.proofs.PieceLaws.{Fit, Holds, needed-append, fit-split, holds
 use Rattle.fields.specs.declared.Value.{Value}
 use Rattle.fields.specs.declared.Row.{Row}
 use Rattle.fields.specs.declared.Codes.{Codes}
+use Rattle.fields.specs.declared.Domain.{Domain}
 use Rattle.fields.specs.Rules.{decode}
-use Rattle.fields.specs.Calibration.{calPoint, calDeviation}
+use Rattle.fields.specs.Calibration.{domainCode, calPoint, calDeviation}
 use Rattle.fields.specs.Lines.{numberOf, lastField, rowOf}
 use Rattle.layout.specs.Format.{Format, ends, _>>=_, given, Stream, parse}
 use Rattle.layout.specs.Contents.{Found, FoundPair, Calibration, bare, table, Contents, codesIn, fieldOf}
@@ -56,9 +57,9 @@ pub record PairStands (s : Stream) (at : ℕ) (p : FoundPair) : Type 0 where
   pub point : Stands s calPoint at (p .point)
   pub deviation : Stands s calDeviation (at + 16) (p .deviation)
 
-pair-stands : (s : Stream) (before : Option Codes) (at : ℕ) (p : FoundPair) (ps : List Piece) → PairAt before at p → Fit (foundPairPieces p ++ ps) →
+pair-stands : (s : Stream) (domain : Domain) (before : Option Codes) (at : ℕ) (p : FoundPair) (ps : List Piece) → PairAt domain before at p → Fit (foundPairPieces p ++ ps) →
     Holds (s .number) at (foundPairPieces p ++ ps) → at + 37 ≤ s .bits → PairStands s at p × Holds (s .number) (at + 37) ps
-pair-stands s before at p ps h f k inside =
+pair-stands s domain before at p ps h f k inside =
     let N : ℕ = s .number in
     let w : p .point .row .width ≡ 16 = width-is (h .point) in
     let v : p .deviation .row .width ≡ 21 = width-is (h .deviation) in
@@ -73,17 +74,17 @@ pair-stands s before at p ps h f k inside =
       subst (λ (n : ℕ). Holds N n ps) g (b .0),
     )
 
-pairs-stand : (s : Stream) (before : Option Codes) (at : ℕ) (pairs : List FoundPair) → PairsAt before at pairs → Fit (foundPairsPieces pairs) →
+pairs-stand : (s : Stream) (domain : Domain) (before : Option Codes) (at : ℕ) (pairs : List FoundPair) → PairsAt domain before at pairs → Fit (foundPairsPieces pairs) →
     Holds (s .number) at (foundPairsPieces pairs) → at + 37 * length pairs ≤ s .bits → (i : ℕ) (none : FoundPair) → i < length pairs →
     PairStands s (at + 37 * i) (getD pairs i none)
-pairs-stand s before at [] h f k inside i none l = absurd (omega arith)
-pairs-stand s before at (p ∷ pairs) h f k inside zero none l =
+pairs-stand s domain before at [] h f k inside i none l = absurd (omega arith)
+pairs-stand s domain before at (p ∷ pairs) h f k inside zero none l =
     let e : at ≡ at + 37 * 0 = omega arith in
-    subst (λ (n : ℕ). PairStands s n p) e (pair-stands s before at p (foundPairsPieces pairs) (h .0) f k (omega arith) .0)
-pairs-stand s before at (p ∷ pairs) h f k inside (suc i) none l =
+    subst (λ (n : ℕ). PairStands s n p) e (pair-stands s domain before at p (foundPairsPieces pairs) (h .0) f k (omega arith) .0)
+pairs-stand s domain before at (p ∷ pairs) h f k inside (suc i) none l =
     let e : at + 37 + 37 * i ≡ at + 37 * suc i = omega arith in
     subst (λ (n : ℕ). PairStands s n (getD pairs i none)) e
-    (pairs-stand s (some (codesIn p)) (at + 37) pairs (h .1) (f .1 .1) (pair-stands s before at p (foundPairsPieces pairs) (h .0) f k (omega arith) .1) (omega arith) i none (omega arith))
+    (pairs-stand s domain (some (codesIn p)) (at + 37) pairs (h .1) (f .1 .1) (pair-stands s domain before at p (foundPairsPieces pairs) (h .0) f k (omega arith) .1) (omega arith) i none (omega arith))
 
 characters-stand : (N at : ℕ) (text : List ℕ) → Fit (map (piece 7) text) → Holds N at (map (piece 7) text) → (i : ℕ) → i < length text →
     fieldAt N (at + 7 * i) 7 ≡ getD text i 0
@@ -149,16 +150,16 @@ module _ {s : Stream} {c : Contents} (h : Holding s c) where
       go : (k : Calibration) → CalibrationAt (h .formed .behind) k → i < length (pairsIn k) → Holds (s .number) (h .formed .behind) (calibrationPieces k ++ (piece 2 3 ∷ []) ++ end) →
           Fit (calibrationPieces k ++ (piece 2 3 ∷ []) ++ end) → h .formed .behind + needed (calibrationPieces k) ≤ s .bits → PairStands s (pairPlace (layoutOf c) i) (getD (pairsIn k) i none)
       go bare t m holds fit inside = absurd (omega arith)
-      go (table pairs) t m holds fit inside =
-          let start : List Piece = blockPieces 40 ++ (piece 1 0 ∷ piece 7 (length pairs) ∷ []) in
+      go (table domain pairs) t m holds fit inside =
+          let start : List Piece = blockPieces 40 ++ (piece 1 (domainCode domain) ∷ piece 7 (length pairs) ∷ []) in
           let ps : List Piece = foundPairsPieces pairs in
-          let e : calibrationPieces (table pairs) ++ (piece 2 3 ∷ []) ++ end ≡ start ++ (ps ++ ((piece 2 3 ∷ []) ++ end)) = simp append-assoc in
+          let e : calibrationPieces (table domain pairs) ++ (piece 2 3 ∷ []) ++ end ≡ start ++ (ps ++ ((piece 2 3 ∷ []) ++ end)) = simp append-assoc in
           let f = fit-split start (ps ++ ((piece 2 3 ∷ []) ++ end)) (subst Fit e fit) in
           let g = fit-split ps ((piece 2 3 ∷ []) ++ end) (f .1) in
           let held = holds-front (s .number) (h .formed .behind + 18) ps ((piece 2 3 ∷ []) ++ end) (g .0)
           (holds-back (s .number) (h .formed .behind) start (ps ++ ((piece 2 3 ∷ []) ++ end)) (f .0) (subst (Holds (s .number) (h .formed .behind)) e holds)) in
           subst (λ (n : ℕ). PairStands s (n + 18 + 37 * i) (getD pairs i none)) (behind-is (h .formed))
-          (pairs-stand s none-before (h .formed .behind + 18) pairs (t .stand) (g .0) held (omega (arith, inside, pairs-needed none-before (h .formed .behind + 18) pairs (t .stand))) i none m)
+          (pairs-stand s domain none-before (h .formed .behind + 18) pairs (t .stand) (g .0) held (omega (arith, inside, pairs-needed domain none-before (h .formed .behind + 18) pairs (t .stand))) i none m)
 
   -- Character i, counted from 0.
   pub character-here : (i : ℕ) → i < length (c .text) →

@@ -10,9 +10,10 @@ use Rattle.fields.specs.declared.Value.{Value}
 use Rattle.fields.specs.declared.Row.{Row}
 use Rattle.fields.specs.declared.Template.{Template}
 use Rattle.fields.specs.declared.Codes.{Codes}
+use Rattle.fields.specs.declared.Domain.{Domain}
 use Rattle.fields.specs.Rules.{decode}
 use Rattle.fields.specs.Lines.{Line, chose, basic, templateLines, templateOf}
-use Rattle.fields.specs.Calibration.{domain, pointCount, calPoint, calDeviation, codesOf, follows}
+use Rattle.fields.specs.Calibration.{calDomain, domainOf, pointCount, calPoint, calDeviation, codesOf, follows}
 use Rattle.layout.specs.Format.{Format, ends, stops, _>>=_, _>>_, bits, place, remaining, given, refuse_if_}
 
 -- ---- what a sheet holds
@@ -29,10 +30,10 @@ pub record FoundPair : Type 0 where
   pub point : Found
   pub deviation : Found
 
--- Behind the fields: nothing, or a calibration table.
+-- Behind the fields: nothing, or a calibration table in its domain.
 pub data Calibration : Type 0 where
   bare : Calibration
-  table : List FoundPair → Calibration
+  table : Domain → List FoundPair → Calibration
 
 -- Its template, its fields from 1 on, its calibration, the end bit, the text, and the bits up to the end.
 pub record Contents : Type 0 where
@@ -91,29 +92,29 @@ paired point deviation = record { point = point; deviation = deviation }
 abbrev pub codesIn : FoundPair → Codes
 codesIn p = codesOf (p .point .code) (p .deviation .code)
 
--- A pair: 3 and 5 of the point, 3 and 5 of its deviation, then 7.
-unfoldable pub pairOf : Option Codes → Format FoundPair
-pairOf before = do
+-- A pair: 3 and 5 of the point, 3 and 5 of its deviation, then 7, and 22 in domain 1.
+unfoldable pub pairOf : Domain → Option Codes → Format FoundPair
+pairOf domain before = do
   point ← fieldOf calPoint
   deviation ← fieldOf calDeviation
-  given (follows before (point .at) (codesIn (paired point deviation)))
+  given (follows domain before (point .at) (codesIn (paired point deviation)))
   ends (paired point deviation)
 
 -- n pairs, one after the other.
-unfoldable pub pairsOf : ℕ → Option Codes → Format (List FoundPair)
-pairsOf zero before = ends []
-pairsOf (suc n) before = do
-  pair ← pairOf before
-  rest ← pairsOf n (some (codesIn pair))
+unfoldable pub pairsOf : Domain → ℕ → Option Codes → Format (List FoundPair)
+pairsOf domain zero before = ends []
+pairsOf domain (suc n) before = do
+  pair ← pairOf domain before
+  rest ← pairsOf domain n (some (codesIn pair))
   ends (pair ∷ rest)
 
 -- The domain, the count and the pairs.
 unfoldable pub tableOf : Format Calibration
 tableOf = do
-  fieldOf domain
+  x ← fieldOf calDomain
   count ← fieldOf pointCount
-  pairs ← pairsOf (count .code) none
-  ends (table pairs)
+  pairs ← pairsOf (domainOf (x .code)) (count .code) none
+  ends (table (domainOf (x .code)) pairs)
 
 -- The block whose selector 0 was taken at a place: template 40.
 unfoldable pub blockAt : ℕ → Format Calibration

@@ -58,7 +58,7 @@ layoutOf c = record { template = c .template; precision = lastChoice (linesOf (c
 -- The points of its table: none where there is no table.
 abbrev pub pairsIn : Calibration → List FoundPair
 pairsIn bare = []
-pairsIn (table pairs) = pairs
+pairsIn (table domain pairs) = pairs
 
 abbrev pub figure : Value → ℤ
 figure (Whole z) = z

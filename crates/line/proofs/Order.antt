@@ -1,15 +1,16 @@
 -- The order of fractions, and what goes by the test of a position against a point.
-use mathlib.Core.Path.{_≡_, refl}
+use mathlib.Core.Path.{_≡_, refl, ap}
 use mathlib.Core.Bool.{Bool, true, false, cond}
 use mathlib.Core.Logic.{_⊎_, inl, inr}
 use Prim.Native.Nat.{ℕ, _+_, _*_, _-_, _≤_, _<_}
 use native.Mathlib.Decide.{decLe}
+use native.Mathlib.Nat.{le-of-mul-le-mul-right}
 use native.Mathlib.Omega.{arith}
 use lib.IntN.{ℤ, pos, _*ℤ_}
 use lib.Signed.{leZ, _≤ℤ_, _<ℤ_}
 use Rattle.integers.specs.Parts.{up, dn}
 use Rattle.integers.specs.Nearest.{Fraction, _over_}
-use Rattle.integers.proofs.PartLaws.{leZ-parts, nleZ-parts, ltZ-parts, le-leZ, lt-leZ, is-true, is-false}
+use Rattle.integers.proofs.PartLaws.{leZ-parts, nleZ-parts, ltZ-parts, parts-≤ℤ, parts-<ℤ, le-leZ, lt-leZ, is-true, is-false}
 use Rattle.line.proofs.Distances.{scaled}
 
 -- y is d / (x .den × y .den) above x.
@@ -36,21 +37,35 @@ order x y = go (decLe (up (x .num) * y .den + dn (y .num) * x .den) (dn (x .num)
     go (yes h) = inl (at-most x y h)
     go (no h) = inr (at-most y x (omega arith))
 
+pub through : {x y z : Fraction} → 0 < y .den → AtMost x y → AtMost y z → AtMost x z
+through {x} {y} {z} some (d, l) (g, r) =
+    at-most x z (le-of-mul-le-mul-right {k = y .den} (omega (arith, ap (λ (k : ℕ). k * z .den) (l .is), ap (λ (k : ℕ). k * x .den) (r .is))) some)
+
 module _ (y z : ℤ) where
+  pub at-most-whole : AtMost (y over 1) (z over 1) → y ≤ℤ z
+  at-most-whole h = parts-≤ℤ y z (omega (arith, h .1 .is))
+
   pub whole-at-most : y ≤ℤ z → AtMost (y over 1) (z over 1)
   whole-at-most h = at-most (y over 1) (z over 1) (omega (arith, leZ-parts y z (h .le)))
 
   pub whole-below : y <ℤ z → Below (y over 1) (z over 1)
   whole-below h = below (y over 1) (z over 1) (omega (arith, ltZ-parts y z (h .lt)))
 
+-- What goes by the test of two whole numbers.
+pub by-order : (y z : ℤ) {A : Type 0} (Q : A → Type 0) {c e : A} → (y ≤ℤ z → Q c) → (z <ℤ y → Q e) → Q (cond (leZ y z) c e)
+by-order y z Q {c} {e} before past = go (leZ y z) refl
+  where
+    go : (t : Bool) → leZ y z ≡ t → Q (cond t c e)
+    go true t = before (record { le = is-true t })
+    go false t = past (parts-<ℤ z y (nleZ-parts y z (is-false t)))
+
 -- What goes by the test of a position against b, and what settles the test.
 module _ (x : Fraction) (b : ℤ) where
   pub by-test : {A : Type 0} (Q : A → Type 0) {c e : A} → (AtMost x (b over 1) → Q c) → (Below (b over 1) x → Q e) → Q (cond (leZ (x .num) (b *ℤ pos (x .den))) c e)
-  by-test {A} Q {c} {e} before past = go (leZ (x .num) (b *ℤ pos (x .den))) refl
-    where
-      go : (t : Bool) → leZ (x .num) (b *ℤ pos (x .den)) ≡ t → Q (cond t c e)
-      go true t = before (at-most x (b over 1) (omega (arith, leZ-parts (x .num) (b *ℤ pos (x .den)) (is-true t), scaled b (x .den))))
-      go false t = past (below (b over 1) x (omega (arith, nleZ-parts (x .num) (b *ℤ pos (x .den)) (is-false t), scaled b (x .den))))
+  by-test Q before past =
+      by-order (x .num) (b *ℤ pos (x .den)) Q
+      (λ h. before (at-most x (b over 1) (omega (arith, leZ-parts (x .num) (b *ℤ pos (x .den)) (h .le), scaled b (x .den)))))
+      (λ h. past (below (b over 1) x (omega (arith, ltZ-parts (b *ℤ pos (x .den)) (x .num) (h .lt), scaled b (x .den)))))
 
   pub is-up-to : AtMost x (b over 1) → leZ (x .num) (b *ℤ pos (x .den)) ≡ true
   is-up-to h = le-leZ (x .num) (b *ℤ pos (x .den)) (omega (arith, scaled b (x .den)))

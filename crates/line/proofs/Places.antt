@@ -1,22 +1,24 @@
--- The search for a position in a table, and the deviation from the points that lie before it.
-use mathlib.Core.Path.{_≡_, refl, sym, _∙_}
-use mathlib.Core.Bool.{true, false}
+-- The search for a position in a table, and what goes by the pairs that lie before it: the deviation by their points, the crossing by their sums.
+use mathlib.Core.Path.{_≡_, refl, sym, ap, _∙_}
+use mathlib.Core.Bool.{Bool, true, false, cond}
 use mathlib.Core.List.{List, [], _∷_}
 use Prim.Native.Nat.{ℕ, zero, suc, _+_, _≤_, _<_}
 use native.Mathlib.Numerals.{add-one}
 use native.Mathlib.Omega.{arith}
-use lib.IntN.{ℤ, pos}
+use lib.IntN.{ℤ, pos, _+ℤ_, _*ℤ_}
 use lib.ListN.{length, getD}
 use lib.Signed.{leZ, _≤ℤ_, _<ℤ_}
 use Rattle.integers.specs.Nearest.{_over_, nearest}
-use Rattle.integers.proofs.PartLaws.{ltZ-parts, nleZ-parts, parts-<ℤ, is-true, is-false}
+use Rattle.integers.proofs.PartLaws.{same, add-parts, leZ-parts, ltZ-parts, nleZ-parts, parts-<ℤ, le-leZ, lt-leZ, is-true, is-false}
 use Rattle.integers.proofs.NearestLaws.{nearest-exact}
 use Rattle.fields.specs.declared.Pair.{Pair}
 use Rattle.line.specs.Line.{Correction, atEnd, between, correctionAfter, correction, deviation}
-use Rattle.line.specs.Ranges.{Between, Table}
+use Rattle.line.specs.Crossing.{sum, crossingHeld, crossingBetween, crossingAfter, crossing}
+use Rattle.line.specs.Certificate.{Neighbours, Rises}
+use Rattle.line.specs.Ranges.{Figures, AllFigures, Between, Table}
 use Rattle.fields.specs.Calibration.{noPair}
 use Rattle.line.specs.Before.{pointOf, Before}
-use Rattle.line.proofs.Order.{whole-at-most, whole-below, is-up-to, is-behind}
+use Rattle.line.proofs.Distances.{scaled}
 
 -- ---- the search
 
@@ -48,70 +50,122 @@ module _ (of : Pair → ℤ) (pairs : List Pair) (p : ℤ) where
         above = h .above;
       }
 
--- ---- the deviation
+-- ---- what goes by the search
 
-abbrev rounded : Correction → ℤ
-rounded c = nearest (c .num over c .run)
+-- A value that goes by where p lies among pairs: `ends` of the first pair before it and of the last behind it, `inside` of the neighbours that it lies
+-- between. It is `after` a pair from that pair on, and `all` of a whole list.
+pub record Pieced {A : Type 0} (of : Pair → ℤ) (p : ℤ) (ends : Pair → A) (inside : Pair → Pair → A) (after : Pair → List Pair → A) (all : List Pair → A) : Type 0 where
+  pub last : (a : Pair) → after a [] ≡ ends a
+  pub next : (a b : Pair) (pairs : List Pair) → after a (b ∷ pairs) ≡ cond (leZ p (of b)) (inside a b) (after b pairs)
+  pub first : (a : Pair) (pairs : List Pair) → all (a ∷ pairs) ≡ cond (leZ p (of a)) (ends a) (after a pairs)
 
-held-rounded : (q : Pair) → q .deviation ≡ rounded (atEnd 1 q)
-held-rounded q = sym (nearest-exact (q .deviation) 1 (omega arith))
+module _ {A : Type 0} (of : Pair → ℤ) (p : ℤ) (ends : Pair → A) (inside : Pair → Pair → A) (after : Pair → List Pair → A) (all : List Pair → A) (h : Pieced of p ends inside after all) where
+  up-to : (a : Pair) → p ≤ℤ of a → leZ p (of a) ≡ true
+  up-to a l = le-leZ p (of a) (leZ-parts p (of a) (l .le))
 
-module _ (p : ℤ) where
-  -- Pair i is the last before p: the first is before p too, and the correction c is from pair i on.
-  record Last (pairs : List Pair) (i : ℕ) (c : Correction) : Type 0 where
-    first : getD pairs 0 noPair .point <ℤ p
-    end : length pairs ≡ suc i → c ≡ atEnd 1 (getD pairs i noPair)
-    next : suc i < length pairs → Between p (getD pairs i noPair) (getD pairs (suc i) noPair) × (c ≡ between p 1 (getD pairs i noPair) (getD pairs (suc i) noPair))
+  behind : (a : Pair) → of a <ℤ p → leZ p (of a) ≡ false
+  behind a l = lt-leZ p (of a) (ltZ-parts (of a) p (l .lt))
 
-  last : (q : Pair) (pairs : List Pair) (i : ℕ) → Table (q ∷ pairs) → Before pointOf (q ∷ pairs) p (suc i) → Last (q ∷ pairs) i (correctionAfter p 1 q pairs)
-  unfolding correctionAfter
-  last q [] zero t b = record { first = b .below 0 (omega arith); end = λ e. refl; next = λ l. absurd (omega arith) }
-  last q (r ∷ pairs) zero t b = record {
-    first = b .below 0 (omega arith);
-    end = λ e. absurd (omega arith);
-    next = λ l.
-        let h = b .above (omega arith) in
-        (record { past = b .below 0 (omega arith); left = h; first = t .figures .0; second = t .figures .1 .0 }, rw (is-up-to (p over 1) (r .point) (whole-at-most p (r .point) h)));
-  }
-  last q [] (suc i) t b = absurd (omega (arith, b .most))
-  last q (r ∷ pairs) (suc i) t b =
-      let h = last r pairs i (record { rises = t .rises .1; figures = t .figures .1 }) (record { most = omega (arith, b .most); below = λ k e. b .below (suc k) (omega arith); above = λ l. b .above (omega arith) }) in
-      let e = is-behind (p over 1) (r .point) (whole-below (r .point) p (h .first)) in
+  pub first-piece : (pairs : List Pair) → Before of pairs p 0 → 0 < length pairs → (v : Pair) → v ≡ getD pairs 0 noPair → ends v ≡ all pairs
+  first-piece [] b l v e = absurd (omega arith)
+  first-piece (a ∷ pairs) b l v e = rw (e, h .first a pairs, up-to a (b .above l))
+
+  -- Pair i is the last before p: the first is before p too, and the value x is from pair i on.
+  record Last (pairs : List Pair) (i : ℕ) (x : A) : Type 0 where
+    first : of (getD pairs 0 noPair) <ℤ p
+    end : length pairs ≡ suc i → ends (getD pairs i noPair) ≡ x
+    next : suc i < length pairs → inside (getD pairs i noPair) (getD pairs (suc i) noPair) ≡ x
+
+  last : (a : Pair) (pairs : List Pair) (i : ℕ) → Neighbours (λ a b. of a <ℤ of b) (a ∷ pairs) → Before of (a ∷ pairs) p (suc i) → Last (a ∷ pairs) i (after a pairs)
+  last a [] zero r b = record { first = b .below 0 (omega arith); end = λ e. sym (h .last a); next = λ l. absurd (omega arith) }
+  last a (q ∷ pairs) zero r b = record { first = b .below 0 (omega arith); end = λ e. absurd (omega arith); next = λ l. rw (h .next a q pairs, up-to q (b .above (omega arith))) }
+  last a [] (suc i) r b = absurd (omega (arith, b .most))
+  last a (q ∷ pairs) (suc i) r b =
+      let k = last q pairs i (r .1) (record { most = omega (arith, b .most); below = λ k e. b .below (suc k) (omega arith); above = λ l. b .above (omega arith) }) in
+      let e : after a (q ∷ pairs) ≡ after q pairs = h .next a q pairs ∙ rw (behind q (k .first)) in
       record {
-        first = parts-<ℤ (q .point) p (omega (arith, ltZ-parts (q .point) (r .point) (t .rises .0 .lt), ltZ-parts (r .point) p (h .first .lt)));
-        end = λ l. rw e (h .end (omega arith));
-        next = λ l. (h .next (omega arith) .0, rw e (h .next (omega arith) .1));
+        first = parts-<ℤ (of a) p (omega (arith, ltZ-parts (of a) (of q) (r .0 .lt), ltZ-parts (of q) p (k .first .lt)));
+        end = λ l. k .end (omega arith) ∙ sym e;
+        next = λ l. k .next (omega arith) ∙ sym e;
       }
 
-  last-in : (points : List Pair) (i : ℕ) → Table points → Before pointOf points p (suc i) → Last points i (correction p 1 points)
-  unfolding correction
-  last-in [] i t b = absurd (omega (arith, b .most))
-  last-in (q ∷ pairs) i t b = let h = last q pairs i t b in rw (is-behind (p over 1) (q .point) (whole-below (q .point) p (h .first))) h
-
-  pub none-deviates : (points : List Pair) → length points ≡ 0 → pos 0 ≡ deviation points p
-  unfolding deviation correction
-  none-deviates [] e = sym (nearest-exact (pos 0) 1 (omega arith))
-  none-deviates (q ∷ points) e = absurd (omega arith)
-
-  pub first-deviates : (points : List Pair) → Before pointOf points p 0 → 0 < length points → (q : Pair) → q ≡ getD points 0 noPair → q .deviation ≡ deviation points p
-  unfolding deviation correction
-  first-deviates [] b l q e = absurd (omega arith)
-  first-deviates (r ∷ points) b l q e = rw (e, is-up-to (p over 1) (r .point) (whole-at-most p (r .point) (b .above l))) (held-rounded r)
+  last-in : (pairs : List Pair) (i : ℕ) → Neighbours (λ a b. of a <ℤ of b) pairs → Before of pairs p (suc i) → Last pairs i (all pairs)
+  last-in [] i r b = absurd (omega (arith, b .most))
+  last-in (a ∷ pairs) i r b = let k = last a pairs i r b in rw (h .first a pairs, behind a (k .first)) k
 
   -- Pair i, v, is the last of the n before p.
-  module _ (points : List Pair) (t : Table points) (i n : ℕ) (e : n ≡ i + 1) (b : Before pointOf points p n) (v : Pair) (ev : v ≡ getD points i noPair) where
-    found : Last points i (correction p 1 points)
-    found = last-in points i t (rw (e ∙ add-one i) at b)
+  module _ (pairs : List Pair) (r : Neighbours (λ a b. of a <ℤ of b) pairs) (i n : ℕ) (e : n ≡ i + 1) (b : Before of pairs p n) (v : Pair) (ev : v ≡ getD pairs i noPair) where
+    found : Last pairs i (all pairs)
+    found = last-in pairs i r (rw (e ∙ add-one i) at b)
 
-    pub last-deviates : n ≡ length points → v .deviation ≡ deviation points p
-    unfolding deviation
-    last-deviates l = rw (found .end (omega arith), ev) (held-rounded (getD points i noPair))
+    pub last-piece : n ≡ length pairs → ends v ≡ all pairs
+    last-piece l = rw ev (found .end (omega arith))
 
     -- And q is the next.
-    module _ (l : n < length points) (q : Pair) (eq : q ≡ getD points n noPair) where
-      pub next-between : Between p v q
-      next-between = rw (ev, eq, e ∙ add-one i) (found .next (omega arith) .0)
+    pub next-piece : n < length pairs → (q : Pair) → q ≡ getD pairs n noPair → inside v q ≡ all pairs
+    next-piece l q eq = rw (ev, eq, e ∙ add-one i) (found .next (omega arith))
 
-      pub next-deviates : rounded (between p 1 v q) ≡ deviation points p
-      unfolding deviation
-      next-deviates = rw (ev, eq, e ∙ add-one i, found .next (omega arith) .1)
+-- ---- neighbours
+
+rise-at : (pairs : List Pair) → Rises pairs → (i : ℕ) → suc i < length pairs → getD pairs i noPair .point <ℤ getD pairs (suc i) noPair .point
+rise-at [] h i l = absurd (omega arith)
+rise-at (a ∷ []) h i l = absurd (omega arith)
+rise-at (a ∷ b ∷ pairs) h zero l = h .0
+rise-at (a ∷ b ∷ pairs) h (suc i) l = rise-at (b ∷ pairs) (h .1) i (omega arith)
+
+pub figures-at : (pairs : List Pair) → AllFigures pairs → (i : ℕ) → i < length pairs → Figures (getD pairs i noPair)
+figures-at [] h i l = absurd (omega arith)
+figures-at (a ∷ pairs) h zero l = h .0
+figures-at (a ∷ pairs) h (suc i) l = figures-at pairs (h .1) i (omega arith)
+
+pub next-between : (of : Pair → ℤ) (p : ℤ) (pairs : List Pair) → Table pairs → (i n : ℕ) → n ≡ i + 1 → Before of pairs p n → (v : Pair) → v ≡ getD pairs i noPair →
+    n < length pairs → (q : Pair) → q ≡ getD pairs n noPair → Between of p v q
+next-between of p pairs t i n e b v ev l q eq = rw (ev, eq) (record {
+  rise = rw (e ∙ add-one i) (rise-at pairs (t .rises) i (omega arith));
+  past = b .below i (sym e);
+  left = b .above l;
+  first = figures-at pairs (t .figures) i (omega arith);
+  second = figures-at pairs (t .figures) n l;
+})
+
+-- ---- the deviation and the crossing
+
+abbrev pub rounded : Correction → ℤ
+rounded c = nearest (c .num over c .run)
+
+held-rounded : (a : Pair) → rounded (atEnd 1 a) ≡ a .deviation
+held-rounded a = nearest-exact (a .deviation) 1 (omega arith)
+
+module _ (p : ℤ) where
+  by-point : (b : ℤ) (c e : Correction) → p +ℤ rounded (cond (leZ p (b *ℤ pos 1)) c e) ≡ cond (leZ p b) (p +ℤ rounded c) (p +ℤ rounded e)
+  by-point b c e = rw (same (b *ℤ pos 1) b (omega (arith, scaled b 1))) (go (leZ p b))
+    where
+      go : (t : Bool) → p +ℤ rounded (cond t c e) ≡ cond t (p +ℤ rounded c) (p +ℤ rounded e)
+      go true = refl
+      go false = refl
+
+  -- p plus the deviation there goes by the points.
+  pub deviation-pieced :
+      Pieced pointOf p (λ a. p +ℤ a .deviation) (λ a b. p +ℤ rounded (between p 1 a b)) (λ a pairs. p +ℤ rounded (correctionAfter p 1 a pairs)) (λ pairs. p +ℤ deviation pairs p)
+  unfolding deviation correction correctionAfter
+  deviation-pieced = record {
+    last = λ a. ap (λ (z : ℤ). p +ℤ z) (held-rounded a);
+    next = λ a b pairs. by-point (b .point) (between p 1 a b) (correctionAfter p 1 b pairs);
+    first = λ a pairs.
+        by-point (a .point) (atEnd 1 a) (correctionAfter p 1 a pairs)
+        ∙ ap (λ (z : ℤ). cond (leZ p (a .point)) (p +ℤ z) (p +ℤ rounded (correctionAfter p 1 a pairs))) (held-rounded a);
+  }
+
+  -- The crossing goes by the sums.
+  pub crossing-pieced : Pieced sum p (crossingHeld p) (crossingBetween p) (crossingAfter p) (λ pairs. crossing pairs p)
+  unfolding crossing crossingAfter
+  crossing-pieced = record { last = λ a. refl; next = λ a b pairs. refl; first = λ a pairs. refl }
+
+  -- Without points both are p.
+  pub none-deviates : p ≡ p +ℤ deviation [] p
+  unfolding deviation correction
+  none-deviates = rw (nearest-exact (pos 0) 1 (omega arith)) (same p (p +ℤ pos 0) (omega (arith, add-parts p (pos 0))))
+
+  pub none-crosses : p ≡ crossing [] p
+  unfolding crossing
+  none-crosses = refl

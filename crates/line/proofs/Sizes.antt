@@ -1,21 +1,26 @@
--- How large a correction is, and a deviation.
+-- How large a correction is, a deviation and a crossing.
+use mathlib.Core.Path.{ap}
 use mathlib.Core.List.{List, [], _∷_}
 use Prim.Native.Nat.{ℕ, _+_, _*_, _^_, _≤_, _<_}
-use native.Mathlib.Nat.{lt-of-mul-lt-mul-right}
+use native.Mathlib.Nat.{lt-of-mul-lt-mul-right, le-of-mul-le-mul-right}
 use native.Mathlib.Omega.{arith}
-use lib.IntN.{ℤ, pos, negsuc, natAbs}
+use lib.IntN.{ℤ, pos, negsuc, natAbs, _+ℤ_, _*ℤ_}
 use lib.Signed.{_<ℤ_}
 use Rattle.integers.specs.Parts.{up, dn}
 use Rattle.integers.specs.Nearest.{Fraction, _over_, nearest}
-use Rattle.integers.proofs.PartLaws.{abs-parts}
+use Rattle.integers.proofs.PartLaws.{add-parts, abs-parts, leZ-parts, parts-≤ℤ}
 use Rattle.integers.proofs.NearestLaws.{Low, High, nearest-low, nearest-high}
 use Rattle.fields.specs.declared.Pair.{Pair}
-use Rattle.line.specs.Line.{Correction, atEnd, between, correctionAfter, correction, deviation}
+use Rattle.line.specs.Before.{pointOf}
+use Rattle.line.specs.Line.{Correction, atEnd, between, correctionAfter, correction, deviation, certificateLine}
 use Rattle.line.specs.Certificate.{Rises}
-use Rattle.line.specs.Ranges.{AllFigures, Table}
-use Rattle.line.proofs.Distances.{Near, near-as, near-times, near-mean, scaled}
-use Rattle.line.proofs.Order.{AtMost, by-test}
+use Rattle.line.specs.Crossing.{SumsRise, Meets, crossing, OneCrossing}
+use Rattle.line.specs.Ranges.{AllFigures, Table, Between}
+use Rattle.line.proofs.Distances.{Near, near-as, near-times, near-mean, near-abs, less, scaled}
+use Rattle.line.proofs.Order.{AtMost, whole-at-most, by-test}
 use Rattle.line.proofs.Weights.{at, run-some, weights-run, weights-num}
+use Rattle.line.proofs.Climb.{raised-parts}
+use Rattle.line.proofs.Crossings.{crosses}
 
 -- The nearest whole of a fraction from −B to B.
 pub nearest-small : (B : ℕ) (f : Fraction) → 0 < f .den → Near (up (f .num)) (dn (f .num)) (B * f .den) → natAbs (nearest f) ≤ B
@@ -67,3 +72,38 @@ unfolding deviation
 deviation-small points p t =
     let s = correction-small (p over 1) points t in
     nearest-small (2 ^ 32) (correction p 1 points .num over correction p 1 points .run) (s .some) (near-as (omega arith) (omega arith) (s .size))
+
+pub between-deviates : (p : ℤ) (a b : Pair) → Between pointOf p a b → natAbs (nearest (between p 1 a b .num over between p 1 a b .run)) ≤ 2 ^ 32
+between-deviates p a b h =
+    let s = between-small (p over 1) a b (h .rise) (h .first .deviation) (h .second .deviation) (whole-at-most (a .point) p (less (a .point) p (h .past))) (whole-at-most p (b .point) (h .left)) in
+    nearest-small (2 ^ 32) (between p 1 a b .num over between p 1 a b .run) (s .some) (near-as (omega arith) (omega arith) (s .size))
+
+-- The crossing is within 2^32 of p: the line there is at least p, and so it is at p + 2^32.
+pub crossing-small : (points : List Pair) (p : ℤ) → Table points → SumsRise points → natAbs p ≤ 2 ^ 31 → natAbs (crossing points p) ≤ 2 ^ 33
+unfolding certificateLine
+crossing-small points p t sums small = omega (arith, near-abs {b = 2 ^ 33} 1 q (omega (arith, low, leZ-parts q k (c .is .least k high .le), add-parts p (pos (2 ^ 32)), abs-parts p)))
+  where
+    c : OneCrossing points p
+    c = crosses points (t .rises) sums p
+
+    q : ℤ
+    q = crossing points p
+
+    k : ℤ
+    k = p +ℤ pos (2 ^ 32)
+
+    line : (z : ℤ) → Small (z over 1) (correction z 1 points)
+    line z = correction-small (z over 1) points t
+
+    low : up p + dn q ≤ dn p + up q + 2 ^ 32
+    low =
+        let n = correction q 1 points .run in
+        le-of-mul-le-mul-right {k = n}
+        (omega (arith, leZ-parts (p *ℤ pos (1 * n)) (certificateLine points q 1 .num) (c .is .meets .le), scaled p (1 * n), raised-parts (q over 1) (correction q 1 points), line q .size))
+        (line q .some)
+
+    high : Meets points p k
+    high =
+        let n = correction k 1 points .run in
+        parts-≤ℤ (p *ℤ pos (1 * n)) (certificateLine points k 1 .num)
+        (omega (arith, scaled p (1 * n), raised-parts (k over 1) (correction k 1 points), line k .size, ap (λ (z : ℕ). z * n) (add-parts p (pos (2 ^ 32)))))

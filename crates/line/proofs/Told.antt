@@ -4,15 +4,16 @@ use Prim.Native.Nat.{ℕ, _+_, _*_, _-_, _^_, _≤_, _<_}
 use native.Mathlib.Nat.{mul-le-mul-right}
 use native.Mathlib.Omega.{arith}
 use lib.IntN.{ℤ, pos, subℕ, _-ℤ_}
-use lib.Signed.{_≤ℤ_, _<ℤ_}
+use lib.Signed.{_≤ℤ_}
 use mir.Syntax.{w64}
 use mir.Val.{SFits, toZ, ofZ}
 use mir.Facts.{toZ-ofZ}
 use Rattle.integers.specs.Parts.{up, dn}
 use Rattle.integers.specs.Nearest.{_over_, nearest}
-use Rattle.integers.proofs.PartLaws.{same, sub-is, sub-parts-ℤ, abs-parts, leZ-parts, ltZ-parts, parts-<ℤ}
+use Rattle.integers.proofs.PartLaws.{same, sub-is, sub-parts-ℤ, abs-parts, leZ-parts, ltZ-parts}
 use Rattle.integers.proofs.Bridge.{seen, parts-fit}
 use Rattle.fields.specs.declared.Pair.{Pair}
+use Rattle.line.specs.Before.{pointOf}
 use Rattle.line.specs.Line.{between}
 use Rattle.line.specs.Ranges.{Figures, Weights, Between}
 use Rattle.line.proofs.Order.{Ahead}
@@ -64,11 +65,11 @@ pub record Gaps (p : ℤ) (before behind : Pair) (past left : ℕ) : Type 0 wher
   pub run : (0 < past + left) × (past + left ≤ 2 ^ 30)
   pub made : nearest (subℕ (up (before .deviation) * left + up (behind .deviation) * past) (dn (before .deviation) * left + dn (behind .deviation) * past) over past + left) ≡ nearest (between p 1 before behind .num over between p 1 before behind .run)
 
-pub gaps : (p : ℤ) (before behind : Pair) {past left : ℕ} → Between p before behind → pos past ≡ p -ℤ before .point → pos left ≡ behind .point -ℤ p → Gaps p before behind past left
+pub gaps : (p : ℤ) (before behind : Pair) {past left : ℕ} → Between pointOf p before behind → pos past ≡ p -ℤ before .point → pos left ≡ behind .point -ℤ p → Gaps p before behind past left
 unfolding between
 gaps p before behind {past} {left} h hp hl = record {
   run = omega (arith, run);
-  made = ap₂ (λ (z : ℤ) (n : ℕ). nearest (z over n)) (sub-is _ _ (between p 1 before behind .num) (weights-num before behind rises l r)) (omega (arith, weights-run before behind rises l r));
+  made = ap₂ (λ (z : ℤ) (n : ℕ). nearest (z over n)) (sub-is _ _ (between p 1 before behind .num) (weights-num before behind (h .rise) l r)) (omega (arith, weights-run before behind (h .rise) l r));
 }
   where
     l : Ahead (at before) (p over 1) past
@@ -79,6 +80,3 @@ gaps p before behind {past} {left} h hp hl = record {
 
     run : (0 < past + left) × (past + left ≤ 2 ^ 30)
     run = omega (arith, l .is, r .is, ltZ-parts (before .point) p (h .past .lt), leZ-parts (pos 0) (before .point) (h .first .least .le), abs-parts (behind .point), h .second .point)
-
-    rises : before .point <ℤ behind .point
-    rises = parts-<ℤ (before .point) (behind .point) (omega (arith, l .is, r .is, run))

@@ -1,4 +1,5 @@
 pub mod Line
 pub mod Certificate
+pub mod Crossing
 pub mod Ranges
 pub mod Before

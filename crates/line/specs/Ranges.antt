@@ -21,10 +21,11 @@ pub record Table (points : List Pair) : Type 0 where
   pub rises : Rises points
   pub figures : AllFigures points
 
--- A position behind a calibration point, up to the next.
-pub record Between (p : ℤ) (before behind : Pair) : Type 0 where
-  pub past : before .point <ℤ p
-  pub left : p ≤ℤ behind .point
+-- A position behind a calibration point, up to the next, by a figure of each, such as the point itself.
+pub record Between (of : Pair → ℤ) (p : ℤ) (before behind : Pair) : Type 0 where
+  pub rise : before .point <ℤ behind .point
+  pub past : of before <ℤ p
+  pub left : p ≤ℤ of behind
   pub first : Figures before
   pub second : Figures behind
 

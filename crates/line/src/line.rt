@@ -5,6 +5,7 @@ ghost use Prim.Native.Nat.{_+_, _*_, _≤_, _^_};
 ghost use lib.IntN.{pos, _-ℤ_};
 ghost use lib.Signed.{_≤ℤ_};
 ghost use Rattle.integers.specs.Nearest.{_over_, nearest};
+ghost use Rattle.line.specs.Before.{pointOf};
 ghost use Rattle.line.specs.Line.{between as betweenOf};
 ghost use Rattle.line.specs.Ranges.{Weights, Between};
 
@@ -27,7 +28,7 @@ fn weighed(s: u64, t: u64, past: u64, left: u64) -> u64
 // The deviation at p, from the point before it to the point at or behind it, to the nearest whole, halves upward: the
 // two deviations, each weighed by how far p is from the other's point.
 pub fn between(p: i64, before: Pair, behind: Pair) -> i64
-    requires { ⌜ Between p before behind ⌝ }
+    requires { ⌜ Between pointOf p before behind ⌝ }
     ensures { λ r. ⌜ r ≡ nearest (betweenOf p 1 before behind .num over betweenOf p 1 before behind .run) ⌝ }
 {
     let past = gap(p, before.point);

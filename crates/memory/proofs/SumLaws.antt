@@ -14,7 +14,7 @@ use lib.Seq.{drop-cons, take-add, length-take-le, getD-take, getD-drop, ext-getD
 use borrow.Author.Tests.{eqb-true, eq-eqb, ne-eqb, not-false}
 use Rattle.refusal.specs.Outcome.{good, refused, refuse_if_, _>>_}
 use Rattle.refusal.specs.Rows.{wrongSum, blankChip}
-use Rattle.refusal.proofs.Outcomes.{passed, both, Low, low-then}
+use Rattle.refusal.proofs.Outcomes.{passed, both, Other, other-then}
 use Rattle.memory.specs.declared.Sizes.{Sizes}
 use Rattle.memory.specs.declared.pages.PageTest.the-variants.{Good, Wrong, Blank}
 use Rattle.memory.specs.Bits.{Bytes, bit}
@@ -267,10 +267,10 @@ module _ (z : Sizes) (image : List ℕ) where
   from-good zero i f = refl
   from-good (suc n) i f = step-good n i (f i (le-refl i) (omega arith)) ∙ from-good n (suc i) (λ q h k. f q (omega arith) (omega arith))
 
-  pub sums-low : (n i : ℕ) → Low (sumsFrom z image n i)
+  pub sums-other : (n i : ℕ) → Other (sumsFrom z image n i)
   unfolding sumsFrom
-  sums-low zero i = tt
-  sums-low (suc n) i = low-then (wrongSum i) (not (isGood (pageTest z image i))) _ (omega arith) (sums-low n (suc i))
+  sums-other zero i = tt
+  sums-other (suc n) i = other-then (wrongSum i) (not (isGood (pageTest z image i))) _ (omega arith) (sums-other n (suc i))
 
   -- What the check accepts adds up to 0, page by page.
   pub sums-right : sums z image ≡ good tt → SumsRight z image

@@ -8,15 +8,15 @@ use lib.ListN.{length, getD}
 use Rattle.refusal.specs.declared.Refusal.{Refusal}
 use Rattle.refusal.specs.Outcome.{Outcome, good, refused, _>>=_, _>>_, refuse_if_}
 use Rattle.refusal.specs.Rows.{blankChip}
-use Rattle.refusal.proofs.Outcomes.{Low, low-number}
+use Rattle.refusal.proofs.Outcomes.{Other, other-number}
 use Rattle.memory.specs.declared.Sizes.{Sizes}
 use Rattle.memory.specs.Image.{imageSizes, imageBytes, pageAt, blankPage, blankFrom, sumsFrom, sums}
 use Rattle.memory.proofs.Chips.{sizes-chip}
-use Rattle.memory.proofs.SumLaws.{blank-all, all-blank, blank-at, at-blank, sums-low}
+use Rattle.memory.proofs.SumLaws.{blank-all, all-blank, blank-at, at-blank, sums-other}
 use Rattle.layout.specs.Format.{Parsed, parse}
 use Rattle.layout.specs.Contents.{Contents, sheetOf}
 use Rattle.layout.specs.Image.{streamIn, contents}
-use Rattle.layout.proofs.Numbers.{parse-low, sheet-lows}
+use Rattle.layout.proofs.Numbers.{parse-other, sheet-others}
 use Rattle.promises.specs.Blank.{AllBlank, BlankExactly, NamedBlank}
 
 module _ (kind : ℕ) (image : List ℕ) (z : Sizes) (sizes : imageSizes kind (length image) ≡ good z) where
@@ -46,18 +46,18 @@ module _ (kind : ℕ) (image : List ℕ) (z : Sizes) (sizes : imageSizes kind (l
       after : Outcome Contents
       after = parse (streamIn z image) sheetOf 0 >>= λ x. good (x .found)
 
-      low : (o : Outcome (Unit {0})) (p : Outcome (Parsed Contents)) → Low o → Low p → (o >> (p >>= λ x. good (x .found))) ≡ refused blankChip → ⊥
-      low (good u) (good x) h k d = let n : _≡_ {A = ℕ} 0 1 = cc in absurd (omega arith)
-      low (good u) (refused r) h k d = absurd (omega (arith, low-number (refused r) blankChip d k))
-      low (refused r) p h k d = absurd (omega (arith, low-number (refused r) blankChip d h))
+      other : (o : Outcome (Unit {0})) (p : Outcome (Parsed Contents)) → Other o → Other p → (o >> (p >>= λ x. good (x .found))) ≡ refused blankChip → ⊥
+      other (good u) (good x) h k d = let n : _≡_ {A = ℕ} 0 1 = cc in absurd (omega arith)
+      other (good u) (refused r) h k d = absurd (other-number (refused r) blankChip d k .1 refl)
+      other (refused r) p h k d = absurd (other-number (refused r) blankChip d h .1 refl)
 
       go : (b : Bool) → blankFrom z image (z .pages) 0 ≡ b → (sums z image >> after) ≡ refused blankChip → getD image i 0 ≡ 255
       go true h d =
           ap (λ (n : ℕ). getD image n 0) (sym place)
           ∙ blank-at z image whole page (omega arith) (blank-all z image (z .pages) 0 h page (omega arith) (omega arith)) rest (omega arith)
       go false h d =
-          absurd (low (sumsFrom z image (z .pages) 0) (parse (streamIn z image) sheetOf 0) (sums-low z image (z .pages) 0)
-          (parse-low (streamIn z image) sheetOf 0 sheet-lows) (rw h at d))
+          absurd (other (sumsFrom z image (z .pages) 0) (parse (streamIn z image) sheetOf 0) (sums-other z image (z .pages) 0)
+          (parse-other (streamIn z image) sheetOf 0 sheet-others) (rw h at d))
 
 pub named-blank : NamedBlank
 named-blank kind image z sizes = record { named = named kind image z sizes; blank = blank kind image z sizes }

@@ -1,76 +1,75 @@
 -- Demand 3: what was built holds points near those lent, no change or commit moves them, and a reading of them stays within the distance.
-use mathlib.Core.Path.{_≡_, refl, sym, ap, _∙_, subst}
+use mathlib.Core.Path.{_≡_, refl, sym, ap, _∙_}
 use mathlib.Core.List.{List, [], _∷_, map}
 use mathlib.Core.Option.{none}
-use Prim.Native.Nat.{ℕ, _+_, _≤_}
-use native.Mathlib.Nat.{le-refl}
+use Prim.Native.Nat.{ℕ}
 use native.Mathlib.Omega.{arith}
-use lib.IntN.{ℤ, pos, natAbs, _-ℤ_, _*ℤ_}
+use lib.IntN.{ℤ, pos, natAbs, _+ℤ_, _-ℤ_, _*ℤ_}
 use lib.Signed.{_<ℤ_}
 use Rattle.integers.proofs.PartLaws.{sub-parts-ℤ, abs-parts, ltZ-parts}
-use Rattle.refusal.specs.Outcome.{good, _>>=_}
-use Rattle.refusal.proofs.Outcomes.{good-same, good-bind}
-use Rattle.memory.specs.Bits.{Bytes}
-use Rattle.memory.specs.Pieces.{Piece, pack}
-use Rattle.memory.proofs.Images.{image-bytes}
+use Rattle.refusal.specs.Outcome.{good}
+use Rattle.memory.specs.Pieces.{Piece}
 use Rattle.fields.specs.declared.Pair.{Pair}
-use Rattle.fields.specs.Lines.{lastField}
-use Rattle.fields.proofs.TemplateFacts.{span-listed}
+use Rattle.fields.specs.declared.Domain.{Domain}
+use Rattle.fields.specs.declared.Domain.the-variants.{Electrical, Physical}
 use Rattle.fields.specs.Calibration.{D, R}
 use Rattle.fields.specs.Figure.{billion}
-use Rattle.layout.specs.Image.{contents, pairIn, pairsIn, points}
-use Rattle.sheet.proofs.ReadLaws.{accepted-reads}
+use Rattle.layout.specs.Image.{points}
+use Rattle.sheet.specs.declared.TableDomain.the-variants.{Is}
 use Rattle.build.specs.Build.{pairsLent, pairPieces, tablePieces}
-use Rattle.line.specs.Line.{certificateLine}
+use Rattle.build.proofs.PairPlans.{table-planned}
+use Rattle.line.specs.Line.{deviation, certificateLine}
 use Rattle.line.specs.Certificate.{Slopes, Within}
 use Rattle.line.proofs.Bound.{bound}
-use Rattle.reading.specs.Reading.{least, greatest, position, fraction}
+use Rattle.reading.specs.Reading.{least, greatest, position}
 use Rattle.reading.proofs.Orders.{shown}
-use Rattle.promises.specs.Again.{keptPair}
-use Rattle.promises.specs.Alterations.{altered, held}
-use Rattle.promises.specs.Certificate.{whole, CertificateDistance}
+use Rattle.reading.proofs.Fractions.{by-deviation}
+use Rattle.promises.specs.Again.{keptPair, domainLent}
+use Rattle.promises.specs.Alterations.{altered}
+use Rattle.promises.specs.Certificate.{Straight, CertificateDistance}
 use Rattle.promises.proofs.PlannedSheet.{plan-parts}
-use Rattle.promises.proofs.Written.{built, written-and-read-again}
-use Rattle.promises.proofs.AfterAlterations.{same-kind, after-alterations, held-calibration}
+use Rattle.promises.proofs.Written.{built}
+use Rattle.promises.proofs.KeptLent.{kept-lent, ends-read}
 use Rattle.promises.proofs.StoredPoints.{stored-close, stored-rises}
 
 -- The pairs of a table that was planned.
-planned-pairs : (pairs : List Pair) (ts : List Piece) → tablePieces pairs ≡ good ts → (ps : List Piece) × (pairPieces none 0 pairs ≡ good ps)
-unfolding tablePieces pairPieces
-planned-pairs [] ts e = ([], refl)
-planned-pairs (p ∷ pairs) ts e = let (ps, e1, e2) = good-bind (pairPieces none 0 (p ∷ pairs)) _ ts e in (ps, e1)
+planned-pairs : (domain : Domain) (pairs : List Pair) (ts : List Piece) → tablePieces domain pairs ≡ good ts → (ps : List Piece) × (pairPieces domain none 0 pairs ≡ good ps)
+unfolding pairPieces
+planned-pairs domain [] ts e = ([], refl)
+planned-pairs domain (p ∷ pairs) ts e = let d = table-planned domain p pairs ts e in (d .pieces, d .plans)
+
+-- Points that the distance is for are not of domain 1.
+straight-lent : (domain : Domain) (lentPoints : List ℤ) → Straight domain lentPoints → domainLent domain (pairsLent lentPoints) ≡ Is Physical → ⊥
+straight-lent domain [] h e = absurd (let z : _≡_ {A = ℕ} 0 1 = cc in omega arith)
+straight-lent domain (a ∷ []) h e = absurd (let z : _≡_ {A = ℕ} 0 1 = cc in omega arith)
+straight-lent Electrical (a ∷ s ∷ l) h e = absurd (let z : _≡_ {A = ℕ} 0 1 = cc in omega arith)
+straight-lent Physical (a ∷ s ∷ l) h e = h
 
 -- ---- the distance
 
-distance : (lent : List Pair) (ps : List Piece) (v e f : ℤ) (K : ℕ) → pairPieces none 0 lent ≡ good ps → e <ℤ f → Slopes K lent →
-    Within D R K (fraction (map keptPair lent) (position v e f)) (certificateLine lent ((v -ℤ e) *ℤ pos billion) (natAbs (f -ℤ e)))
+distance : (domain : Domain) (lent : List Pair) (ps : List Piece) (v e f : ℤ) (K : ℕ) → pairPieces domain none 0 lent ≡ good ps → e <ℤ f → Slopes K lent →
+    let p = position v e f in
+    Within D R K (p +ℤ deviation (map keptPair lent) p) (certificateLine lent ((v -ℤ e) *ℤ pos billion) (natAbs (f -ℤ e)))
 unfolding position
-distance lent ps v e f K h span slopes =
-    let rises = stored-rises none 0 lent ps h in
+distance domain lent ps v e f K h span slopes =
+    let rises = stored-rises domain none 0 lent ps h in
     bound D R K lent (map keptPair lent) ((v -ℤ e) *ℤ pos billion) (natAbs (f -ℤ e))
     (omega (arith, ltZ-parts e f (span .lt), sub-parts-ℤ f e, abs-parts (f -ℤ e)))
-    (stored-close none 0 lent ps h) (rises .lent) (rises .kept) slopes
+    (stored-close domain none 0 lent ps h) (rises .lent) (rises .kept) slopes
 
 -- The same of what was read, under other names.
-distance-of : (lent stored : List Pair) (ps : List Piece) (q v e f low high : ℤ) (K : ℕ) → pairPieces none 0 lent ≡ good ps → e <ℤ f → Slopes K lent →
-    stored ≡ map keptPair lent → q ≡ fraction stored (position v e f) → low ≡ e → high ≡ f →
+distance-of : (domain : Domain) (lent stored : List Pair) (ps : List Piece) (q v e f low high : ℤ) (K : ℕ) → pairPieces domain none 0 lent ≡ good ps → e <ℤ f → Slopes K lent →
+    stored ≡ map keptPair lent → q ≡ position v e f +ℤ deviation stored (position v e f) → low ≡ e → high ≡ f →
     Within D R K q (certificateLine lent ((v -ℤ low) *ℤ pos billion) (natAbs (high -ℤ low)))
-distance-of lent stored ps q v e f low high K h span slopes p r l g = rw (r, p, l, g) (distance lent ps v e f K h span slopes)
+distance-of domain lent stored ps q v e f low high K h span slopes p r l g = rw (r, p, l, g) (distance domain lent ps v e f K h span slopes)
 
 -- Demand 3.
 pub certificate-distance : CertificateDistance
-certificate-distance kind buffer sheet text lentPoints image alterations readingKind v r K lendable real made taken slopes =
-    let b = built kind buffer sheet text lentPoints image made in
-    let (ps, pairs) = planned-pairs (pairsLent lentPoints) _ (plan-parts sheet text lentPoints (b .pieces) (b .plans) .tablePlanned) in
-    let bytes : Bytes image = subst Bytes (b .made) (image-bytes (b .sizes) (pack (b .pieces))) in
-    let w = written-and-read-again kind buffer sheet text lentPoints image lendable made in
-    let last : List ℕ = altered image alterations in
-    let after : contents kind last ≡ good (held kind (w .0) alterations) = after-alterations kind image (w .0) alterations bytes real (w .1) in
-    let s = shown readingKind last v r taken in
-    let k : readingKind ≡ kind = same-kind kind readingKind last (held kind (w .0) alterations) (s .holds) after (s .accepted) in
-    let c : s .holds ≡ held kind (w .0) alterations = good-same (sym (s .accepted) ∙ ap (λ (n : ℕ). contents n last) k ∙ after) in
-    let read = accepted-reads readingKind last (s .holds) (s .accepted) .fields in
-    let listed : 11 ≤ lastField (s .holds .template) = span-listed (s .holds .template) (le-refl 11) in
-    distance-of (pairsLent lentPoints) (points (s .holds)) ps (r .fraction) v (least (s .holds)) (greatest (s .holds)) _ _ K pairs (s .rises) slopes
-    (ap points c ∙ ap (λ q. map pairIn (pairsIn q)) (held-calibration kind (w .0) alterations) ∙ w .2 .samePoints) (s .shows)
-    (ap whole (read 10 (omega arith) (omega (arith, listed)))) (ap whole (read 11 (omega arith) listed))
+certificate-distance kind buffer sheet text domain lentPoints image alterations readingKind v r K lendable real straight made taken slopes =
+    let b = built kind buffer sheet text domain lentPoints image made in
+    let (ps, pairs) = planned-pairs domain (pairsLent lentPoints) _ (plan-parts sheet text domain lentPoints (b .pieces) (b .plans) .tablePlanned) in
+    let s = shown readingKind (altered image alterations) v r taken in
+    let k = kept-lent kind buffer sheet text domain lentPoints image alterations readingKind (s .holds) lendable real made (s .accepted) in
+    let ends = ends-read readingKind (altered image alterations) (s .holds) (s .accepted) in
+    distance-of domain (pairsLent lentPoints) (points (s .holds)) ps (r .fraction) v (least (s .holds)) (greatest (s .holds)) _ _ K pairs (s .rises) slopes
+    (k .keepsPoints) (s .shows ∙ by-deviation (s .holds .calibration) _ (λ e. straight-lent domain lentPoints straight (sym (k .keepsDomain) ∙ e))) (ends .0) (ends .1)

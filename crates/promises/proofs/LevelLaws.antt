@@ -145,4 +145,4 @@ module _ (level : Level) (sheet : Sheet) where
 
 pub build-asks-no-level : BuildAsksNoLevel
 unfolding build builtIn plan
-build-asks-no-level level kind buffer sheet text points = rw (fields-as level sheet)
+build-asks-no-level level kind buffer sheet text domain points = rw (fields-as level sheet)

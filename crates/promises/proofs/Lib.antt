@@ -13,7 +13,9 @@ pub mod Rebuilt
 pub mod NeededBits
 pub mod ReadingLaws
 pub mod StoredPoints
+pub mod KeptLent
 pub mod Distance
+pub mod Crossed
 pub mod Lending
 pub mod Calling
 pub mod EdgesHold

@@ -108,13 +108,13 @@ fields-needed t choice =
     )
 
 pub bits-needed : BitsNeeded
-bits-needed sheet text lentPoints precision pieces v e =
-    let d = plan-parts sheet text lentPoints pieces e in
+bits-needed sheet text domain lentPoints precision pieces v e =
+    let d = plan-parts sheet text domain lentPoints pieces e in
     let t : Template = templateIn sheet in
     let ts : List Piece = d .table in
     let es : List Piece = piece 2 3 ∷ piece 1 (endCode (sheet .«end_bit»)) ∷ map (piece 7) text in
     let (choice, own, chosen) = steady-needed sheet (templateLines t) (template-steady t) 0 (suc (length basic)) (d .own) (d .ownPlanned) in
-    let k = table-stands 0 (pairsLent lentPoints) ts (omega (arith, half lentPoints, d .few)) (d .tablePlanned) in
+    let k = table-stands 0 domain (pairsLent lentPoints) ts (omega (arith, half lentPoints, d .few)) (d .tablePlanned) in
     let count : length (pairsIn (k .calibration)) ≡ length (pairsLent lentPoints) =
     sym (length-map (pairsIn (k .calibration)) pairIn) ∙ ap length (k .keeps) ∙ length-map (pairsLent lentPoints) keptPair in
     let same : precision ≡ choice = lent-choice sheet t precision choice v chosen in

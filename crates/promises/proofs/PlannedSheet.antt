@@ -16,7 +16,7 @@ use Rattle.memory.proofs.PieceLaws.{needed-append}
 use Rattle.fields.specs.declared.Template.{Template}
 use Rattle.fields.specs.Lines.{basic, templateLines, numberOf, ending}
 use Rattle.fields.specs.Stored.{Real}
-use Rattle.fields.specs.declared.Pair.{Pair}
+use Rattle.fields.specs.declared.Domain.{Domain}
 use Rattle.fields.proofs.RowLaws.{basic-sound, lines-sound}
 use Rattle.layout.specs.Contents.{Found, Calibration, bare, table, Contents}
 use Rattle.layout.specs.Image.{pairIn, pairsIn, points}
@@ -25,9 +25,10 @@ use Rattle.layout.proofs.Fields.{pieceOf, laid-length}
 use Rattle.layout.proofs.Calibrations.{calibrationPieces, CalibrationAt}
 use Rattle.layout.proofs.Endings.{Characters, zeroIf, text-needed, charactersFrom, endPieces, EndingAt}
 use Rattle.layout.proofs.Sheets.{Formed, sheetPieces}
+use Rattle.sheet.specs.Check.{domainIn}
 use Rattle.build.specs.declared.Sheet.{Sheet}
 use Rattle.build.specs.Build.{lent, templateIn, linePieces, fieldPieces, unfit, endingPieces, pairsLent, tablePieces, plan}
-use Rattle.promises.specs.Again.{keptPair}
+use Rattle.promises.specs.Again.{keptPair, domainLent, InDomain}
 use Rattle.promises.proofs.PlannedFields.{KeptFrom, LentFrom, lines-stand, lines-again, kept-append, lent-split}
 use Rattle.promises.proofs.PlannedPairs.{table-stands, table-again}
 
@@ -75,7 +76,7 @@ laid-ending f endBit text stray h = rw (stray, characters-fit text h)
 
 -- ---- a plan in its parts
 
-pub record PlanParts (sheet : Sheet) (text : List ℕ) (lentPoints : List ℤ) (pieces : List Piece) : Type 0 where
+pub record PlanParts (sheet : Sheet) (text : List ℕ) (domain : Domain) (lentPoints : List ℤ) (pieces : List Piece) : Type 0 where
   pub basics : List Piece
   pub own : List Piece
   pub table : List Piece
@@ -84,19 +85,19 @@ pub record PlanParts (sheet : Sheet) (text : List ℕ) (lentPoints : List ℤ) (
   pub ownPlanned : linePieces sheet (templateLines (templateIn sheet)) 0 (suc (length basic)) ≡ good own
   pub stray : strayText (sheet .«end_bit») text ≡ false
   pub characters : Characters text
-  pub tablePlanned : tablePieces (pairsLent lentPoints) ≡ good table
+  pub tablePlanned : tablePieces domain (pairsLent lentPoints) ≡ good table
   pub joined : (basics ++ (blockPieces (numberOf (templateIn sheet)) ++ own)) ++ (table ++ endLaid (sheet .«end_bit») text) ≡ pieces
 
-pub plan-parts : (sheet : Sheet) (text : List ℕ) (lentPoints : List ℤ) (pieces : List Piece) → plan sheet text lentPoints ≡ good pieces →
-    PlanParts sheet text lentPoints pieces
+pub plan-parts : (sheet : Sheet) (text : List ℕ) (domain : Domain) (lentPoints : List ℤ) (pieces : List Piece) → plan sheet text domain lentPoints ≡ good pieces →
+    PlanParts sheet text domain lentPoints pieces
 unfolding plan fieldPieces endingPieces
-plan-parts sheet text lentPoints pieces e =
+plan-parts sheet text domain lentPoints pieces e =
     let f : ℕ = ending (templateIn sheet) in
     let b : Bool = sheet .«end_bit» in
     let (t, e0) = passed (wrongList (length lentPoints)) (eqb (length lentPoints % 2) 1 || ltb 254 (length lentPoints)) _ pieces e in
     let (fs, e1, e2) = good-bind (fieldPieces sheet) _ pieces e0 in
     let (es, e3, e4) = good-bind (endingPieces f b text) _ pieces e2 in
-    let (ts, e5, e6) = good-bind (tablePieces (pairsLent lentPoints)) _ pieces e4 in
+    let (ts, e5, e6) = good-bind (tablePieces domain (pairsLent lentPoints)) _ pieces e4 in
     let (bs, f1, f2) = good-bind (linePieces sheet basic 0 1) _ fs e1 in
     let (os, f3, f4) = good-bind (linePieces sheet (templateLines (templateIn sheet)) 0 (suc (length basic))) _ fs f2 in
     let (s, g1) = passed (wrongSort f) (strayText b text) _ es e3 in
@@ -152,27 +153,28 @@ module _ (S number : ℕ) (endBit : Bool) (text : List ℕ) (bs os ts : List Pie
 
 -- ---- planned, and standing
 
-pub record PlanStands (S : ℕ) (sheet : Sheet) (text : List ℕ) (lentPoints : List ℤ) (pieces : List Piece) : Type 0 where
+pub record PlanStands (S : ℕ) (sheet : Sheet) (text : List ℕ) (domain : Domain) (lentPoints : List ℤ) (pieces : List Piece) : Type 0 where
   pub contents : Contents
   pub formed : Formed S contents
   pub pieces-are : sheetPieces formed ≡ pieces ++ zeroIf (sheet .«end_bit» && leb (needed pieces + 7) S)
   pub sameTemplate : contents .template ≡ templateIn sheet
   pub keepsFields : KeptFrom sheet 1 (contents .fields)
   pub keepsPoints : points contents ≡ map keptPair (pairsLent lentPoints)
+  pub keepsDomain : domainIn (contents .calibration) ≡ domainLent domain (pairsLent lentPoints)
   pub sameEnd : contents .endBit ≡ sheet .«end_bit»
   pub sameText : contents .text ≡ text
 
-pub plan-stands : (S : ℕ) (sheet : Sheet) (text : List ℕ) (lentPoints : List ℤ) (pieces : List Piece) → ((f : ℕ) → Real (lent sheet f)) →
-    plan sheet text lentPoints ≡ good pieces → needed pieces ≤ S → PlanStands S sheet text lentPoints pieces
-plan-stands S sheet text lentPoints pieces real e inside =
-    let d = plan-parts sheet text lentPoints pieces e in
+pub plan-stands : (S : ℕ) (sheet : Sheet) (text : List ℕ) (domain : Domain) (lentPoints : List ℤ) (pieces : List Piece) → ((f : ℕ) → Real (lent sheet f)) →
+    plan sheet text domain lentPoints ≡ good pieces → needed pieces ≤ S → PlanStands S sheet text domain lentPoints pieces
+plan-stands S sheet text domain lentPoints pieces real e inside =
+    let d = plan-parts sheet text domain lentPoints pieces e in
     let t : Template = templateIn sheet in
     let b : Bool = sheet .«end_bit» in
     let a = lines-stand sheet real basic 0 1 0 (d .basics) basic-sound (d .basicsPlanned) in
     let ownAt : ℕ = needed (map pieceOf (a .fields)) + 10 in
     let o = lines-stand sheet real (templateLines t) 0 (suc (length basic)) ownAt (d .own) (lines-sound t) (d .ownPlanned) in
     let behind : ℕ = ownAt + needed (map pieceOf (o .fields)) in
-    let k = table-stands behind (pairsLent lentPoints) (d .table) (omega (arith, half lentPoints, d .few)) (d .tablePlanned) in
+    let k = table-stands behind domain (pairsLent lentPoints) (d .table) (omega (arith, half lentPoints, d .few)) (d .tablePlanned) in
     let ts : List Piece = calibrationPieces (k .calibration) in
     let endAt : ℕ = behind + needed ts + 2 in
     let p : laidDown S (numberOf t) b text (map pieceOf (a .fields)) (map pieceOf (o .fields)) ts ≡ pieces =
@@ -212,6 +214,7 @@ plan-stands S sheet text lentPoints pieces real e inside =
       sameTemplate = refl;
       keepsFields = kept-append sheet 1 (a .fields) (o .fields) (a .keeps) (subst (λ (f : ℕ). KeptFrom sheet f (o .fields)) first (o .keeps));
       keepsPoints = k .keeps;
+      keepsDomain = k .domained;
       sameEnd = refl;
       sameText = refl;
     }
@@ -227,10 +230,11 @@ few-pairs at c h = omega (arith, length-map (pairsIn (c .calibration)) pairIn, g
   where
     go : (k : Calibration) → CalibrationAt at k → length (pairsIn k) ≤ 127
     go bare h = omega arith
-    go (table pairs) h = h .most
+    go (table domain pairs) h = h .most
 
-module _ {S : ℕ} {c : Contents} (h : Formed S c) (sheet : Sheet) (lentPoints : List ℤ) (lents : LentFrom sheet 1 (c .fields)) (sameTemplate : templateIn sheet ≡ c .template)
-    (sameEnd : sheet .«end_bit» ≡ c .endBit) (samePoints : pairsLent lentPoints ≡ points c) (two : length lentPoints ≡ 2 * length (points c)) where
+module _ {S : ℕ} {c : Contents} (h : Formed S c) (sheet : Sheet) (domain : Domain) (lentPoints : List ℤ) (lents : LentFrom sheet 1 (c .fields)) (sameTemplate : templateIn sheet ≡ c .template)
+    (sameEnd : sheet .«end_bit» ≡ c .endBit) (samePoints : pairsLent lentPoints ≡ points c) (two : length lentPoints ≡ 2 * length (points c))
+    (inDomain : InDomain (domainIn (c .calibration)) domain) where
   abbrev bs : List Piece
   bs = map pieceOf (h .basics)
 
@@ -255,14 +259,14 @@ module _ {S : ℕ} {c : Contents} (h : Formed S c) (sheet : Sheet) (lentPoints :
       bind-good _ (lines-again sheet basic 0 1 0 (h .basics) basic-sound (h .basicsLaid) first) ∙ bind-good _ own
       ∙ ap (λ t. good (bs ++ (blockPieces (numberOf t) ++ os))) sameTemplate
 
-  pub plan-again : plan sheet (c .text) lentPoints ≡ good again
+  pub plan-again : plan sheet (c .text) domain lentPoints ≡ good again
   unfolding plan
   plan-again =
       let stray = room-text S (c .endBit) (h .endAt + 1) (c .text) (h .ending .room) in
       rw (right-length lentPoints (length (points c)) two (few-pairs (h .behind) c (h .calibrated)))
       (bind-good _ fields-again
       ∙ bind-good _ (ap (λ b. endingPieces (ending (templateIn sheet)) b (c .text)) sameEnd ∙ laid-ending (ending (templateIn sheet)) (c .endBit) (c .text) stray (h .ending .characters))
-      ∙ bind-good _ (ap tablePieces samePoints ∙ table-again (h .behind) (c .calibration) (h .calibrated)))
+      ∙ bind-good _ (ap (tablePieces domain) samePoints ∙ table-again (h .behind) (c .calibration) domain (h .calibrated) inDomain))
 
   pub zero-behind : again ++ zeroIf (c .endBit && leb (needed again + 7) S) ≡ sheetPieces h
   zero-behind =

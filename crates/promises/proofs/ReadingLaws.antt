@@ -11,14 +11,14 @@ use lib.Signed.{leZ}
 use Rattle.refusal.specs.declared.Refusal.{Refusal}
 use Rattle.refusal.specs.Outcome.{Outcome, good, refused, _>>=_, _>>_, refuse_if_}
 use Rattle.refusal.specs.Rows.{wrongBlock, wrongImage, blankChip, noSpan, outsideSpan, endOutside}
-use Rattle.refusal.proofs.Outcomes.{Low}
+use Rattle.refusal.proofs.Outcomes.{Other as FromCheck}
 use Rattle.memory.specs.Image.{sizesOf, imageBytes, imageSizes, blankFrom, sumsFrom, sums}
-use Rattle.memory.proofs.SumLaws.{sums-low}
+use Rattle.memory.proofs.SumLaws.{sums-other}
 use Rattle.fields.specs.declared.Value.{Value}
 use Rattle.layout.specs.Format.{parse}
 use Rattle.layout.specs.Contents.{Contents, sheetOf}
 use Rattle.layout.specs.Image.{streamIn, contents, field}
-use Rattle.layout.proofs.Numbers.{parse-low, sheet-lows}
+use Rattle.layout.proofs.Numbers.{parse-other, sheet-others}
 use Rattle.reading.specs.Reading.{isResistance, isMissing, isOutside, refuseFirst, least, greatest, spanOf, tooFar, takeReading}
 use Rattle.layout.specs.Places.{firstSelector}
 use Rattle.promises.specs.Readings.{NeverFifteen}
@@ -28,9 +28,9 @@ abbrev Other : {A : Type 0} → Outcome A → Type 0
 Other (good a) = Unit {0}
 Other (refused r) = r .number ≡ 15 → ⊥
 
-low-other : {A : Type 0} (o : Outcome A) → Low o → Other o
-low-other (good a) h = tt
-low-other (refused r) h = λ e. omega arith
+check-other : {A : Type 0} (o : Outcome A) → FromCheck o → Other o
+check-other (good a) h = tt
+check-other (refused r) h = h .0
 
 bind-other : {A B : Type 0} (m : Outcome A) (k : A → Outcome B) → Other m → ((a : A) → Other (k a)) → Other (m >>= k)
 bind-other (good a) k h n = n a
@@ -72,8 +72,8 @@ unfolding contents
 contents-other kind image =
     bind-other (imageSizes kind (length image)) _ (sizes-other kind (length image)) (λ z.
     then-other (sums z image) _
-    (then-other (refuse blankChip if blankFrom z image (z .pages) 0) _ (test-other blankChip (blankFrom z image (z .pages) 0) (λ e. omega arith)) (low-other (sumsFrom z image (z .pages) 0) (sums-low z image (z .pages) 0)))
-    (bind-other (parse (streamIn z image) sheetOf 0) _ (low-other (parse (streamIn z image) sheetOf 0) (parse-low (streamIn z image) sheetOf 0 sheet-lows)) (λ p. tt)))
+    (then-other (refuse blankChip if blankFrom z image (z .pages) 0) _ (test-other blankChip (blankFrom z image (z .pages) 0) (λ e. omega arith)) (check-other (sumsFrom z image (z .pages) 0) (sums-other z image (z .pages) 0)))
+    (bind-other (parse (streamIn z image) sheetOf 0) _ (check-other (parse (streamIn z image) sheetOf 0) (parse-other (streamIn z image) sheetOf 0 sheet-others)) (λ p. tt)))
 
 reading-other : (kind : ℕ) (image : List ℕ) (v : ℤ) → Other (takeReading kind image v)
 unfolding takeReading

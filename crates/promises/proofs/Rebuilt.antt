@@ -20,18 +20,20 @@ use Rattle.memory.proofs.Chips.{sizes-chip}
 use Rattle.memory.proofs.SumLaws.{sums-right}
 use Rattle.memory.proofs.Images.{two-views}
 use Rattle.fields.specs.declared.Pair.{Pair}
+use Rattle.fields.specs.declared.Domain.{Domain}
 use Rattle.fields.specs.Calibration.{noPair}
 use Rattle.layout.specs.Contents.{Found, Contents}
 use Rattle.layout.specs.Image.{contents, nothing, points}
 use Rattle.layout.proofs.Endings.{zeroIf, zero-pack}
 use Rattle.layout.proofs.Sheets.{sheetPieces, sheet-needed}
 use Rattle.layout.proofs.Accepted.{accepted-at}
+use Rattle.sheet.specs.Check.{domainIn}
 use Rattle.sheet.proofs.ReadLaws.{fields-are, accepted-reads}
 use Rattle.build.specs.declared.Slot.{Slot}
 use Rattle.build.specs.declared.Sheet.{Sheet}
 use Rattle.build.specs.Build.{slot, lent, templateIn, pairsLent, builtIn, build}
 use Rattle.build.proofs.PairPlans.{pairs-length}
-use Rattle.promises.specs.Again.{sheetRead, turns, RebuiltSameBytes, RebuiltFromReads}
+use Rattle.promises.specs.Again.{sheetRead, turns, InDomain, RebuiltSameBytes, RebuiltFromReads}
 use Rattle.promises.proofs.PlannedFields.{LentFrom, Slots, slots-all, slot-first, slots-others}
 use Rattle.promises.proofs.ByIndex.{check-holds}
 use Rattle.promises.proofs.PlannedSheet.{again, plan-again, zero-behind}
@@ -55,30 +57,30 @@ read-lent sheet f (x ∷ xs) more h =
 -- ---- the image
 
 -- From a sheet and points that hold what the image holds.
-rebuilt : (kind : ℕ) (image buffer : List ℕ) (z : Sizes) (c : Contents) (sheet : Sheet) (pts : List ℤ) → Bytes image → length buffer ≡ length image →
+rebuilt : (kind : ℕ) (image buffer : List ℕ) (z : Sizes) (c : Contents) (sheet : Sheet) (domain : Domain) (pts : List ℤ) → Bytes image → length buffer ≡ length image →
     imageSizes kind (length image) ≡ good z → contents kind image ≡ good c → streamNumber z image < 2 ^ c .bits →
-    LentFrom sheet 1 (c .fields) → templateIn sheet ≡ c .template → sheet .«end_bit» ≡ c .endBit → pairsLent pts ≡ points c → length pts ≡ 2 * length (points c) →
-    build kind buffer sheet (c .text) pts ≡ good image
+    LentFrom sheet 1 (c .fields) → templateIn sheet ≡ c .template → sheet .«end_bit» ≡ c .endBit → pairsLent pts ≡ points c → length pts ≡ 2 * length (points c) → InDomain (domainIn (c .calibration)) domain →
+    build kind buffer sheet (c .text) domain pts ≡ good image
 unfolding build builtIn
-rebuilt kind image buffer z c sheet pts bytes long hz e zeros lents template end pairs two =
+rebuilt kind image buffer z c sheet domain pts bytes long hz e zeros lents template end pairs two inDomain =
     let (summed, h) = accepted-at kind image c z e hz in
     let f = h .formed in
-    let ps : List Piece = again f sheet pts lents template end pairs two in
+    let ps : List Piece = again f sheet domain pts lents template end pairs two inDomain in
     let t : Bool = c .endBit && leb (needed ps + 7) (streamBits z) in
-    let all : ps ++ zeroIf t ≡ sheetPieces f = zero-behind f sheet pts lents template end pairs two in
+    let all : ps ++ zeroIf t ≡ sheetPieces f = zero-behind f sheet domain pts lents template end pairs two inDomain in
     let inside : needed ps ≤ streamBits z = omega (arith, needed-append ps (zeroIf t), ap needed all, sheet-needed f, h .inside) in
     let number : streamNumber z image ≡ pack ps =
     pack-unique (streamNumber z image) (sheetPieces f) (subst (λ (n : ℕ). streamNumber z image < 2 ^ n) (sym (sheet-needed f)) zeros) (h .holds)
     ∙ ap pack (sym all) ∙ zero-pack ps t in
     bind-good _ (ap (imageSizes kind) long ∙ hz)
-    ∙ bind-good _ (plan-again f sheet pts lents template end pairs two)
+    ∙ bind-good _ (plan-again f sheet domain pts lents template end pairs two inDomain)
     ∙ rw (le-ltb (streamBits z) (needed ps) inside) (ap (λ (n : ℕ). good (imageOf z n)) (sym number)
     ∙ ap good (two-views z image (sizes-chip kind (length image) z hz .long) bytes (sums-right z image summed)))
 
 pub rebuilt-same-bytes : RebuiltSameBytes
-rebuilt-same-bytes kind image buffer level z c bytes long hz e zeros =
-    rebuilt kind image buffer z c (sheetRead c level) (turns (points c)) bytes long hz e zeros (read-lent (sheetRead c level) 1 (c .fields) _ (slots-all (sheetRead c level))) refl refl
-    (pairs-turned (points c)) (turns-length (points c))
+rebuilt-same-bytes kind image buffer level z c domain bytes long hz e inDomain zeros =
+    rebuilt kind image buffer z c (sheetRead c level) domain (turns (points c)) bytes long hz e zeros (read-lent (sheetRead c level) 1 (c .fields) _ (slots-all (sheetRead c level))) refl refl
+    (pairs-turned (points c)) (turns-length (points c)) inDomain
 
 -- ---- through the calls
 
@@ -89,7 +91,7 @@ lent-from sheet f (x ∷ xs) h =
     (ap (lent sheet) (sym at) ∙ h 0 (omega arith), lent-from sheet (suc f) xs (λ i l. ap (lent sheet) (omega arith) ∙ h (suc i) (omega arith)))
 
 pub rebuilt-from-reads : RebuiltFromReads
-rebuilt-from-reads kind image buffer z s sheet text pts bytes long hz e r zeros =
+rebuilt-from-reads kind image buffer z s sheet text domain pts bytes long hz e r zeros =
     let (c, h, g) = check-holds kind image s e in
     let l = accepted-reads kind image c h in
     let few : length (points c) ≡ s .points = ap (λ y. y .points) g in
@@ -103,5 +105,6 @@ rebuilt-from-reads kind image buffer z s sheet text pts bytes long hz e r zeros 
     let lents : LentFrom sheet 1 (c .fields) =
     lent-from sheet 1 (c .fields)
     (λ i k. r .fields (1 + i) _ (l .fields (1 + i) (omega arith) (omega (arith, fields-are kind image c h))) ∙ ap (λ (n : ℕ). getD (c .fields) n nothing .value) (omega arith)) in
-    subst (λ t. build kind buffer sheet t pts ≡ good image) (sym written)
-    (rebuilt kind image buffer z c sheet pts bytes long hz h (subst (λ y. streamNumber z image < 2 ^ y .bits) (sym g) zeros) lents (r .template ∙ sym (ap (λ y. y .template) g)) (r .endBit ∙ sym (ap (λ y. y .«end_bit») g)) pairs two)
+    subst (λ t. build kind buffer sheet t domain pts ≡ good image) (sym written)
+    (rebuilt kind image buffer z c sheet domain pts bytes long hz h (subst (λ y. streamNumber z image < 2 ^ y .bits) (sym g) zeros) lents (r .template ∙ sym (ap (λ y. y .template) g)) (r .endBit ∙ sym (ap (λ y. y .«end_bit») g)) pairs two
+    (subst (λ y. InDomain (y .domain) domain) (sym g) (r .inDomain)))

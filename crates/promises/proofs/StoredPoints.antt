@@ -7,7 +7,7 @@ use Prim.Native.Nat.{ℕ, suc, _+_, _*_, _≤_, _<_}
 use native.Mathlib.Nat.{mul-lt-mul-of-pos-left}
 use native.Mathlib.Omega.{arith}
 use lib.Dec.{T, lit<}
-use lib.IntN.{ℤ, pos, negℤ, natAbs, _-ℤ_}
+use lib.IntN.{ℤ, pos, natAbs, _-ℤ_}
 use lib.Signed.{ltZ, _<ℤ_, ltZ-yes}
 use Rattle.integers.proofs.PartLaws.{add-parts, parts-<ℤ, nltZ-parts}
 use Rattle.refusal.specs.Outcome.{good}
@@ -19,17 +19,18 @@ use Rattle.fields.specs.declared.Row.{Row}
 use Rattle.fields.specs.Rules.{topCode, outside, steppedValue, steppedCode, encode}
 use Rattle.fields.specs.declared.Pair.{Pair}
 use Rattle.fields.specs.declared.Codes.{Codes}
-use Rattle.fields.specs.Calibration.{D, R, calPoint, calDeviation}
+use Rattle.fields.specs.declared.Domain.{Domain}
+use Rattle.fields.specs.Calibration.{D, R, leastDeviation}
 use Rattle.fields.specs.Stored.{kept}
 use Rattle.fields.proofs.StoredLaws.{stepped-nearest}
 use Rattle.fields.proofs.StepLaws.{code-rises}
 use Rattle.fields.proofs.CalibrationLaws.{follows-rises}
 use Rattle.layout.specs.Image.{figure}
-use Rattle.refusal.proofs.Outcomes.{good-bind, passed, neither}
-use Rattle.build.specs.Build.{pairCodes, pairPieces}
+use Rattle.refusal.proofs.Outcomes.{passed, neither}
+use Rattle.build.specs.Build.{pairPieces}
+use Rattle.build.proofs.PairPlans.{codes-planned, pairs-planned}
 use Rattle.line.specs.Certificate.{Rises, Close}
 use Rattle.promises.specs.Again.{keptPair}
-use Rattle.promises.proofs.PlannedPairs.{PairCoded, pair-coded}
 
 -- ---- one stepped figure
 
@@ -82,28 +83,15 @@ module _ (width : ℕ) (start : ℤ) (step : ℕ) (missing : Bool) where
 
 -- ---- the pairs
 
--- What an accepted pair was stored at, and the pairs behind it.
-record Pairs (before : Option Codes) (i : ℕ) (p : Pair) (pairs : List Pair) : Type 0 where
-  codes : Codes
-  pieces : List Piece
-  coded : PairCoded before i p codes
-  rest : pairPieces (some codes) (suc i) pairs ≡ good pieces
-
-pairs-in : (before : Option Codes) (i : ℕ) (p : Pair) (pairs : List Pair) (ps : List Piece) → pairPieces before i (p ∷ pairs) ≡ good ps → Pairs before i p pairs
-unfolding pairPieces
-pairs-in before i p pairs ps e =
-    let (codes, e1, f1) = good-bind (pairCodes before i p) _ ps e in
-    let (rest, e2, f2) = good-bind (pairPieces (some codes) (suc i) pairs) _ ps f1 in
-    record { codes = codes; pieces = rest; coded = pair-coded before i p codes e1; rest = e2 }
-
 -- Each point and deviation is stored within half of its step.
-pub stored-close : (before : Option Codes) (i : ℕ) (pairs : List Pair) (ps : List Piece) → pairPieces before i pairs ≡ good ps → Close D R pairs (map keptPair pairs)
-stored-close before i [] ps e = tt
-stored-close before i (p ∷ pairs) ps e =
-    let g = pairs-in before i p pairs ps e in (
-      stored-near 16 (pos 0) D false i (p .point) (g .codes .point) (lit< tt) (g .coded .point),
-      stored-near 21 (negℤ (pos 1_000_000_000)) R false i (p .deviation) (g .codes .deviation) (lit< tt) (g .coded .deviation),
-      stored-close (some (g .codes)) (suc i) pairs (g .pieces) (g .rest),
+pub stored-close : (domain : Domain) (before : Option Codes) (i : ℕ) (pairs : List Pair) (ps : List Piece) → pairPieces domain before i pairs ≡ good ps → Close D R pairs (map keptPair pairs)
+stored-close domain before i [] ps e = tt
+stored-close domain before i (p ∷ pairs) ps e =
+    let g = pairs-planned domain before i p pairs ps e in
+    let coded = codes-planned i p (g .codes) (g .first .coded) in (
+      stored-near 16 (pos 0) D false i (p .point) (g .codes .point) (lit< tt) (coded .point),
+      stored-near 21 leastDeviation R false i (p .deviation) (g .codes .deviation) (lit< tt) (coded .deviation),
+      stored-close domain (some (g .codes)) (suc i) pairs (g .rest) (g .others),
     )
 
 -- The points lent rise strictly, and so do those that are read back.
@@ -111,15 +99,17 @@ pub record Risen (pairs : List Pair) : Type 0 where
   pub lent : Rises pairs
   pub kept : Rises (map keptPair pairs)
 
-pub stored-rises : (before : Option Codes) (i : ℕ) (pairs : List Pair) (ps : List Piece) → pairPieces before i pairs ≡ good ps → Risen pairs
-stored-rises before i [] ps e = record { lent = tt; kept = tt }
-stored-rises before i (p ∷ []) ps e = record { lent = tt; kept = tt }
-stored-rises before i (p ∷ r ∷ pairs) ps e =
-    let g = pairs-in before i p (r ∷ pairs) ps e in
-    let h = pairs-in (some (g .codes)) (suc i) r pairs (g .pieces) (g .rest) in
-    let k = stored-rises (some (g .codes)) (suc i) (r ∷ pairs) (g .pieces) (g .rest) in
-    let risen = follows-rises (g .codes) (suc i) (h .codes) (h .coded .follows) in
+pub stored-rises : (domain : Domain) (before : Option Codes) (i : ℕ) (pairs : List Pair) (ps : List Piece) → pairPieces domain before i pairs ≡ good ps → Risen pairs
+stored-rises domain before i [] ps e = record { lent = tt; kept = tt }
+stored-rises domain before i (p ∷ []) ps e = record { lent = tt; kept = tt }
+stored-rises domain before i (p ∷ r ∷ pairs) ps e =
+    let g = pairs-planned domain before i p (r ∷ pairs) ps e in
+    let h = pairs-planned domain (some (g .codes)) (suc i) r pairs (g .rest) (g .others) in
+    let k = stored-rises domain (some (g .codes)) (suc i) (r ∷ pairs) (g .rest) (g .others) in
+    let first = codes-planned i p (g .codes) (g .first .coded) .point in
+    let second = codes-planned (suc i) r (h .codes) (h .first .coded) .point in
+    let risen = follows-rises domain (g .codes) (suc i) (h .codes) (h .first .follows) in
     record {
-      lent = (lent-rises 16 (pos 0) D false i (suc i) (p .point) (r .point) (g .codes .point) (h .codes .point) (lit< tt) (g .coded .point) (h .coded .point) risen, k .lent);
-      kept = (kept-rises 16 (pos 0) D false i (suc i) (p .point) (r .point) (g .codes .point) (h .codes .point) (lit< tt) (g .coded .point) (h .coded .point) risen, k .kept);
+      lent = (lent-rises 16 (pos 0) D false i (suc i) (p .point) (r .point) (g .codes .point) (h .codes .point) (lit< tt) first second risen, k .lent);
+      kept = (kept-rises 16 (pos 0) D false i (suc i) (p .point) (r .point) (g .codes .point) (h .codes .point) (lit< tt) first second risen, k .kept);
     }

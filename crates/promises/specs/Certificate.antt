@@ -1,11 +1,13 @@
 -- Demand 3, the certificate distance: one claim from the points lent to the q returned.
 use mathlib.Core.Path.{_≡_}
-use mathlib.Core.List.{List}
+use mathlib.Core.List.{List, [], _∷_}
 use Prim.Native.Nat.{ℕ}
 use lib.IntN.{ℤ, pos, natAbs, _-ℤ_, _*ℤ_}
 use Rattle.integers.specs.Nearest.{Fraction}
 use Rattle.refusal.specs.Outcome.{Outcome, good, refused}
 use Rattle.fields.specs.declared.Value.{Value}
+use Rattle.fields.specs.declared.Domain.{Domain}
+use Rattle.fields.specs.declared.Domain.the-variants.{Electrical, Physical}
 use Rattle.fields.specs.Calibration.{D, R}
 use Rattle.fields.specs.Figure.{billion}
 use Rattle.sheet.specs.Check.{readField}
@@ -34,14 +36,20 @@ greatestIn kind image = whole (readField kind image 11)
 abbrev pub lineFor : List ℤ → ℤ → ℤ → ℤ → Fraction
 lineFor points v e f = certificateLine (pairsLent points) ((v -ℤ e) *ℤ pos billion) (natAbs (f -ℤ e))
 
+-- The distance is for domain 0, and for an empty list, which has none.
+abbrev pub Straight : Domain → List ℤ → Type 0
+Straight domain [] = Unit {0}
+Straight Electrical (x ∷ points) = Unit {0}
+Straight Physical (x ∷ points) = ⊥
+
 -- Whatever the points, fields, kind of chip, buffer and input: if the build is accepted and, after any list of one-field changes and commits,
 -- accepted or refused, a reading of that image is accepted, then q lies within the distance of the certificate line.
 abbrev pub CertificateDistance : Type 0
 CertificateDistance =
-    (kind : ℕ) (buffer : List ℕ) (sheet : Sheet) (text : List ℕ) (points : List ℤ) (built : List ℕ) →
+    (kind : ℕ) (buffer : List ℕ) (sheet : Sheet) (text : List ℕ) (domain : Domain) (points : List ℤ) (built : List ℕ) →
     (alterations : List Alteration) (readingKind : ℕ) (v : ℤ) (r : Reading) (K : ℕ) →
-    Lendable sheet → RealAlterations alterations →
-    build kind buffer sheet text points ≡ good built →
+    Lendable sheet → RealAlterations alterations → Straight domain points →
+    build kind buffer sheet text domain points ≡ good built →
     let image = altered built alterations in
     takeReading readingKind image v ≡ good r →
     Slopes K (pairsLent points) →

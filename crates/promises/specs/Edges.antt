@@ -16,6 +16,8 @@ use Rattle.fields.specs.declared.Value.{Value}
 use Rattle.fields.specs.declared.Value.the-variants.{Whole, Single, Missing}
 use Rattle.fields.specs.declared.Row.{Row}
 use Rattle.fields.specs.declared.Level.the-variants.{CalibrationRoom, Maker}
+use Rattle.fields.specs.declared.Domain.{Domain}
+use Rattle.fields.specs.declared.Domain.the-variants.{Electrical, Physical}
 use Rattle.fields.specs.declared.Rule.the-variants.{Stepped}
 use Rattle.fields.specs.declared.Template.the-variants.{Bridge, Resistance}
 use Rattle.fields.specs.Rules.{Progression, decode, encode, geometricValue}
@@ -74,8 +76,8 @@ pub data Case : Type 0 where
   placed : ℤ → ℤ → ℤ → ℤ → Case
   -- Points by turns, a place and the deviation there.
   deviates : List ℤ → ℤ → ℤ → Case
-  -- A kind and its image's length, a sheet, points, alterations, v and q: built, altered and read.
-  reads : ℕ → ℕ → Sheet → List ℤ → List Alteration → ℤ → ℤ → Case
+  -- A kind and its image's length, a sheet, a domain, points, alterations, v and q: built, altered and read.
+  reads : ℕ → ℕ → Sheet → Domain → List ℤ → List Alteration → ℤ → ℤ → Case
   -- A kind and its image's length, a sheet, v and a refusal: built, and its reading turned down.
   unread : ℕ → ℕ → Sheet → ℤ → Refusal → Case
 
@@ -88,9 +90,9 @@ Holds (scaled progression code value) = geometricValue progression code ≡ valu
 Holds (dated code year month day) = dateOf code ≡ record { year = year; month = month; day = day }
 Holds (placed e f v p) = position v e f ≡ p
 Holds (deviates points p d) = deviation (pairsLent points) p ≡ d
-Holds (reads kind bytes sheet points alterations v q) =
-    (build kind (replicate bytes 0) sheet [] points >>= λ image. takeReading kind (altered image alterations) v >>= λ r. good (r .fraction)) ≡ good q
-Holds (unread kind bytes sheet v r) = (build kind (replicate bytes 0) sheet [] [] >>= λ image. takeReading kind image v) ≡ refused r
+Holds (reads kind bytes sheet domain points alterations v q) =
+    (build kind (replicate bytes 0) sheet [] domain points >>= λ image. takeReading kind (altered image alterations) v >>= λ r. good (r .fraction)) ≡ good q
+Holds (unread kind bytes sheet v r) = (build kind (replicate bytes 0) sheet [] Electrical [] >>= λ image. takeReading kind image v) ≡ refused r
 
 -- The cases that document 01 stars.
 abbrev pub starred : List Case
@@ -153,18 +155,25 @@ above = Single (ofBits binary32 0x3a80_0000)
 abbrev pub other : Value
 other = Single (ofBits binary32 0x3b03_126f)
 
--- Demand 3 can be met: a build, changes or commits and an accepted reading for each kind, at each precision that it has room for.
+-- The deviation falls by half of the physical figure.
+abbrev pub halved : List ℤ
+halved = pos 0 ∷ pos 0 ∷ pos 306_000 ∷ negℤ (pos 153_000) ∷ []
+
+-- Demand 3 and the crossing can be met: a build, changes or commits and an accepted reading for each kind, at each precision that it has room for,
+-- and in domain 1.
 abbrev pub met : List Case
 met =
-    reads 0 40 (sheetAt 0 (pos 0) (pos 2_000_000)) [] (twoChanges 0 (pos 3_000_000)) (pos 1_000_000) (pos 333_333_333) ∷
-    reads 0 40 (sheetAt 0 (pos 0) (pos 2_000_000)) [] (twoCommits 0) (pos 1_000_000) (pos 333_333_333) ∷
-    reads 0 40 (sheetAt 1 (pos 0) (pos 2_000_000)) [] (twoChanges 0 (pos 3_000_000)) (pos 2_000_000) (pos 666_666_667) ∷
-    reads 1 128 (sheetAt 0 (pos 0) (pos 2_000_000)) (pos 0 ∷ pos 5_000 ∷ []) (twoChanges 1 (pos 3_000_000)) (pos 1_000_000) (pos 333_338_333) ∷
-    reads 1 128 (sheetAt 1 (pos 0) (pos 2_000_000)) (pos 0 ∷ pos 5_000 ∷ []) (twoChanges 1 (pos 3_000_000)) (pos 1_000_000) (pos 333_338_333) ∷
-    reads 2 512 (sheetAt 0 (pos 0) (pos 2_000_000)) (pos 0 ∷ pos 5_000 ∷ []) (twoChanges 2 (pos 3_000_000)) (pos 1_000_000) (pos 333_338_333) ∷
-    reads 2 512 (sheetAt 1 (pos 0) (pos 2_000_000)) steep (twoChanges 2 (pos 3_000_000)) (pos 61) (negℤ (pos 28_997)) ∷
-    reads 1 128 (sheetWith 2 below other) [] (changedTo 1 above) (pos 0) (pos 499_999_744) ∷
-    reads 2 512 (sheetWith 2 below above) (pos 0 ∷ pos 5_000 ∷ []) (changedTo 2 other) (pos 1_000_000) (pos 664_046_938) ∷
+    reads 0 40 (sheetAt 0 (pos 0) (pos 2_000_000)) Electrical [] (twoChanges 0 (pos 3_000_000)) (pos 1_000_000) (pos 333_333_333) ∷
+    reads 0 40 (sheetAt 0 (pos 0) (pos 2_000_000)) Electrical [] (twoCommits 0) (pos 1_000_000) (pos 333_333_333) ∷
+    reads 0 40 (sheetAt 1 (pos 0) (pos 2_000_000)) Electrical [] (twoChanges 0 (pos 3_000_000)) (pos 2_000_000) (pos 666_666_667) ∷
+    reads 1 128 (sheetAt 0 (pos 0) (pos 2_000_000)) Electrical (pos 0 ∷ pos 5_000 ∷ []) (twoChanges 1 (pos 3_000_000)) (pos 1_000_000) (pos 333_338_333) ∷
+    reads 1 128 (sheetAt 1 (pos 0) (pos 2_000_000)) Electrical (pos 0 ∷ pos 5_000 ∷ []) (twoChanges 1 (pos 3_000_000)) (pos 1_000_000) (pos 333_338_333) ∷
+    reads 2 512 (sheetAt 0 (pos 0) (pos 2_000_000)) Electrical (pos 0 ∷ pos 5_000 ∷ []) (twoChanges 2 (pos 3_000_000)) (pos 1_000_000) (pos 333_338_333) ∷
+    reads 2 512 (sheetAt 1 (pos 0) (pos 2_000_000)) Electrical steep (twoChanges 2 (pos 3_000_000)) (pos 61) (negℤ (pos 28_997)) ∷
+    reads 1 128 (sheetWith 2 below other) Electrical [] (changedTo 1 above) (pos 0) (pos 499_999_744) ∷
+    reads 2 512 (sheetWith 2 below above) Electrical (pos 0 ∷ pos 5_000 ∷ []) (changedTo 2 other) (pos 1_000_000) (pos 664_046_938) ∷
+    reads 0 40 (sheetAt 0 (pos 0) (pos 2_000_000)) Physical [] (twoChanges 0 (pos 3_000_000)) (pos 1_000_000) (pos 333_333_333) ∷
+    reads 1 128 (sheetAt 0 (pos 0) (pos 2_000_000)) Physical halved (twoChanges 1 (pos 3_000_000)) (pos 300) (pos 200_000) ∷
     []
 
 -- Document 02, Note 7: a sheet of template 32 is built, at each precision but the Singles', and no reading is taken from it.

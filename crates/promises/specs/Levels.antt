@@ -9,6 +9,7 @@ use Rattle.refusal.specs.Outcome.{Outcome, good, refused, _>>_, _>>=_, refuse_i
 use Rattle.refusal.specs.Written.{afterwards}
 use Rattle.refusal.specs.Rows.{changedAlone, levelTooLow}
 use Rattle.fields.specs.declared.Value.{Value}
+use Rattle.fields.specs.declared.Domain.{Domain}
 use Rattle.fields.specs.declared.Level.{Level}
 use Rattle.fields.specs.declared.Level.the-variants.{Owner, CalibrationRoom, Maker}
 use Rattle.fields.specs.declared.Template.{Template}
@@ -90,5 +91,5 @@ atLevel level sheet = record { template = sheet .template; fields = sheet .field
 -- A build tests no level and stores none: at every level its outcome is the same.
 abbrev pub BuildAsksNoLevel : Type 0
 BuildAsksNoLevel =
-    (level : Level) (kind : ℕ) (buffer : List ℕ) (sheet : Sheet) (text : List ℕ) (points : List ℤ) →
-    build kind buffer (atLevel level sheet) text points ≡ build kind buffer sheet text points
+    (level : Level) (kind : ℕ) (buffer : List ℕ) (sheet : Sheet) (text : List ℕ) (domain : Domain) (points : List ℤ) →
+    build kind buffer (atLevel level sheet) text domain points ≡ build kind buffer sheet text domain points

@@ -9,6 +9,7 @@ pub mod Levels
 pub mod Index
 pub mod Readings
 pub mod Certificate
+pub mod Crossing
 pub mod Calls
 pub mod Edges
 pub mod Attained

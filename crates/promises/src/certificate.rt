@@ -2,6 +2,7 @@
 use crate::Answers;
 use crate::Change;
 use build::Sheet;
+use fields::Domain;
 ghost use Rattle.promises.specs.Calls.{Answered};
 
 // Builds an image in the caller's buffer, makes two changes and takes a reading of it, whatever each call before it answered:
@@ -11,16 +12,17 @@ pub fn points_to_reading(
     image: &mut [u8],
     sheet: Sheet,
     text: &[u8],
+    domain: Domain,
     points: &[i64],
     first: Change,
     second: Change,
     reading_kind: u8,
     input: i64,
 ) -> Answers
-    ensures { λ r. ⌜ Answered kind (now (image .entry)) sheet (now (text .entry)) (now (points .entry))
+    ensures { λ r. ⌜ Answered kind (now (image .entry)) sheet (now (text .entry)) domain (now (points .entry))
         first second «reading_kind» input (now (image .exit)) r ⌝ }
 {
-    let built = build::build(kind, image, sheet, text, points);
+    let built = build::build(kind, image, sheet, text, domain, points);
     let first_value = first.value;
     let first_level = first.level;
     let first_answer = change::change(first.kind, image, first_level, first.field, first_value);

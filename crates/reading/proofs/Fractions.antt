@@ -1,48 +1,110 @@
--- The fraction q = p + deviation, as calls give it: it fits, and with the figure it is the reading.
-use mathlib.Core.Path.{_≡_, ap, ap₂, _∙_}
-use mathlib.Core.Bool.{false}
-use mathlib.Core.List.{List}
-use Prim.Native.Nat.{ℕ, _^_, _≤_}
+-- The fraction q, as calls give it: it goes by the pairs before a position, it is small, and with the figure it is the reading.
+use mathlib.Core.Path.{_≡_, refl}
+use mathlib.Core.List.{List, [], _∷_, map}
+use mathlib.Core.Option.{none}
+use Prim.Native.Nat.{ℕ, _+_, _^_, _≤_, _<_}
 use native.Mathlib.Omega.{arith}
 use lib.IntN.{ℤ, natAbs, _+ℤ_}
+use lib.ListN.{length, getD}
 use lib.Ieee.{Float}
 use mir.Syntax.{w64}
 use mir.Val.{SFits, toZ, ofZ}
 use mir.Facts.{toZ-ofZ}
 use Rattle.integers.proofs.PartLaws.{add-parts, abs-parts}
-use Rattle.integers.proofs.Bridge.{parts-fit}
 use Rattle.fields.specs.declared.Pair.{Pair}
+use Rattle.fields.specs.declared.Domain.{Domain}
+use Rattle.fields.specs.declared.Domain.the-variants.{Electrical, Physical}
+use Rattle.fields.specs.Calibration.{noPair}
 use Rattle.fields.specs.Figure.{floatFraction, physicalFigure}
-use Rattle.line.specs.Line.{deviation}
+use Rattle.layout.specs.Contents.{Calibration, bare, table, Contents}
+use Rattle.layout.specs.Image.{pairIn, pairsIn}
+use Rattle.layout.proofs.Calibrations.{CalibrationAt}
+use Rattle.line.specs.Before.{Before}
+use Rattle.line.specs.Line.{correctionAfter, deviation}
+use Rattle.line.specs.Crossing.{crossingAfter, crossing}
 use Rattle.line.specs.Ranges.{Table}
 use Rattle.line.proofs.Distances.{near-abs}
-use Rattle.line.proofs.Sizes.{deviation-small}
-use Rattle.reading.specs.declared.Reading.{Reading}
+use Rattle.line.proofs.Sizes.{deviation-small, crossing-small}
+use Rattle.line.proofs.Places.{Pieced, first-piece, last-piece, next-piece, rounded, deviation-pieced, crossing-pieced, none-deviates, none-crosses}
+use Rattle.sheet.specs.declared.TableDomain.the-variants.{NoTable, Is}
+use Rattle.sheet.specs.declared.opening.Opened.{Opened}
+use Rattle.sheet.specs.Check.{domainIn}
+use Rattle.sheet.specs.Opened.{Opens}
+use Rattle.sheet.proofs.HeldLaws.{holding}
 use Rattle.reading.specs.declared.span.Span.{Span}
-use Rattle.reading.specs.Reading.{tooFar, position, fraction, readingAt}
-use Rattle.reading.specs.Steps.{Ready}
-use Rattle.reading.proofs.Positions.{position-small}
+use Rattle.reading.specs.Reading.{position, fractionBy, fraction, readingAt}
+use Rattle.reading.specs.Steps.{figureIn, heldIn, betweenIn}
+use Rattle.reading.proofs.Opening.{RisesIn, pairs-table, pairs-rise}
+
+-- ---- by the pairs before a position
+
+abbrev afterIn : Domain → ℤ → Pair → List Pair → ℤ
+afterIn Electrical p a pairs = p +ℤ rounded (correctionAfter p 1 a pairs)
+afterIn Physical p a pairs = crossingAfter p a pairs
+
+fraction-pieced : (domain : Domain) (p : ℤ) → Pieced (figureIn domain) p (heldIn domain p) (betweenIn domain p) (afterIn domain p) (λ pairs. fractionBy domain pairs p)
+fraction-pieced Electrical p = deviation-pieced p
+fraction-pieced Physical p = crossing-pieced p
+
+-- Without any it is p.
+pub none-shows : (domain : Domain) (p : ℤ) (pairs : List Pair) → length pairs ≡ 0 → p ≡ fractionBy domain pairs p
+none-shows Electrical p [] e = none-deviates p
+none-shows Physical p [] e = none-crosses p
+none-shows domain p (a ∷ pairs) e = absurd (omega arith)
+
+-- Pair i, v, is the last of the n before p, and q is the next.
+module _ (domain : Domain) (p : ℤ) (pairs : List Pair) where
+  pub first-shows : Before (figureIn domain) pairs p 0 → 0 < length pairs → (v : Pair) → v ≡ getD pairs 0 noPair → heldIn domain p v ≡ fractionBy domain pairs p
+  first-shows = first-piece (figureIn domain) p _ _ _ _ (fraction-pieced domain p) pairs
+
+  module _ (r : RisesIn domain pairs) (i n : ℕ) (e : n ≡ i + 1) (b : Before (figureIn domain) pairs p n) (v : Pair) (ev : v ≡ getD pairs i noPair) where
+    pub last-shows : n ≡ length pairs → heldIn domain p v ≡ fractionBy domain pairs p
+    last-shows = last-piece (figureIn domain) p _ _ _ _ (fraction-pieced domain p) pairs r i n e b v ev
+
+    pub next-shows : n < length pairs → (q : Pair) → q ≡ getD pairs n noPair → betweenIn domain p v q ≡ fractionBy domain pairs p
+    next-shows = next-piece (figureIn domain) p _ _ _ _ (fraction-pieced domain p) pairs r i n e b v ev
+
+-- ---- of a calibration
+
+pub table-shows : (k : Calibration) (domain : Domain) (p : ℤ) → domainIn k ≡ Is domain → fractionBy domain (map pairIn (pairsIn k)) p ≡ fraction k p
+table-shows bare domain p e = absurd (let z : _≡_ {A = ℕ} 0 1 = cc in omega arith)
+table-shows (table found pairs) domain p e = let same : domain ≡ found = cc in rw same
+
+pub no-table-shows : (k : Calibration) (p : ℤ) → domainIn k ≡ NoTable → p ≡ fraction k p
+no-table-shows bare p e = refl
+no-table-shows (table found pairs) p e = absurd (let z : _≡_ {A = ℕ} 0 1 = cc in omega arith)
+
+-- Where the table is not of the other domain, a calibration has one of the two.
+pub by-deviation : (k : Calibration) (p : ℤ) → (domainIn k ≡ Is Physical → ⊥) → fraction k p ≡ p +ℤ deviation (map pairIn (pairsIn k)) p
+by-deviation bare p h = none-deviates p
+by-deviation (table Electrical pairs) p h = refl
+by-deviation (table Physical pairs) p h = absurd (h refl)
+
+pub by-crossing : (k : Calibration) (p : ℤ) → (domainIn k ≡ Is Electrical → ⊥) → fraction k p ≡ crossing (map pairIn (pairsIn k)) p
+by-crossing bare p h = none-crosses p
+by-crossing (table Electrical pairs) p h = absurd (h refl)
+by-crossing (table Physical pairs) p h = refl
+
+-- ---- small
 
 sum-small : (p d : ℤ) → natAbs p ≤ 2 ^ 31 → natAbs d ≤ 2 ^ 32 → natAbs (p +ℤ d) ≤ 2 ^ 33
 sum-small p d hp hd = omega (arith, near-abs {b = 2 ^ 33} 1 (p +ℤ d) (omega (arith, add-parts p d, abs-parts p, abs-parts d)))
 
-pub small-fits : (q : ℤ) → natAbs q ≤ 2 ^ 33 → SFits w64 q
-small-fits q h = parts-fit (omega (arith, abs-parts q)) (omega (arith, abs-parts q))
+by-small : (domain : Domain) (pairs : List Pair) (p : ℤ) → Table pairs → RisesIn domain pairs → natAbs p ≤ 2 ^ 31 → natAbs (fractionBy domain pairs p) ≤ 2 ^ 33
+by-small Electrical pairs p t r h = sum-small p (deviation pairs p) h (deviation-small pairs p t)
+by-small Physical pairs p t r h = crossing-small pairs p t r h
 
-module _ (pairs : List Pair) (s : Span) (v : ℤ) where
-  abbrev p : ℤ
-  p = position v (s .least) (s .greatest)
+pub fraction-small : {kind : ℕ} {image : List ℕ} {o : Opened} {c : Contents} → Opens kind image o c → (p : ℤ) → natAbs p ≤ 2 ^ 31 → natAbs (fraction (c .calibration) p) ≤ 2 ^ 33
+fraction-small {c = c} h p small = go _ (c .calibration) (holding h .formed .calibrated)
+  where
+    go : (at : ℕ) (k : Calibration) → CalibrationAt at k → natAbs (fraction k p) ≤ 2 ^ 33
+    go at bare l = omega arith
+    go at (table domain pairs) l = by-small domain (map pairIn pairs) p (pairs-table domain none _ pairs (l .stand)) (pairs-rise domain none _ pairs (l .stand)) small
 
-  pub fraction-small : Table pairs → Ready s → tooFar v (s .least) (s .greatest) ≡ false → natAbs (fraction pairs p) ≤ 2 ^ 33
-  fraction-small t r near = sum-small p (deviation pairs p) (position-small v r near) (deviation-small pairs p t)
+-- ---- the reading
 
-  pub fraction-is : {z d : ℤ} → SFits w64 v → SFits w64 z → SFits w64 d → z ≡ position (toZ w64 (ofZ w64 v)) (s .least) (s .greatest) → d ≡ deviation pairs (toZ w64 (ofZ w64 z)) →
-      toZ w64 (ofZ w64 z) +ℤ toZ w64 (ofZ w64 d) ≡ fraction pairs p
-  fraction-is {z} fv fz fd hz hd =
-      let at : toZ w64 (ofZ w64 z) ≡ p = toZ-ofZ fz ∙ hz ∙ ap (λ (y : ℤ). position y (s .least) (s .greatest)) (toZ-ofZ fv) in
-      ap₂ _+ℤ_ at (toZ-ofZ fd ∙ hd ∙ ap (deviation pairs) at)
-
-  pub reading-made : {q : ℤ} {x y : Float} → SFits w64 q → q ≡ fraction pairs p → y ≡ floatFraction (toZ w64 (ofZ w64 q)) → x ≡ physicalFigure (s .low) (s .high) y →
-      record { fraction = toZ w64 (ofZ w64 q); figure = x } ≡ readingAt pairs s v
-  unfolding readingAt
-  reading-made f e hy hx = rw (hx, hy, toZ-ofZ f, e)
+pub reading-made : (k : Calibration) (s : Span) (v : ℤ) {q : ℤ} {x y : Float} → SFits w64 q → q ≡ fraction k (position v (s .least) (s .greatest)) →
+    y ≡ floatFraction (toZ w64 (ofZ w64 q)) → x ≡ physicalFigure (s .low) (s .high) y →
+    record { fraction = toZ w64 (ofZ w64 q); figure = x } ≡ readingAt k s v
+unfolding readingAt
+reading-made k s v f e hy hx = rw (hx, hy, toZ-ofZ f, e)

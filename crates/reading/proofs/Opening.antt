@@ -1,5 +1,5 @@
 -- What an opened sheet holds: the sorts and sizes of the values that a reading is taken from.
-use mathlib.Core.Path.{_≡_, refl, ap, _∙_, subst}
+use mathlib.Core.Path.{_≡_, refl, sym, ap, ap₂, _∙_, subst}
 use mathlib.Core.Bool.{Bool, true, false, not, _&&_, cond, true≢false}
 use mathlib.Core.List.{List, [], _∷_, map}
 use mathlib.Core.Option.{Option, none, some}
@@ -8,8 +8,9 @@ use native.Mathlib.Nat.{mul-le-mul-left}
 use native.Mathlib.Omega.{arith}
 use borrow.Author.Tests.{not-false}
 use lib.Dec.{T, eqb, ltb}
-use lib.IntN.{ℤ, pos, natAbs}
+use lib.IntN.{ℤ, pos, natAbs, _+ℤ_}
 use lib.Ieee.{binary32, ofBits, isNan}
+use lib.ListN.{getD}
 use lib.Signed.{_<ℤ_}
 use Rattle.integers.proofs.PartLaws.{add-parts, abs-parts, parts-≤ℤ, parts-<ℤ}
 use Rattle.refusal.specs.Outcome.{good}
@@ -22,27 +23,36 @@ use Rattle.fields.specs.declared.Row.{Row}
 use Rattle.fields.specs.declared.Template.{Template}
 use Rattle.fields.specs.declared.Template.the-variants.{Bridge, Resistance}
 use Rattle.fields.specs.declared.Codes.{Codes}
+use Rattle.fields.specs.declared.Pair.{Pair}
+use Rattle.fields.specs.declared.Domain.{Domain}
+use Rattle.fields.specs.declared.Domain.the-variants.{Electrical, Physical}
 use Rattle.fields.specs.Rules.{allOnes, topCode, steppedValue, finite, meaning, decode}
 use Rattle.fields.specs.Rows.{bridgeEnd}
 use Rattle.fields.specs.Lines.{Line, lineOf}
-use Rattle.fields.specs.Calibration.{D, calPoint}
+use Rattle.fields.specs.Calibration.{noPair, D, R, leastDeviation, calPoint, calDeviation, storedSum}
 use Rattle.fields.proofs.TemplateFacts.{span-listed, span-lines}
 use Rattle.fields.proofs.FloatLaws.{no-nan}
 use Rattle.fields.proofs.SingleLaws.{nanovolts-within}
 use Rattle.fields.proofs.RuleLaws.{stepped-whole}
-use Rattle.fields.proofs.CalibrationLaws.{follows-rises}
+use Rattle.fields.proofs.CalibrationLaws.{follows-rises, follows-climbs}
 use Rattle.layout.specs.Contents.{Found, FoundPair, Calibration, bare, table, Contents, codesIn}
 use Rattle.layout.specs.Image.{figure, field, layoutOf, pairsIn, pairIn, points}
 use Rattle.layout.specs.Places.{fieldPlace}
 use Rattle.layout.proofs.Fields.{FieldAt}
 use Rattle.layout.proofs.Calibrations.{PairAt, PairsAt, CalibrationAt}
 use Rattle.layout.proofs.Places.{field-at}
+use Rattle.line.specs.Certificate.{Neighbours}
+use Rattle.line.specs.Crossing.{sum, SumsRise}
 use Rattle.line.specs.Ranges.{Figures, Table}
 use Rattle.line.proofs.Distances.{near-abs}
+use Rattle.line.proofs.Places.{figures-at}
+use Rattle.sheet.specs.declared.TableDomain.the-variants.{Is}
 use Rattle.sheet.specs.declared.opening.Opened.{Opened}
+use Rattle.sheet.specs.Check.{domainIn}
 use Rattle.sheet.specs.Opened.{Opens}
-use Rattle.sheet.proofs.HeldLaws.{holding}
+use Rattle.sheet.proofs.HeldLaws.{points-are, holding, domain-is}
 use Rattle.reading.specs.Reading.{isResistance, electricalFigure, float, isMissing, isOutside}
+use Rattle.reading.specs.Steps.{figureIn}
 
 -- ---- the sorts
 
@@ -113,20 +123,23 @@ module _ {row : Row} {at : ℕ} {x : Found} (h : FieldAt row at x) where
 point-is : {at : ℕ} {x : Found} → FieldAt calPoint at x → figure (x .value) ≡ steppedValue (pos 0) D (x .code)
 point-is {at} {x} h = ap figure (stepped-whole 16 (pos 0) D at (x .code) (x .value) (h .means))
 
-figures-at : {before : Option Codes} {at : ℕ} {p : FoundPair} → PairAt before at p → Figures (pairIn p)
-figures-at {p = p} h =
+deviation-is : {at : ℕ} {x : Found} → FieldAt calDeviation at x → figure (x .value) ≡ steppedValue leastDeviation R (x .code)
+deviation-is {at} {x} h = ap figure (stepped-whole 21 leastDeviation R at (x .code) (x .value) (h .means))
+
+pair-figures : {domain : Domain} {before : Option Codes} {at : ℕ} {p : FoundPair} → PairAt domain before at p → Figures (pairIn p)
+pair-figures {p = p} h =
     record {
       least = parts-≤ℤ (pos 0) (figure (p .point .value)) (rw (point-is (h .point)) (omega (arith, add-parts (pos 0) (pos (D * p .point .code)))));
       point = figured-small (p .point .value) (figured (h .point) (2 ^ 30) refl (omega arith));
       deviation = figured-small (p .deviation .value) (figured (h .deviation) (2 ^ 32) refl (omega arith));
     }
 
-pairs-table : (before : Option Codes) (at : ℕ) (pairs : List FoundPair) → PairsAt before at pairs → Table (map pairIn pairs)
-pairs-table before at [] h = record { rises = tt; figures = tt }
-pairs-table before at (p ∷ []) h = record { rises = tt; figures = (figures-at (h .0), tt) }
-pairs-table before at (p ∷ r ∷ pairs) h =
-    let t = pairs-table (some (codesIn p)) (at + 37) (r ∷ pairs) (h .1) in
-    record { rises = (rises, t .rises); figures = (figures-at (h .0), t .figures) }
+pub pairs-table : (domain : Domain) (before : Option Codes) (at : ℕ) (pairs : List FoundPair) → PairsAt domain before at pairs → Table (map pairIn pairs)
+pairs-table domain before at [] h = record { rises = tt; figures = tt }
+pairs-table domain before at (p ∷ []) h = record { rises = tt; figures = (pair-figures (h .0), tt) }
+pairs-table domain before at (p ∷ r ∷ pairs) h =
+    let t = pairs-table domain (some (codesIn p)) (at + 37) (r ∷ pairs) (h .1) in
+    record { rises = (rises, t .rises); figures = (pair-figures (h .0), t .figures) }
   where
     rises : figure (p .point .value) <ℤ figure (r .point .value)
     rises =
@@ -135,12 +148,36 @@ pairs-table before at (p ∷ r ∷ pairs) h =
           arith,
           add-parts (pos 0) (pos (D * p .point .code)),
           add-parts (pos 0) (pos (D * r .point .code)),
-          follows-rises (codesIn p) _ (codesIn r) (h .1 .0 .follows),
+          follows-rises domain (codesIn p) _ (codesIn r) (h .1 .0 .follows),
         )))
 
-calibration-table : (at : ℕ) (c : Calibration) → CalibrationAt at c → Table (map pairIn (pairsIn c))
-calibration-table at bare h = pairs-table none at [] tt
-calibration-table at (table pairs) h = pairs-table none (at + 18) pairs (h .stand)
+pub calibration-table : (at : ℕ) (c : Calibration) → CalibrationAt at c → Table (map pairIn (pairsIn c))
+calibration-table at bare h = record { rises = tt; figures = tt }
+calibration-table at (table domain pairs) h = pairs-table domain none (at + 18) pairs (h .stand)
+
+-- In domain 1 their sums rise.
+sum-is : {domain : Domain} {before : Option Codes} {at : ℕ} {p : FoundPair} → PairAt domain before at p → sum (pairIn p) ≡ storedSum (codesIn p)
+sum-is h = ap₂ _+ℤ_ (point-is (h .point)) (deviation-is (h .deviation))
+
+pairs-sums : (before : Option Codes) (at : ℕ) (pairs : List FoundPair) → PairsAt Physical before at pairs → SumsRise (map pairIn pairs)
+pairs-sums before at [] h = tt
+pairs-sums before at (p ∷ []) h = tt
+pairs-sums before at (p ∷ r ∷ pairs) h =
+    (rw (sum-is (h .0), sum-is (h .1 .0)) (follows-climbs (codesIn p) _ (codesIn r) (h .1 .0 .follows)), pairs-sums (some (codesIn p)) (at + 37) (r ∷ pairs) (h .1))
+
+-- What a position is held against rises.
+abbrev pub RisesIn : Domain → List Pair → Type 0
+RisesIn domain = Neighbours (λ a b. figureIn domain a <ℤ figureIn domain b)
+
+pub pairs-rise : (domain : Domain) (before : Option Codes) (at : ℕ) (pairs : List FoundPair) → PairsAt domain before at pairs → RisesIn domain (map pairIn pairs)
+pairs-rise Electrical before at pairs h = pairs-table Electrical before at pairs h .rises
+pairs-rise Physical before at pairs h = pairs-sums before at pairs h
+
+pub calibration-rises : (at : ℕ) (c : Calibration) (domain : Domain) → CalibrationAt at c → domainIn c ≡ Is domain → RisesIn domain (map pairIn (pairsIn c))
+calibration-rises at bare domain h e = tt
+calibration-rises at (table found pairs) domain h e =
+    let same : found ≡ domain = cc in
+    subst (λ (d : Domain). RisesIn d (map pairIn pairs)) same (pairs-rise found none (at + 18) pairs (h .stand))
 
 -- ---- the sheet
 
@@ -152,6 +189,14 @@ end-figured (suc (suc p)) {x = x} h = floated-figured (x .value) (floated h refl
 
 pub opened-table : {kind : ℕ} {image : List ℕ} {o : Opened} {c : Contents} → Opens kind image o c → Table (points c)
 opened-table {c = c} h = calibration-table _ (c .calibration) (holding h .formed .calibrated)
+
+module _ {kind : ℕ} {image : List ℕ} {o : Opened} {c : Contents} (h : Opens kind image o c) where
+  -- Pair i.
+  pub opened-figures : {q : Pair} (i : ℕ) → q ≡ getD (points c) i noPair → i < o .summary .points → Figures q
+  opened-figures i e l = rw e (figures-at (points c) (opened-table h .figures) i (omega (arith, points-are h)))
+
+  pub opened-rises : (domain : Domain) → o .summary .domain ≡ Is domain → RisesIn domain (points c)
+  opened-rises domain e = calibration-rises _ (c .calibration) domain (holding h .formed .calibrated) (sym (domain-is h) ∙ e)
 
 -- Of template 33.
 bridge : (t : Template) → isResistance t ≡ false → t ≡ Bridge

@@ -10,7 +10,7 @@ use Rattle.refusal.specs.Outcome.{good, refused}
 use Rattle.refusal.specs.Rows.{wrongBlock, outsideSpan}
 use Rattle.refusal.proofs.Outcomes.{good-same, good-bind, passed}
 use Rattle.layout.specs.Contents.{Contents}
-use Rattle.layout.specs.Image.{contents, points}
+use Rattle.layout.specs.Image.{contents}
 use Rattle.layout.specs.Places.{firstSelector}
 use Rattle.reading.specs.declared.Reading.{Reading}
 use Rattle.reading.specs.declared.span.Span.{Span}
@@ -37,7 +37,7 @@ module _ (kind : ℕ) (image : List ℕ) (v : ℤ) where
         unfolding takeReading
         takes-far t = rw (e, b, h, t)
 
-        pub takes-shown : tooFar v (s .least) (s .greatest) ≡ false → good (readingAt (points c) s v) ≡ takeReading kind image v
+        pub takes-shown : tooFar v (s .least) (s .greatest) ≡ false → good (readingAt (c .calibration) s v) ≡ takeReading kind image v
         unfolding takeReading
         takes-shown t = rw (e, b, h, t)
 
@@ -46,7 +46,7 @@ pub record Shown (kind : ℕ) (image : List ℕ) (v : ℤ) (r : Reading) : Type 
   pub holds : Contents
   pub accepted : contents kind image ≡ good holds
   pub rises : least holds <ℤ greatest holds
-  pub shows : r .fraction ≡ fraction (points holds) (position v (least holds) (greatest holds))
+  pub shows : r .fraction ≡ fraction (holds .calibration) (position v (least holds) (greatest holds))
 
 pub shown : (kind : ℕ) (image : List ℕ) (v : ℤ) (r : Reading) → takeReading kind image v ≡ good r → Shown kind image v r
 unfolding takeReading readingAt
@@ -60,5 +60,5 @@ shown kind image v r e =
       holds = c;
       accepted = accepted;
       rises = k .rises;
-      shows = sym (ap (λ (y : Reading). y .fraction) (good-same (t .1))) ∙ ap (λ (y : Span). fraction (points c) (position v (y .least) (y .greatest))) (sym (k .is));
+      shows = sym (ap (λ (y : Reading). y .fraction) (good-same (t .1))) ∙ ap (λ (y : Span). fraction (c .calibration) (position v (y .least) (y .greatest))) (sym (k .is));
     }

@@ -1,7 +1,7 @@
--- Document 01, "Reading", and document 02, Notes 7 and 8: take a reading. Order: check, 4, 13 for a missing one, 21, 13 for e ≥ f, 14. A reading is
+-- Document 01, "Reading", and document 02, Notes 7 to 9: take a reading. Order: check, 4, 13 for a missing one, 21, 13 for e ≥ f, 14. A reading is
 -- told in its steps: the span that its fields give, the position of the input in it, the fraction, and the physical figure.
 use mathlib.Core.Bool.{Bool, true, false, _||_}
-use mathlib.Core.List.{List, [], _∷_}
+use mathlib.Core.List.{List, [], _∷_, map}
 use Prim.Native.Nat.{ℕ}
 use lib.IntN.{ℤ, pos, negℤ, natAbs, _+ℤ_, _-ℤ_, _*ℤ_}
 use lib.Signed.{leZ, ltZ}
@@ -15,12 +15,15 @@ use Rattle.fields.specs.declared.Value.the-variants.{Whole, Single, Missing}
 use Rattle.fields.specs.declared.Template.{Template}
 use Rattle.fields.specs.declared.Template.the-variants.{Bridge, Resistance}
 use Rattle.fields.specs.declared.Pair.{Pair}
+use Rattle.fields.specs.declared.Domain.{Domain}
+use Rattle.fields.specs.declared.Domain.the-variants.{Electrical, Physical}
 use Rattle.fields.specs.Figure.{billion, floatFraction, physicalFigure}
 use Rattle.fields.specs.Singles.{outsideTwo, nanovolts}
-use Rattle.layout.specs.Contents.{Contents}
-use Rattle.layout.specs.Image.{contents, field, points}
+use Rattle.layout.specs.Contents.{Calibration, bare, table, Contents}
+use Rattle.layout.specs.Image.{contents, field, pairIn}
 use Rattle.layout.specs.Places.{firstSelector}
 use Rattle.line.specs.Line.{deviation}
+use Rattle.line.specs.Crossing.{crossing}
 use Rattle.reading.specs.declared.Reading.{Reading}
 use Rattle.reading.specs.declared.ReadingAnswer.{ReadingAnswer}
 use Rattle.reading.specs.declared.ReadingAnswer.the-variants.{Shows, Refused}
@@ -91,14 +94,20 @@ tooFar v e f =
 unfoldable pub position : ℤ → ℤ → ℤ → ℤ
 position v e f = nearest ((v -ℤ e) *ℤ pos billion over natAbs (f -ℤ e))
 
--- Fraction q = p + deviation.
-abbrev pub fraction : List Pair → ℤ → ℤ
-fraction pairs p = p +ℤ deviation pairs p
+-- Fraction q = p + deviation in domain 0; in domain 1 the crossing.
+abbrev pub fractionBy : Domain → List Pair → ℤ → ℤ
+fractionBy Electrical pairs p = p +ℤ deviation pairs p
+fractionBy Physical pairs p = crossing pairs p
 
--- The reading of an input by a table: q and the physical figure together.
-unfoldable pub readingAt : List Pair → Span → ℤ → Reading
-readingAt pairs s v =
-    let q = fraction pairs (position v (s .least) (s .greatest)) in
+-- Without a table the deviation is 0, and q is p.
+abbrev pub fraction : Calibration → ℤ → ℤ
+fraction bare p = p
+fraction (table domain pairs) p = fractionBy domain (map pairIn pairs) p
+
+-- The reading of an input by a calibration: q and the physical figure together.
+unfoldable pub readingAt : Calibration → Span → ℤ → Reading
+readingAt k s v =
+    let q = fraction k (position v (s .least) (s .greatest)) in
     record { fraction = q; figure = physicalFigure (s .low) (s .high) (floatFraction q) }
 
 -- ---- the reading
@@ -109,7 +118,7 @@ takeReading kind image v = do
   refuse wrongBlock firstSelector if isResistance (c .template)
   s ← spanOf c
   refuse outsideSpan if tooFar v (s .least) (s .greatest)
-  good (readingAt (points c) s v)
+  good (readingAt (c .calibration) s v)
 
 -- ---- the answer: document 01's number and place, or q and the figure
 

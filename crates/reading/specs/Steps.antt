@@ -3,16 +3,23 @@ use mathlib.Core.Path.{_≡_}
 use mathlib.Core.Bool.{not}
 use Prim.Native.Nat.{_+_, _^_, _≤_}
 use lib.Dec.{T}
-use lib.IntN.{ℤ, pos, natAbs, _-ℤ_}
+use lib.IntN.{ℤ, pos, natAbs, _+ℤ_, _-ℤ_}
 use lib.Ieee.{isNan}
 use lib.Signed.{leZ, _<ℤ_}
 use Rattle.integers.specs.Parts.{up, dn}
+use Rattle.integers.specs.Nearest.{_over_, nearest}
 use Rattle.refusal.specs.Outcome.{Outcome, good, refused, _>>_, refuse_if_}
 use Rattle.refusal.specs.Rows.{noSpan, endOutside}
 use Rattle.fields.specs.declared.Value.{Value}
 use Rattle.reading.specs.declared.ends.Ends.{Ends}
 use Rattle.reading.specs.declared.ends.EndsAnswer.{EndsAnswer}
 use Rattle.reading.specs.declared.ends.EndsAnswer.the-variants.{Are, Refused as NoEnds}
+use Rattle.fields.specs.declared.Pair.{Pair}
+use Rattle.fields.specs.declared.Domain.{Domain}
+use Rattle.fields.specs.declared.Domain.the-variants.{Electrical, Physical}
+use Rattle.line.specs.Before.{pointOf}
+use Rattle.line.specs.Line.{between}
+use Rattle.line.specs.Crossing.{sum, crossingHeld, crossingBetween}
 use Rattle.reading.specs.declared.position.Offset.{Offset}
 use Rattle.reading.specs.declared.span.Span.{Span}
 use Rattle.reading.specs.declared.span.SpanAnswer.{SpanAnswer}
@@ -50,3 +57,16 @@ pub record Lies (v : ℤ) (s : Span) (o : Offset) : Type 0 where
   pub above : o .above ≡ up v + dn (s .least)
   pub below : o .below ≡ dn v + up (s .least)
   pub span : pos (o .span) ≡ s .greatest -ℤ s .least
+
+-- The figure of a pair that a position is held against, and the fraction where a pair's deviation holds and between neighbours, in each domain.
+abbrev pub figureIn : Domain → Pair → ℤ
+figureIn Electrical = pointOf
+figureIn Physical = sum
+
+abbrev pub heldIn : Domain → ℤ → Pair → ℤ
+heldIn Electrical p a = p +ℤ a .deviation
+heldIn Physical p a = crossingHeld p a
+
+abbrev pub betweenIn : Domain → ℤ → Pair → Pair → ℤ
+betweenIn Electrical p a b = p +ℤ nearest (between p 1 a b .num over between p 1 a b .run)
+betweenIn Physical p a b = crossingBetween p a b

@@ -1,7 +1,7 @@
-// Document 01, "Reading", and document 02, Note 7: a reading of a sender's image. `take_reading` asks nothing of its caller:
+// Document 01, "Reading", and document 02, Notes 7 to 9: a reading of a sender's image. `take_reading` asks nothing of its caller:
 // any kind, any slice, any i64. Nothing is kept between calls, and every number comes from the image that is lent.
-mod deviation; // deviation.rt: the deviation at a position
 mod ends; // ends.rt: the electrical ends of the span
+mod fraction; // fraction.rt: the fraction at a position
 mod position; // position.rt: where an input lies in the span
 mod span; // span.rt: the ends of the span
 mod taking; // taking.rt: a reading in the order of its refusals

@@ -1,7 +1,7 @@
 // A reading in the order of its refusals.
 use crate::Reading;
 use crate::ReadingAnswer;
-use crate::deviation::deviation;
+use crate::fraction::fraction;
 use crate::position::is_too_far;
 use crate::position::position;
 use crate::span::Span;
@@ -14,7 +14,6 @@ ghost use mathlib.Core.Path.{_≡_};
 ghost use mathlib.Core.Bool.{false};
 ghost use Prim.Native.Nat.{ℕ};
 ghost use Rattle.layout.specs.Contents.{Contents};
-ghost use Rattle.layout.specs.Image.{points};
 ghost use Rattle.sheet.specs.Opened.{Opens, Held};
 ghost use Rattle.reading.specs.Reading.{isResistance, tooFar, readingAt, takeReading, readingSaid};
 ghost use Rattle.reading.specs.Steps.{Ready};
@@ -22,13 +21,12 @@ ghost use Rattle.reading.specs.Steps.{Ready};
 // The first selector's bit: Basic's 64 stand before it.
 const FIRST_SELECTOR: u64 = 64;
 
-// The reading of an input that no row turns down: q = p + deviation, and the physical figure.
+// The reading of an input that no row turns down: the fraction q at its position, and the physical figure.
 fn shown(sheet: Opened, image: &[u8], span: Span, input: i64) -> Reading
     requires { ⌜ Held sheet (now image) × Ready span × (tooFar input (span .least) (span .greatest) ≡ false) ⌝ }
-    ensures { λ r. ⌜ ((kind : ℕ) (c : Contents) → Opens kind (now (image .entry)) sheet c → r ≡ readingAt (points c) span input) ⌝ }
+    ensures { λ r. ⌜ ((kind : ℕ) (c : Contents) → Opens kind (now (image .entry)) sheet c → r ≡ readingAt (c .calibration) span input) ⌝ }
 {
-    let p = position(input, span);
-    let q = p + deviation(sheet, image, p);
+    let q = fraction(sheet, image, position(input, span));
     Reading {
         fraction: q,
         figure: fields::physical_figure(span.low, span.high, fields::float_fraction(q)),

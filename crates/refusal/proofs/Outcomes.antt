@@ -1,7 +1,8 @@
 -- Outcomes: what a good one says of the tests and the calls on its way, and what the steps of one come to.
 use mathlib.Core.Path.{_≡_, refl, sym, ap, _∙_, subst}
 use mathlib.Core.Bool.{Bool, true, false, not, cond, _||_, true≢false, _&&_}
-use Prim.Native.Nat.{ℕ, _≤_}
+use mathlib.Core.Logic.{_≢_}
+use Prim.Native.Nat.{ℕ}
 use native.Mathlib.Omega.{arith}
 use Rattle.refusal.specs.declared.Refusal.{Refusal}
 use Rattle.refusal.specs.Outcome.{Outcome, good, refused, _>>=_, _>>_, refuse_if_}
@@ -73,22 +74,26 @@ pub bind-same : {A B : Type 0} (o : Outcome A) {f g : A → Outcome B} → ((a :
 bind-same (good a) h = h a
 bind-same (refused r) h = refl
 
--- Refused, if at all, with the number of one of the first seven rows.
-abbrev pub Low : {A : Type 0} → Outcome A → Type 0
-Low (good a) = Unit {0}
-Low (refused r) = r .number ≤ 7
+-- Numbers that no stream is turned down with: 15, which no row has any more, and 17, a blank chip's.
+abbrev pub Elsewhere : ℕ → Type 0
+Elsewhere n = (n ≢ 15) × (n ≢ 17)
 
-pub low-cond : {A : Type 0} (t : Bool) (o p : Outcome A) → Low o → Low p → Low (cond t o p)
-low-cond true o p h k = h
-low-cond false o p h k = k
+-- Refused, if at all, with another number.
+abbrev pub Other : {A : Type 0} → Outcome A → Type 0
+Other (good a) = Unit {0}
+Other (refused r) = Elsewhere (r .number)
 
-pub low-test : (r : Refusal) (t : Bool) → r .number ≤ 7 → Low (refuse r if t)
-low-test r true h = h
-low-test r false h = tt
+pub other-cond : {A : Type 0} (t : Bool) (o p : Outcome A) → Other o → Other p → Other (cond t o p)
+other-cond true o p h k = h
+other-cond false o p h k = k
 
-pub low-then : {B : Type 0} (r : Refusal) (t : Bool) (next : Outcome B) → r .number ≤ 7 → Low next → Low (refuse r if t >> next)
-low-then r true next h k = h
-low-then r false next h k = k
+pub other-test : (r : Refusal) (t : Bool) → Elsewhere (r .number) → Other (refuse r if t)
+other-test r true h = h
+other-test r false h = tt
 
-pub low-number : {A : Type 0} (o : Outcome A) (r : Refusal) → o ≡ refused r → Low o → r .number ≤ 7
-low-number o r e h = subst Low e h
+pub other-then : {B : Type 0} (r : Refusal) (t : Bool) (next : Outcome B) → Elsewhere (r .number) → Other next → Other (refuse r if t >> next)
+other-then r true next h k = h
+other-then r false next h k = k
+
+pub other-number : {A : Type 0} (o : Outcome A) (r : Refusal) → o ≡ refused r → Other o → Elsewhere (r .number)
+other-number o r e h = subst Other e h

@@ -21,7 +21,7 @@ pastEnd bit = returned 3 bit
 abbrev pub wrongBlock : ℕ → Refusal
 wrongBlock selectorBit = returned 4 selectorBit
 
--- 5: code outside the table; count 0; all ones in a point or deviation; domain 1.
+-- 5: code outside the table; count 0; all ones in a point or deviation.
 abbrev pub outsideTable : ℕ → Refusal
 outsideTable bit = returned 5 bit
 
@@ -84,3 +84,7 @@ levelTooLow field = returned 20 field
 -- 21 (Note 8): reading: a Single outside −2 to 2 V/V. The place is the first of 10 and 11 that is one.
 abbrev pub endOutside : ℕ → Refusal
 endOutside field = returned 21 field
+
+-- 22 (Note 9): points plus deviations not rising as stored, in domain 1. The place is as in 7.
+abbrev pub sumsNotRising : ℕ → Refusal
+sumsNotRising place = returned 22 place

@@ -17,6 +17,7 @@ pub use rows::outside_span;
 pub use rows::outside_table;
 pub use rows::past_end;
 pub use rows::short_index;
+pub use rows::sums_not_rising;
 pub use rows::too_long;
 pub use rows::wrong_block;
 pub use rows::wrong_image;
@@ -76,3 +77,5 @@ pub const OTHER_CODE: u8 = 19;
 pub const LEVEL_TOO_LOW: u8 = 20;
 
 pub const END_OUTSIDE: u8 = 21;
+
+pub const SUMS_NOT_RISING: u8 = 22;

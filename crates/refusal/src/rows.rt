@@ -21,6 +21,7 @@ ghost use Rattle.refusal.specs.Rows.{
   otherCode,
   levelTooLow,
   endOutside,
+  sumsNotRising,
 };
 use crate::Refusal;
 
@@ -208,5 +209,14 @@ pub fn end_outside(field: u64) -> Refusal
     Refusal {
         number: crate::END_OUTSIDE,
         place: field,
+    }
+}
+
+pub fn sums_not_rising(place: u64) -> Refusal
+    ensures { λ r. ⌜ r ≡ sumsNotRising place ⌝ }
+{
+    Refusal {
+        number: crate::SUMS_NOT_RISING,
+        place,
     }
 }

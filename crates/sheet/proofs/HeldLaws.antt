@@ -25,6 +25,7 @@ use Rattle.layout.proofs.Formats.{parsed}
 use Rattle.layout.proofs.Accepted.{Holding, accepted-at}
 use Rattle.layout.proofs.Standing.{field-stands, stands-parse, PairStands, pair-here, character-here}
 use Rattle.sheet.specs.declared.opening.Opened.{Opened}
+use Rattle.sheet.specs.Check.{domainIn}
 use Rattle.sheet.specs.Opened.{Opens}
 use Rattle.sheet.specs.Walk.{valueIn}
 use Rattle.sheet.proofs.PlaceSteps.{table-least}
@@ -38,6 +39,9 @@ module _ {kind : ℕ} {image : List ℕ} {o : Opened} {c : Contents} (h : Opens 
 
   pub points-are : o .summary .points ≡ length (points c)
   points-are = ap (λ u. u .summary .points) (h .is)
+
+  pub domain-is : o .summary .domain ≡ domainIn (c .calibration)
+  domain-is = ap (λ u. u .summary .domain) (h .is)
 
   pub characters-are : o .summary .characters ≡ length (c .text)
   characters-are = ap (λ u. u .summary .characters) (h .is)

@@ -32,7 +32,8 @@ use Rattle.layout.specs.Image.{streamIn}
 use Rattle.layout.proofs.Formats.{parsed, parse-bind, parse-next, parse-refused}
 use Rattle.layout.proofs.Fields.{found}
 use Rattle.sheet.specs.declared.walk.CodeStep.{CodeStep}
-use Rattle.sheet.specs.Walk.{keeping, coded, valueIn, behind, codeSaid, judgedAt}
+use Rattle.sheet.specs.declared.walk.CodeStep.the-variants.{Code}
+use Rattle.sheet.specs.Walk.{keeping, Coded, coded, valueIn, behind, codeSaid, judgedAt}
 
 -- ---- what is kept of what was found
 
@@ -158,6 +159,23 @@ module _ (z : Sizes) (image : List ℕ) (at : ℕ) (row : Row) (t : Taken) (e : 
 
       pub value-refused : {r : Refusal} → d ≡ NoValue r → Missing ≡ valueIn (parse s (fieldOf row) at)
       value-refused g = ap (λ o. valueIn (parse s (valued code o) (next .at))) (told decodedSaid g f) ∙ ap valueIn field-taken
+
+-- A code that stands fits its row's bits.
+pub code-lies : (s : Stream) (row : Row) (at : ℕ) {x : CodeStep} {code : ℕ} {next : Cursor} → codeSaid at x ≡ keeping coded (parse s (fieldOf row) at) → x ≡ Code code next →
+    code < 2 ^ row .width
+unfolding fieldOf
+code-lies s row at {x} {code} {next} e h =
+    let (y, q, p) = kept coded (parse s (fieldOf row) at) (told (codeSaid at) h e) in
+    subst (λ (c : Coded). c .code < 2 ^ row .width) q (go (ltb (s .bits) (at + row .width)) (decode row at here) p)
+  where
+    here : ℕ
+    here = fieldAt (s .number) at (row .width)
+
+    go : {y : Found} {n : ℕ} (b : Bool) (o : Outcome Value) →
+        good (parsed y n) ≡ cond b (refused (pastEnd at)) (parse s (given o >>= λ v. ends (found row at here v)) (at + row .width)) → y .code < 2 ^ row .width
+    go true o f = no-value (sym f)
+    go false (good v) f = subst (λ (z : Parsed Found). z .found .code < 2 ^ row .width) (sym (good-same f)) (field-lt (s .number) at (row .width))
+    go false (refused r) f = no-value (sym f)
 
 -- Its code, as its row judges it.
 pub code-judged : (z : Sizes) (image : List ℕ) (at : ℕ) {row known : Row} (t : Taken) (x : CodeStep) → row ≡ known →

@@ -9,8 +9,10 @@ use Rattle.refusal.specs.Rows.{noSuch}
 use Rattle.fields.specs.declared.Value.{Value}
 use Rattle.fields.specs.declared.Pair.{Pair}
 use Rattle.fields.specs.Calibration.{noPair}
-use Rattle.layout.specs.Contents.{Contents}
+use Rattle.layout.specs.Contents.{Calibration, bare, table, Contents}
 use Rattle.layout.specs.Image.{contents, numbered, points}
+use Rattle.sheet.specs.declared.TableDomain.{TableDomain}
+use Rattle.sheet.specs.declared.TableDomain.the-variants.{NoTable, Is}
 use Rattle.sheet.specs.declared.Summary.{Summary}
 use Rattle.sheet.specs.declared.Checked.{Checked}
 use Rattle.sheet.specs.declared.Checked.the-variants.{Accepted, Refused}
@@ -21,7 +23,12 @@ use Rattle.sheet.specs.declared.PairAnswer.the-variants.{Holds as HoldsP
 use Rattle.sheet.specs.declared.CharacterAnswer.{CharacterAnswer}
 use Rattle.sheet.specs.declared.CharacterAnswer.the-variants.{Holds as HoldsCharacter, Refused as NoCharacter}
 
--- An accepted check gives the bits up to the end, n, the end bit, the number of characters and the first template.
+-- A table has a domain; without one there is none.
+abbrev pub domainIn : Calibration → TableDomain
+domainIn bare = NoTable
+domainIn (table domain pairs) = Is domain
+
+-- An accepted check gives the bits up to the end, n, the end bit, the number of characters, the first template and the domain.
 abbrev pub summary : Contents → Summary
 summary c = record {
   bits = c .bits;
@@ -29,6 +36,7 @@ summary c = record {
   «end_bit» = c .endBit;
   characters = length (c .text);
   template = c .template;
+  domain = domainIn (c .calibration);
 }
 
 unfoldable pub check : ℕ → List ℕ → Outcome Summary

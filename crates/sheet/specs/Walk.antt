@@ -1,6 +1,7 @@
 -- Only inner contracts need these: the walk over a stream, which parses it by the formats of layout and keeps of what they find only what a check gives.
 use mathlib.Core.Bool.{Bool, not}
 use mathlib.Core.List.{List}
+use mathlib.Core.Option.{none}
 use Prim.Native.Nat.{ℕ, suc, _-_}
 use lib.Dec.{eqb}
 use lib.ListN.{length, take, drop}
@@ -16,11 +17,13 @@ use Rattle.fields.specs.declared.Value.the-variants.{Missing}
 use Rattle.fields.specs.declared.Row.{Row}
 use Rattle.fields.specs.declared.Template.{Template}
 use Rattle.fields.specs.declared.Codes.{Codes}
+use Rattle.fields.specs.declared.Domain.{Domain}
 use Rattle.fields.specs.Judgement.{judge}
 use Rattle.fields.specs.Lines.{Line, linesOf}
 use Rattle.layout.specs.Format.{Format, ends, _>>=_, _>>_, bits, refuse_if_, Parsed, parse}
-use Rattle.layout.specs.Contents.{Found, Calibration, Ending, selectorOf, blockAt, sheetOf}
+use Rattle.layout.specs.Contents.{Found, Calibration, table, Ending, selectorOf, pairsOf, blockAt, sheetOf}
 use Rattle.layout.specs.Image.{streamIn, lastChoice, pairsIn}
+use Rattle.sheet.specs.declared.TableDomain.{TableDomain}
 use Rattle.sheet.specs.declared.opening.Opened.{Opened}
 use Rattle.sheet.specs.declared.walk.CodeStep.{CodeStep}
 use Rattle.sheet.specs.declared.walk.CodeStep.the-variants.{Code, Refused as NoCode}
@@ -34,8 +37,11 @@ use Rattle.sheet.specs.declared.table.CodesStep.{CodesStep}
 use Rattle.sheet.specs.declared.table.CodesStep.the-variants.{Stand, Refused as NoCodes}
 use Rattle.sheet.specs.declared.table.CountStep.{CountStep}
 use Rattle.sheet.specs.declared.table.CountStep.the-variants.{Counted, Refused as NoCount}
+use Rattle.sheet.specs.declared.table.TableStep.{TableStep}
+use Rattle.sheet.specs.declared.table.TableStep.the-variants.{Found as FoundTable, Refused as NoTable}
 use Rattle.sheet.specs.declared.ending.EndStep.{EndStep}
 use Rattle.sheet.specs.declared.ending.EndStep.the-variants.{Ended, Refused as NoEnd}
+use Rattle.sheet.specs.Check.{domainIn}
 use Rattle.sheet.specs.Opened.{openedAs}
 
 -- ---- what is kept
@@ -57,9 +63,13 @@ coded x = record { at = x .at; code = x .code }
 abbrev pub choiceOn : List Line → ℕ → List Found → ℕ
 choiceOn lines latest xs = lastChoice lines xs latest
 
--- Of a calibration the number of its pairs.
-abbrev pub pairCount : Calibration → ℕ
-pairCount c = length (pairsIn c)
+-- Of a calibration its domain and the number of its pairs.
+pub record TableCount : Type 0 where
+  pub domain : TableDomain
+  pub points : ℕ
+
+abbrev pub tableCount : Calibration → TableCount
+tableCount c = record { domain = domainIn c; points = length (pairsIn c) }
 
 -- Of an ending the end bit and the number of its characters.
 pub record EndCount : Type 0 where
@@ -88,9 +98,13 @@ linesFrom template first last = take (suc last - first) (drop (first - 1) (lines
 abbrev pub markOf : ℕ → ℕ → ℕ → Format (Unit {0})
 markOf width wanted at = bits width >>= λ code. refuse wrongBlock at if not (eqb code wanted)
 
+-- A table of n pairs, in its domain.
+abbrev pub tableFrom : Domain → ℕ → Format Calibration
+tableFrom domain n = pairsOf domain n none >>= λ pairs. ends (table domain pairs)
+
 -- Block 40 whose selector 0 was taken at a place, and selector 3 behind it.
 abbrev pub onlyBlock : ℕ → Format Calibration
-onlyBlock at = blockAt at >>= λ table. selectorOf 3 >> ends table
+onlyBlock at = blockAt at >>= λ calibration. selectorOf 3 >> ends calibration
 
 -- ---- the answers: what is kept and the place behind it, for each case
 
@@ -125,6 +139,10 @@ codesSaid (NoCodes r) = refused r
 abbrev pub countSaid : CountStep → Outcome (Parsed ℕ)
 countSaid (Counted n cursor) = behind n cursor
 countSaid (NoCount r) = refused r
+
+abbrev pub tableSaid : TableStep → Outcome (Parsed TableCount)
+tableSaid (FoundTable domain points cursor) = behind (record { domain = domain; points = points }) cursor
+tableSaid (NoTable r) = refused r
 
 abbrev pub endSaid : EndStep → Outcome (Parsed EndCount)
 endSaid (Ended endBit characters cursor) = behind (record { endBit = endBit; characters = characters }) cursor

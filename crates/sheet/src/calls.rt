@@ -18,8 +18,8 @@ use crate::held;
 use crate::opening::OpenedAnswer;
 use crate::opening::open;
 
-// The bits up to the end, the points, the end bit and the characters of an image; or 1, 17, 2 by page, or the first of 3 to 7
-// from the stream's start.
+// The bits up to the end, the points, the end bit, the characters and the domain of an image; or 1, 17, 2 by page, or the
+// first of 3 to 7 and 22 from the stream's start.
 pub fn check(kind: u8, image: &[u8]) -> Checked
     ensures { λ r. ⌜ checkSaid r ≡ checkOf kind (now (image .entry)) ⌝ }
 {

@@ -13,6 +13,7 @@ pub use calls::check;
 pub use calls::read_character;
 pub use calls::read_field;
 pub use calls::read_pair;
+use fields::Domain;
 pub use fields::Pair;
 use fields::Template;
 use fields::Value;
@@ -27,14 +28,21 @@ pub use places::locate_character;
 pub use places::locate_pair;
 use refusal::Refusal;
 
+// The domain of a calibration table, if there is one.
+pub enum TableDomain {
+    NoTable,
+    Is(Domain),
+}
+
 // What an accepted check gives: the bits up to the end (a zero that ends the text counted), the calibration points, the
-// end bit, the characters of the text and the first block's template.
+// end bit, the characters of the text, the first block's template, and the domain of the points.
 pub struct Summary {
     pub bits: u64,
     pub points: u64,
     pub end_bit: bool,
     pub characters: u64,
     pub template: Template,
+    pub domain: TableDomain,
 }
 
 pub enum Checked {

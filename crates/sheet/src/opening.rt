@@ -7,7 +7,7 @@ use crate::Summary;
 use crate::ending;
 use crate::ending::EndStep;
 use crate::table;
-use crate::table::CountStep;
+use crate::table::TableStep;
 use crate::walk;
 use crate::walk::ChoiceStep;
 use crate::walk::TemplateStep;
@@ -55,8 +55,8 @@ fn walk_sheet(sizes: Sizes, image: &[u8]) -> OpenedAnswer
                     image,
                     fields_end,
                 ) {
-                    CountStep::Refused(r) => OpenedAnswer::Refused(r),
-                    CountStep::Counted(points, last) => match ending::take_ending(
+                    TableStep::Refused(r) => OpenedAnswer::Refused(r),
+                    TableStep::Found(domain, points, last) => match ending::take_ending(
                         sizes,
                         image,
                         last,
@@ -73,6 +73,7 @@ fn walk_sheet(sizes: Sizes, image: &[u8]) -> OpenedAnswer
                                 end_bit,
                                 characters,
                                 template,
+                                domain,
                             };
                             OpenedAnswer::Sheet(Opened {
                                 sizes,

@@ -8,11 +8,13 @@ ghost use Rattle.fields.specs.Calibration.{calPoint, calDeviation};
 ghost use Rattle.layout.specs.Format.{parse};
 ghost use Rattle.layout.specs.Contents.{fieldOf, codesIn, pairOf, pairsOf, blockAt, calibrationOf};
 ghost use Rattle.layout.specs.Image.{streamIn};
-ghost use Rattle.sheet.specs.Walk.{keeping, coded, pairCount, onlyBlock, codeSaid, codesSaid, countSaid};
+ghost use Rattle.sheet.specs.Walk.{keeping, coded, tableCount, tableFrom, onlyBlock, codeSaid, codesSaid, countSaid, tableSaid};
+use crate::TableDomain;
 use crate::walk;
 use crate::walk::CodeStep;
 use crate::walk::MarkStep;
 use fields::Codes;
+use fields::Domain;
 use fields::Judged;
 use fields::Previous;
 use memory::Cursor;
@@ -29,6 +31,12 @@ pub enum CodesStep {
 // How many there are: pairs, or characters.
 pub enum CountStep {
     Counted(u64, Cursor),
+    Refused(Refusal),
+}
+
+// What stands behind the fields: the domain of a table, if there is one, and the number of its pairs.
+pub enum TableStep {
+    Found(TableDomain, u64, Cursor),
     Refused(Refusal),
 }
 
@@ -62,18 +70,27 @@ fn take_deviation(sizes: Sizes, image: &[u8], cursor: Cursor) -> CodeStep
     )
 }
 
-// A pair behind the one before it: 3 and 5 of the point, 3 and 5 of its deviation, then 7.
-fn take_codes(sizes: Sizes, image: &[u8], cursor: Cursor, before: Previous) -> CodesStep
+// A pair behind the one before it: 3 and 5 of the point, 3 and 5 of its deviation, then 7, and 22 in domain 1.
+fn take_codes(
+    sizes: Sizes,
+    image: &[u8],
+    cursor: Cursor,
+    domain: Domain,
+    before: Previous,
+) -> CodesStep
     requires { ⌜ Whole sizes (now image) ⌝ }
-    ensures { λ r. ⌜ codesSaid r ≡ keeping codesIn (parse (streamIn sizes (now (image .entry))) (pairOf (previousSaid before)) (cursor .at)) ⌝ }
+    ensures { λ r. ⌜ codesSaid r ≡ keeping codesIn (parse (streamIn sizes (now (image .entry))) (pairOf domain (previousSaid before)) (cursor .at)) ⌝ }
 {
     match take_point(sizes, image, cursor) {
         CodeStep::Refused(r) => CodesStep::Refused(r),
         CodeStep::Code(point, middle) => match take_deviation(sizes, image, middle) {
             CodeStep::Refused(r) => CodesStep::Refused(r),
             CodeStep::Code(deviation, next) => {
-                let codes = Codes { point, deviation };
-                match fields::follows(before, cursor.at as u64, codes) {
+                let codes = Codes {
+                    point: point as u16,
+                    deviation: deviation as u32,
+                };
+                match fields::follows(domain, before, cursor.at as u64, codes) {
                     Judged::Refused(r) => CodesStep::Refused(r),
                     Judged::Stands => CodesStep::Stand(codes, next),
                 }
@@ -83,15 +100,15 @@ fn take_codes(sizes: Sizes, image: &[u8], cursor: Cursor, before: Previous) -> C
 }
 
 // So many pairs, one after the other.
-fn take_pairs(sizes: Sizes, image: &[u8], start: Cursor, count: u64) -> CountStep
+fn take_pairs(sizes: Sizes, image: &[u8], start: Cursor, domain: Domain, count: u64) -> CountStep
     requires { ⌜ Whole sizes (now image) ⌝ }
-    ensures { λ r. ⌜ countSaid r ≡ keeping length (parse (streamIn sizes (now (image .entry))) (pairsOf count none) (start .at)) ⌝ }
+    ensures { λ r. ⌜ countSaid r ≡ keeping length (parse (streamIn sizes (now (image .entry))) (pairsOf domain count none) (start .at)) ⌝ }
 {
     let mut cursor = start;
     let mut before = Previous::Nothing;
     let mut left = count;
     while 0 < left {
-        match take_codes(sizes, image, cursor, before) {
+        match take_codes(sizes, image, cursor, domain, before) {
             CodesStep::Refused(r) => {
                 return CountStep::Refused(r);
             }
@@ -105,36 +122,54 @@ fn take_pairs(sizes: Sizes, image: &[u8], start: Cursor, count: u64) -> CountSte
     CountStep::Counted(count, cursor)
 }
 
-// Block 40 behind its selector, which stands at bit `at`: template number, domain, count and pairs.
-fn take_table(sizes: Sizes, image: &[u8], cursor: Cursor, at: u64) -> CountStep
+// The table that they are, in its domain.
+fn take_listed(sizes: Sizes, image: &[u8], start: Cursor, domain: Domain, count: u64) -> TableStep
     requires { ⌜ Whole sizes (now image) ⌝ }
-    ensures { λ r. ⌜ countSaid r ≡ keeping pairCount (parse (streamIn sizes (now (image .entry))) (blockAt at) (cursor .at)) ⌝ }
+    ensures { λ r. ⌜ tableSaid r ≡ keeping tableCount (parse (streamIn sizes (now (image .entry))) (tableFrom domain count) (start .at)) ⌝ }
+{
+    match take_pairs(sizes, image, start, domain, count) {
+        CountStep::Refused(r) => TableStep::Refused(r),
+        CountStep::Counted(n, end) => TableStep::Found(TableDomain::Is(domain), n, end),
+    }
+}
+
+// Block 40 behind its selector, which stands at bit `at`: template number, domain, count and pairs.
+fn take_table(sizes: Sizes, image: &[u8], cursor: Cursor, at: u64) -> TableStep
+    requires { ⌜ Whole sizes (now image) ⌝ }
+    ensures { λ r. ⌜ tableSaid r ≡ keeping tableCount (parse (streamIn sizes (now (image .entry))) (blockAt at) (cursor .at)) ⌝ }
 {
     match walk::take_mark(sizes, image, cursor, walk::NUMBER_BITS, TABLE, at) {
-        MarkStep::Refused(r) => CountStep::Refused(r),
-        MarkStep::Behind(domain) => match walk::take_code(sizes, image, domain, fields::domain()) {
-            CodeStep::Refused(r) => CountStep::Refused(r),
-            CodeStep::Code(_, count) => match walk::take_code(
+        MarkStep::Refused(r) => TableStep::Refused(r),
+        MarkStep::Behind(domain) => match walk::take_code(
+            sizes,
+            image,
+            domain,
+            fields::cal_domain(),
+        ) {
+            CodeStep::Refused(r) => TableStep::Refused(r),
+            CodeStep::Code(code, count) => match walk::take_code(
                 sizes,
                 image,
                 count,
                 fields::point_count(),
             ) {
-                CodeStep::Refused(r) => CountStep::Refused(r),
-                CodeStep::Code(n, pairs) => take_pairs(sizes, image, pairs, n),
+                CodeStep::Refused(r) => TableStep::Refused(r),
+                CodeStep::Code(n, pairs) => {
+                    take_listed(sizes, image, pairs, fields::domain_of(code), n)
+                }
             },
         },
     }
 }
 
 // The same, and the selector behind it, which has to be 3.
-fn take_only_block(sizes: Sizes, image: &[u8], cursor: Cursor, at: u64) -> CountStep
+fn take_only_block(sizes: Sizes, image: &[u8], cursor: Cursor, at: u64) -> TableStep
     requires { ⌜ Whole sizes (now image) ⌝ }
-    ensures { λ r. ⌜ countSaid r ≡ keeping pairCount (parse (streamIn sizes (now (image .entry))) (onlyBlock at) (cursor .at)) ⌝ }
+    ensures { λ r. ⌜ tableSaid r ≡ keeping tableCount (parse (streamIn sizes (now (image .entry))) (onlyBlock at) (cursor .at)) ⌝ }
 {
     match take_table(sizes, image, cursor, at) {
-        CountStep::Refused(r) => CountStep::Refused(r),
-        CountStep::Counted(n, last) => match walk::take_mark(
+        TableStep::Refused(r) => TableStep::Refused(r),
+        TableStep::Found(domain, n, last) => match walk::take_mark(
             sizes,
             image,
             last,
@@ -142,28 +177,28 @@ fn take_only_block(sizes: Sizes, image: &[u8], cursor: Cursor, at: u64) -> Count
             3,
             last.at as u64,
         ) {
-            MarkStep::Refused(r) => CountStep::Refused(r),
-            MarkStep::Behind(end) => CountStep::Counted(n, end),
+            MarkStep::Refused(r) => TableStep::Refused(r),
+            MarkStep::Behind(end) => TableStep::Found(domain, n, end),
         },
     }
 }
 
-// One block 40 and selector 3, or selector 3 alone: the number of pairs.
-pub fn take_calibration(sizes: Sizes, image: &[u8], cursor: Cursor) -> CountStep
+// One block 40 and selector 3, or selector 3 alone: the domain and the number of pairs.
+pub fn take_calibration(sizes: Sizes, image: &[u8], cursor: Cursor) -> TableStep
     requires { ⌜ Whole sizes (now image) ⌝ }
-    ensures { λ r. ⌜ countSaid r ≡ keeping pairCount (parse (streamIn sizes (now (image .entry))) calibrationOf (cursor .at)) ⌝ }
+    ensures { λ r. ⌜ tableSaid r ≡ keeping tableCount (parse (streamIn sizes (now (image .entry))) calibrationOf (cursor .at)) ⌝ }
 {
     let at = cursor.at as u64;
     match cursor.take(sizes, image, walk::SELECTOR_BITS) {
-        Taken::Refused(r) => CountStep::Refused(r),
+        Taken::Refused(r) => TableStep::Refused(r),
         Taken::Field(selector, next) => {
             if selector == 0 {
                 return take_only_block(sizes, image, next, at);
             }
             if selector == 3 {
-                return CountStep::Counted(0, next);
+                return TableStep::Found(TableDomain::NoTable, 0, next);
             }
-            CountStep::Refused(refusal::wrong_block(at))
+            TableStep::Refused(refusal::wrong_block(at))
         }
     }
 }

@@ -1,4 +1,4 @@
-// A sheet line by line: its template, its fields, its calibration points, its ending, its bits.
+// A sheet line by line: its template, its fields, its calibration table, its ending, its bits.
 use crate::naming::print_name;
 use crate::output::put;
 use crate::output::put_character;
@@ -6,12 +6,14 @@ use crate::output::put_figure;
 use crate::output::put_number;
 use crate::reasons::refused;
 use crate::values::print_value;
+use fields::Domain;
 use fields::Template;
 use sheet::CharacterAnswer;
 use sheet::Checked;
 use sheet::FieldAnswer;
 use sheet::PairAnswer;
 use sheet::Summary;
+use sheet::TableDomain;
 
 // A field's line, or its refusal's; the numbers stand in two columns.
 fn print_field(kind: u8, image: &[u8], template: Template, field: u64) {
@@ -78,6 +80,19 @@ fn print_parts(kind: u8, image: &[u8], part: Part, from: u64, end: u64) {
     }
 }
 
+// What the deviations stand against, and the calibration points; nothing where there is no table.
+fn print_points(kind: u8, image: &[u8], summary: Summary) {
+    let table = summary.domain;
+    let TableDomain::Is(domain) = table else {
+        return;
+    };
+    match domain {
+        Domain::Electrical => put(b"domain: 0 (electrical)\n"),
+        Domain::Physical => put(b"domain: 1 (physical)\n"),
+    }
+    print_parts(kind, image, Part::Point, 0, summary.points);
+}
+
 // The end bit, and the closing text if there is one.
 fn print_ending(kind: u8, image: &[u8], summary: Summary) {
     if summary.end_bit {
@@ -95,8 +110,8 @@ fn print_fields(kind: u8, image: &[u8], template: Template) {
     print_parts(kind, image, Part::Field(template), 1, last + 1);
 }
 
-// Prints the whole sheet of an image, a line for the template, for each field and each calibration point, the ending and the bits
-// up to the end; or the check's refusal.
+// Prints the whole sheet of an image, a line for the template, for each field, for the domain of a table and each of its points,
+// the ending and the bits up to the end; or the check's refusal.
 pub fn show(kind: u8, image: &[u8]) {
     match sheet::check(kind, image) {
         Checked::Refused(r) => refused(r),
@@ -106,7 +121,7 @@ pub fn show(kind: u8, image: &[u8]) {
             put_number(fields::template_number(template));
             put(b"\n");
             print_fields(kind, image, template);
-            print_parts(kind, image, Part::Point, 0, summary.points);
+            print_points(kind, image, summary);
             print_ending(kind, image, summary);
             put(b"bits: ");
             put_number(summary.bits);

@@ -87,7 +87,8 @@ impl Differ {
             lay(&mut image, 2, selector);
             let template = if self.random.percent(2) { self.random.pick(&[33, 41, 168, 0, 255]) } else { 40 };
             lay(&mut image, 8, template);
-            lay(&mut image, 1, u64::from(self.random.percent(2)));
+            let physical = self.random.percent(40);
+            lay(&mut image, 1, u64::from(physical));
             let most = layout.capacity(kind) as u64;
             points = match self.random.below(20) {
                 0 => 0,
@@ -103,11 +104,18 @@ impl Differ {
             let mut code = self.random.below(gap / 2);
             let mut last = 0;
             let wrong = if self.random.percent(25) { self.random.below(points.max(1)) } else { u64::MAX };
+            let mut sum = 0;
             for index in 0..points {
                 let (mut point, mut deviation) = (code, self.random.below((1 << 21) - 1));
                 if self.random.percent(30) {
                     deviation = 1_000_000 + self.random.below(4_000);
                 }
+                // In domain 1 mostly sums that rise, often by as little as can be.
+                if physical && !self.random.percent(1) && 15_300 * point + 1_000 * deviation <= sum {
+                    deviation = (sum + 1_000).saturating_sub(15_300 * point) / 1_000 + self.random.below(2);
+                    deviation = deviation.min((1 << 21) - 2);
+                }
+                sum = 15_300 * point + 1_000 * deviation;
                 if index == wrong {
                     match self.random.below(6) {
                         0 => point = 0xffff,

@@ -1,6 +1,6 @@
 //! What the calls are handed: values, inputs, points, texts; good ones, at the edges, and bad ones.
 
-use compare::plain::{self, Template, Value};
+use compare::plain::{self, Domain, Template, Value};
 use compare::structs::ByFlags;
 
 use crate::Differ;
@@ -38,6 +38,12 @@ impl Differ {
             Template::Bridge if self.random.percent(20) && any != 32 => any,
             _ => template.number(),
         }
+    }
+
+    /// A domain as a byte: any but 0 is 1.
+    pub fn domain(&mut self) -> u8 {
+        let any = self.random.word() as u8;
+        self.random.pick(&[0, 0, 0, 0, 1, 1, 1, any])
     }
 
     /// A value by flags, with anything in the members that it does not need.
@@ -195,7 +201,8 @@ impl Differ {
             Ok(Value::Single(figure)) => plain::nanovolts(figure),
             _ => None,
         };
-        let points = plain::check(kind, self.image()).map_or(0, |summary| summary.points);
+        let (points, domain) =
+            plain::check(kind, self.image()).map_or((0, None), |summary| (summary.points, summary.domain));
         let (e, f) = match (end(10), end(11)) {
             (Some(e), Some(f)) if e < f => (e, f),
             _ => (0, 3_000_000),
@@ -234,6 +241,12 @@ impl Differ {
                 let (a, s) = plain::pair(kind, self.image(), index).unwrap_or((0, 0));
                 let (b, t) = plain::pair(kind, self.image(), index + 1).unwrap_or((a + 1, s));
                 let p = match self.random.below(6) {
+                    0..=4 if domain == Some(Domain::Physical) => {
+                        // Around what a whole q, now and then at a point, comes to.
+                        let q = if self.random.percent(20) { a } else { self.random.within(a, b) };
+                        let deviation = i128::from(t - s) * i128::from(q - a) / i128::from(b - a);
+                        q + s + deviation as i64 + self.random.within(-1, 1)
+                    }
                     0 => a + self.random.within(-2, 2),
                     1 => self.random.within(a, b),
                     _ => {
@@ -249,7 +262,7 @@ impl Differ {
         }
     }
 
-    pub fn point_list(&mut self, layout: Layout) -> Vec<i64> {
+    pub fn point_list(&mut self, layout: Layout, domain: Domain) -> Vec<i64> {
         let most = layout.capacity(self.kind) as i64;
         let count = match self.random.below(20) {
             0..=5 => 0,
@@ -288,6 +301,9 @@ impl Differ {
             let next = self.random.within(1, gap.max(2) - 1);
             code += if self.random.percent(40) { power.min(next) } else { next };
         }
+        if domain == Domain::Physical && self.random.percent(85) {
+            self.raise_sums(&mut list);
+        }
         if count > 0 && self.random.percent(18) {
             let index = self.random.below(count as u64) as usize;
             for _ in 0..self.random.within(1, 3) {
@@ -306,6 +322,21 @@ impl Differ {
             _ => (),
         }
         list
+    }
+
+    /// Deviations raised where the points plus deviations would not rise as stored: often by as little as can be.
+    fn raise_sums(&mut self, list: &mut [i64]) {
+        let mut least = i64::MIN;
+        for pair in list.chunks_exact_mut(2) {
+            let point = (pair[0] + 7_650) / 15_300 * 15_300;
+            let stored = |deviation: i64| (deviation + BILLION + 500) / 1_000 * 1_000 - BILLION;
+            if point + stored(pair[1]) <= least {
+                let next = (least - point).div_euclid(1_000) * 1_000 + 1_000;
+                let more = if self.random.percent(50) { 0 } else { 1_000 * self.random.within(0, 20) };
+                pair[1] = (next + more).clamp(-BILLION, 1_097_150_000);
+            }
+            least = point + stored(pair[1]);
+        }
     }
 
     /// A wrong figure at a point, or a point that does not rise.

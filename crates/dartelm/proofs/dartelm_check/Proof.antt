@@ -9,7 +9,7 @@ use Rattle.dartelm.proofs.Handing.{number-small}
 use Rattle.dartelm.proofs.dartelm_check.Statement.{statement}
 use Rattle.dartelm.proofs.dartelm_check.Tie as tie
 
-number-fits : tie.Need-cast-t10
+number-fits : tie.Need-cast-t11
 number-fits c = omega (arith, number-small (c .before .before .before .summary .given .0 .0 .template) (c .template-number .ensures))
 
 returns : tie.Need-returns
@@ -17,8 +17,9 @@ returns c = tells (toldAs checkAnswer numbers noNumbers) checkSaid (c .before .b
 
 returns-2 : tie.Need-returns-2
 returns-2 c =
-    rw (end-byte (c .before .before .before .summary .given .0 .0 .«end_bit»), c .template-number .ensures)
-    (tells (toldAs checkAnswer numbers noNumbers) checkSaid (c .before .before .before .before .before .check .ensures) (c .before .before .before .summary .given .1))
+    let g = c .before .before .before .before .summary .given in
+    rw (end-byte (g .0 .0 .«end_bit»), c .before .template-number .ensures, c .domain-number .ensures)
+    (tells (toldAs checkAnswer numbers noNumbers) checkSaid (c .before .before .before .before .before .before .check .ensures) (g .1))
 
 pub dartelm-check-spec : {M : Type 1} → statement M
 dartelm-check-spec =
@@ -30,5 +31,6 @@ dartelm-check-spec =
     (λ c. search needs)
     (λ c κs. search needs)
     number-fits
+    (λ c κs. search needs)
     returns
     returns-2)

@@ -20,13 +20,13 @@ returns : tie.Need-returns
 returns c =
     let a = c .before .before .before .before .before .before .args in
     let e = sym (told sizesSaid (c .before .r .given .1) (c .before .before .before .image-sizes .ensures)) in
-    written-refused _ refl (build-refused (a .kind) (a .image .now) (a .sheet) (a .text .now) (a .points .now) e)
+    written-refused _ refl (build-refused (a .kind) (a .image .now) (a .sheet) (a .text .now) (a .domain) (a .points .now) e)
 
 returns-2 : tie.Need-returns-2
 returns-2 c =
     let a = c .before .before .before .before .before .before .before .before .before .before .args in
     let e = sym (told sizesSaid (c .before .before .before .before .before .sizes .given .1) (c .before .before .before .before .before .before .before .image-sizes .ensures)) in
-    rw (build-sized (a .kind) (a .image .now) (a .sheet) (a .text .now) (a .points .now) e) (c .before .before .build-in .ensures)
+    rw (build-sized (a .kind) (a .image .now) (a .sheet) (a .text .now) (a .domain) (a .points .now) e) (c .before .before .build-in .ensures)
 
 pub build-spec : {M : Type 1} → statement M
 build-spec =

@@ -12,13 +12,13 @@ returns : tie.Need-returns
 returns c =
     let a = c .before .before .before .before .before .args in
     let right = sym (c .before .before .is-wrong-list .ensures) ∙ c .before .if1 .taken in
-    written-refused _ (ap Refused (c .wrong-list .ensures)) (built-list (a .sizes) (a .sheet) (a .text .now) (a .points .now) right)
+    written-refused _ (ap Refused (c .wrong-list .ensures)) (built-list (a .sizes) (a .sheet) (a .text .now) (a .domain) (a .points .now) right)
 
 returns-2 : tie.Need-returns-2
 returns-2 c =
     let a = c .before .before .before .before .before .before .before .before .args in
     let right = sym (c .before .before .before .before .before .is-wrong-list .ensures) ∙ c .before .before .before .before .if1 .left in
-    written-refused _ refl (built-fields (a .sizes) (a .sheet) (a .text .now) (a .points .now) right (fields-down (c .before .before .before .plan-fields .ensures) (c .before .answer .given .1)))
+    written-refused _ refl (built-fields (a .sizes) (a .sheet) (a .text .now) (a .domain) (a .points .now) right (fields-down (c .before .before .before .plan-fields .ensures) (c .before .answer .given .1)))
 
 returns-3 : tie.Need-returns-3
 returns-3 c =
@@ -26,7 +26,7 @@ returns-3 c =
     let right = sym (c .before .before .before .before .before .before .before .before .before .is-wrong-list .ensures) ∙ c .before .before .before .before .before .before .before .before .if1 .left in
     let fields = fields-good (c .before .before .before .before .before .before .before .plan-fields .ensures) (c .before .before .before .before .before .enum-told .given .1) in
     let down = turned-down _ (rw (c .before .before .before .before .template-in .ensures) at (c .before .before .before .check-ending .ensures)) (c .before .r .given .1) in
-    written-refused _ refl (built-ending (a .sizes) (a .sheet) (a .text .now) (a .points .now) right fields down)
+    written-refused _ refl (built-ending (a .sizes) (a .sheet) (a .text .now) (a .domain) (a .points .now) right fields down)
 
 returns-4 : tie.Need-returns-4
 returns-4 c =
@@ -34,7 +34,7 @@ returns-4 c =
     let right = sym (c .before .before .before .before .before .before .before .before .before .before .before .before .is-wrong-list .ensures) ∙ c .before .before .before .before .before .before .before .before .before .before .before .if1 .left in
     let fields = fields-good (c .before .before .before .before .before .before .before .before .before .before .plan-fields .ensures) (c .before .before .before .before .before .before .before .before .enum-told .given .1) in
     let ends = accepted _ (rw (c .before .before .before .before .before .before .before .template-in .ensures) at (c .before .before .before .before .before .before .check-ending .ensures)) (c .before .before .before .before .enum-told2 .given .1) in
-    written-refused _ refl (built-points (a .sizes) (a .sheet) (a .text .now) (a .points .now) right fields ends (turned-down _ (c .before .before .before .check-points .ensures) (c .before .r2 .given .1)))
+    written-refused _ refl (built-points (a .sizes) (a .sheet) (a .text .now) (a .domain) (a .points .now) right fields ends (turned-down _ (c .before .before .before .check-points .ensures) (c .before .r2 .given .1)))
 
 write-planned-requires : tie.Need-write-planned-requires
 write-planned-requires c κs =
@@ -58,7 +58,7 @@ returns-5 c =
     let fields = fields-good (c .before .before .before .before .before .before .before .before .before .before .before .before .before .plan-fields .ensures) (c .before .before .before .before .before .before .before .before .before .before .before .enum-told .given .1) in
     let ends = accepted _ (rw (c .before .before .before .before .before .before .before .before .before .before .template-in .ensures) at (c .before .before .before .before .before .before .before .before .before .check-ending .ensures)) (c .before .before .before .before .before .before .before .enum-told2 .given .1) in
     let table = accepted _ (c .before .before .before .before .before .before .check-points .ensures) (c .before .before .before .before .enum-told3 .given .1) in
-    rw (built-fitted (a .sizes) (a .sheet) (a .text .now) (a .points .now) right fields ends table) (rw (c .before .before .before .before .before .before .before .before .before .before .template-in .ensures) at (c .before .before .write-planned .ensures))
+    rw (built-fitted (a .sizes) (a .sheet) (a .text .now) (a .domain) (a .points .now) right fields ends table) (rw (c .before .before .before .before .before .before .before .before .before .before .template-in .ensures) at (c .before .before .write-planned .ensures))
 
 pub build-in-spec : {M : Type 1} → statement M
 build-in-spec =

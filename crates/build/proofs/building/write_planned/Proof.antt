@@ -12,19 +12,19 @@ returns : tie.Need-returns
 returns c =
     let s = c .before .before .before .before .before .before in
     let a = s .args in
-    written-refused (a .image .now) (ap Refused (c .too-long .ensures)) (too-many (a .template) (a .plan .fields) (a .end-bit) (a .text .now) (a .points .now) (s .pre .1 .0) (a .sizes) (s .pre .0 .1) _ (rw (s .pre .1 .1 .0) at (c .before .before .before .bits-needed .ensures)) (omega (arith, c .before .before .stream-bits .ensures, c .before .if1 .taken)))
+    written-refused (a .image .now) (ap Refused (c .too-long .ensures)) (too-many (a .template) (a .plan .fields) (a .end-bit) (a .text .now) (a .domain) (a .points .now) (s .pre .1 .0) (a .sizes) (s .pre .0 .1) _ (rw (s .pre .1 .1 .0) at (c .before .before .before .bits-needed .ensures)) (omega (arith, c .before .before .stream-bits .ensures, c .before .if1 .taken)))
 
 write-requires : tie.Need-write-requires
 write-requires c κs =
     let s = c .before .before .before .before .before .before .before in
     let a = s .args in
-    ((s .pre .0 .0, s .pre .1 .0), inside (a .template) (a .plan .fields) (a .end-bit) (a .text .now) (a .points .now) (s .pre .1 .0) (a .sizes) (s .pre .0 .1) _ (rw (s .pre .1 .1 .0) at (c .before .before .before .before .bits-needed .ensures)) (omega (arith, c .before .before .before .stream-bits .ensures, c .before .before .if1 .left)))
+    ((s .pre .0 .0, s .pre .1 .0), inside (a .template) (a .plan .fields) (a .end-bit) (a .text .now) (a .domain) (a .points .now) (s .pre .1 .0) (a .sizes) (s .pre .0 .1) _ (rw (s .pre .1 .1 .0) at (c .before .before .before .before .bits-needed .ensures)) (omega (arith, c .before .before .before .stream-bits .ensures, c .before .before .if1 .left)))
 
 returns-2 : tie.Need-returns-2
 returns-2 c =
     let s = c .before .before .before .before .before .before .before .before .before .before in
     let a = s .args in
-    written-done (a .image .now) (fits (a .template) (a .plan .fields) (a .end-bit) (a .text .now) (a .points .now) (s .pre .1 .0) (a .sizes) (s .pre .0 .1) _ (rw (s .pre .1 .1 .0) at (c .before .before .before .before .before .before .before .bits-needed .ensures)) (omega (arith, c .before .before .before .before .before .before .stream-bits .ensures, c .before .before .before .before .before .if1 .left))) (c .before .before .write .ensures)
+    written-done (a .image .now) (fits (a .template) (a .plan .fields) (a .end-bit) (a .text .now) (a .domain) (a .points .now) (s .pre .1 .0) (a .sizes) (s .pre .0 .1) _ (rw (s .pre .1 .1 .0) at (c .before .before .before .before .before .before .before .bits-needed .ensures)) (omega (arith, c .before .before .before .before .before .before .stream-bits .ensures, c .before .before .before .before .before .if1 .left))) (c .before .before .write .ensures)
 
 pub write-planned-spec : {M : Type 1} → statement M
 write-planned-spec =

@@ -15,7 +15,7 @@ lay-fields-requires c κs =
     let s = c .before .before .before .before .before in
     let a = s .args in
     let z = a .sizes in
-    let start = sheet-filling z (a .template) (a .fields) (a .end-bit) (a .text .now) (a .points .now) (s .pre .0) in
+    let start = sheet-filling z (a .template) (a .fields) (a .end-bit) (a .text .now) (a .domain) (a .points .now) (s .pre .0) in
     rw (c .before .before .basic-fields .ensures) (room-first z _ _ refl start, (omega arith, omega (arith, basic-fewer (a .template), last-most (a .template)), s .pre .1 .fit))
 
 lay-block-requires : tie.Need-lay-block-requires
@@ -23,7 +23,7 @@ lay-block-requires c κs =
     let s = c .before .before .before .before .before .before .before .before .before .before in
     let a = s .args in
     let z = a .sizes in
-    let start = sheet-filling z (a .template) (a .fields) (a .end-bit) (a .text .now) (a .points .now) (s .pre .0) in
+    let start = sheet-filling z (a .template) (a .fields) (a .end-bit) (a .text .now) (a .domain) (a .points .now) (s .pre .0) in
     let basics = filling-more z _ _ refl start (rw (c .before .before .before .before .before .before .before .basic-fields .ensures) at (c .before .before .before .before .lay-fields .ensures)) in
     rw (c .template-number .ensures) (room-first z _ _ refl basics, number-lt (a .template))
 
@@ -32,7 +32,7 @@ lay-fields-requires-2 c κs =
     let s = c .before .before .before .before .before .before .before .before .before .before .before .before .before .before in
     let a = s .args in
     let z = a .sizes in
-    let start = sheet-filling z (a .template) (a .fields) (a .end-bit) (a .text .now) (a .points .now) (s .pre .0) in
+    let start = sheet-filling z (a .template) (a .fields) (a .end-bit) (a .text .now) (a .domain) (a .points .now) (s .pre .0) in
     let basics = filling-more z _ _ refl start (rw (c .before .before .before .before .before .before .before .before .before .before .before .basic-fields .ensures) at (c .before .before .before .before .before .before .before .before .lay-fields .ensures)) in
     let block = filling-more z _ _ refl basics (rw (c .before .before .before .before .template-number .ensures) at (c .before .before .before .lay-block .ensures)) in
     rw (c .before .before .before .before .before .before .before .before .before .before .before .basic-fields .ensures, c .before .before .before .before .before .before .before .before .before .before .last-field .ensures) (room-first z _ _ refl block, (basic-fewer (a .template), last-most (a .template), s .pre .1 .fit))
@@ -42,7 +42,7 @@ lay-table-requires c κs =
     let s = c .before .before .before .before .before .before .before .before .before .before .before .before .before .before .before .before .before .before in
     let a = s .args in
     let z = a .sizes in
-    let start = sheet-filling z (a .template) (a .fields) (a .end-bit) (a .text .now) (a .points .now) (s .pre .0) in
+    let start = sheet-filling z (a .template) (a .fields) (a .end-bit) (a .text .now) (a .domain) (a .points .now) (s .pre .0) in
     let basics = filling-more z _ _ refl start (rw (c .before .before .before .before .before .before .before .before .before .before .before .before .before .before .before .basic-fields .ensures) at (c .before .before .before .before .before .before .before .before .before .before .before .before .lay-fields .ensures)) in
     let block = filling-more z _ _ refl basics (rw (c .before .before .before .before .before .before .before .before .template-number .ensures) at (c .before .before .before .before .before .before .before .lay-block .ensures)) in
     let own = filling-more z _ _ refl block (rw (c .before .before .before .before .before .before .before .before .before .before .before .before .before .before .before .basic-fields .ensures, c .before .before .before .before .before .before .before .before .before .before .before .before .before .before .last-field .ensures) at (c .before .before .before .lay-fields2 .ensures)) in
@@ -53,7 +53,7 @@ lay-ending-requires c κs =
     let s = c .before .before .before .before .before .before .before .before .before .before .before .before .before .before .before .before .before .before .before .before .before .before in
     let a = s .args in
     let z = a .sizes in
-    let start = sheet-filling z (a .template) (a .fields) (a .end-bit) (a .text .now) (a .points .now) (s .pre .0) in
+    let start = sheet-filling z (a .template) (a .fields) (a .end-bit) (a .text .now) (a .domain) (a .points .now) (s .pre .0) in
     let basics = filling-more z _ _ refl start (rw (c .before .before .before .before .before .before .before .before .before .before .before .before .before .before .before .before .before .before .before .basic-fields .ensures) at (c .before .before .before .before .before .before .before .before .before .before .before .before .before .before .before .before .lay-fields .ensures)) in
     let block = filling-more z _ _ refl basics (rw (c .before .before .before .before .before .before .before .before .before .before .before .before .template-number .ensures) at (c .before .before .before .before .before .before .before .before .before .before .before .lay-block .ensures)) in
     let own = filling-more z _ _ refl block (rw (c .before .before .before .before .before .before .before .before .before .before .before .before .before .before .before .before .before .before .before .basic-fields .ensures, c .before .before .before .before .before .before .before .before .before .before .before .before .before .before .before .before .before .before .last-field .ensures) at (c .before .before .before .before .before .before .before .lay-fields2 .ensures)) in
@@ -65,7 +65,7 @@ returns c =
     let s = c .before .before .before .before .before .before .before .before .before .before .before .before .before .before .before .before .before .before .before .before .before .before .before .before .before in
     let a = s .args in
     let z = a .sizes in
-    let start = sheet-filling z (a .template) (a .fields) (a .end-bit) (a .text .now) (a .points .now) (s .pre .0) in
+    let start = sheet-filling z (a .template) (a .fields) (a .end-bit) (a .text .now) (a .domain) (a .points .now) (s .pre .0) in
     let basics = filling-more z _ _ refl start (rw (c .before .before .before .before .before .before .before .before .before .before .before .before .before .before .before .before .before .before .before .before .before .before .basic-fields .ensures) at (c .before .before .before .before .before .before .before .before .before .before .before .before .before .before .before .before .before .before .before .lay-fields .ensures)) in
     let block = filling-more z _ _ refl basics (rw (c .before .before .before .before .before .before .before .before .before .before .before .before .before .before .before .template-number .ensures) at (c .before .before .before .before .before .before .before .before .before .before .before .before .before .before .lay-block .ensures)) in
     let own = filling-more z _ _ refl block (rw (c .before .before .before .before .before .before .before .before .before .before .before .before .before .before .before .before .before .before .before .before .before .before .basic-fields .ensures, c .before .before .before .before .before .before .before .before .before .before .before .before .before .before .before .before .before .before .before .before .before .last-field .ensures) at (c .before .before .before .before .before .before .before .before .before .before .lay-fields2 .ensures)) in

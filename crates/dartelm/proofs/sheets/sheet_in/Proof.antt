@@ -63,18 +63,19 @@ loop-again c =
           (omega (arith, counted h (n .last-field .ensures))) (l .loop .inv .1 k x h) (c .before .value-in .ensures k x h) (c .by-flags .ensures),
     )
 
-number-fits : tie.Need-cast-t22 Inv-loop μ-loop
+number-fits : tie.Need-cast-t23 Inv-loop μ-loop
 number-fits c = omega (arith, number-small (c .before .before .before .before .before .before .before .before .before .args .sheet .layout .template) (c .template-number .ensures))
 
 returns : tie.Need-returns Inv-loop μ-loop
 returns c =
-    let l = c .before .before .before .before in
+    let l = c .before .before .before .before .before in
     let n = l .before .before in
     let s = n .before .before .before in
     λ k x h.
     rw (end-byte (s .args .sheet .summary .«end_bit»))
-    (all-told x (l .loop .at) _ _ (s .args .sheet .summary) _ (c .before .before .before .loop-test .left) (counted h (n .last-field .ensures))
-    (c .template-number .ensures ∙ ap numberOf (ap (λ (y : Layout). y .template) (layout-is h) ∙ sym (ap (λ (o : Opened). o .summary .template) (h .is))))
+    (all-told x (l .loop .at) _ _ (s .args .sheet .summary) _ _ (c .before .before .before .before .loop-test .left) (counted h (n .last-field .ensures))
+    (c .before .template-number .ensures ∙ ap numberOf (ap (λ (y : Layout). y .template) (layout-is h) ∙ sym (ap (λ (o : Opened). o .summary .template) (h .is))))
+    (c .domain-number .ensures)
     (l .loop .inv .1 k x h) (ap (λ (o : Opened). o .summary) (h .is)))
 
 pub sheet-in-spec : {M : Type 1} → statement M
@@ -97,4 +98,5 @@ sheet-in-spec =
     (λ c. search needs)
     (λ c κs. search needs)
     number-fits
+    (λ c κs. search needs)
     returns)

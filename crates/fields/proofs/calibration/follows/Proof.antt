@@ -12,5 +12,6 @@ follows-spec =
     (λ c. search needs)
     (λ c. search needs)
     (λ c. rw (c .before .before .before .before .before2 .given .1, le-leb _ _ (c .if1 .taken)))
+    (λ c κs. search needs)
     (λ c. search needs)
-    (λ c. rw (c .before .before .before .before .before2 .given .1, lt-leb _ _ (c .if1 .left))))
+    (λ c. let p = c .before in rw (p .before .before .before .before .before2 .given .1, lt-leb _ _ (p .if1 .left)) (c .climbs .ensures)))

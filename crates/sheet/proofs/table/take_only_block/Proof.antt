@@ -15,14 +15,14 @@ returns-2 c =
     let m = c .before .before .before in
     let t = m .before .before .before .before in
     let a = t .before .before .args in
-    last-halts (streamIn (a .sizes) (a .image .now)) (a .at) (a .cursor .at) _ (t .take-table .ensures) (m .before .before .n .given .1) _ (m .take-mark .ensures) (c .before .r2 .given .1)
+    last-halts (streamIn (a .sizes) (a .image .now)) (a .at) (a .cursor .at) _ (t .take-table .ensures) (m .before .before .domain .given .1) _ (m .take-mark .ensures) (c .before .r2 .given .1)
 
 returns-3 : tie.Need-returns-3
 returns-3 c =
     let m = c .before .before .before in
     let t = m .before .before .before .before in
     let a = t .before .before .args in
-    last-stands (streamIn (a .sizes) (a .image .now)) (a .at) (a .cursor .at) _ (t .take-table .ensures) (m .before .before .n .given .1) _ (m .take-mark .ensures) (c .before .end .given .1)
+    last-stands (streamIn (a .sizes) (a .image .now)) (a .at) (a .cursor .at) _ (t .take-table .ensures) (m .before .before .domain .given .1) _ (m .take-mark .ensures) (c .before .end .given .1)
 
 pub take-only-block-spec : {M : Type 1} → statement M
 take-only-block-spec =

@@ -7,7 +7,7 @@ use Rattle.sheet.proofs.table.take_table.Statement.{statement}
 use Rattle.sheet.proofs.table.take_table.Tie as tie
 
 take-code-requires : tie.Need-take-code-requires
-take-code-requires c κs = (c .before .before .before .before .before .before .pre, rw (c .domain2 .ensures) domain-sound)
+take-code-requires c κs = (c .before .before .before .before .before .before .pre, rw (c .cal-domain .ensures) domain-sound)
 
 take-code-requires-2 : tie.Need-take-code-requires-2
 take-code-requires-2 c κs =
@@ -25,7 +25,7 @@ returns-2 c =
     let m = d .before .before .before .before .before in
     let a = m .before .before .args in
     domain-halts (streamIn (a .sizes) (a .image .now)) (a .at) (a .cursor .at) _ (m .take-mark .ensures) (d .before .before .before .domain .given .1) _
-    (rw (d .before .domain2 .ensures) at (d .take-code .ensures)) (c .before .r2 .given .1)
+    (rw (d .before .cal-domain .ensures) at (d .take-code .ensures)) (c .before .r2 .given .1)
 
 returns-3 : tie.Need-returns-3
 returns-3 c =
@@ -34,19 +34,19 @@ returns-3 c =
     let m = d .before .before .before .before .before in
     let a = m .before .before .args in
     count-halts (streamIn (a .sizes) (a .image .now)) (a .at) (a .cursor .at) _ (m .take-mark .ensures) (d .before .before .before .domain .given .1) _
-    (rw (d .before .domain2 .ensures) at (d .take-code .ensures)) (n .before .before .before .count .given .1) _
+    (rw (d .before .cal-domain .ensures) at (d .take-code .ensures)) (n .before .before .before .code .given .1) _
     (rw (n .before .point-count .ensures) at (n .take-code2 .ensures)) (c .before .r3 .given .1)
 
 returns-4 : tie.Need-returns-4
 returns-4 c =
-    let n = c .before .before .before .before in
+    let n = c .before .before .before .before .before in
     let d = n .before .before .before .before .before in
     let m = d .before .before .before .before .before in
     let a = m .before .before .args in
-    c .take-pairs .ensures
+    (rw (c .before .domain-of .ensures) at (c .take-listed .ensures))
     ∙ count-stands (streamIn (a .sizes) (a .image .now)) (a .at) (a .cursor .at) _ (m .take-mark .ensures) (d .before .before .before .domain .given .1) _
-    (rw (d .before .domain2 .ensures) at (d .take-code .ensures)) (n .before .before .before .count .given .1) _
-    (rw (n .before .point-count .ensures) at (n .take-code2 .ensures)) (c .before .before .n .given .1)
+    (rw (d .before .cal-domain .ensures) at (d .take-code .ensures)) (n .before .before .before .code .given .1) _
+    (rw (n .before .point-count .ensures) at (n .take-code2 .ensures)) (c .before .before .before .n .given .1)
 
 pub take-table-spec : {M : Type 1} → statement M
 take-table-spec =
@@ -63,6 +63,7 @@ take-table-spec =
     take-code-requires-2
     (λ c. search needs)
     (λ c. search needs)
+    (λ c κs. search needs)
     (λ c κs. search needs)
     returns
     returns-2

@@ -1,0 +1,53 @@
+// Document 02, Note 9: the crossing where a deviation holds, and between neighbouring calibration points.
+use crate::line::gap;
+use fields::Pair;
+ghost use mathlib.Core.Path.{_≡_};
+ghost use Prim.Native.Nat.{_+_, _≤_, _<_, _^_};
+ghost use lib.IntN.{pos, natAbs, _+ℤ_};
+ghost use Rattle.line.specs.Crossing.{sum as sumOf, ceiling as ceilingOf, crossingHeld, crossingBetween};
+ghost use Rattle.line.specs.Ranges.{Figures, Between};
+
+// A point plus its deviation.
+pub fn sum(pair: Pair) -> i64
+    requires { ⌜ Figures pair ⌝ }
+    ensures { λ r. ⌜ r ≡ sumOf pair ⌝ }
+{
+    pair.point + pair.deviation
+}
+
+// The least whole number that meets p where a point's deviation holds.
+pub fn crossing_held(p: i64, pair: Pair) -> i64
+    requires { ⌜ Figures pair × (natAbs p ≤ 2 ^ 62) ⌝ }
+    ensures { λ r. ⌜ r ≡ crossingHeld p pair ⌝ }
+{
+    p - pair.deviation
+}
+
+// n / d, upward to a whole number.
+fn ceiling(n: u64, d: u64) -> u64
+    requires { ⌜ (0 < d) × (n + d ≤ 2 ^ 64) ⌝ }
+    ensures { λ r. ⌜ r ≡ ceilingOf n d ⌝ }
+{
+    (n + (d - 1)) / d
+}
+
+// So many steps behind a point.
+fn onward(point: i64, steps: u64) -> i64
+    requires { ⌜ (natAbs point ≤ 2 ^ 30) × (steps ≤ 2 ^ 30) ⌝ }
+    ensures { λ r. ⌜ r ≡ point +ℤ pos steps ⌝ }
+{
+    point + steps as i64
+}
+
+// The least whole number that meets p between neighbours: from the left point on, as far as p is above its sum, by the run of
+// the points over the climb of the sums, upward to a whole number.
+pub fn crossing_between(p: i64, before: Pair, behind: Pair) -> i64
+    requires { ⌜ Between sumOf p before behind ⌝ }
+    ensures { λ r. ⌜ r ≡ crossingBetween p before behind ⌝ }
+{
+    let low = sum(before);
+    let above = gap(p, low);
+    let climb = gap(sum(behind), low);
+    let run = gap(behind.point, before.point);
+    onward(before.point, ceiling(above * run, climb))
+}

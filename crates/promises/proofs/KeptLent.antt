@@ -1,0 +1,57 @@
+-- What a reading is taken from: the points that were lent and the ends of the span, as an image holds them after a build and whatever changes and commits.
+use mathlib.Core.Path.{_≡_, sym, ap, _∙_, subst}
+use mathlib.Core.List.{List, map}
+use Prim.Native.Nat.{ℕ, _≤_}
+use native.Mathlib.Nat.{le-refl}
+use native.Mathlib.Omega.{arith}
+use lib.IntN.{ℤ}
+use Rattle.refusal.specs.Outcome.{good}
+use Rattle.refusal.proofs.Outcomes.{good-same}
+use Rattle.memory.specs.Bits.{Bytes}
+use Rattle.memory.specs.Pieces.{pack}
+use Rattle.memory.proofs.Images.{image-bytes}
+use Rattle.fields.specs.declared.Domain.{Domain}
+use Rattle.fields.specs.Lines.{lastField}
+use Rattle.fields.proofs.TemplateFacts.{span-listed}
+use Rattle.layout.specs.Contents.{Calibration, Contents}
+use Rattle.layout.specs.Image.{contents, pairIn, pairsIn, points}
+use Rattle.sheet.specs.Check.{domainIn}
+use Rattle.sheet.proofs.ReadLaws.{accepted-reads}
+use Rattle.build.specs.declared.Sheet.{Sheet}
+use Rattle.build.specs.Build.{pairsLent, build}
+use Rattle.reading.specs.Reading.{least, greatest}
+use Rattle.promises.specs.Lent.{Lendable}
+use Rattle.promises.specs.Again.{keptPair, domainLent}
+use Rattle.promises.specs.Alterations.{Alteration, RealAlterations, altered, held}
+use Rattle.promises.specs.Certificate.{whole, leastIn, greatestIn}
+use Rattle.promises.proofs.Written.{built, written-and-read-again}
+use Rattle.promises.proofs.AfterAlterations.{same-kind, after-alterations, held-calibration}
+
+-- The points lent, each at its step, and their domain.
+pub record KeptLent (domain : Domain) (lentPoints : List ℤ) (c : Contents) : Type 0 where
+  pub keepsPoints : points c ≡ map keptPair (pairsLent lentPoints)
+  pub keepsDomain : domainIn (c .calibration) ≡ domainLent domain (pairsLent lentPoints)
+
+pub kept-lent : (kind : ℕ) (buffer : List ℕ) (sheet : Sheet) (text : List ℕ) (domain : Domain) (lentPoints : List ℤ) (image : List ℕ) (alterations : List Alteration) (readingKind : ℕ) (c : Contents) →
+    Lendable sheet → RealAlterations alterations → build kind buffer sheet text domain lentPoints ≡ good image → contents readingKind (altered image alterations) ≡ good c →
+    KeptLent domain lentPoints c
+kept-lent kind buffer sheet text domain lentPoints image alterations readingKind c lendable real made reads =
+    let b = built kind buffer sheet text domain lentPoints image made in
+    let bytes : Bytes image = subst Bytes (b .made) (image-bytes (b .sizes) (pack (b .pieces))) in
+    let w = written-and-read-again kind buffer sheet text domain lentPoints image lendable made in
+    let last : List ℕ = altered image alterations in
+    let after : contents kind last ≡ good (held kind (w .0) alterations) = after-alterations kind image (w .0) alterations bytes real (w .1) in
+    let k : readingKind ≡ kind = same-kind kind readingKind last (held kind (w .0) alterations) c after reads in
+    let h : c ≡ held kind (w .0) alterations = good-same (sym reads ∙ ap (λ (n : ℕ). contents n last) k ∙ after) in
+    let same : c .calibration ≡ w .0 .calibration = ap (λ (x : Contents). x .calibration) h ∙ held-calibration kind (w .0) alterations in
+    record {
+      keepsPoints = ap (λ (q : Calibration). map pairIn (pairsIn q)) same ∙ w .2 .samePoints;
+      keepsDomain = ap domainIn same ∙ w .2 .sameDomain;
+    }
+
+-- e and f as they are read.
+pub ends-read : (kind : ℕ) (image : List ℕ) (c : Contents) → contents kind image ≡ good c → (leastIn kind image ≡ least c) × (greatestIn kind image ≡ greatest c)
+ends-read kind image c e =
+    let read = accepted-reads kind image c e .fields in
+    let listed : 11 ≤ lastField (c .template) = span-listed (c .template) (le-refl 11) in
+    (ap whole (read 10 (omega arith) (omega (arith, listed))), ap whole (read 11 (omega arith) listed))
