@@ -1,7 +1,6 @@
 use borrow.Author.Needs.{needs}
-use mathlib.Core.Path.{sym, ap, _∙_}
+use mathlib.Core.Path.{sym, _∙_}
 use mir.Facts.{toZ-ofZ}
-use Rattle.refusal.specs.Outcome.{refused}
 use Rattle.reading.proofs.Spans.{resistance-is}
 use Rattle.reading.proofs.Orders.{takes-none}
 use Rattle.reading.proofs.taking.reading_in.Statement.{statement}
@@ -12,9 +11,8 @@ returns c =
     let t = c .before .before in
     let s = t .before .before .before in
     λ kind x h.
-    ap refused (c .wrong-block .ensures)
-    ∙ takes-none kind (s .args .image .now) (s .args .input) (s .args .dash) (h .accepted)
-    (resistance-is h ∙ sym (t .is-resistance .ensures) ∙ c .before .if1 .taken)
+    cc (takes-none kind (s .args .image .now) (s .args .input) (s .args .dash) (h .accepted)
+    (resistance-is h ∙ sym (t .is-resistance .ensures) ∙ c .before .if1 .taken))
 
 returns-2 : tie.Need-returns-2
 returns-2 c =
