@@ -120,8 +120,9 @@ enum {
 
 /* What calibration deviations are listed against. Any other byte that is handed in is taken as 1. */
 enum {
-    DARTELM_DOMAIN_ELECTRICAL = 0, /* where the input lies in the span */
-    DARTELM_DOMAIN_PHYSICAL = 1,   /* what is shown: the least fraction that together with its deviation is at least that */
+    DARTELM_DOMAIN_ELECTRICAL = 0, /* where the input lies in the span: a reading adds the deviation there to it */
+    DARTELM_DOMAIN_PHYSICAL = 1,   /* the fraction that is read: the least that with its own deviation is at least where the
+                                    * input lies */
     DARTELM_NO_DOMAIN = 255        /* told where there are no calibration points */
 };
 
