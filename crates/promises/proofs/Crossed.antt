@@ -19,6 +19,7 @@ use Rattle.build.specs.Build.{pairsLent}
 use Rattle.line.specs.Crossing.{SumsRise, crossing}
 use Rattle.line.proofs.Crossings.{crosses}
 use Rattle.reading.specs.declared.Reading.{Reading}
+use Rattle.reading.specs.declared.Dash.{Dash}
 use Rattle.reading.specs.Reading.{position, fraction, takeReading}
 use Rattle.reading.proofs.Opening.{calibration-table, calibration-rises}
 use Rattle.reading.proofs.Orders.{shown}
@@ -43,10 +44,10 @@ none-electrical [] e = absurd (let z : _≡_ {A = ℕ} 0 1 = cc in omega arith)
 none-electrical (p ∷ pairs) e = absurd (let z : _≡_ {A = ℕ} 0 1 = cc in omega arith)
 
 -- Of an image whose table, if it has one, is not of domain 0.
-crossed : (kind : ℕ) (image : List ℕ) (c : Contents) (v : ℤ) (r : Reading) → contents kind image ≡ good c → (domainIn (c .calibration) ≡ Is Electrical → ⊥) →
-    takeReading kind image v ≡ good r → OnlyCrossing (points c) (positionIn kind image v) (r .fraction)
-crossed kind image c v r e n taken =
-    let s = shown kind image v r taken in
+crossed : (kind : ℕ) (image : List ℕ) (c : Contents) (v : ℤ) (dash : Dash) (r : Reading) → contents kind image ≡ good c → (domainIn (c .calibration) ≡ Is Electrical → ⊥) →
+    takeReading kind image v dash ≡ good r → OnlyCrossing (points c) (positionIn kind image v) (r .fraction)
+crossed kind image c v dash r e n taken =
+    let s = shown kind image v dash r taken in
     let same : s .holds ≡ c = good-same (sym (s .accepted) ∙ e) in
     let ends = ends-read kind image (s .holds) (s .accepted) in
     let k : Calibration = c .calibration in
@@ -58,12 +59,12 @@ crossed kind image c v r e n taken =
     rw q (record { is = one .is; only = one .one })
 
 pub crossing-shown : CrossingShown
-crossing-shown kind image c v r e domain taken = crossed kind image c v r e (not-electrical (domainIn (c .calibration)) domain) taken
+crossing-shown kind image c v dash r e domain taken = crossed kind image c v dash r e (not-electrical (domainIn (c .calibration)) domain) taken
 
 pub crossing-from-lent : CrossingFromLent
-crossing-from-lent kind buffer sheet text lentPoints image alterations readingKind v r lendable real made taken =
+crossing-from-lent kind buffer sheet text lentPoints image alterations readingKind v dash r lendable real made taken =
     let last : List ℕ = altered image alterations in
-    let s = shown readingKind last v r taken in
+    let s = shown readingKind last v dash r taken in
     let k = kept-lent kind buffer sheet text Physical lentPoints image alterations readingKind (s .holds) lendable real made (s .accepted) in
     subst (λ (l : List Pair). OnlyCrossing l (positionIn readingKind last v) (r .fraction)) (k .keepsPoints)
-    (crossed readingKind last (s .holds) v r (s .accepted) (λ e. none-electrical (pairsLent lentPoints) (sym (k .keepsDomain) ∙ e)) taken)
+    (crossed readingKind last (s .holds) v dash r (s .accepted) (λ e. none-electrical (pairsLent lentPoints) (sym (k .keepsDomain) ∙ e)) taken)

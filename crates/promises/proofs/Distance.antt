@@ -65,10 +65,10 @@ distance-of domain lent stored ps q v e f low high K h span slopes p r l g = rw 
 
 -- Demand 3.
 pub certificate-distance : CertificateDistance
-certificate-distance kind buffer sheet text domain lentPoints image alterations readingKind v r K lendable real straight made taken slopes =
+certificate-distance kind buffer sheet text domain lentPoints image alterations readingKind v dash r K lendable real straight made taken slopes =
     let b = built kind buffer sheet text domain lentPoints image made in
     let (ps, pairs) = planned-pairs domain (pairsLent lentPoints) _ (plan-parts sheet text domain lentPoints (b .pieces) (b .plans) .tablePlanned) in
-    let s = shown readingKind (altered image alterations) v r taken in
+    let s = shown readingKind (altered image alterations) v dash r taken in
     let k = kept-lent kind buffer sheet text domain lentPoints image alterations readingKind (s .holds) lendable real made (s .accepted) in
     let ends = ends-read readingKind (altered image alterations) (s .holds) (s .accepted) in
     distance-of domain (pairsLent lentPoints) (points (s .holds)) ps (r .fraction) v (least (s .holds)) (greatest (s .holds)) _ _ K pairs (s .rises) slopes

@@ -4,24 +4,26 @@ use mathlib.Core.Bool.{Bool, true, false, not}
 use mathlib.Core.List.{List, [], _∷_}
 use Prim.Native.Nat.{ℕ, zero, suc}
 use native.Mathlib.Omega.{arith}
-use lib.Dec.{eqb}
+use lib.Dec.{eqb, ltb}
+use borrow.Author.Tests.{le-ltb}
 use lib.IntN.{ℤ}
 use lib.ListN.{length}
 use lib.Signed.{leZ}
 use Rattle.refusal.specs.declared.Refusal.{Refusal}
 use Rattle.refusal.specs.Outcome.{Outcome, good, refused, _>>=_, _>>_, refuse_if_}
-use Rattle.refusal.specs.Rows.{wrongBlock, wrongImage, blankChip, noSpan, outsideSpan, endOutside}
-use Rattle.refusal.proofs.Outcomes.{Other as FromCheck}
+use Rattle.refusal.specs.Rows.{wrongBlock, wrongImage, blankChip, noSpan, outsideSpan, endOutside, tooManyPoints}
+use Rattle.refusal.proofs.Outcomes.{Other as FromCheck, no-value, good-bind, passed}
 use Rattle.memory.specs.Image.{sizesOf, imageBytes, imageSizes, blankFrom, sumsFrom, sums}
 use Rattle.memory.proofs.SumLaws.{sums-other}
 use Rattle.fields.specs.declared.Value.{Value}
 use Rattle.layout.specs.Format.{parse}
 use Rattle.layout.specs.Contents.{Contents, sheetOf}
-use Rattle.layout.specs.Image.{streamIn, contents, field}
+use Rattle.layout.specs.Image.{streamIn, contents, field, points}
 use Rattle.layout.proofs.Numbers.{parse-other, sheet-others}
-use Rattle.reading.specs.Reading.{isResistance, isMissing, isOutside, refuseFirst, least, greatest, spanOf, tooFar, takeReading}
+use Rattle.reading.specs.declared.Dash.{Dash}
+use Rattle.reading.specs.Reading.{isResistance, tooMany, isMissing, isOutside, refuseFirst, least, greatest, spanOf, tooFar, takeReading}
 use Rattle.layout.specs.Places.{firstSelector}
-use Rattle.promises.specs.Readings.{NeverFifteen}
+use Rattle.promises.specs.Readings.{NeverFifteen, SmallShowsLarge, SmallTakesFew}
 
 -- Refused, if at all, with another number.
 abbrev Other : {A : Type 0} → Outcome A → Type 0
@@ -75,13 +77,32 @@ contents-other kind image =
     (then-other (refuse blankChip if blankFrom z image (z .pages) 0) _ (test-other blankChip (blankFrom z image (z .pages) 0) (λ e. omega arith)) (check-other (sumsFrom z image (z .pages) 0) (sums-other z image (z .pages) 0)))
     (bind-other (parse (streamIn z image) sheetOf 0) _ (check-other (parse (streamIn z image) sheetOf 0) (parse-other (streamIn z image) sheetOf 0 sheet-others)) (λ p. tt)))
 
-reading-other : (kind : ℕ) (image : List ℕ) (v : ℤ) → Other (takeReading kind image v)
+reading-other : (kind : ℕ) (image : List ℕ) (v : ℤ) (dash : Dash) → Other (takeReading kind image v dash)
 unfolding takeReading
-reading-other kind image v =
+reading-other kind image v dash =
     bind-other (contents kind image) _ (contents-other kind image) (λ c.
     then-other (refuse wrongBlock firstSelector if isResistance (c .template)) _ (test-other (wrongBlock firstSelector) (isResistance (c .template)) (λ e. omega arith))
+    (then-other (refuse tooManyPoints (length (points c)) if tooMany dash (length (points c))) _ (test-other (tooManyPoints (length (points c))) (tooMany dash (length (points c))) (λ e. omega arith))
     (bind-other (spanOf c) _ (span-other c) (λ s.
-    then-other (refuse outsideSpan if tooFar v (s .least) (s .greatest)) _ (test-other outsideSpan (tooFar v (s .least) (s .greatest)) (λ e. omega arith)) tt)))
+    then-other (refuse outsideSpan if tooFar v (s .least) (s .greatest)) _ (test-other outsideSpan (tooFar v (s .least) (s .greatest)) (λ e. omega arith)) tt))))
 
 pub never-fifteen : NeverFifteen
-never-fifteen kind image v r e = subst Other e (reading-other kind image v)
+never-fifteen kind image v dash r e = subst Other e (reading-other kind image v dash)
+
+-- ---- the small dash
+
+-- Behind the test of the points the two go on alike.
+goes-on : {A : Type 0} (t : Bool) (r : Refusal) (o : Outcome A) (a : A) → ((refuse r if t) >> o) ≡ good a → ((refuse r if false) >> o) ≡ good a
+goes-on true r o a e = no-value e
+goes-on false r o a e = e
+
+pub small-shows-large : SmallShowsLarge
+unfolding takeReading
+small-shows-large kind image v r e =
+    let (c, accepted, f) = good-bind (contents kind image) _ r e in
+    let (b, h) = passed (wrongBlock firstSelector) (isResistance (c .template)) _ r f in
+    rw (accepted, b) (goes-on (ltb 32 (length (points c))) (tooManyPoints (length (points c))) _ r h)
+
+pub small-takes-few : SmallTakesFew
+unfolding takeReading
+small-takes-few kind image c v e few = rw (e, le-ltb 32 (length (points c)) few)

@@ -13,6 +13,7 @@ use Rattle.build.specs.declared.Sheet.{Sheet}
 use Rattle.build.specs.Build.{pairsLent, build}
 use Rattle.change.specs.Change.{change}
 use Rattle.line.specs.Certificate.{Slopes, Within}
+use Rattle.reading.specs.declared.Dash.{Dash}
 use Rattle.reading.specs.declared.Reading.{Reading}
 use Rattle.reading.specs.declared.ReadingAnswer.the-variants.{Shows}
 use Rattle.reading.specs.Reading.{takeReading, readingSaid}
@@ -32,11 +33,11 @@ module _ (kind : ℕ) (buffer : List ℕ) (sheet : Sheet) (text : List ℕ) (dom
 
   -- Each call answers by its definition, accepted or refused; the image is as build and changes leave it, and the reading is of that. If the build and
   -- the reading were accepted, the q returned lies within the distance of the certificate line through the points lent in domain 0, for every K.
-  pub record Answered (first second : Change) (readingKind : ℕ) (v : ℤ) (image : List ℕ) (r : Answers) : Type 0 where
+  pub record Answered (first second : Change) (readingKind : ℕ) (v : ℤ) (dash : Dash) (image : List ℕ) (r : Answers) : Type 0 where
     pub buildSaid : writtenSaid (r .built) made ≡ build kind buffer sheet text domain points
     pub firstSaid : ChangeSaid made first (r .first)
     pub secondSaid : ChangeSaid (changedBy made first) second (r .second)
     pub bytes : image ≡ altered made (changes first ∷ changes second ∷ [])
-    pub shown : readingSaid (r .reading) ≡ takeReading readingKind image v
+    pub shown : readingSaid (r .reading) ≡ takeReading readingKind image v dash
     pub distance : (q : Reading) (K : ℕ) → Straight domain points → r .built ≡ Done → r .reading ≡ Shows q → Slopes K (pairsLent points) →
         Within D R K (q .fraction) (lineFor points v (leastIn readingKind image) (greatestIn readingKind image))

@@ -13,6 +13,7 @@ use Rattle.fields.specs.Figure.{billion}
 use Rattle.sheet.specs.Check.{readField}
 use Rattle.build.specs.declared.Sheet.{Sheet}
 use Rattle.build.specs.Build.{pairsLent, build}
+use Rattle.reading.specs.declared.Dash.{Dash}
 use Rattle.reading.specs.declared.Reading.{Reading}
 use Rattle.line.specs.Certificate.{Slopes, Within}
 use Rattle.line.specs.Line.{certificateLine}
@@ -43,14 +44,14 @@ Straight Electrical (x ∷ points) = Unit {0}
 Straight Physical (x ∷ points) = ⊥
 
 -- Whatever the points, fields, kind of chip, buffer and input: if the build is accepted and, after any list of one-field changes and commits,
--- accepted or refused, a reading of that image is accepted, then q lies within the distance of the certificate line.
+-- accepted or refused, a reading of that image is accepted, on either dash, then q lies within the distance of the certificate line.
 abbrev pub CertificateDistance : Type 0
 CertificateDistance =
     (kind : ℕ) (buffer : List ℕ) (sheet : Sheet) (text : List ℕ) (domain : Domain) (points : List ℤ) (built : List ℕ) →
-    (alterations : List Alteration) (readingKind : ℕ) (v : ℤ) (r : Reading) (K : ℕ) →
+    (alterations : List Alteration) (readingKind : ℕ) (v : ℤ) (dash : Dash) (r : Reading) (K : ℕ) →
     Lendable sheet → RealAlterations alterations → Straight domain points →
     build kind buffer sheet text domain points ≡ good built →
     let image = altered built alterations in
-    takeReading readingKind image v ≡ good r →
+    takeReading readingKind image v dash ≡ good r →
     Slopes K (pairsLent points) →
     Within D R K (r .fraction) (lineFor points v (leastIn readingKind image) (greatestIn readingKind image))

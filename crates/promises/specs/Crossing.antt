@@ -14,6 +14,7 @@ use Rattle.sheet.specs.Check.{domainIn}
 use Rattle.build.specs.declared.Sheet.{Sheet}
 use Rattle.build.specs.Build.{pairsLent, build}
 use Rattle.line.specs.Crossing.{Crossing}
+use Rattle.reading.specs.declared.Dash.{Dash}
 use Rattle.reading.specs.declared.Reading.{Reading}
 use Rattle.reading.specs.Reading.{position, takeReading}
 use Rattle.promises.specs.Lent.{Lendable}
@@ -33,8 +34,8 @@ positionIn kind image v = position v (leastIn kind image) (greatestIn kind image
 -- Of every image that is accepted with a table of domain 1.
 abbrev pub CrossingShown : Type 0
 CrossingShown =
-    (kind : ℕ) (image : List ℕ) (c : Contents) (v : ℤ) (r : Reading) →
-    contents kind image ≡ good c → domainIn (c .calibration) ≡ Is Physical → takeReading kind image v ≡ good r →
+    (kind : ℕ) (image : List ℕ) (c : Contents) (v : ℤ) (dash : Dash) (r : Reading) →
+    contents kind image ≡ good c → domainIn (c .calibration) ≡ Is Physical → takeReading kind image v dash ≡ good r →
     OnlyCrossing (points c) (positionIn kind image v) (r .fraction)
 
 -- And from the points lent: if a build in domain 1 is accepted and, after any list of one-field changes and commits, accepted or refused, a reading of
@@ -42,9 +43,9 @@ CrossingShown =
 abbrev pub CrossingFromLent : Type 0
 CrossingFromLent =
     (kind : ℕ) (buffer : List ℕ) (sheet : Sheet) (text : List ℕ) (pointsLent : List ℤ) (built : List ℕ) →
-    (alterations : List Alteration) (readingKind : ℕ) (v : ℤ) (r : Reading) →
+    (alterations : List Alteration) (readingKind : ℕ) (v : ℤ) (dash : Dash) (r : Reading) →
     Lendable sheet → RealAlterations alterations →
     build kind buffer sheet text Physical pointsLent ≡ good built →
     let image = altered built alterations in
-    takeReading readingKind image v ≡ good r →
+    takeReading readingKind image v dash ≡ good r →
     OnlyCrossing (map keptPair (pairsLent pointsLent)) (positionIn readingKind image v) (r .fraction)

@@ -28,6 +28,7 @@ use Rattle.layout.specs.Places.{firstSelector}
 use Rattle.build.specs.declared.Sheet.{Sheet}
 use Rattle.build.specs.Build.{slot, linePieces, pairsLent, build}
 use Rattle.line.specs.Line.{deviation}
+use Rattle.reading.specs.declared.Dash.the-variants.{Large, Small}
 use Rattle.reading.specs.Reading.{position, takeReading}
 use Rattle.promises.specs.Alterations.{Alteration, changes, commits, altered}
 
@@ -91,8 +92,8 @@ Holds (dated code year month day) = dateOf code ≡ record { year = year; month 
 Holds (placed e f v p) = position v e f ≡ p
 Holds (deviates points p d) = deviation (pairsLent points) p ≡ d
 Holds (reads kind bytes sheet domain points alterations v q) =
-    (build kind (replicate bytes 0) sheet [] domain points >>= λ image. takeReading kind (altered image alterations) v >>= λ r. good (r .fraction)) ≡ good q
-Holds (unread kind bytes sheet v r) = (build kind (replicate bytes 0) sheet [] Electrical [] >>= λ image. takeReading kind image v) ≡ refused r
+    (build kind (replicate bytes 0) sheet [] domain points >>= λ image. takeReading kind (altered image alterations) v Small >>= λ r. good (r .fraction)) ≡ good q
+Holds (unread kind bytes sheet v r) = (build kind (replicate bytes 0) sheet [] Electrical [] >>= λ image. takeReading kind image v Large) ≡ refused r
 
 -- The cases that document 01 stars.
 abbrev pub starred : List Case

@@ -1,12 +1,28 @@
 -- Document 02: what holds of readings.
 use mathlib.Core.Path.{_≡_}
 use mathlib.Core.List.{List}
-use Prim.Native.Nat.{ℕ}
+use Prim.Native.Nat.{ℕ, _≤_}
 use lib.IntN.{ℤ}
+use lib.ListN.{length}
 use Rattle.refusal.specs.declared.Refusal.{Refusal}
-use Rattle.refusal.specs.Outcome.{refused}
+use Rattle.refusal.specs.Outcome.{good, refused}
+use Rattle.layout.specs.Contents.{Contents}
+use Rattle.layout.specs.Image.{contents, points}
+use Rattle.reading.specs.declared.Dash.{Dash}
+use Rattle.reading.specs.declared.Dash.the-variants.{Large, Small}
+use Rattle.reading.specs.declared.Reading.{Reading}
 use Rattle.reading.specs.Reading.{takeReading}
 
 -- Note 8: refusal 15 never occurs any more.
 abbrev pub NeverFifteen : Type 0
-NeverFifteen = (kind : ℕ) (image : List ℕ) (v : ℤ) (r : Refusal) → takeReading kind image v ≡ refused r → r .number ≡ 15 → ⊥
+NeverFifteen = (kind : ℕ) (image : List ℕ) (v : ℤ) (dash : Dash) (r : Refusal) → takeReading kind image v dash ≡ refused r → r .number ≡ 15 → ⊥
+
+-- Note 10: what the small dash shows for a sheet it takes is what the large one shows.
+abbrev pub SmallShowsLarge : Type 0
+SmallShowsLarge = (kind : ℕ) (image : List ℕ) (v : ℤ) (r : Reading) → takeReading kind image v Small ≡ good r → takeReading kind image v Large ≡ good r
+
+-- It takes every sheet of at most 32 points: its outcome is the large one's, shown or refused.
+abbrev pub SmallTakesFew : Type 0
+SmallTakesFew =
+    (kind : ℕ) (image : List ℕ) (c : Contents) (v : ℤ) → contents kind image ≡ good c → length (points c) ≤ 32 →
+    takeReading kind image v Small ≡ takeReading kind image v Large

@@ -2,6 +2,7 @@
 use crate::Answers;
 use crate::Change;
 use build::Sheet;
+use reading::Dash;
 use fields::Domain;
 ghost use Rattle.promises.specs.Calls.{Answered};
 
@@ -18,9 +19,10 @@ pub fn points_to_reading(
     second: Change,
     reading_kind: u8,
     input: i64,
+    dash: Dash,
 ) -> Answers
     ensures { λ r. ⌜ Answered kind (now (image .entry)) sheet (now (text .entry)) domain (now (points .entry))
-        first second «reading_kind» input (now (image .exit)) r ⌝ }
+        first second «reading_kind» input dash (now (image .exit)) r ⌝ }
 {
     let built = build::build(kind, image, sheet, text, domain, points);
     let first_value = first.value;
@@ -35,7 +37,7 @@ pub fn points_to_reading(
         second.field,
         second_value,
     );
-    let reading = reading::take_reading(reading_kind, image, input);
+    let reading = reading::take_reading(reading_kind, image, input, dash);
     Answers {
         built,
         first: first_answer,

@@ -1,45 +1,51 @@
--- A reading in the order of its rows: check, 4, 13 and 21, 14, and what it shows.
+-- A reading in the order of its rows: check, 4, 23, 13 and 21, 14, and what it shows.
 use mathlib.Core.Path.{_≡_, sym, ap, _∙_}
 use mathlib.Core.Bool.{true, false}
 use mathlib.Core.List.{List}
 use Prim.Native.Nat.{ℕ}
 use lib.IntN.{ℤ}
+use lib.ListN.{length}
 use lib.Signed.{_<ℤ_}
 use Rattle.refusal.specs.declared.Refusal.{Refusal}
 use Rattle.refusal.specs.Outcome.{good, refused}
-use Rattle.refusal.specs.Rows.{wrongBlock, outsideSpan}
+use Rattle.refusal.specs.Rows.{wrongBlock, outsideSpan, tooManyPoints}
 use Rattle.refusal.proofs.Outcomes.{good-same, good-bind, passed}
 use Rattle.layout.specs.Contents.{Contents}
-use Rattle.layout.specs.Image.{contents}
+use Rattle.layout.specs.Image.{contents, points}
 use Rattle.layout.specs.Places.{firstSelector}
+use Rattle.reading.specs.declared.Dash.{Dash}
 use Rattle.reading.specs.declared.Reading.{Reading}
 use Rattle.reading.specs.declared.span.Span.{Span}
-use Rattle.reading.specs.Reading.{isResistance, least, greatest, spanOf, tooFar, position, fraction, readingAt, takeReading}
+use Rattle.reading.specs.Reading.{isResistance, tooMany, least, greatest, spanOf, tooFar, position, fraction, readingAt, takeReading}
 use Rattle.reading.proofs.Spans.{spanned}
 
-module _ (kind : ℕ) (image : List ℕ) (v : ℤ) where
-  pub takes-refused : {r : Refusal} → contents kind image ≡ refused r → refused r ≡ takeReading kind image v
+module _ (kind : ℕ) (image : List ℕ) (v : ℤ) (dash : Dash) where
+  pub takes-refused : {r : Refusal} → contents kind image ≡ refused r → refused r ≡ takeReading kind image v dash
   unfolding takeReading
   takes-refused e = rw e
 
   module _ {c : Contents} (e : contents kind image ≡ good c) where
-    pub takes-none : isResistance (c .template) ≡ true → refused (wrongBlock firstSelector) ≡ takeReading kind image v
+    pub takes-none : isResistance (c .template) ≡ true → refused (wrongBlock firstSelector) ≡ takeReading kind image v dash
     unfolding takeReading
     takes-none t = rw (e, t)
 
-    module _ (b : isResistance (c .template) ≡ false) where
-      pub takes-no-span : {r : Refusal} → spanOf c ≡ refused r → refused r ≡ takeReading kind image v
+    pub takes-many : isResistance (c .template) ≡ false → tooMany dash (length (points c)) ≡ true → refused (tooManyPoints (length (points c))) ≡ takeReading kind image v dash
+    unfolding takeReading
+    takes-many b m = rw (e, b, m)
+
+    module _ (b : isResistance (c .template) ≡ false) (m : tooMany dash (length (points c)) ≡ false) where
+      pub takes-no-span : {r : Refusal} → spanOf c ≡ refused r → refused r ≡ takeReading kind image v dash
       unfolding takeReading
-      takes-no-span h = rw (e, b, h)
+      takes-no-span h = rw (e, b, m, h)
 
       module _ {s : Span} (h : spanOf c ≡ good s) where
-        pub takes-far : tooFar v (s .least) (s .greatest) ≡ true → refused outsideSpan ≡ takeReading kind image v
+        pub takes-far : tooFar v (s .least) (s .greatest) ≡ true → refused outsideSpan ≡ takeReading kind image v dash
         unfolding takeReading
-        takes-far t = rw (e, b, h, t)
+        takes-far t = rw (e, b, m, h, t)
 
-        pub takes-shown : tooFar v (s .least) (s .greatest) ≡ false → good (readingAt (c .calibration) s v) ≡ takeReading kind image v
+        pub takes-shown : tooFar v (s .least) (s .greatest) ≡ false → good (readingAt (c .calibration) s v) ≡ takeReading kind image v dash
         unfolding takeReading
-        takes-shown t = rw (e, b, h, t)
+        takes-shown t = rw (e, b, m, h, t)
 
 -- What an accepted reading shows: the fraction at the input's position in a span that rises.
 pub record Shown (kind : ℕ) (image : List ℕ) (v : ℤ) (r : Reading) : Type 0 where
@@ -48,12 +54,13 @@ pub record Shown (kind : ℕ) (image : List ℕ) (v : ℤ) (r : Reading) : Type 
   pub rises : least holds <ℤ greatest holds
   pub shows : r .fraction ≡ fraction (holds .calibration) (position v (least holds) (greatest holds))
 
-pub shown : (kind : ℕ) (image : List ℕ) (v : ℤ) (r : Reading) → takeReading kind image v ≡ good r → Shown kind image v r
+pub shown : (kind : ℕ) (image : List ℕ) (v : ℤ) (dash : Dash) (r : Reading) → takeReading kind image v dash ≡ good r → Shown kind image v r
 unfolding takeReading readingAt
-shown kind image v r e =
+shown kind image v dash r e =
     let (c, accepted, f) = good-bind (contents kind image) _ r e in
     let (b, h) = passed (wrongBlock firstSelector) (isResistance (c .template)) _ r f in
-    let (s, found, g) = good-bind (spanOf c) _ r h in
+    let (m, j) = passed (tooManyPoints (length (points c))) (tooMany dash (length (points c))) _ r h in
+    let (s, found, g) = good-bind (spanOf c) _ r j in
     let t = passed outsideSpan (tooFar v (s .least) (s .greatest)) _ r g in
     let k = spanned c s found in
     record {

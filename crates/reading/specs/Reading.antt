@@ -1,15 +1,17 @@
--- Document 01, "Reading", and document 02, Notes 7 to 9: take a reading. Order: check, 4, 13 for a missing one, 21, 13 for e ≥ f, 14. A reading is
+-- Document 01, "Reading", and document 02, Notes 7 to 10: take a reading. Order: check, 4, 23, 13 for a missing one, 21, 13 for e ≥ f, 14. A reading is
 -- told in its steps: the span that its fields give, the position of the input in it, the fraction, and the physical figure.
 use mathlib.Core.Bool.{Bool, true, false, _||_}
 use mathlib.Core.List.{List, [], _∷_, map}
 use Prim.Native.Nat.{ℕ}
+use lib.Dec.{ltb}
+use lib.ListN.{length}
 use lib.IntN.{ℤ, pos, negℤ, natAbs, _+ℤ_, _-ℤ_, _*ℤ_}
 use lib.Signed.{leZ, ltZ}
 use lib.Ieee.{Float, nan}
 use Rattle.integers.specs.Nearest.{_over_, nearest}
 use Rattle.refusal.specs.declared.Refusal.{Refusal}
 use Rattle.refusal.specs.Outcome.{Outcome, good, refused, _>>_, _>>=_, refuse_if_}
-use Rattle.refusal.specs.Rows.{wrongBlock, noSpan, outsideSpan, endOutside}
+use Rattle.refusal.specs.Rows.{wrongBlock, noSpan, outsideSpan, endOutside, tooManyPoints}
 use Rattle.fields.specs.declared.Value.{Value}
 use Rattle.fields.specs.declared.Value.the-variants.{Whole, Single, Missing}
 use Rattle.fields.specs.declared.Template.{Template}
@@ -20,10 +22,12 @@ use Rattle.fields.specs.declared.Domain.the-variants.{Electrical, Physical}
 use Rattle.fields.specs.Figure.{billion, floatFraction, physicalFigure}
 use Rattle.fields.specs.Singles.{outsideTwo, nanovolts}
 use Rattle.layout.specs.Contents.{Calibration, bare, table, Contents}
-use Rattle.layout.specs.Image.{contents, field, pairIn}
+use Rattle.layout.specs.Image.{contents, field, pairIn, points}
 use Rattle.layout.specs.Places.{firstSelector}
 use Rattle.line.specs.Line.{deviation}
 use Rattle.line.specs.Crossing.{crossing}
+use Rattle.reading.specs.declared.Dash.{Dash}
+use Rattle.reading.specs.declared.Dash.the-variants.{Large, Small}
 use Rattle.reading.specs.declared.Reading.{Reading}
 use Rattle.reading.specs.declared.ReadingAnswer.{ReadingAnswer}
 use Rattle.reading.specs.declared.ReadingAnswer.the-variants.{Shows, Refused}
@@ -34,6 +38,13 @@ use Rattle.reading.specs.declared.span.Span.{Span}
 abbrev pub isResistance : Template → Bool
 isResistance Bridge = false
 isResistance Resistance = true
+
+-- ---- the dash
+
+-- The small dash takes 32 points at most, the large one every table.
+abbrev pub tooMany : Dash → ℕ → Bool
+tooMany Large points = false
+tooMany Small points = ltb 32 points
 
 -- ---- the span
 
@@ -112,10 +123,11 @@ readingAt k s v =
 
 -- ---- the reading
 
-unfoldable pub takeReading : ℕ → List ℕ → ℤ → Outcome Reading
-takeReading kind image v = do
+unfoldable pub takeReading : ℕ → List ℕ → ℤ → Dash → Outcome Reading
+takeReading kind image v dash = do
   c ← contents kind image
   refuse wrongBlock firstSelector if isResistance (c .template)
+  refuse tooManyPoints (length (points c)) if tooMany dash (length (points c))
   s ← spanOf c
   refuse outsideSpan if tooFar v (s .least) (s .greatest)
   good (readingAt (c .calibration) s v)

@@ -1,6 +1,8 @@
 // A reading in the order of its refusals.
+use crate::Dash;
 use crate::Reading;
 use crate::ReadingAnswer;
+use crate::dashes::is_too_many;
 use crate::fraction::fraction;
 use crate::position::is_too_far;
 use crate::position::position;
@@ -15,7 +17,7 @@ ghost use mathlib.Core.Bool.{false};
 ghost use Prim.Native.Nat.{ℕ};
 ghost use Rattle.layout.specs.Contents.{Contents};
 ghost use Rattle.sheet.specs.Opened.{Opens, Held};
-ghost use Rattle.reading.specs.Reading.{isResistance, tooFar, readingAt, takeReading, readingSaid};
+ghost use Rattle.reading.specs.Reading.{isResistance, tooMany, tooFar, readingAt, takeReading, readingSaid};
 ghost use Rattle.reading.specs.Steps.{Ready};
 
 // The first selector's bit: Basic's 64 stand before it.
@@ -43,10 +45,10 @@ fn is_resistance(template: Template) -> bool
     }
 }
 
-// A reading of an opened sheet of template 33: 13 and 21, then 14.
-fn bridge_reading(sheet: Opened, image: &[u8], input: i64) -> ReadingAnswer
-    requires { ⌜ Held sheet (now image) × (isResistance (sheet .layout .template) ≡ false) ⌝ }
-    ensures { λ r. ⌜ ((kind : ℕ) (c : Contents) → Opens kind (now (image .entry)) sheet c → readingSaid r ≡ takeReading kind (now (image .entry)) input) ⌝ }
+// A reading of an opened sheet of template 33 that the dash takes: 13 and 21, then 14.
+fn bridge_reading(sheet: Opened, image: &[u8], input: i64, dash: Dash) -> ReadingAnswer
+    requires { ⌜ Held sheet (now image) × (isResistance (sheet .layout .template) ≡ false) × (tooMany dash (sheet .summary .points) ≡ false) ⌝ }
+    ensures { λ r. ⌜ ((kind : ℕ) (c : Contents) → Opens kind (now (image .entry)) sheet c → readingSaid r ≡ takeReading kind (now (image .entry)) input dash) ⌝ }
 {
     match span_in(sheet, image) {
         SpanAnswer::Refused(r) => ReadingAnswer::Refused(r),
@@ -59,27 +61,39 @@ fn bridge_reading(sheet: Opened, image: &[u8], input: i64) -> ReadingAnswer
     }
 }
 
+// A reading of an opened sheet of template 33: 23 where it has more points than the dash takes.
+fn dash_reading(sheet: Opened, image: &[u8], input: i64, dash: Dash) -> ReadingAnswer
+    requires { ⌜ Held sheet (now image) × (isResistance (sheet .layout .template) ≡ false) ⌝ }
+    ensures { λ r. ⌜ ((kind : ℕ) (c : Contents) → Opens kind (now (image .entry)) sheet c → readingSaid r ≡ takeReading kind (now (image .entry)) input dash) ⌝ }
+{
+    let points = sheet.summary.points;
+    if is_too_many(dash, points) {
+        return ReadingAnswer::Refused(refusal::too_many_points(points));
+    }
+    bridge_reading(sheet, image, input, dash)
+}
+
 // A reading of an opened sheet: 4 at the first selector for template 32, else as of template 33.
-fn reading_in(sheet: Opened, image: &[u8], input: i64) -> ReadingAnswer
+fn reading_in(sheet: Opened, image: &[u8], input: i64, dash: Dash) -> ReadingAnswer
     requires { ⌜ Held sheet (now image) ⌝ }
-    ensures { λ r. ⌜ ((kind : ℕ) (c : Contents) → Opens kind (now (image .entry)) sheet c → readingSaid r ≡ takeReading kind (now (image .entry)) input) ⌝ }
+    ensures { λ r. ⌜ ((kind : ℕ) (c : Contents) → Opens kind (now (image .entry)) sheet c → readingSaid r ≡ takeReading kind (now (image .entry)) input dash) ⌝ }
 {
     let layout = sheet.layout;
     let template = layout.template;
     if is_resistance(template) {
         return ReadingAnswer::Refused(refusal::wrong_block(FIRST_SELECTOR));
     }
-    bridge_reading(sheet, image, input)
+    dash_reading(sheet, image, input, dash)
 }
 
-// A reading of an image at an input in nV/V: the fraction q and the physical figure. Else the check's refusal; 4 for template
-// 32; 13 where field 7, 8, 10 or 11 is missing; 21 where 10 or 11 is a Single outside −2 to 2 V/V; 13 where e is not below f; 14
+// A reading of an image at an input in nV/V, on a dash: the fraction q and the physical figure. Else the check's refusal; 4 for
+// template 32; 23 where the small dash is handed more than 32 points; 13 where field 7, 8, 10 or 11 is missing; 21 where 10 or 11 is a Single outside −2 to 2 V/V; 13 where e is not below f; 14
 // for an input too far outside the span.
-pub fn take_reading(kind: u8, image: &[u8], input: i64) -> ReadingAnswer
-    ensures { λ r. ⌜ readingSaid r ≡ takeReading kind (now (image .entry)) input ⌝ }
+pub fn take_reading(kind: u8, image: &[u8], input: i64, dash: Dash) -> ReadingAnswer
+    ensures { λ r. ⌜ readingSaid r ≡ takeReading kind (now (image .entry)) input dash ⌝ }
 {
     match sheet::open(kind, image) {
         OpenedAnswer::Refused(r) => ReadingAnswer::Refused(r),
-        OpenedAnswer::Sheet(sheet) => reading_in(sheet, image, input),
+        OpenedAnswer::Sheet(sheet) => reading_in(sheet, image, input, dash),
     }
 }

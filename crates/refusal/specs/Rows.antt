@@ -88,3 +88,7 @@ endOutside field = returned 21 field
 -- 22 (Note 9): points plus deviations not rising as stored, in domain 1. The place is as in 7.
 abbrev pub sumsNotRising : ℕ → Refusal
 sumsNotRising place = returned 22 place
+
+-- 23 (Note 10): reading: more points than the small dash takes. The place is the point count.
+abbrev pub tooManyPoints : ℕ → Refusal
+tooManyPoints points = returned 23 points

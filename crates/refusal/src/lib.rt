@@ -19,6 +19,7 @@ pub use rows::past_end;
 pub use rows::short_index;
 pub use rows::sums_not_rising;
 pub use rows::too_long;
+pub use rows::too_many_points;
 pub use rows::wrong_block;
 pub use rows::wrong_image;
 pub use rows::wrong_list;
@@ -79,3 +80,5 @@ pub const LEVEL_TOO_LOW: u8 = 20;
 pub const END_OUTSIDE: u8 = 21;
 
 pub const SUMS_NOT_RISING: u8 = 22;
+
+pub const TOO_MANY_POINTS: u8 = 23;

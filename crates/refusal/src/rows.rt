@@ -22,6 +22,7 @@ ghost use Rattle.refusal.specs.Rows.{
   levelTooLow,
   endOutside,
   sumsNotRising,
+  tooManyPoints,
 };
 use crate::Refusal;
 
@@ -218,5 +219,14 @@ pub fn sums_not_rising(place: u64) -> Refusal
     Refusal {
         number: crate::SUMS_NOT_RISING,
         place,
+    }
+}
+
+pub fn too_many_points(points: u64) -> Refusal
+    ensures { λ r. ⌜ r ≡ tooManyPoints points ⌝ }
+{
+    Refusal {
+        number: crate::TOO_MANY_POINTS,
+        place: points,
     }
 }

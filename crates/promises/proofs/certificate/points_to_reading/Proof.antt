@@ -14,7 +14,7 @@ returns c =
     let built = first .before .before .before .before in
     let start = built .before .before .before .before in
     let lent = start .good .1 .1 in
-    answered (start .args .kind) _ (start .args .sheet) _ (start .args .domain) _ (start .args .first) (start .args .second) (start .args .reading-kind) (start .args .input) _ _ _ _
+    answered (start .args .kind) _ (start .args .sheet) _ (start .args .domain) _ (start .args .first) (start .args .second) (start .args .reading-kind) (start .args .input) (start .args .dash) _ _ _ _
     (sheet-lendable (start .args .sheet) _ (lent .0))
     (change-real (start .args .first) _ (lent .1 .1 .1 .1 .0))
     (change-real (start .args .second) _ (lent .1 .1 .1 .1 .1 .0))

@@ -6,7 +6,8 @@ use Rattle.refusal.specs.Outcome.{good, refused}
 use Rattle.refusal.proofs.Outcomes.{told}
 use Rattle.layout.specs.Contents.{Contents}
 use Rattle.sheet.specs.Opened.{Opens}
-use Rattle.reading.specs.Reading.{spanOf}
+use Rattle.sheet.proofs.HeldLaws.{points-are}
+use Rattle.reading.specs.Reading.{tooMany, spanOf}
 use Rattle.reading.specs.Steps.{Ready, spanSaid}
 use Rattle.reading.proofs.Spans.{resistance-is, span-ready}
 use Rattle.reading.proofs.Orders.{takes-no-span, takes-far, takes-shown}
@@ -28,12 +29,12 @@ returns c =
     let s = m .before .before .before .before .before .before in
     λ kind x h.
     ap refused (c .outside-span .ensures)
-    ∙ takes-far kind (s .args .image .now) (s .args .input) (h .accepted) (resistance-is h ∙ s .pre .1) (found (m .before) kind x h) (rw (toZ-ofZ (s .fits .input)) at (sym (m .is-too-far .ensures) ∙ c .before .if1 .taken))
+    ∙ takes-far kind (s .args .image .now) (s .args .input) (s .args .dash) (h .accepted) (resistance-is h ∙ s .pre .1) (ap (tooMany (s .args .dash)) (sym (points-are h)) ∙ s .pre .2) (found (m .before) kind x h) (rw (toZ-ofZ (s .fits .input)) at (sym (m .is-too-far .ensures) ∙ c .before .if1 .taken))
 
 returns-2 : tie.Need-returns-2
 returns-2 c =
     let s = c .before .before .before .before .before in
-    λ kind x h. takes-no-span kind (s .args .image .now) (s .args .input) (h .accepted) (resistance-is h ∙ s .pre .1) (sym (told spanSaid (c .before .r .given .1) (c .before .before .before .span-in .ensures kind x h)))
+    λ kind x h. takes-no-span kind (s .args .image .now) (s .args .input) (s .args .dash) (h .accepted) (resistance-is h ∙ s .pre .1) (ap (tooMany (s .args .dash)) (sym (points-are h)) ∙ s .pre .2) (sym (told spanSaid (c .before .r .given .1) (c .before .before .before .span-in .ensures kind x h)))
 
 returns-3 : tie.Need-returns-3
 returns-3 c =
@@ -41,7 +42,7 @@ returns-3 c =
     let s = m .before .before .before .before .before .before in
     λ kind x h.
     ap good (rw (toZ-ofZ (s .fits .input)) at (c .shown .ensures kind x h))
-    ∙ takes-shown kind (s .args .image .now) (s .args .input) (h .accepted) (resistance-is h ∙ s .pre .1) (found (m .before) kind x h) (rw (toZ-ofZ (s .fits .input)) at (sym (m .is-too-far .ensures) ∙ c .before .if1 .left))
+    ∙ takes-shown kind (s .args .image .now) (s .args .input) (s .args .dash) (h .accepted) (resistance-is h ∙ s .pre .1) (ap (tooMany (s .args .dash)) (sym (points-are h)) ∙ s .pre .2) (found (m .before) kind x h) (rw (toZ-ofZ (s .fits .input)) at (sym (m .is-too-far .ensures) ∙ c .before .if1 .left))
 
 pub bridge-reading-spec : {M : Type 1} → statement M
 bridge-reading-spec =

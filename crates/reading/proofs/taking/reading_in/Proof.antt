@@ -13,13 +13,13 @@ returns c =
     let s = t .before .before .before in
     λ kind x h.
     ap refused (c .wrong-block .ensures)
-    ∙ takes-none kind (s .args .image .now) (s .args .input) (h .accepted)
+    ∙ takes-none kind (s .args .image .now) (s .args .input) (s .args .dash) (h .accepted)
     (resistance-is h ∙ sym (t .is-resistance .ensures) ∙ c .before .if1 .taken)
 
 returns-2 : tie.Need-returns-2
 returns-2 c =
     let s = c .before .before .before .before .before in
-    λ kind x h. rw (toZ-ofZ (s .fits .input)) at (c .bridge-reading .ensures kind x h)
+    λ kind x h. rw (toZ-ofZ (s .fits .input)) at (c .dash-reading .ensures kind x h)
 
 pub reading-in-spec : {M : Type 1} → statement M
 reading-in-spec =

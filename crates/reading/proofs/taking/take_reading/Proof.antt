@@ -15,7 +15,7 @@ returns : tie.Need-returns
 returns c =
     let p = c .before .before .before in
     let a = p .before .before .args in
-    takes-refused (a .kind) (a .image .now) (a .input) (not-opened (a .kind) (a .image .now) _ (p .«open» .ensures) (c .before .r .given .1))
+    takes-refused (a .kind) (a .image .now) (a .input) (a .dash) (not-opened (a .kind) (a .image .now) _ (p .«open» .ensures) (c .before .r .given .1))
 
 returns-2 : tie.Need-returns-2
 returns-2 c =
