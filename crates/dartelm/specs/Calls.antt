@@ -25,12 +25,12 @@ use Rattle.dartelm.specs.declared.answers.DartelmReadingAnswer.{DartelmR
 use Rattle.dartelm.specs.declared.answers.DartelmTextAnswer.{DartelmTextAnswer}
 use Rattle.dartelm.specs.declared.answers.DartelmCodeAnswer.{DartelmCodeAnswer}
 use Rattle.dartelm.specs.declared.answers.DartelmPageAnswer.{DartelmPageAnswer}
-use Rattle.dartelm.specs.Values.{levelOf, valueOf, sheetOf}
+use Rattle.dartelm.specs.Values.{levelOf, dashBy, valueOf, sheetOf}
 use Rattle.dartelm.specs.Answers.{toldAs, told, numbers, noNumbers, checkAnswer, fieldAnswer, pairAnswer, noPair, characterAnswer, proposalAnswer, noProposal, readingAnswer, noReading, textAnswer, codeAnswer, pageAnswer}
 
 -- The number of this archive and its header.
 abbrev pub version : ℕ
-version = 4
+version = 5
 
 -- ---- kinds
 
@@ -86,8 +86,8 @@ proposeCall kind image level field value = told proposalAnswer noProposal (propo
 
 -- ---- a reading, texts, a page
 
-abbrev pub readingCall : ℕ → List ℕ → ℤ → DartelmReadingAnswer
-readingCall kind image input = told readingAnswer noReading (takeReading kind image input)
+abbrev pub readingCall : ℕ → List ℕ → ℤ → ℕ → DartelmReadingAnswer
+readingCall kind image input dash = told readingAnswer noReading (takeReading kind image input (dashBy dash))
 
 abbrev pub textCall : ℕ → ℕ → DartelmTextAnswer
 textCall field code = told textAnswer [] (textOf field code)

@@ -12,6 +12,8 @@ use Rattle.fields.specs.declared.Template.the-variants.{Bridge, Resistance}
 use Rattle.fields.specs.Lines.{numberOf}
 use Rattle.fields.specs.declared.Level.{Level}
 use Rattle.fields.specs.declared.Level.the-variants.{Owner, CalibrationRoom, Maker}
+use Rattle.reading.specs.declared.Dash.{Dash}
+use Rattle.reading.specs.declared.Dash.the-variants.{Large, Small}
 use Rattle.build.specs.declared.Slot.{Slot}
 use Rattle.build.specs.declared.Sheet.{Sheet}
 use Rattle.build.specs.Build.{slot}
@@ -35,6 +37,10 @@ levelOf (suc (suc (suc n))) = Owner
 -- A template by its number: 32 is template 32, any other is taken as 33.
 abbrev pub templateBy : ℕ → Template
 templateBy number = cond (eqb number (numberOf Resistance)) Resistance Bridge
+
+-- A dash by its number: 0 is the large one, any other the small one.
+abbrev pub dashBy : ℕ → Dash
+dashBy number = cond (eqb number 0) Large Small
 
 -- The float of a format whose bits are 0: +0.0.
 abbrev pub plusZero : Format → Float

@@ -62,7 +62,7 @@ use values::DartelmValue;
 pub extern "C" fn dartelm_version() -> u32
     ensures { λ r. ⌜ r ≡ version ⌝ }
 {
-    4
+    5
 }
 
 // The kind of the images that have so many bytes: 0, 1 or 2; 255 where no kind has.
@@ -315,12 +315,18 @@ pub extern "C" fn dartelm_commit(
     wrote(change::commit(kind, image, writer, field, present_code, new_code))
 }
 
-// Takes a reading at an input in nV/V.
+// Takes a reading at an input in nV/V, on a dash: 0 is the large one, any other the small one.
 #[no_mangle]
-pub extern "C" fn dartelm_reading(kind: u8, image: &[u8], input: i64) -> DartelmReadingAnswer
-    ensures { λ r. ⌜ r ≡ readingCall kind (now (image .entry)) input ⌝ }
+pub extern "C" fn dartelm_reading(
+    kind: u8,
+    image: &[u8],
+    input: i64,
+    dash: u8,
+) -> DartelmReadingAnswer
+    ensures { λ r. ⌜ r ≡ readingCall kind (now (image .entry)) input dash ⌝ }
 {
-    match reading::take_reading(kind, image, input) {
+    let taker = values::dash_of(dash);
+    match reading::take_reading(kind, image, input, taker) {
         ReadingAnswer::Refused(r) => DartelmReadingAnswer {
             number: r.number,
             place: r.place,

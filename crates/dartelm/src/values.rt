@@ -1,11 +1,12 @@
 // A field's value by two flags, and the values of a sheet: what C hands in and is handed. A flag is yes where it is not 0.
 ghost use mathlib.Core.Path.{_≡_};
-ghost use Rattle.dartelm.specs.Values.{levelOf, templateBy, valueOf, byFlags, noValue, sheetOf};
+ghost use Rattle.dartelm.specs.Values.{levelOf, templateBy, dashBy, valueOf, byFlags, noValue, sheetOf};
 use build::Sheet;
 use build::Slot;
 use fields::Level;
 use fields::Template;
 use fields::Value;
+use reading::Dash;
 
 // Missing where `is_missing` is yes, else a Single where `is_single` is, else a whole number. What is told has 0 in every
 // other member.
@@ -46,6 +47,16 @@ pub fn template_of(given: u8) -> Template
         return Template::Resistance;
     }
     Template::Bridge
+}
+
+// A dash as C hands it in: 0 is the large one, any other the small one.
+pub fn dash_of(given: u8) -> Dash
+    ensures { λ r. ⌜ r ≡ dashBy given ⌝ }
+{
+    if given == 0 {
+        return Dash::Large;
+    }
+    Dash::Small
 }
 
 // The value that C hands in.

@@ -2,8 +2,8 @@
 use crate::Answers;
 use crate::Change;
 use build::Sheet;
-use reading::Dash;
 use fields::Domain;
+use reading::Dash;
 ghost use Rattle.promises.specs.Calls.{Answered};
 
 // Builds an image in the caller's buffer, makes two changes and takes a reading of it, whatever each call before it answered:

@@ -12,6 +12,11 @@ pub fn is_too_many(dash: Dash, points: u64) -> bool
 {
     match dash {
         Dash::Large => false,
-        Dash::Small => SMALL_POINTS < points,
+        Dash::Small => {
+            if points <= SMALL_POINTS {
+                return false;
+            }
+            true
+        }
     }
 }
