@@ -1,7 +1,7 @@
-/* Takes a reading of a data sheet: reading KIND FILE INPUT
+/* Takes a reading of a data sheet: reading KIND FILE INPUT DASH
  *
- * FILE holds a chip's image, and INPUT is in nV/V. Prints the fraction in billionths of the span and the physical figure, or the
- * refusal's number and place.
+ * FILE holds a chip's image, INPUT is in nV/V, and DASH is large or small. Prints the fraction in billionths of the span and the
+ * physical figure, or the refusal's number and place.
  *
  *     rt staticlib dartelm
  *     cc -Iinclude examples/reading.c target/staticlib/libdartelm.a -o target/reading
@@ -10,13 +10,14 @@
 #include <inttypes.h>
 #include <stdio.h>
 #include <stdlib.h>
+#include <string.h>
 
 #include "dartelm.h"
 
 int main(int argc, char **argv)
 {
-    if (argc != 4) {
-        fprintf(stderr, "usage: %s KIND FILE INPUT\n", argv[0]);
+    if (argc != 5) {
+        fprintf(stderr, "usage: %s KIND FILE INPUT DASH\n", argv[0]);
         return 2;
     }
 
@@ -34,6 +35,11 @@ int main(int argc, char **argv)
         fprintf(stderr, "%s is no input\n", argv[3]);
         return 2;
     }
+    uint8_t dash = strcmp(argv[4], "small") == 0 ? DARTELM_DASH_SMALL : DARTELM_DASH_LARGE;
+    if (dash == DARTELM_DASH_LARGE && strcmp(argv[4], "large") != 0) {
+        fprintf(stderr, "%s is no dash\n", argv[4]);
+        return 2;
+    }
 
     FILE *file = fopen(argv[2], "rb");
     if (file == NULL) {
@@ -44,7 +50,7 @@ int main(int argc, char **argv)
     size_t length = fread(image, 1, sizeof image, file);
     fclose(file);
 
-    dartelm_reading_answer reading = dartelm_reading((uint8_t)kind, image, length, input);
+    dartelm_reading_answer reading = dartelm_reading((uint8_t)kind, image, length, input, dash);
     if (reading.number != DARTELM_ACCEPTED) {
         printf("refused %u at %" PRIu64 "\n", reading.number, reading.place);
         return 1;

@@ -1,7 +1,7 @@
 /* Dartelm: the IEEE 1451.4 data sheet (TEDS) in a sender's memory chip, from its image to a reading. For C99 and C++.
  *
  * Every call returns one struct by value. Its number is 0 where the call is accepted; else it is a refusal's, DARTELM_WRONG_IMAGE
- * to DARTELM_SUMS_NOT_RISING, with the refusal's place beside it, and every other member is 0. (0 as a float is +0.0. A Single that
+ * to DARTELM_TOO_MANY_POINTS, with the refusal's place beside it, and every other member is 0. (0 as a float is +0.0. A Single that
  * is returned is finite.) A refused call writes nothing; no call writes anything but the image of a build, a change or a commit,
  * and the buffer of an index.
  *
@@ -29,7 +29,7 @@ extern "C" {
 #endif
 
 /* This header's number, which rises when a call or a struct changes; dartelm_version() is the archive's. */
-#define DARTELM_VERSION 4
+#define DARTELM_VERSION 5
 
 /* ---- numbers ---- */
 
@@ -59,7 +59,8 @@ enum {
     DARTELM_LEVEL_TOO_LOW = 20,   /* A writer of this level may not write the field. Place: the field. */
     DARTELM_END_OUTSIDE = 21,     /* A reading at precision 2: a Single outside -2 to 2 V/V. Place: the first of fields 10 and 11
                                    * that is. */
-    DARTELM_SUMS_NOT_RISING = 22  /* Domain 1: calibration points plus deviations that do not rise. Place: as in 7. */
+    DARTELM_SUMS_NOT_RISING = 22, /* Domain 1: calibration points plus deviations that do not rise. Place: as in 7. */
+    DARTELM_TOO_MANY_POINTS = 23  /* A reading on the small dash: more than 32 calibration points. Place: how many. */
 };
 
 /* The template of a sheet's first block, which says what its fields are. A byte that is handed in and is neither is taken as
@@ -124,6 +125,12 @@ enum {
     DARTELM_DOMAIN_PHYSICAL = 1,   /* the fraction that is read: the least that with its own deviation is at least where the
                                     * input lies */
     DARTELM_NO_DOMAIN = 255        /* told where there are no calibration points */
+};
+
+/* The dash that a reading is taken on. Any other byte is taken as 1. */
+enum {
+    DARTELM_DASH_LARGE = 0, /* takes every calibration point, 127 at most */
+    DARTELM_DASH_SMALL = 1  /* takes 32 at most */
 };
 
 /* What dartelm_kind_of gives for a length that no kind of chip has: a kind that every call refuses, with 1. */
@@ -306,9 +313,11 @@ dartelm_proposal_answer dartelm_propose(uint8_t kind, const uint8_t *image, size
 dartelm_write_answer dartelm_commit(uint8_t kind, uint8_t *image, size_t image_length, uint8_t level, uint64_t field,
                                     uint64_t present_code, uint64_t new_code);
 
-/* Takes a reading at an input in nV/V. Refused as a check is, with 4 for a sheet of template 32, and with 13, 14 and 21. At
- * precision 2 the Singles of fields 10 and 11 are taken to the nearest nV/V, halves upward. */
-dartelm_reading_answer dartelm_reading(uint8_t kind, const uint8_t *image, size_t image_length, int64_t input);
+/* Takes a reading at an input in nV/V, on a dash. Refused as a check is, with 4 for a sheet of template 32, 23 for one with more
+ * points than the small dash takes, and with 13, 14 and 21. At precision 2 the Singles of fields 10 and 11 are taken to the nearest
+ * nV/V, halves upward. Where the small dash is not refused with 23, it is answered as the large one is. */
+dartelm_reading_answer dartelm_reading(uint8_t kind, const uint8_t *image, size_t image_length, int64_t input,
+                                       uint8_t dash);
 
 /* The text of a code of field 3, 18 or 19, as template 33 has them: a letter, a date as 2018-01-02, three letters. Refused with 8
  * and 10. */

@@ -1,10 +1,11 @@
 //! The calls of `include/dartelm.h`: once for the product (`ffi::Product`), once for the plain implementation, so that both are
 //! handed the same and are compared in the same.
 
-use crate::plain::{self, Domain, Level, Proposal, Reading, Refusal, Sheet, Summary, Text, Value};
+use crate::plain::{self, Dash, Domain, Level, Proposal, Reading, Refusal, Sheet, Summary, Text, Value};
 use crate::structs::{
     ByFlags, CharacterAnswer, CheckAnswer, CodeAnswer, FieldAnswer, Fields, NO_DOMAIN, PageAnswer, PairAnswer,
-    ProposalAnswer, ReadingAnswer, SheetAnswer, TextAnswer, WriteAnswer, domain_byte, domain_of, level_of, template_of,
+    ProposalAnswer, ReadingAnswer, SheetAnswer, TextAnswer, WriteAnswer, dash_of, domain_byte, domain_of, level_of,
+    template_of,
 };
 
 /// The calls of the header; the provided ones give the plain implementation's types.
@@ -20,7 +21,7 @@ pub trait Calls {
     fn change(&self, kind: u8, image: &mut [u8], level: u8, field: u64, value: ByFlags) -> WriteAnswer;
     fn propose(&self, kind: u8, image: &[u8], level: u8, field: u64, value: ByFlags) -> ProposalAnswer;
     fn commit(&self, kind: u8, image: &mut [u8], level: u8, field: u64, present: u64, new: u64) -> WriteAnswer;
-    fn reading(&self, kind: u8, image: &[u8], input: i64) -> ReadingAnswer;
+    fn reading(&self, kind: u8, image: &[u8], input: i64, dash: u8) -> ReadingAnswer;
     fn text(&self, field: u64, code: u64) -> TextAnswer;
     fn code(&self, field: u64, text: &[u8]) -> CodeAnswer;
     fn page(&self, kind: u8, image: &[u8], page: u64) -> PageAnswer;
@@ -108,8 +109,8 @@ pub trait Calls {
         accepted(number, place)
     }
 
-    fn reading_taken(&self, kind: u8, image: &[u8], input: i64) -> Result<Reading, Refusal> {
-        let ReadingAnswer { number, place, fraction, figure } = self.reading(kind, image, input);
+    fn reading_taken(&self, kind: u8, image: &[u8], input: i64, dash: Dash) -> Result<Reading, Refusal> {
+        let ReadingAnswer { number, place, fraction, figure } = self.reading(kind, image, input, dash.into());
         accepted(number, place)?;
         Ok(Reading { fraction, figure })
     }
@@ -237,8 +238,8 @@ impl Calls for Plain {
         wrote(plain::commit(kind, image, level_of(level), field, present, new))
     }
 
-    fn reading(&self, kind: u8, image: &[u8], input: i64) -> ReadingAnswer {
-        match plain::reading(kind, image, input) {
+    fn reading(&self, kind: u8, image: &[u8], input: i64, dash: u8) -> ReadingAnswer {
+        match plain::reading(kind, image, input, dash_of(dash)) {
             Ok(Reading { fraction, figure }) => ReadingAnswer { fraction, figure, ..ReadingAnswer::default() },
             Err(Refusal { number, place }) => ReadingAnswer { number, place, ..ReadingAnswer::default() },
         }

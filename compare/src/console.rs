@@ -3,7 +3,7 @@
 use std::fmt::{self, Display, Formatter};
 
 use crate::calls::Calls;
-use crate::plain::{Domain, Level, Refusal, Summary, Template, Value};
+use crate::plain::{Dash, Domain, Level, Refusal, Summary, Template, Value};
 use crate::structs::{ByFlags, Fields};
 
 /// A line's command with what it is handed.
@@ -29,7 +29,7 @@ pub enum Command {
     Change(u8, Vec<u8>, u64, Value, Level),
     Propose(u8, Vec<u8>, u64, Value, Level),
     Commit(u8, Vec<u8>, u64, u64, u64, Level),
-    Reading(u8, Vec<u8>, i64),
+    Reading(u8, Vec<u8>, i64, Dash),
     Text(u64, u64),
     Code(u64, Vec<u8>),
     Index(u8, Vec<u8>, Vec<u8>),
@@ -64,7 +64,9 @@ pub fn parse(line: &str) -> Option<Command> {
             let (present, new) = (unsigned(present)?, unsigned(new)?);
             Command::Commit(unsigned(kind)?, bytes(image)?, unsigned(field)?, present, new, level(by)?)
         }
-        ["reading", kind, image, input] => Command::Reading(unsigned(kind)?, bytes(image)?, signed(input)?),
+        ["reading", kind, image, input, on] => {
+            Command::Reading(unsigned(kind)?, bytes(image)?, signed(input)?, dash(on)?)
+        }
         ["text", field, code] => Command::Text(unsigned(field)?, unsigned(code)?),
         ["code", field, text] => Command::Code(unsigned(field)?, bytes(text)?),
         ["index", kind, image, buffer] => Command::Index(unsigned(kind)?, bytes(image)?, bytes(buffer)?),
@@ -165,6 +167,14 @@ fn domain(word: &str) -> Option<Domain> {
     }
 }
 
+fn dash(word: &str) -> Option<Dash> {
+    match word {
+        "large" => Some(Dash::Large),
+        "small" => Some(Dash::Small),
+        _ => None,
+    }
+}
+
 // ---- writing ----
 
 struct Hex<'a>(&'a [u8]);
@@ -203,6 +213,15 @@ impl Display for Domain {
         to.write_str(match self {
             Domain::Electrical => "0",
             Domain::Physical => "1",
+        })
+    }
+}
+
+impl Display for Dash {
+    fn fmt(&self, to: &mut Formatter) -> fmt::Result {
+        to.write_str(match self {
+            Dash::Large => "large",
+            Dash::Small => "small",
         })
     }
 }
@@ -246,8 +265,8 @@ impl Display for Command {
             Command::Commit(kind, image, field, present, new, level) => {
                 write!(to, "commit {kind} {} {field} {present} {new} {level}", Hex(image))
             }
-            Command::Reading(kind, image, input) => {
-                write!(to, "reading {kind} {} {input}", Hex(image))
+            Command::Reading(kind, image, input, dash) => {
+                write!(to, "reading {kind} {} {input} {dash}", Hex(image))
             }
             Command::Text(field, code) => write!(to, "text {field} {code}"),
             Command::Code(field, text) => write!(to, "code {field} {}", Hex(text)),
@@ -315,8 +334,8 @@ impl Command {
                 calls.committed(*kind, &mut image, *level, *field, *present, *new)?;
                 format!("ok {}", Hex(&image))
             }
-            Command::Reading(kind, image, input) => {
-                let reading = calls.reading_taken(*kind, image, *input)?;
+            Command::Reading(kind, image, input, dash) => {
+                let reading = calls.reading_taken(*kind, image, *input, *dash)?;
                 format!("{} {:016x}", reading.fraction, reading.figure.to_bits())
             }
             Command::Text(field, code) => {
@@ -356,8 +375,11 @@ mod tests {
             "check 0 0",
             "check 0 AB",
             "Check 0 -",
-            "reading 0 - +5",
-            "reading 0 - 9223372036854775808",
+            "reading 0 - +5 large",
+            "reading 0 - 9223372036854775808 small",
+            "reading 0 - 5",
+            "reading 0 - 5 Large",
+            "reading 0 - 5 0",
             "text 18 18446744073709551616",
             "text 18 ",
             "change 0 - 1 s0000000 maker",
@@ -404,7 +426,8 @@ mod tests {
             "change 0 - 1 w-9223372036854775808 calibration",
             "propose 0 - 1 m maker",
             "commit 0 - 1 18446744073709551615 0 owner",
-            "reading 0 - -9223372036854775808",
+            "reading 0 - -9223372036854775808 large",
+            "reading 1 00 5 small",
             "text 18 0",
             "code 18 -",
             "index 1 00ff -",

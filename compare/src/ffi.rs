@@ -52,7 +52,7 @@ mod dartelm {
             present_code: u64,
             new_code: u64,
         ) -> WriteAnswer;
-        pub fn dartelm_reading(kind: u8, image: *const u8, image_length: usize, input: i64) -> ReadingAnswer;
+        pub fn dartelm_reading(kind: u8, image: *const u8, image_length: usize, input: i64, dash: u8) -> ReadingAnswer;
         pub safe fn dartelm_text(field: u64, code: u64) -> TextAnswer;
         pub fn dartelm_code(field: u64, text: *const u8, text_length: usize) -> CodeAnswer;
         pub fn dartelm_page(kind: u8, image: *const u8, image_length: usize, page: u64) -> PageAnswer;
@@ -132,8 +132,8 @@ impl Calls for Product {
         unsafe { dartelm::dartelm_commit(kind, image.as_mut_ptr(), image.len(), level, field, present, new) }
     }
 
-    fn reading(&self, kind: u8, image: &[u8], input: i64) -> ReadingAnswer {
-        unsafe { dartelm::dartelm_reading(kind, image.as_ptr(), image.len(), input) }
+    fn reading(&self, kind: u8, image: &[u8], input: i64, dash: u8) -> ReadingAnswer {
+        unsafe { dartelm::dartelm_reading(kind, image.as_ptr(), image.len(), input, dash) }
     }
 
     fn text(&self, field: u64, code: u64) -> TextAnswer {

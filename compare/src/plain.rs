@@ -76,6 +76,13 @@ pub enum Domain {
     Physical,
 }
 
+/// What a reading is taken on: the small one takes 32 points at most.
+#[derive(Clone, Copy, Debug, PartialEq, Eq)]
+pub enum Dash {
+    Large,
+    Small,
+}
+
 /// Number and place of a refused call, as in the table "Turning down".
 #[derive(Clone, Copy, Debug, PartialEq, Eq)]
 pub struct Refusal {
@@ -992,10 +999,13 @@ pub fn nanovolts(single: f32) -> Option<i64> {
     }
 }
 
-pub fn reading(kind: u8, image: &[u8], input: i64) -> Answer<Reading> {
+pub fn reading(kind: u8, image: &[u8], input: i64, dash: Dash) -> Answer<Reading> {
     let open = open(kind, image)?;
     if open.layout.template == Template::Resistance {
         return refuse(4, 64);
+    }
+    if dash == Dash::Small && open.summary.points > 32 {
+        return refuse(23, open.summary.points);
     }
     let single = |field| match open.field(image, field) {
         Value::Single(figure) => Ok(f64::from(figure)),
@@ -1321,12 +1331,12 @@ mod tests {
         build(0, &mut image, &bridge(sheet())).unwrap();
         assert_eq!(image[..8], [0x11, 0x40, 0, 0x20, 0, 1, 0, 0]);
         assert_eq!(check(0, &image).unwrap().bits, 294);
-        assert_eq!(reading(0, &image, 1_000_000).unwrap().fraction, 333_333_333);
-        assert_eq!(reading(0, &image, 2_000_000).unwrap().fraction, 666_666_667);
+        assert_eq!(reading(0, &image, 1_000_000, Dash::Large).unwrap().fraction, 333_333_333);
+        assert_eq!(reading(0, &image, 2_000_000, Dash::Large).unwrap().fraction, 666_666_667);
         change(0, &mut image, Level::Maker, 11, Value::Whole(2_000_000)).unwrap();
-        assert!(reading(0, &image, -200_000).is_ok());
+        assert!(reading(0, &image, -200_000, Dash::Large).is_ok());
         let refusal = Refusal { number: 14, place: 0 };
-        assert_eq!(reading(0, &image, -200_001).err(), Some(refusal));
+        assert_eq!(reading(0, &image, -200_001, Dash::Large).err(), Some(refusal));
 
         let mut values = sheet();
         values[8] = Value::Whole(2);
@@ -1415,7 +1425,7 @@ mod tests {
             assert_eq!(propose(1, &image, Level::Maker, field, read).is_ok(), field != 9);
         }
         assert_eq!(super::field(1, &image, 20).err(), Some(Refusal { number: 8, place: 20 }));
-        assert_eq!(reading(1, &image, 0).err(), Some(Refusal { number: 4, place: 64 }));
+        assert_eq!(reading(1, &image, 0, Dash::Large).err(), Some(Refusal { number: 4, place: 64 }));
         let writes = |level| {
             let proposed = |field: u64| propose(1, &image, level, field, values[field as usize - 1]);
             (1..=19).filter(|field| proposed(*field).is_ok()).collect::<Vec<_>>()
@@ -1465,7 +1475,9 @@ mod tests {
             values[9..11].copy_from_slice(&ends);
             let mut image = [0; 128];
             build(1, &mut image, &bridge(values)).unwrap();
-            reading(1, &image, input).map(|reading| reading.fraction).map_err(|refusal| (refusal.number, refusal.place))
+            reading(1, &image, input, Dash::Large)
+                .map(|reading| reading.fraction)
+                .map_err(|refusal| (refusal.number, refusal.place))
         };
         use Value::{Missing, Single};
         assert_eq!(reads([Single(0.0), Single(0.004)], 2_000_000), Ok(500_000_000));
@@ -1529,8 +1541,25 @@ mod tests {
         for p in (-20_000..1_500_000).step_by(7).chain(3_990..4_010).chain(58_190..58_210) {
             let q = open.crossing(&image, p);
             assert!(met(q, p) && !met(q - 1, p), "{p}");
-            assert_eq!(reading(2, &image, p).unwrap().fraction, q);
+            assert_eq!(reading(2, &image, p, Dash::Large).unwrap().fraction, q);
         }
+    }
+
+    #[test]
+    fn the_small_dash_takes_32_points() {
+        let points: Vec<i64> = (0..33).flat_map(|i| [i * 30_600_000, (i % 5 - 2) * 1_000]).collect();
+        let reads = |count: usize, dash, input| {
+            let image = tabled(Domain::Electrical, &points[..2 * count]).unwrap();
+            reading(2, &image, input, dash).map(|reading| (reading.fraction, reading.figure))
+        };
+        for input in [-100_000_000, 0, 12_345_678, 1_100_000_000] {
+            assert_eq!(reads(32, Dash::Small, input), reads(32, Dash::Large, input));
+            assert!(reads(33, Dash::Large, input).is_ok());
+            assert_eq!(reads(33, Dash::Small, input), Err(Refusal { number: 23, place: 33 }));
+        }
+        // Before 14.
+        assert_eq!(reads(33, Dash::Large, BILLION << 2), Err(Refusal { number: 14, place: 0 }));
+        assert_eq!(reads(33, Dash::Small, BILLION << 2), Err(Refusal { number: 23, place: 33 }));
     }
 
     #[test]

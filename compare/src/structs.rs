@@ -1,6 +1,6 @@
 //! The structs of `include/dartelm.h`. Floats are compared by their bits.
 
-use crate::plain::{Domain, Level, Template, Value};
+use crate::plain::{Dash, Domain, Level, Template, Value};
 
 /// A field's value by two flags.
 #[derive(Clone, Copy, Debug, Default)]
@@ -85,6 +85,23 @@ pub fn domain_byte(domain: Option<Domain>) -> u8 {
         Some(Domain::Electrical) => 0,
         Some(Domain::Physical) => 1,
         None => NO_DOMAIN,
+    }
+}
+
+/// The dash of a byte: any but 0 is the small one.
+pub fn dash_of(byte: u8) -> Dash {
+    match byte {
+        0 => Dash::Large,
+        _ => Dash::Small,
+    }
+}
+
+impl From<Dash> for u8 {
+    fn from(dash: Dash) -> u8 {
+        match dash {
+            Dash::Large => 0,
+            Dash::Small => 1,
+        }
     }
 }
 

@@ -7,7 +7,7 @@ use std::time::Instant;
 
 use compare::calls::{Calls, Plain};
 use compare::ffi::Product;
-use compare::plain::{Level, Value};
+use compare::plain::{Dash, Level, Value};
 use compare::structs::{ByFlags, Fields};
 
 const ROUNDS: usize = 1_000;
@@ -127,8 +127,8 @@ fn each_field<C: Calls>(calls: &C, case: &mut Case, _: usize) -> u8 {
 
 #[inline(never)]
 fn reading<C: Calls>(calls: &C, case: &mut Case, turn: usize) -> u8 {
-    let input = -250_000 + 220_000 * (turn % 16) as i64;
-    black_box(&calls.reading(black_box(case.kind), black_box(&case.image), black_box(input))).number
+    let (input, dash) = (-250_000 + 220_000 * (turn % 16) as i64, Dash::Large.into());
+    black_box(&calls.reading(black_box(case.kind), black_box(&case.image), black_box(input), black_box(dash))).number
 }
 
 #[inline(never)]

@@ -13,7 +13,7 @@ use compare::plain::{self, Level, Template, Value};
 use compare::random::Random;
 use compare::structs::{
     ByFlags, CharacterAnswer, CheckAnswer, CodeAnswer, FieldAnswer, Fields, PageAnswer, PairAnswer, ProposalAnswer,
-    ReadingAnswer, SheetAnswer, TextAnswer, WriteAnswer, domain_of, level_of,
+    ReadingAnswer, SheetAnswer, TextAnswer, WriteAnswer, dash_of, domain_of, level_of,
 };
 
 #[path = "differ/images.rs"]
@@ -47,7 +47,7 @@ const PROPOSE: usize = 14;
 const COMMIT: usize = 15;
 
 /// Refusal numbers, and 0.
-const NUMBERS: usize = 23;
+const NUMBERS: usize = 24;
 
 const MOST_SHOWN: u64 = 10;
 
@@ -438,13 +438,13 @@ impl Differ {
     }
 
     fn reading(&mut self) {
-        let input = self.input();
+        let (input, dash) = (self.input(), self.dash());
         let kind = self.chip();
         self.both(
             READING,
             kind,
-            |image| Command::Reading(kind, image.to_vec(), input),
-            |calls, lent| calls.reading(kind, lent.image(), input),
+            |image| Command::Reading(kind, image.to_vec(), input, dash_of(dash)),
+            |calls, lent| calls.reading(kind, lent.image(), input, dash),
         );
     }
 

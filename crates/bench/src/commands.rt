@@ -6,21 +6,21 @@ use crate::builds;
 use crate::edits;
 use crate::indexes;
 use crate::printing;
+use crate::readings;
 use crate::reads;
 use crate::turned;
 use shown::put;
 use texts::equal;
-use words::Figure;
 use words::Number;
 use words::front;
 use words::word;
 
-const HELP: [u8; 666] = *b"check KIND IMAGE\n\
+const HELP: [u8; 692] = *b"check KIND IMAGE\n\
     page KIND IMAGE PAGE\n\
     field KIND IMAGE FIELD\n\
     pair KIND IMAGE INDEX\n\
     char KIND IMAGE INDEX\n\
-    reading KIND IMAGE INPUT\n\
+    reading KIND IMAGE INPUT DASH\n\
     show KIND IMAGE\n\
     build KIND LENGTH LEVEL TEMPLATE V1 .. Vn ENDBIT TEXT DOMAIN POINTS\n\
     change KIND IMAGE FIELD VALUE LEVEL\n\
@@ -32,7 +32,7 @@ const HELP: [u8; 666] = *b"check KIND IMAGE\n\
     code FIELD TEXT\n\
     help\n\
     KIND 0, 1 or 2; IMAGE, TEXT and BUFFER in hexadecimal, - for none; VALUE w7, s3f800000 or m;\n\
-    LEVEL owner, calibration or maker; TEMPLATE 33, of 21 values, or 32, of 19;\n\
+    LEVEL owner, calibration or maker; DASH large or small; TEMPLATE 33, of 21 values, or 32, of 19;\n\
     DOMAIN 0 or 1; POINTS point,deviation,.. or -; a refusal is: no NUMBER PLACE\n";
 
 // Answers a line.
@@ -82,7 +82,7 @@ fn of_image(name: &[u8], kind: u8, image: &[u8]) {
     printing::unknown();
 }
 
-// The commands of an image and a buffer, an input or a number.
+// The commands of an image and a buffer or a number.
 fn of_three(line: &[u8], name: &[u8]) {
     if equal(name, b"index") {
         return indexes::index(line);
@@ -91,13 +91,19 @@ fn of_three(line: &[u8], name: &[u8]) {
     let Asked::Of(chip) = asked::lent(line, &mut room) else {
         return printing::unknown();
     };
-    of_image_and(name, chip.kind, front(&room, chip.length), word(line, 3));
+    let Number::Is(number) = words::number_of(word(line, 3)) else {
+        return printing::unknown();
+    };
+    of_number(name, chip.kind, front(&room, chip.length), number);
 }
 
-// The command of an image, an index and a field.
+// The commands of an image, an index and a field, or an input and a dash.
 fn of_four(line: &[u8], name: &[u8]) {
     if equal(name, b"fetch") {
         return indexes::fetch(line);
+    }
+    if equal(name, b"reading") {
+        return readings::reading(line);
     }
     printing::unknown();
 }
@@ -127,19 +133,6 @@ fn of_sheet(line: &[u8], name: &[u8]) {
         return builds::build(line);
     }
     printing::unknown();
-}
-
-fn of_image_and(name: &[u8], kind: u8, image: &[u8], last: &[u8]) {
-    if equal(name, b"reading") {
-        let Figure::Is(input) = words::figure_of(last) else {
-            return printing::unknown();
-        };
-        return reads::reading(kind, image, input);
-    }
-    let Number::Is(number) = words::number_of(last) else {
-        return printing::unknown();
-    };
-    of_number(name, kind, image, number);
 }
 
 fn of_number(name: &[u8], kind: u8, image: &[u8], number: u64) {

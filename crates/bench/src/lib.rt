@@ -7,6 +7,7 @@ mod commands; // commands.rt: a command, by its words
 mod edits; // edits.rt: change, propose and commit
 mod indexes; // indexes.rt: index and fetch
 mod printing; // printing.rt: what an answer is made of
+mod readings; // readings.rt: reading
 mod reads; // reads.rt: the commands that leave the image alone
 mod serving; // serving.rt: lines from standard input
 mod turned; // turned.rt: text and codes

@@ -1,14 +1,12 @@
 // The commands that leave the image alone.
 use crate::printing;
 use memory::page_bytes;
-use reading::ReadingAnswer;
 use sheet::CharacterAnswer;
 use sheet::Checked;
 use sheet::FieldAnswer;
 use sheet::PairAnswer;
 use sheet::Summary;
 use shown::put;
-use shown::put_figure;
 use shown::put_number;
 
 fn accepted(summary: Summary) {
@@ -60,17 +58,5 @@ pub fn character(kind: u8, image: &[u8], index: u64) {
     match sheet::read_character(kind, image, index) {
         CharacterAnswer::Holds(b) => printing::number(b as u64),
         CharacterAnswer::Refused(r) => printing::refused(r),
-    }
-}
-
-pub fn reading(kind: u8, image: &[u8], input: i64) {
-    match reading::take_reading(kind, image, input) {
-        ReadingAnswer::Shows(reading) => {
-            put_figure(reading.fraction);
-            put(b" ");
-            printing::double(reading.figure);
-            printing::end();
-        }
-        ReadingAnswer::Refused(r) => printing::refused(r),
     }
 }

@@ -71,6 +71,7 @@ fn print_rows() {
     shown::refused(refusal::other_code(20));
     shown::refused(refusal::level_too_low(13));
     shown::refused(refusal::end_outside(10));
+    shown::refused(refusal::too_many_points(33));
 }
 
 fn main() {

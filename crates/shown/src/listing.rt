@@ -1,4 +1,4 @@
-// A sheet line by line: its template, its fields, its calibration table, its ending, its bits.
+// A sheet line by line: its template, its fields, its calibration table, its ending, its bits, the small dash.
 use crate::naming::print_name;
 use crate::output::put;
 use crate::output::put_character;
@@ -8,6 +8,8 @@ use crate::reasons::refused;
 use crate::values::print_value;
 use fields::Domain;
 use fields::Template;
+use reading::Dash;
+use reading::ReadingAnswer;
 use sheet::CharacterAnswer;
 use sheet::Checked;
 use sheet::FieldAnswer;
@@ -110,8 +112,29 @@ fn print_fields(kind: u8, image: &[u8], template: Template) {
     print_parts(kind, image, Part::Field(template), 1, last + 1);
 }
 
+// Whether a dash that answers so takes the sheet's points.
+fn takes(answer: ReadingAnswer) -> bool {
+    match answer {
+        ReadingAnswer::Shows(_) => true,
+        ReadingAnswer::Refused(r) => r.number != refusal::TOO_MANY_POINTS,
+    }
+}
+
+// Whether the small dash takes the sheet, at any input. No dash takes a reading from template 32.
+fn print_small_dash(kind: u8, image: &[u8], template: Template) {
+    match template {
+        Template::Resistance => {}
+        Template::Bridge => {
+            if takes(reading::take_reading(kind, image, 0, Dash::Small)) {
+                return put(b"small dash: takes it\n");
+            }
+            put(b"small dash: does not take it (more than 32 points)\n");
+        }
+    }
+}
+
 // Prints the whole sheet of an image, a line for the template, for each field, for the domain of a table and each of its points,
-// the ending and the bits up to the end; or the check's refusal.
+// the ending, the bits up to the end and the small dash; or the check's refusal.
 pub fn show(kind: u8, image: &[u8]) {
     match sheet::check(kind, image) {
         Checked::Refused(r) => refused(r),
@@ -126,6 +149,7 @@ pub fn show(kind: u8, image: &[u8]) {
             put(b"bits: ");
             put_number(summary.bits);
             put(b"\n");
+            print_small_dash(kind, image, template);
         }
     }
 }

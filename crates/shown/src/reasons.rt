@@ -6,7 +6,7 @@ use refusal::Refusal;
 
 // A line a row, from 0, which is none, nor is 15 any more: what its place is, with no word for it where a row has more than one
 // sort of place, and what it means.
-const ROWS: [u8; 1095] = *b"place;no row of the table\n\
+const ROWS: [u8; 1146] = *b"place;no row of the table\n\
     place;no such kind of chip, or an image of another length\n\
     page;the bytes of this page do not add up\n\
     bit;what begins here would pass the end of the chip\n\
@@ -28,7 +28,8 @@ const ROWS: [u8; 1095] = *b"place;no row of the table\n\
     field;another code stands there than the one expected\n\
     field;the writer's level is too low to write it\n\
     field;no reading: this value lies outside -2 to 2 V/V\n\
-    place;the calibration points plus their deviations do not rise";
+    place;the calibration points plus their deviations do not rise\n\
+    points;no reading: the small dash takes 32 at most";
 
 // Prints a refusal's number, place and meaning, on a line.
 pub fn refused(r: Refusal) {

@@ -97,6 +97,8 @@ impl Differ {
                 3..=5 => most,
                 6 | 7 => most + 1,
                 8 => most + 2,
+                // Around what the small dash takes.
+                9..=12 => most.clamp(1, 30 + self.random.below(11)),
                 _ => 1 + self.random.below(most.max(1)),
             };
             lay(&mut image, 7, points);

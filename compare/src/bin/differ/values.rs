@@ -46,6 +46,12 @@ impl Differ {
         self.random.pick(&[0, 0, 0, 0, 1, 1, 1, any])
     }
 
+    /// A dash as a byte: any but 0 is the small one.
+    pub fn dash(&mut self) -> u8 {
+        let any = self.random.word() as u8;
+        self.random.pick(&[0, 0, 1, 1, any])
+    }
+
     /// A value by flags, with anything in the members that it does not need.
     pub fn given(&mut self, value: Value) -> ByFlags {
         let mut given = ByFlags {
@@ -272,6 +278,8 @@ impl Differ {
             9 => self.random.within(120, 127),
             10 => self.random.within(126, 130),
             11 => self.random.within(0, 130),
+            // Around what the small dash takes.
+            12..=14 => self.random.within(30, 40).min(most),
             _ => self.random.within(0, most),
         } as usize;
         let mut list = Vec::with_capacity(262);
