@@ -15,7 +15,7 @@ use Rattle.refusal.specs.Outcome.{Outcome, good, refused, _>>_}
 use Rattle.refusal.specs.Rows.{returned, tooLong, wrongList}
 use Rattle.refusal.proofs.Outcomes.{neither, bind-refused}
 use Rattle.memory.specs.declared.Sizes.{Sizes}
-use Rattle.memory.specs.declared.cursor.Cursor.{Cursor}
+use Rattle.stream.specs.declared.cursor.Cursor.{Cursor}
 use Rattle.memory.specs.Image.{imageBytes, imageSizes, streamBits, imageOf}
 use Rattle.memory.specs.Pieces.{Piece, pack, needed}
 use Rattle.memory.proofs.PieceLaws.{needed-append}

@@ -8,10 +8,11 @@ use lib.Arith.{digits-lt}
 use lib.ListN.{length, getD, replicate, length-replicate}
 use lib.Pow.{pow-add, pow-mono}
 use Rattle.memory.specs.declared.Sizes.{Sizes}
-use Rattle.memory.specs.declared.cursor.Cursor.{Cursor}
+use Rattle.stream.specs.declared.cursor.Cursor.{Cursor}
 use Rattle.memory.specs.Bits.{number, putAt}
 use Rattle.memory.specs.Image.{imageBytes, streamOf, streamNumber, putIn}
-use Rattle.memory.specs.Answers.{Whole, InStream, streamIndex}
+use Rattle.memory.specs.Answers.{Whole, streamIndex}
+use Rattle.stream.specs.Answers.{InStream}
 use Rattle.memory.specs.Pieces.{Piece, piece, pack, needed}
 use Rattle.memory.proofs.PieceLaws.{pack-append, needed-append}
 use Rattle.memory.proofs.Streams.{stream-at, stream-length}

@@ -9,7 +9,7 @@ use lib.IntN.{ℤ}
 use Rattle.refusal.specs.Outcome.{Outcome, good, refused, _>>_, refuse_if_}
 use Rattle.refusal.specs.Rows.{tooLong}
 use Rattle.memory.specs.declared.Sizes.{Sizes}
-use Rattle.memory.specs.declared.cursor.Cursor.{Cursor}
+use Rattle.stream.specs.declared.cursor.Cursor.{Cursor}
 use Rattle.memory.specs.Bits.{Bytes}
 use Rattle.memory.specs.Image.{streamBits, streamNumber, imageOf}
 use Rattle.memory.specs.Answers.{Whole}

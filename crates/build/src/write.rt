@@ -5,8 +5,8 @@ use crate::plan::PairAnswer;
 use crate::plan::code_pair;
 use fields::Domain;
 use fields::Template;
-use memory::Cursor;
 use memory::Sizes;
+use stream::Cursor;
 ghost use mathlib.Core.Path.{_≡_};
 ghost use mathlib.Core.List.{map};
 ghost use Prim.Native.Nat.{ℕ, _+_, _*_, _^_, _≤_, _<_};
@@ -173,7 +173,7 @@ pub fn write(
     requires { ⌜ needed (codedSheet template fields «end_bit» (now text) domain (now points)) ≤ streamBits sizes ⌝ }
     ensures { λ _. ⌜ now (image .exit) ≡ imageOf sizes (pack (codedSheet template fields «end_bit» (now (text .entry)) domain (now (points .entry)))) ⌝ }
 {
-    memory::clear(image);
+    stream::clear(image);
     lay_sheet(
         sizes,
         image,
@@ -185,5 +185,5 @@ pub fn write(
         domain,
         points,
     );
-    memory::seal_pages(sizes, image);
+    stream::seal_pages(sizes, image);
 }

@@ -17,7 +17,7 @@ use Rattle.refusal.proofs.Outcomes.{good-bind, passed, both, bind-good, bind-re
 use Rattle.memory.specs.declared.Sizes.{Sizes}
 use Rattle.memory.specs.Bits.{fieldAt, putAt}
 use Rattle.memory.specs.Image.{imageSizes, streamNumber, imageOf}
-use Rattle.memory.specs.Answers.{InStream}
+use Rattle.stream.specs.Answers.{InStream}
 use Rattle.fields.specs.declared.Value.{Value}
 use Rattle.fields.specs.declared.Row.{Row}
 use Rattle.fields.specs.declared.Layout.{Layout}

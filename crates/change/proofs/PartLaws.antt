@@ -17,7 +17,7 @@ use Rattle.refusal.proofs.Outcomes.{passed, neither, good-then, bind-good, bind
 use Rattle.memory.specs.declared.Sizes.{Sizes}
 use Rattle.memory.specs.Bits.{putAt}
 use Rattle.memory.specs.Image.{SumsRight, streamNumber, imageOf}
-use Rattle.memory.specs.Answers.{InStream}
+use Rattle.stream.specs.Answers.{InStream}
 use Rattle.memory.proofs.Chips.{sizes-chip}
 use Rattle.memory.proofs.SumLaws.{sums-right}
 use Rattle.fields.specs.declared.Value.{Value}

@@ -77,7 +77,7 @@ pub fn change(kind: u8, image: &mut [u8], level: Level, field: u64, value: Value
                 Encoded::Code(code) => {
                     let sizes = opened.sizes;
                     let row = fields::row_of(layout, field);
-                    memory::rewrite(
+                    stream::rewrite(
                         sizes,
                         image,
                         sheet::locate(layout, field),

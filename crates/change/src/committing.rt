@@ -96,7 +96,7 @@ pub fn commit(
                 let sizes = opened.sizes;
                 let layout = opened.layout;
                 let row = fields::row_of(layout, field);
-                memory::rewrite(
+                stream::rewrite(
                     sizes,
                     image,
                     sheet::locate(layout, field),

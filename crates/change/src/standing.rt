@@ -5,9 +5,9 @@ ghost use Rattle.fields.specs.Lines.{lastField};
 ghost use Rattle.layout.specs.Contents.{Contents};
 ghost use Rattle.layout.specs.Image.{field as fieldIn};
 ghost use Rattle.sheet.specs.Opened.{Opens, Held};
-use memory::Cursor;
-use memory::Taken;
 use sheet::Opened;
+use stream::Cursor;
+use stream::Taken;
 
 // Of an opened sheet. The check has read every field, so none is refused here.
 pub fn code_in(sheet: Opened, image: &[u8], field: u64) -> u64

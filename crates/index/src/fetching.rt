@@ -14,13 +14,13 @@ use fields::Decoded;
 use fields::Layout;
 use fields::Row;
 use fields::Template;
-use memory::Cursor;
 use memory::Sizes;
 use memory::SizesAnswer;
 use memory::Sums;
-use memory::Taken;
 use refusal::Refusal;
 use sheet::FieldAnswer;
+use stream::Cursor;
+use stream::Taken;
 
 // The row that a field is understood by, or 5.
 enum RowAnswer {

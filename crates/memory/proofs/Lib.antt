@@ -5,12 +5,6 @@ pub mod Chips
 pub mod PageParts
 pub mod Streams
 pub mod Written
-pub mod Turns
-pub mod Runs
-pub mod Laying
-pub mod Taking
 pub mod SumLaws
 pub mod Images
 pub mod Sealing
-pub mod Mending
-pub mod SealAll

@@ -1,15 +1,10 @@
-// Document 01, "Image and stream": a chip's image, its pages and check bytes, and the stream of bits between them.
+// Document 01, "Image and stream": a chip's image, its pages and check bytes, and what the stream of bits between them is.
 // Every function is proved, and nothing is assumed. A dash calls `page_bytes`, which asks nothing of its caller;
 // what the other functions require, the layers above test first.
 
-mod bitfields;
-mod cursor;
 mod kinds;
 mod pages;
-mod writing;
 
-pub use cursor::Cursor;
-pub use cursor::Taken;
 pub use kinds::SizesAnswer;
 pub use kinds::image_sizes;
 pub use kinds::stream_bits;
@@ -17,9 +12,6 @@ pub use pages::Sums;
 pub use pages::check_sums;
 pub use pages::page_bytes;
 pub use pages::seal;
-pub use writing::clear;
-pub use writing::rewrite;
-pub use writing::seal_pages;
 
 // A chip's memory: the bytes of its register, and its pages of 32 bytes.
 pub struct Sizes {

@@ -16,7 +16,7 @@ use Rattle.memory.proofs.Chips.{sizes-chip}
 use Rattle.memory.proofs.Streams.{stream-bytes, stream-lt}
 use Rattle.memory.proofs.SumLaws.{sums-right}
 use Rattle.memory.proofs.Images.{image-number-lt}
-use Rattle.memory.proofs.Mending.{mended-check}
+use Rattle.stream.proofs.Mending.{mended-check}
 use Rattle.fields.specs.declared.Level.{Level}
 use Rattle.fields.proofs.StoredLaws.{reads-back}
 use Rattle.layout.specs.Contents.{Found, Contents}

@@ -10,7 +10,7 @@ use Rattle.refusal.specs.Outcome as outcome
 use Rattle.refusal.specs.Outcome.{Outcome, good, refused}
 use Rattle.refusal.proofs.Outcomes.{told}
 use Rattle.memory.specs.declared.Sizes.{Sizes}
-use Rattle.memory.specs.declared.cursor.Cursor.{Cursor}
+use Rattle.stream.specs.declared.cursor.Cursor.{Cursor}
 use Rattle.fields.specs.declared.Template.{Template}
 use Rattle.fields.specs.Lines.{Line, basic, templateLines, linesOf, lastField}
 use Rattle.layout.specs.Format.{Format, ends, _>>=_, place, Stream, Parsed, parse}

@@ -10,7 +10,7 @@ use borrow.Author.Tests.{eq-eqb, ne-eqb}
 use Rattle.refusal.specs.declared.Refusal.{Refusal}
 use Rattle.refusal.specs.Outcome.{Outcome, good, refused}
 use Rattle.refusal.proofs.Outcomes.{told}
-use Rattle.memory.specs.declared.cursor.Cursor.{Cursor}
+use Rattle.stream.specs.declared.cursor.Cursor.{Cursor}
 use Rattle.layout.specs.Format.{Format, ends, _>>=_, bits, remaining, Stream, Parsed, parse}
 use Rattle.layout.specs.Contents.{Ending, charactersOf, endingOf}
 use Rattle.layout.proofs.Formats.{parsed, parse-next, parse-refused}

@@ -13,7 +13,7 @@ use Rattle.refusal.specs.declared.Refusal.{Refusal}
 use Rattle.refusal.specs.Outcome.{Outcome, good, refused}
 use Rattle.refusal.specs.Rows.{wrongBlock}
 use Rattle.refusal.proofs.Outcomes.{told}
-use Rattle.memory.specs.declared.cursor.Cursor.{Cursor}
+use Rattle.stream.specs.declared.cursor.Cursor.{Cursor}
 use Rattle.fields.specs.declared.Template.{Template}
 use Rattle.fields.specs.declared.TemplateAnswer.{TemplateAnswer}
 use Rattle.fields.specs.declared.TemplateAnswer.the-variants.{Is, Unknown}

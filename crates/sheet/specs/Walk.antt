@@ -9,9 +9,9 @@ use Rattle.refusal.specs.Outcome as outcome
 use Rattle.refusal.specs.Outcome.{Outcome, good, refused}
 use Rattle.refusal.specs.Rows.{wrongBlock}
 use Rattle.memory.specs.declared.Sizes.{Sizes}
-use Rattle.memory.specs.declared.cursor.Cursor.{Cursor}
-use Rattle.memory.specs.declared.cursor.Taken.{Taken}
-use Rattle.memory.specs.declared.cursor.Taken.the-variants.{Field, Refused as NotTaken}
+use Rattle.stream.specs.declared.cursor.Cursor.{Cursor}
+use Rattle.stream.specs.declared.cursor.Taken.{Taken}
+use Rattle.stream.specs.declared.cursor.Taken.the-variants.{Field, Refused as NotTaken}
 use Rattle.fields.specs.declared.Value.{Value}
 use Rattle.fields.specs.declared.Value.the-variants.{Missing}
 use Rattle.fields.specs.declared.Row.{Row}

@@ -11,10 +11,10 @@ ghost use Rattle.layout.specs.Contents.{charactersOf, endingOf};
 ghost use Rattle.layout.specs.Image.{streamIn};
 ghost use Rattle.sheet.specs.Walk.{keeping, endCount, countSaid, endSaid};
 use crate::table::CountStep;
-use memory::Cursor;
 use memory::Sizes;
-use memory::Taken;
 use refusal::Refusal;
+use stream::Cursor;
+use stream::Taken;
 
 // The end bit, the number of characters, and the cursor behind the last, or behind the zero that ends them.
 pub enum EndStep {

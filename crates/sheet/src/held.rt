@@ -18,9 +18,9 @@ use fields::Decoded;
 use fields::Pair;
 use fields::Row;
 use fields::Value;
-use memory::Cursor;
 use memory::Sizes;
-use memory::Taken;
+use stream::Cursor;
+use stream::Taken;
 
 // The value of the field of a row at a place: missing where none stands.
 fn value_at(sizes: Sizes, image: &[u8], at: usize, row: Row) -> Value

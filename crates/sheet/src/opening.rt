@@ -13,11 +13,11 @@ use crate::walk::ChoiceStep;
 use crate::walk::TemplateStep;
 use fields::Layout;
 use fields::Template;
-use memory::Cursor;
 use memory::Sizes;
 use memory::SizesAnswer;
 use memory::Sums;
 use refusal::Refusal;
+use stream::Cursor;
 
 // An accepted sheet: the sizes of its image, what its rows go by, and what a check gives.
 pub struct Opened {

@@ -17,10 +17,10 @@ use fields::Codes;
 use fields::Domain;
 use fields::Judged;
 use fields::Previous;
-use memory::Cursor;
 use memory::Sizes;
-use memory::Taken;
 use refusal::Refusal;
+use stream::Cursor;
+use stream::Taken;
 
 // The codes of a pair.
 pub enum CodesStep {

@@ -24,10 +24,10 @@ use fields::Layout;
 use fields::Row;
 use fields::Template;
 use fields::TemplateAnswer;
-use memory::Cursor;
 use memory::Sizes;
-use memory::Taken;
 use refusal::Refusal;
+use stream::Cursor;
+use stream::Taken;
 
 // A field's code.
 pub enum CodeStep {

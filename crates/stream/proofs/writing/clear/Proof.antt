@@ -1,0 +1,58 @@
+-- `writing::clear` meets its contract. The loop's invariant: zeros up to `i`, and behind them the image as it was.
+use mathlib.Core.Path.{_≡_, refl, ap, _∙_}
+use mathlib.Core.List.{_++_, append-nil}
+use Prim.Native.Nat.{_≤_, _-_}
+use native.Mathlib.Omega.{arith}
+use lib.ListN.{length, drop, set, replicate, length-set}
+use lib.Seq.{drop-length}
+use borrow.Author.Fill.{fill-none, fill-more}
+use borrow.Author.Needs.{needs}
+use Rattle.stream.proofs.writing.clear.Statement.{statement}
+use Rattle.stream.proofs.writing.clear.Tie as tie
+
+abbrev Inv-loop : tie.InvT-loop
+Inv-loop image₀ i₀ image i = (i ≤ length image₀) × ((length image ≡ length image₀) × (image ≡ replicate i 0 ++ drop i image₀))
+
+abbrev μ-loop : tie.MeasureT-loop
+μ-loop image₀ i₀ image i = length image₀ - i
+
+loop-holds : tie.Need-loop-holds Inv-loop μ-loop
+loop-holds c = (search needs, (refl, fill-none _ 0))
+
+slice-write-image : tie.Need-slice-write-image Inv-loop μ-loop
+slice-write-image c = search needs
+
+add-i : tie.Need-add-i Inv-loop μ-loop
+add-i c = omega arith
+
+loop-less : tie.Need-loop-less Inv-loop μ-loop
+loop-less c = omega arith
+
+loop-again : tie.Need-loop-again Inv-loop μ-loop
+loop-again c =
+    let l = c .before .loop in
+    (omega arith, (simp length-set (l .inv .1 .0), ap (λ x. set x (l .i) 0) (l .inv .1 .1) ∙ fill-more (l .i) 0 _ (omega arith)))
+
+same-length : tie.Need-same-length Inv-loop μ-loop
+same-length c = c .before .loop .inv .1 .0
+
+returns : tie.Need-returns Inv-loop μ-loop
+returns c =
+    let l = c .before .loop in
+    let image = c .before .before .args .image .now in
+    let all : l .i ≡ length image = omega arith in
+    l .inv .1 .1 ∙ rw (all, drop-length image) (append-nil (replicate (length image) 0))
+
+pub clear-spec : {M : Type 1} → statement M
+clear-spec =
+    tie.close
+    (tie.spec
+    Inv-loop
+    μ-loop
+    loop-holds
+    slice-write-image
+    add-i
+    loop-less
+    loop-again
+    same-length
+    returns)

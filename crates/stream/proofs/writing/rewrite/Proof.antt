@@ -1,0 +1,55 @@
+-- `writing::rewrite` meets its contract.
+use borrow.Author.Needs.{needs}
+use native.Mathlib.Omega.{arith}
+use Rattle.stream.proofs.Mending.{rewritten}
+use Rattle.stream.proofs.writing.rewrite.Statement.{statement}
+use Rattle.stream.proofs.writing.rewrite.Tie as tie
+
+page-of-requires : tie.Need-page-of-requires
+page-of-requires c κs = search needs
+
+add-page-of : tie.Need-add-page-of
+add-page-of c = search needs
+
+sub-page-of : tie.Need-sub-page-of
+sub-page-of c = search needs
+
+page-of-requires-2 : tie.Need-page-of-requires-2
+page-of-requires-2 c κs = search needs
+
+put-requires : tie.Need-put-requires
+put-requires c κs = search needs
+
+seal-requires : tie.Need-seal-requires
+seal-requires c κs = search needs
+
+seal-requires-2 : tie.Need-seal-requires-2
+seal-requires-2 c κs = search needs
+
+same-length : tie.Need-same-length
+same-length c = search needs
+
+returns : tie.Need-returns
+returns c =
+    let calls = c .before .before in
+    let paged = calls .before .before .before .before .before .before .before .before .before .before in
+    let s = paged .before .before .before in
+    let a = s .args in
+    rewritten (a .sizes) (a .image .now) _ _ _ (a .at) (a .width) (a .code) _ _ (λ i. omega (arith, paged .before .before .slice-known .given i))
+    (s .pre .0 .0) (s .pre .0 .1) (s .pre .1 .0) (s .pre .1 .1) (paged .before .page-of .ensures) (paged .page-of2 .ensures)
+    (calls .before .before .before .before .before .before .before .before .put .ensures)
+    (calls .before .before .before .before .seal .ensures) (calls .seal2 .ensures)
+
+pub rewrite-spec : {M : Type 1} → statement M
+rewrite-spec =
+    tie.close
+    (tie.spec
+    page-of-requires
+    add-page-of
+    sub-page-of
+    page-of-requires-2
+    put-requires
+    seal-requires
+    seal-requires-2
+    same-length
+    returns)

@@ -1,0 +1,55 @@
+-- `writing::seal_pages` meets its contract. The loop's invariant: the pages before `page` are sealed.
+use mathlib.Core.Path.{_≡_, refl}
+use borrow.Author.Needs.{needs}
+use native.Mathlib.Omega.{arith}
+use Prim.Native.Nat.{_≤_, _-_}
+use lib.ListN.{length}
+use Rattle.stream.proofs.SealAll.{Sealed, sealed-none, sealed-more, sealed-all}
+use Rattle.stream.proofs.writing.seal_pages.Statement.{statement}
+use Rattle.stream.proofs.writing.seal_pages.Tie as tie
+
+abbrev Inv-loop : tie.InvT-loop
+Inv-loop sizes image₀ pages page₀ image page = (page ≤ sizes .pages) × ((length image ≡ length image₀) × Sealed sizes image₀ page image)
+
+abbrev μ-loop : tie.MeasureT-loop
+μ-loop sizes image₀ pages page₀ image page = sizes .pages - page
+
+loop-holds : tie.Need-loop-holds Inv-loop μ-loop
+loop-holds c = (search needs, (refl, sealed-none (c .before .pre) (λ i. omega (arith, c .slice-known .given i))))
+
+seal-requires : tie.Need-seal-requires Inv-loop μ-loop
+seal-requires c κs = (record { long = c .before .before .loop .inv .1 .1 .whole; small = c .before .before .before .before .pre .small }, c .before .loop-test .taken)
+
+add-page : tie.Need-add-page Inv-loop μ-loop
+add-page c = omega arith
+
+loop-less : tie.Need-loop-less Inv-loop μ-loop
+loop-less c = omega arith
+
+loop-again : tie.Need-loop-again Inv-loop μ-loop
+loop-again c =
+    let s = c .before .before .before .before .before .before .before in
+    let l = c .before .before .before .before .before .loop in
+    (omega arith, (omega (arith, c .before .before .seal .kept), rw (c .before .before .seal .ensures) (sealed-more (s .args .sizes) (l .page) (c .before .before .before .before .loop-test .taken) (l .inv .1 .1))))
+
+same-length : tie.Need-same-length Inv-loop μ-loop
+same-length c = c .before .loop .inv .1 .0
+
+returns : tie.Need-returns Inv-loop μ-loop
+returns c =
+    let s = c .before .before .before in
+    sealed-all (s .args .sizes) (c .before .loop .page) (c .loop-test .left) (c .before .loop .inv .1 .1)
+
+pub seal-pages-spec : {M : Type 1} → statement M
+seal-pages-spec =
+    tie.close
+    (tie.spec
+    Inv-loop
+    μ-loop
+    loop-holds
+    seal-requires
+    add-page
+    loop-less
+    loop-again
+    same-length
+    returns)

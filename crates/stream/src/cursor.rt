@@ -1,0 +1,60 @@
+// A place in the stream, carried by value and handed back moved on.
+ghost use mathlib.Core.Path.{_≡_};
+ghost use Prim.Native.Nat.{_+_, _^_, _≤_, _<_};
+ghost use Rattle.memory.specs.Image.{putIn};
+ghost use Rattle.memory.specs.Answers.{Whole};
+ghost use Rattle.stream.specs.Answers.{InStream, takenSaid, takenAt};
+use crate::bitfields;
+use memory::Sizes;
+use refusal::Refusal;
+
+pub struct Cursor {
+    pub at: usize,
+}
+
+pub enum Taken {
+    // The field's code, and the cursor behind it.
+    Field(u64, Cursor),
+    // 3: the field would pass the stream's end.
+    Refused(Refusal),
+}
+
+impl Cursor {
+    // The stream's first bit.
+    pub fn start() -> Self
+        ensures { λ r. ⌜ r .at ≡ 0 ⌝ }
+    {
+        Cursor { at: 0 }
+    }
+
+    // The field of `width` bits at the cursor, and the cursor behind it, or 3 where the field would pass the end.
+    pub fn take(self, sizes: Sizes, image: &[u8], width: usize) -> Taken
+        requires { ⌜ Whole sizes (now image) × (1 ≤ width) × (width ≤ 32) ⌝ }
+        ensures { λ r. ⌜ takenSaid r ≡ takenAt sizes (now (image .entry)) (self .at) width ⌝ }
+    {
+        let at = self.at;
+        // `stream_bits`, from the image's length: three instructions a field fewer.
+        let bits = 8 * (image.len() - sizes.pages);
+        if bits < at {
+            return Taken::Refused(refusal::past_end(at as u64));
+        }
+        if bits - at < width {
+            return Taken::Refused(refusal::past_end(at as u64));
+        }
+        Taken::Field(
+            bitfields::take(sizes, image, at, width),
+            Cursor { at: at + width },
+        )
+    }
+
+    // Writes a code into the field of `width` bits at the cursor, and hands back the cursor behind it.
+    pub fn put(self, sizes: Sizes, image: &mut [u8], width: usize, code: u64) -> Self
+        requires { ⌜ InStream sizes (now image) (self .at) width × (code < 2 ^ width) ⌝ }
+        ensures { λ r. ⌜ (now (image .exit) ≡ putIn sizes (now (image .entry)) (self .at) width code) × (r .at ≡ self .at + width) ⌝ }
+    {
+        bitfields::put(sizes, image, self.at, width, code);
+        Cursor {
+            at: self.at + width,
+        }
+    }
+}

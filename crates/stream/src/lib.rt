@@ -1,0 +1,13 @@
+// Document 01, "Image and stream": fields taken out of the stream of an image and put into it, one after the other by a
+// cursor, and an image cleared, rewritten and sealed. Every function is proved, and nothing is assumed. A dash calls none of
+// them; what they require, the layers above test first.
+
+mod bitfields;
+mod cursor;
+mod writing;
+
+pub use cursor::Cursor;
+pub use cursor::Taken;
+pub use writing::clear;
+pub use writing::rewrite;
+pub use writing::seal_pages;
