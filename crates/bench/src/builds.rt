@@ -140,6 +140,6 @@ pub fn build(line: &[u8]) {
         line,
         end,
         sheet_of(line, template, end_bit == 1, level),
-        fields::domain_of(domain),
+        coding::domain_of(domain),
     );
 }

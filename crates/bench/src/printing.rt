@@ -70,7 +70,7 @@ pub fn double(x: f64) {
 pub fn domain(table: TableDomain) {
     match table {
         TableDomain::NoTable => put(b"-\n"),
-        TableDomain::Is(domain) => number(fields::domain_code(domain)),
+        TableDomain::Is(domain) => number(coding::domain_code(domain)),
     }
 }
 

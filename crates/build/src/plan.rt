@@ -53,9 +53,9 @@ fn code_of(layout: Layout, field: u64, value: Value) -> Encoded
     ensures { λ r. ⌜ Encodes (rowOf layout field) field value r ⌝ }
 {
     match value {
-        Value::Whole(figure) => fields::encode_whole(layout, field, figure),
-        Value::Single(x) => fields::encode_single(layout, field, x),
-        Value::Missing => fields::encode_missing(layout, field),
+        Value::Whole(figure) => coding::encode_whole(layout, field, figure),
+        Value::Single(x) => coding::encode_single(layout, field, x),
+        Value::Missing => coding::encode_missing(layout, field),
     }
 }
 
@@ -154,9 +154,9 @@ pub fn code_pair(points: &[i64], i: usize) -> PairAnswer
 {
     let at = 2 * i;
     let place = i as u64;
-    match fields::encode_point(place, points[at]) {
+    match coding::encode_point(place, points[at]) {
         Encoded::Refused(r) => PairAnswer::Refused(r),
-        Encoded::Code(point) => match fields::encode_deviation(place, points[at + 1]) {
+        Encoded::Code(point) => match coding::encode_deviation(place, points[at + 1]) {
             Encoded::Refused(r) => PairAnswer::Refused(r),
             Encoded::Code(deviation) => PairAnswer::Are(Codes {
                 point: point as u16,
@@ -173,7 +173,7 @@ fn check_pair(domain: Domain, before: Previous, points: &[i64], i: usize) -> Pai
 {
     match code_pair(points, i) {
         PairAnswer::Refused(r) => PairAnswer::Refused(r),
-        PairAnswer::Are(codes) => match fields::follows(domain, before, i as u64, codes) {
+        PairAnswer::Are(codes) => match coding::follows(domain, before, i as u64, codes) {
             Judged::Refused(r) => PairAnswer::Refused(r),
             Judged::Stands => PairAnswer::Are(codes),
         },

@@ -61,8 +61,8 @@ fn lay_pair(sizes: Sizes, image: &mut [u8], cursor: Cursor, points: &[i64], i: u
     match code_pair(points, i) {
         PairAnswer::Refused(_) => cursor,
         PairAnswer::Are(codes) => {
-            let point_bits = fields::cal_point().width as usize;
-            let deviation_bits = fields::cal_deviation().width as usize;
+            let point_bits = coding::cal_point().width as usize;
+            let deviation_bits = coding::cal_deviation().width as usize;
             let next = cursor.put(sizes, image, point_bits, codes.point as u64);
             next.put(sizes, image, deviation_bits, codes.deviation as u64)
         }
@@ -100,7 +100,7 @@ fn lay_table(
     if n == 0 {
         return cursor;
     }
-    let code = fields::domain_code(domain);
+    let code = coding::domain_code(domain);
     let block = lay_block(sizes, image, cursor, 40);
     let count = block.put(sizes, image, 1, code);
     let pairs = count.put(sizes, image, 7, n as u64);

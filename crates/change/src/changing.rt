@@ -56,7 +56,7 @@ pub fn code_for(layout: Layout, level: Level, field: u64, value: Value) -> Encod
     let template = layout.template;
     match may_change(template, level, field) {
         Allowed::Refused(r) => Encoded::Refused(r),
-        Allowed::Free => fields::encode(layout, field, value),
+        Allowed::Free => coding::encode(layout, field, value),
     }
 }
 

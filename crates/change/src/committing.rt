@@ -27,7 +27,7 @@ fn may_stand(row: Row, code: u64) -> bool
     if 0 < code >> row.width {
         return false;
     }
-    match fields::judge(row, 0, code) {
+    match coding::judge(row, 0, code) {
         Judged::Refused(_) => false,
         Judged::Stands => true,
     }

@@ -23,7 +23,7 @@ fn proposed(layout: Layout, field: u64, present: u64, new: u64) -> ProposalAnswe
 {
     let row = fields::row_of(layout, field);
     let at = sheet::locate(layout, field);
-    match fields::decode(row, at as u64, new) {
+    match coding::decode(row, at as u64, new) {
         Decoded::Refused(r) => ProposalAnswer::Refused(r),
         Decoded::Means(value) => ProposalAnswer::Proposed(Proposal {
             present,

@@ -231,7 +231,7 @@ pub extern "C" fn dartelm_build(
     ensures { λ r. ⌜ (let outcome = buildCall kind (now (image .entry)) fields (now (text .entry)) domain (now (points .entry)) in
         (r ≡ told writeAnswer [] outcome) × (now (image .exit) ≡ afterwards (now (image .entry)) outcome)) ⌝ }
 {
-    let found = fields::domain_of(domain as u64);
+    let found = coding::domain_of(domain as u64);
     wrote(build::build(kind, image, values::sheet_of(fields), text, found, points))
 }
 

@@ -1,42 +1,21 @@
 // Document 01, "Layout": a field's value, the rows of the table of fields, the templates that put them in order, the
 // calibration table, and the two ways between a code and a value.
-// No call faults, whatever i64 or f32 it is given. `decode` and `judge` ask that the row is sound (specs/Stored.antt), which
-// every row of the table is, `decode` that the code has no more bits than the row, and `encode` that the template has the field.
+// All of it is here as definitions and laws, with the calls that tell rows, marks, levels and the physical figure. The calls
+// between codes and values are those of `scales` and `coding`.
 use refusal::Refusal;
 
-mod calibration; // calibration.rt: the calibration table
-mod decoding; // decoding.rt: what a code means
-mod encoding; // encoding.rt: the code that a value is stored at
 mod figure; // figure.rt: the physical figure
-mod judging; // judging.rt: whether a code may stand
 mod levels; // levels.rt: who may write a field
 mod limits; // limits.rt: the last codes of a field's bits
 mod rows; // rows.rt: the rows of the table of fields
-mod scales; // scales.rt: geometric codes
-mod singles; // singles.rt: a Single in V/V to the nearest nV/V
-mod steps; // steps.rt: stepped codes
 mod templates; // templates.rt: the order of the fields
 
-pub use calibration::cal_deviation;
-pub use calibration::cal_domain;
-pub use calibration::cal_point;
-pub use calibration::domain_code;
-pub use calibration::domain_of;
-pub use calibration::encode_deviation;
-pub use calibration::encode_point;
-pub use calibration::follows;
-pub use calibration::point_count;
-pub use decoding::decode;
-pub use encoding::encode;
-pub use encoding::encode_missing;
-pub use encoding::encode_single;
-pub use encoding::encode_whole;
 pub use figure::float_fraction;
 pub use figure::physical_figure;
-pub use judging::judge;
 pub use levels::may_write;
-pub use scales::scale_value;
-pub use singles::nanovolts;
+pub use limits::all_ones;
+pub use limits::top_code;
+pub use rows::always;
 pub use templates::basic_fields;
 pub use templates::bits_before;
 pub use templates::is_choice;

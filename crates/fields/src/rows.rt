@@ -3,7 +3,6 @@ use crate::Row;
 use crate::Rule;
 use crate::Scale;
 use crate::limits::all_ones;
-use crate::scales::scale_width;
 ghost use mathlib.Core.Path.{_≡_};
 ghost use Prim.Native.Nat.{_≤_};
 ghost use Rattle.fields.specs.Rules.{scaleWidth};
@@ -35,6 +34,16 @@ pub fn any(width: u64) -> Row
     ensures { λ r. ⌜ r ≡ spec.any width ⌝ }
 {
     always(width, Rule::Plain(0, all_ones(width)))
+}
+
+// The bits of a scale's codes.
+fn scale_width(scale: Scale) -> u64
+    ensures { λ r. ⌜ r ≡ scaleWidth scale ⌝ }
+{
+    match scale {
+        Scale::ResponseTime => 6,
+        Scale::Current => 8,
+    }
 }
 
 // A row of a scale.

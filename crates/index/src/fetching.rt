@@ -89,7 +89,7 @@ fn bits_at(sizes: Sizes, image: &[u8], row: Row, entry: Entry) -> FieldAnswer
     };
     match cursor.take(sizes, image, entry.length as usize) {
         Taken::Refused(_) => FieldAnswer::Refused(refusal::outside_table(offset)),
-        Taken::Field(code, _) => match fields::decode(row, offset, code) {
+        Taken::Field(code, _) => match coding::decode(row, offset, code) {
             Decoded::Refused(r) => FieldAnswer::Refused(r),
             Decoded::Means(value) => FieldAnswer::Holds(value),
         },

@@ -33,7 +33,7 @@ fn print_meaning(decoded: Decoded) {
 fn print_code(row: Row, code: u64)
     requires { ⌜ Sound row × (code < 2 ^ row .width) ⌝ }
 {
-    print_meaning(fields::decode(row, 0, code));
+    print_meaning(coding::decode(row, 0, code));
 }
 
 // %TempCoef: 9 bits, start -0.5, step 0.002; in thousandths.

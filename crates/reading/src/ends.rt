@@ -35,7 +35,7 @@ fn end_of(value: Value) -> Rounded
 {
     match value {
         Value::Whole(figure) => Rounded::To(figure),
-        Value::Single(x) => fields::nanovolts(x),
+        Value::Single(x) => scales::nanovolts(x),
         Value::Missing => Rounded::To(0),
     }
 }

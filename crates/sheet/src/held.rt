@@ -30,7 +30,7 @@ fn value_at(sizes: Sizes, image: &[u8], at: usize, row: Row) -> Value
     let cursor = Cursor { at };
     match cursor.take(sizes, image, row.width as usize) {
         Taken::Refused(_) => Value::Missing,
-        Taken::Field(code, _) => match fields::decode(row, at as u64, code) {
+        Taken::Field(code, _) => match coding::decode(row, at as u64, code) {
             Decoded::Refused(_) => Value::Missing,
             Decoded::Means(value) => value,
         },
@@ -71,13 +71,13 @@ pub fn pair_in(sheet: Opened, image: &[u8], index: u64) -> Pair
     let sizes = sheet.sizes;
     let layout = sheet.layout;
     let at = places::locate_pair(layout, index);
-    let row = fields::cal_point();
+    let row = coding::cal_point();
     let point = value_at(sizes, image, at, row);
     let deviation = value_at(
         sizes,
         image,
         at + row.width as usize,
-        fields::cal_deviation(),
+        coding::cal_deviation(),
     );
     Pair {
         point: figure(point),

@@ -49,7 +49,7 @@ fn take_point(sizes: Sizes, image: &[u8], cursor: Cursor) -> CodeStep
     requires { ⌜ Whole sizes (now image) ⌝ }
     ensures { λ r. ⌜ codeSaid (cursor .at) r ≡ keeping coded (parse (streamIn sizes (now (image .entry))) (fieldOf calPoint) (cursor .at)) ⌝ }
 {
-    let row = fields::cal_point();
+    let row = coding::cal_point();
     walk::judged(
         row,
         cursor.at as u64,
@@ -62,7 +62,7 @@ fn take_deviation(sizes: Sizes, image: &[u8], cursor: Cursor) -> CodeStep
     requires { ⌜ Whole sizes (now image) ⌝ }
     ensures { λ r. ⌜ codeSaid (cursor .at) r ≡ keeping coded (parse (streamIn sizes (now (image .entry))) (fieldOf calDeviation) (cursor .at)) ⌝ }
 {
-    let row = fields::cal_deviation();
+    let row = coding::cal_deviation();
     walk::judged(
         row,
         cursor.at as u64,
@@ -90,7 +90,7 @@ fn take_codes(
                     point: point as u16,
                     deviation: deviation as u32,
                 };
-                match fields::follows(domain, before, cursor.at as u64, codes) {
+                match coding::follows(domain, before, cursor.at as u64, codes) {
                     Judged::Refused(r) => CodesStep::Refused(r),
                     Judged::Stands => CodesStep::Stand(codes, next),
                 }
@@ -144,18 +144,18 @@ fn take_table(sizes: Sizes, image: &[u8], cursor: Cursor, at: u64) -> TableStep
             sizes,
             image,
             domain,
-            fields::cal_domain(),
+            coding::cal_domain(),
         ) {
             CodeStep::Refused(r) => TableStep::Refused(r),
             CodeStep::Code(code, count) => match walk::take_code(
                 sizes,
                 image,
                 count,
-                fields::point_count(),
+                coding::point_count(),
             ) {
                 CodeStep::Refused(r) => TableStep::Refused(r),
                 CodeStep::Code(n, pairs) => {
-                    take_listed(sizes, image, pairs, fields::domain_of(code), n)
+                    take_listed(sizes, image, pairs, coding::domain_of(code), n)
                 }
             },
         },

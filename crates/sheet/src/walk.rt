@@ -65,7 +65,7 @@ pub fn judged(row: Row, at: u64, taken: Taken) -> CodeStep
 {
     match taken {
         Taken::Refused(r) => CodeStep::Refused(r),
-        Taken::Field(code, next) => match fields::judge(row, at, code) {
+        Taken::Field(code, next) => match coding::judge(row, at, code) {
             Judged::Refused(r) => CodeStep::Refused(r),
             Judged::Stands => CodeStep::Code(code, next),
         },
@@ -115,7 +115,7 @@ fn take_field(sizes: Sizes, image: &[u8], cursor: Cursor, layout: Layout, field:
 {
     match cursor.take(sizes, image, fields::row_of(layout, field).width as usize) {
         Taken::Refused(r) => CodeStep::Refused(r),
-        Taken::Field(code, next) => match fields::judge(
+        Taken::Field(code, next) => match coding::judge(
             fields::row_of(layout, field),
             cursor.at as u64,
             code,

@@ -1,0 +1,17 @@
+use borrow.Author.Needs.{needs}
+use borrow.Author.Tests.{le-leb, lt-leb}
+use Rattle.fields.specs.Calibration.{follows}
+use Rattle.coding.proofs.calibration.follows.Statement.{statement}
+use Rattle.coding.proofs.calibration.follows.Tie as tie
+
+pub follows-spec : {M : Type 1} → statement M
+unfolding follows
+follows-spec =
+    tie.close
+    (tie.spec
+    (λ c. search needs)
+    (λ c. search needs)
+    (λ c. rw (c .before .before .before .before .before2 .given .1, le-leb _ _ (c .if1 .taken)))
+    (λ c κs. search needs)
+    (λ c. search needs)
+    (λ c. let p = c .before in rw (p .before .before .before .before .before2 .given .1, lt-leb _ _ (p .if1 .left)) (c .climbs .ensures)))

@@ -1,0 +1,22 @@
+-- `judging::by_rule` meets its contract: each rule's own test, with the value left out.
+use borrow.Author.Needs.{needs}
+use Rattle.fields.proofs.DecodeLaws.{left-out}
+use Rattle.coding.proofs.judging.by_rule.Statement.{statement}
+use Rattle.coding.proofs.judging.by_rule.Tie as tie
+
+pub by-rule-spec : {M : Type 1} → statement M
+by-rule-spec =
+    tie.close
+    (tie.spec
+    (λ c. search needs)
+    (λ c κs. search needs)
+    (λ c. search needs)
+    (λ c κs. search needs)
+    (λ c. search needs)
+    (λ c κs. search needs)
+    (λ c. search needs)
+    (λ c κs. search needs)
+    (λ c. rw (c .before .before .rule .given .1, left-out) (c .in-table .ensures))
+    (λ c. rw (c .before .enum-told .given .1, left-out) (c .up-to-top .ensures))
+    (λ c. rw (c .before .enum-told2 .given .1, left-out) (c .up-to-top2 .ensures))
+    (λ c. rw (c .before .enum-told3 .given .1, left-out) (c .finite-bits .ensures)))

@@ -1,0 +1,178 @@
+// Document 01, "Layout": the code that a value is stored at.
+use fields::Encoded;
+use fields::Layout;
+use fields::Row;
+use fields::Rule;
+use fields::Scale;
+use fields::Value;
+use fields::all_ones;
+use fields::row_of;
+use fields::top_code;
+use integers::plus;
+use refusal::Refusal;
+use scales::scale_value;
+use scales::step_code;
+use scales::step_value;
+use scales::stored_code;
+ghost use mathlib.Core.Path.{_≡_};
+ghost use Prim.Native.Nat.{_*_, _^_, _<_, _≤_};
+ghost use lib.IntN.{natAbs};
+ghost use Rattle.refusal.specs.Outcome.{refused};
+ghost use Rattle.refusal.specs.Rows.{wrongSort, outOfRange};
+ghost use Rattle.fields.specs.Rules.{scaleWidth, outside, wholeCode, singleCode, encode as encodeOf};
+ghost use Rattle.fields.specs.Lines.{lastField, rowOf};
+ghost use Rattle.fields.specs.Stored.{Sound};
+ghost use Rattle.fields.specs.Answers.{encodedSaid};
+
+// Row 9 of "Turning down", and row 10.
+fn wrong_sort(place: u64) -> Encoded
+    ensures { λ r. ⌜ encodedSaid r ≡ refused (wrongSort place) ⌝ }
+{
+    Encoded::Refused(Refusal {
+        number: refusal::WRONG_SORT,
+        place,
+    })
+}
+
+fn out_of_range(place: u64) -> Encoded
+    ensures { λ r. ⌜ encodedSaid r ≡ refused (outOfRange place) ⌝ }
+{
+    Encoded::Refused(Refusal {
+        number: refusal::OUT_OF_RANGE,
+        place,
+    })
+}
+
+// Whether the figure is below the lowest or above the highest.
+fn is_outside(lowest: i64, highest: i64, figure: i64) -> bool
+    ensures { λ r. ⌜ r ≡ outside lowest highest figure ⌝ }
+{
+    if figure < lowest {
+        return true;
+    }
+    highest < figure
+}
+
+// The figure itself, or 10 outside the table.
+fn plain(least: u64, greatest: u64, place: u64, figure: i64) -> Encoded
+    requires { ⌜ (least ≤ greatest) × (greatest < 2 ^ 32) ⌝ }
+    ensures { λ r. ⌜ encodedSaid r ≡ wholeCode (Rule.Plain least greatest) 0 place figure ⌝ }
+{
+    if is_outside(least as i64, greatest as i64, figure) {
+        return out_of_range(place);
+    }
+    Encoded::Code(plus(figure))
+}
+
+// The nearest step, halves upward, or 10 outside the lowest to the highest value.
+pub fn stepped(start: i64, step: u64, width: u64, place: u64, figure: i64) -> Encoded
+    requires { ⌜ (1 ≤ width) × (width ≤ 32) ⌝ }
+    requires { ⌜ (0 < step) × ((natAbs start < 2 ^ 62) × (step * 2 ^ width < 2 ^ 62)) ⌝ }
+    ensures { λ r. ⌜ encodedSaid r ≡ wholeCode (Rule.Stepped start step) width place figure ⌝ }
+{
+    let highest = step_value(start, step, top_code(width));
+    if is_outside(start, highest, figure) {
+        return out_of_range(place);
+    }
+    Encoded::Code(step_code(start, step, figure))
+}
+
+// The code that the storing rule gives, or 10 outside the lowest to the highest value.
+fn geometric(scale: Scale, width: u64, place: u64, figure: i64) -> Encoded
+    requires { ⌜ (1 ≤ width) × (width ≤ 32) ⌝ }
+    requires { ⌜ width ≡ scaleWidth scale ⌝ }
+    ensures { λ r. ⌜ encodedSaid r ≡ wholeCode (Rule.Geometric scale) width place figure ⌝ }
+{
+    if is_outside(
+        scale_value(scale, 0),
+        scale_value(scale, top_code(width)),
+        figure,
+    ) {
+        return out_of_range(place);
+    }
+    Encoded::Code(stored_code(scale, plus(figure)))
+}
+
+// The code of a whole figure, or 9 where the rule takes no whole number.
+fn whole(row: Row, place: u64, figure: i64) -> Encoded
+    requires { ⌜ Sound row ⌝ }
+    ensures { λ r. ⌜ encodedSaid r ≡ wholeCode (row .rule) (row .width) place figure ⌝ }
+{
+    let width = row.width;
+    let rule = row.rule;
+    match rule {
+        Rule::Plain(least, greatest) => plain(least, greatest, place, figure),
+        Rule::Stepped(start, step) => stepped(start, step, width, place, figure),
+        Rule::Geometric(scale) => geometric(scale, width, place, figure),
+        Rule::Single => wrong_sort(place),
+    }
+}
+
+// The bits of a Single, or 10 where it is not finite. A NaN is turned down before its bits are asked for; an exponent of
+// all ones is then an infinity's.
+fn bits(place: u64, x: f32) -> Encoded
+    ensures { λ r. ⌜ encodedSaid r ≡ singleCode Rule.Single place x ⌝ }
+{
+    if x != x {
+        return out_of_range(place);
+    }
+    let code = f32::to_bits(x);
+    if code % 0x8000_0000 < 0x7f80_0000 {
+        return Encoded::Code(code as u64);
+    }
+    out_of_range(place)
+}
+
+// The code of a Single, or 9 where the rule takes none.
+fn single(rule: Rule, place: u64, x: f32) -> Encoded
+    ensures { λ r. ⌜ encodedSaid r ≡ singleCode rule place x ⌝ }
+{
+    match rule {
+        Rule::Plain(_, _) => wrong_sort(place),
+        Rule::Stepped(_, _) => wrong_sort(place),
+        Rule::Geometric(_) => wrong_sort(place),
+        Rule::Single => bits(place, x),
+    }
+}
+
+// `encode` of a whole figure, of a Single and of missing. The row is found here and is no parameter, so that the rule is a
+// constant to the compiler in each arm of the rows.
+pub fn encode_whole(layout: Layout, field: u64, figure: i64) -> Encoded
+    requires { ⌜ (1 ≤ field) × (field ≤ lastField (layout .template)) ⌝ }
+    ensures { λ r. ⌜ encodedSaid r ≡ encodeOf (rowOf layout field) field (Value.Whole figure) ⌝ }
+{
+    whole(row_of(layout, field), field, figure)
+}
+
+pub fn encode_single(layout: Layout, field: u64, x: f32) -> Encoded
+    requires { ⌜ (1 ≤ field) × (field ≤ lastField (layout .template)) ⌝ }
+    ensures { λ r. ⌜ encodedSaid r ≡ encodeOf (rowOf layout field) field (Value.Single x) ⌝ }
+{
+    let row = row_of(layout, field);
+    let rule = row.rule;
+    single(rule, field, x)
+}
+
+pub fn encode_missing(layout: Layout, field: u64) -> Encoded
+    requires { ⌜ (1 ≤ field) × (field ≤ lastField (layout .template)) ⌝ }
+    ensures { λ r. ⌜ encodedSaid r ≡ encodeOf (rowOf layout field) field Value.Missing ⌝ }
+{
+    let row = row_of(layout, field);
+    if row.missing {
+        return Encoded::Code(all_ones(row.width));
+    }
+    wrong_sort(field)
+}
+
+// The code of a field's value, whatever i64 or f32 it holds: refusal 9 where the row takes no value of its sort, 10 where it
+// has no code for it, each at the field.
+pub fn encode(layout: Layout, field: u64, value: Value) -> Encoded
+    requires { ⌜ (1 ≤ field) × (field ≤ lastField (layout .template)) ⌝ }
+    ensures { λ r. ⌜ encodedSaid r ≡ encodeOf (rowOf layout field) field value ⌝ }
+{
+    match value {
+        Value::Whole(figure) => encode_whole(layout, field, figure),
+        Value::Single(x) => encode_single(layout, field, x),
+        Value::Missing => encode_missing(layout, field),
+    }
+}

@@ -1,0 +1,114 @@
+// Document 01, "Layout": whether a code may stand in a field.
+use fields::Judged;
+use fields::Row;
+use fields::Rule;
+use fields::all_ones;
+use fields::top_code;
+use refusal::Refusal;
+ghost use mathlib.Core.Path.{_≡_};
+ghost use mathlib.Core.Bool.{not, _&&_, _||_};
+ghost use Prim.Native.Nat.{_≤_};
+ghost use lib.Dec.{eqb, ltb};
+ghost use lib.Ieee.{binary32, ofBits};
+ghost use Rattle.refusal.specs.Outcome.{refused, refuse_if_};
+ghost use Rattle.refusal.specs.Rows.{outsideTable, notFinite};
+ghost use Rattle.fields.specs.Rules.{allOnes, topCode, finite};
+ghost use Rattle.fields.specs.Judgement.{judge as judgeOf, ruled};
+ghost use Rattle.fields.specs.Stored.{Sound};
+ghost use Rattle.fields.specs.Answers.{judgedSaid};
+
+// Whether the code is the one that the row calls missing.
+pub fn is_missing(row: Row, code: u64) -> bool
+    requires { ⌜ row .width ≤ 32 ⌝ }
+    ensures { λ r. ⌜ r ≡ (row .missing && eqb code (allOnes (row .width))) ⌝ }
+{
+    if row.missing {
+        return code == all_ones(row.width);
+    }
+    false
+}
+
+// Row 5 of "Turning down", and row 6.
+fn outside_table(at: u64) -> Judged
+    ensures { λ r. ⌜ judgedSaid r ≡ refused (outsideTable at) ⌝ }
+{
+    Judged::Refused(Refusal {
+        number: refusal::OUTSIDE_TABLE,
+        place: at,
+    })
+}
+
+fn not_finite(at: u64) -> Judged
+    ensures { λ r. ⌜ judgedSaid r ≡ refused (notFinite at) ⌝ }
+{
+    Judged::Refused(Refusal {
+        number: refusal::NOT_FINITE,
+        place: at,
+    })
+}
+
+// 5 outside the table.
+pub fn in_table(least: u64, greatest: u64, at: u64, code: u64) -> Judged
+    ensures { λ r. ⌜ judgedSaid r ≡ (refuse outsideTable at if ltb code least || ltb greatest code) ⌝ }
+{
+    if code < least {
+        return outside_table(at);
+    }
+    if greatest < code {
+        return outside_table(at);
+    }
+    Judged::Stands
+}
+
+// 5 for all ones.
+pub fn up_to_top(width: u64, at: u64, code: u64) -> Judged
+    requires { ⌜ (1 ≤ width) × (width ≤ 32) ⌝ }
+    ensures { λ r. ⌜ judgedSaid r ≡ (refuse outsideTable at if ltb (topCode width) code) ⌝ }
+{
+    if top_code(width) < code {
+        return outside_table(at);
+    }
+    Judged::Stands
+}
+
+// 6 for the bits of no finite float: an exponent of all ones is an infinity's or a NaN's.
+pub fn finite_bits(at: u64, code: u64) -> Judged
+    ensures { λ r. ⌜ judgedSaid r ≡ (refuse notFinite at if not (finite (ofBits binary32 code))) ⌝ }
+{
+    if code % 0x8000_0000 < 0x7f80_0000 {
+        return Judged::Stands;
+    }
+    not_finite(at)
+}
+
+// What the rule alone says of a code: 5 or 6, or that it stands.
+fn by_rule(row: Row, at: u64, code: u64) -> Judged
+    requires { ⌜ Sound row ⌝ }
+    ensures { λ r. ⌜ judgedSaid r ≡ ruled row at code ⌝ }
+{
+    let width = row.width;
+    let rule = row.rule;
+    match rule {
+        Rule::Plain(least, greatest) => in_table(least, greatest, at, code),
+        Rule::Stepped(_, _) => up_to_top(width, at, code),
+        Rule::Geometric(_) => up_to_top(width, at, code),
+        Rule::Single => finite_bits(at, code),
+    }
+}
+
+// Whether `decode` gives the code a value, and the refusal where it does not, without working the value out. Most codes stand
+// by their rule, so that is asked first.
+pub fn judge(row: Row, at: u64, code: u64) -> Judged
+    requires { ⌜ Sound row ⌝ }
+    ensures { λ r. ⌜ judgedSaid r ≡ judgeOf row at code ⌝ }
+{
+    match by_rule(row, at, code) {
+        Judged::Stands => Judged::Stands,
+        Judged::Refused(r) => {
+            if is_missing(row, code) {
+                return Judged::Stands;
+            }
+            Judged::Refused(r)
+        }
+    }
+}

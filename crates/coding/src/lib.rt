@@ -1,0 +1,25 @@
+// Document 01, "Layout": what a code means, whether it may stand, and the code that a value is stored at. The definitions are
+// those of `fields`. No call faults, whatever i64 or f32 it is given. `decode` and `judge` ask that the row is sound (`Sound` in
+// fields/specs/Stored.antt), which every row of the table is, `decode` that the code has no more bits than the row, and `encode`
+// that the template has the field.
+
+mod calibration; // calibration.rt: the calibration table
+mod decoding; // decoding.rt: what a code means
+mod encoding; // encoding.rt: the code that a value is stored at
+mod judging; // judging.rt: whether a code may stand
+
+pub use calibration::cal_deviation;
+pub use calibration::cal_domain;
+pub use calibration::cal_point;
+pub use calibration::domain_code;
+pub use calibration::domain_of;
+pub use calibration::encode_deviation;
+pub use calibration::encode_point;
+pub use calibration::follows;
+pub use calibration::point_count;
+pub use decoding::decode;
+pub use encoding::encode;
+pub use encoding::encode_missing;
+pub use encoding::encode_single;
+pub use encoding::encode_whole;
+pub use judging::judge;

@@ -1,0 +1,26 @@
+use Prim.Native.Nat.{ℕ, _*_, _≤_}
+use native.Mathlib.Nat.{mul-le-mul}
+use native.Mathlib.Omega.{arith}
+use borrow.Author.Needs.{needs}
+use mir.Syntax.{w64}
+use mir.Val.{Fits}
+use Rattle.fields.specs.Rules.{goesUp}
+use Rattle.scales.proofs.scales.goes_up.Statement.{statement}
+use Rattle.scales.proofs.scales.goes_up.Tie as tie
+
+-- 32 bits times 32 bits
+product : (x y : ℕ) → x ≤ 4_294_967_295 → y ≤ 4_294_967_295 → Fits w64 (x * y)
+product x y h k = record { fits = omega (arith, mul-le-mul h k) }
+
+pub goes-up-spec : {M : Type 1} → statement M
+unfolding goesUp
+goes-up-spec =
+    tie.close
+    (tie.spec
+    (λ c κs. search needs)
+    (λ c κs. search needs)
+    (λ c. product _ _ (omega arith) (omega arith))
+    (λ c κs. search needs)
+    (λ c κs. search needs)
+    (λ c. product _ _ (omega arith) (omega arith))
+    (λ c. rw (c .before .before .before .wide .ensures, c .before .before .wide2 .ensures, c .before .wide3 .ensures, c .wide4 .ensures)))
