@@ -1,7 +1,7 @@
 /* Shows a data sheet: sheet FILE
  *
- * FILE holds a chip's image; its length says which kind of chip. Prints every field with its unit, the calibration points and the
- * closing text, or the refusal's number and place. The image is checked once for all fields.
+ * FILE holds a chip's image; its length says which kind of chip. Prints every field with its unit, the calibration points or the
+ * curve, and the closing text, or the refusal's number and place. The image is checked once for all fields.
  *
  *     rt staticlib dartelm
  *     cc -Iinclude examples/sheet.c target/staticlib/libdartelm.a -o target/sheet
@@ -139,6 +139,14 @@ int main(int argc, char **argv)
     for (uint64_t i = 0; i < sheet.points; i++) {
         dartelm_pair_answer pair = dartelm_pair(kind, image, length, i);
         printf("point %" PRIu64 ": %" PRId64 ", deviation %" PRId64 "\n", i, pair.point, pair.deviation);
+    }
+    for (uint64_t i = 0; i < sheet.segments; i++) {
+        dartelm_segment_answer segment = dartelm_segment(kind, image, length, i);
+        printf("segment %" PRIu64 ": from %" PRId64 ", terms %" PRIu64 "\n", i, segment.start, segment.terms);
+    }
+    for (uint64_t i = 0; i < sheet.terms; i++) {
+        dartelm_term_answer term = dartelm_term(kind, image, length, i);
+        printf("term %" PRIu64 ": power %" PRId64 ", coefficient %.9g\n", i, term.exponent, term.coefficient);
     }
     printf("text: ");
     for (uint64_t i = 0; i < sheet.characters; i++) {

@@ -1,7 +1,7 @@
 /* Dartelm: the IEEE 1451.4 data sheet (TEDS) in a sender's memory chip, from its image to a reading. For C99 and C++.
  *
  * Every call returns one struct by value. Its number is 0 where the call is accepted; else it is a refusal's, DARTELM_WRONG_IMAGE
- * to DARTELM_TOO_MANY_POINTS, with the refusal's place beside it, and every other member is 0. (0 as a float is +0.0. A Single that
+ * to DARTELM_TOO_MANY_TERMS, with the refusal's place beside it, and every other member is 0. (0 as a float is +0.0. A Single that
  * is returned is finite.) A refused call writes nothing; no call writes anything but the image of a build, a change or a commit,
  * and the buffer of an index.
  *
@@ -29,7 +29,7 @@ extern "C" {
 #endif
 
 /* This header's number, which rises when a call or a struct changes; dartelm_version() is the archive's. */
-#define DARTELM_VERSION 5
+#define DARTELM_VERSION 6
 
 /* ---- numbers ---- */
 
@@ -43,10 +43,11 @@ enum {
     DARTELM_OUTSIDE_TABLE = 5,    /* A code that the table has not. Place: its first bit. */
     DARTELM_NOT_FINITE = 6,       /* A Single that is infinite, or a NaN. Place: its first bit. */
     DARTELM_NOT_RISING = 7,       /* Calibration points that do not rise. Place: the later one's bit; in a build its index. */
-    DARTELM_NO_SUCH = 8,          /* No such field, calibration point or character. Place: the number given. */
+    DARTELM_NO_SUCH = 8,          /* No such field, calibration point, segment, term or character. Place: the number given. */
     DARTELM_WRONG_SORT = 9,       /* Wrong sort of value, missing where it may not be, text with end bit 0, text of a wrong
                                    * length. Place: the field (for the closing text the number behind the last field's). */
-    DARTELM_OUT_OF_RANGE = 10,    /* A value, text or code that the field cannot hold. Place: the field, or a point's index. */
+    DARTELM_OUT_OF_RANGE = 10,    /* A value, text or code that the field cannot hold. Place: the field, or the index of a point,
+                                   * a segment or a term. */
     DARTELM_TOO_LONG = 11,        /* More than the chip holds. Place: the bits needed, 65,535 if they are more than that. */
     DARTELM_CHANGED_ALONE = 12,   /* Field 9 cannot be changed alone. Place: 9. */
     DARTELM_NO_SPAN = 13,         /* A reading needs fields 7, 8, 10 and 11, and 10 below 11. Place: the first that is missing,
@@ -60,7 +61,10 @@ enum {
     DARTELM_END_OUTSIDE = 21,     /* A reading at precision 2: a Single outside -2 to 2 V/V. Place: the first of fields 10 and 11
                                    * that is. */
     DARTELM_SUMS_NOT_RISING = 22, /* Domain 1: calibration points plus deviations that do not rise. Place: as in 7. */
-    DARTELM_TOO_MANY_POINTS = 23  /* A reading on the small dash: more than 32 calibration points. Place: how many. */
+    DARTELM_TOO_MANY_POINTS = 23, /* A reading on the small dash: more than 32 calibration points. Place: how many. */
+    DARTELM_WRONG_CURVE = 24,     /* A segment count, a start, a term count or an exponent that breaks the rules of a curve.
+                                   * Place: its bit; in a build the segment count, or the segment's or the term's index. */
+    DARTELM_TOO_MANY_TERMS = 25   /* A curve of more than 30 terms. Place: how many up to the segment that passes them. */
 };
 
 /* The template of a sheet's first block, which says what its fields are. A byte that is handed in and is neither is taken as
@@ -124,13 +128,21 @@ enum {
     DARTELM_DOMAIN_ELECTRICAL = 0, /* where the input lies in the span: a reading adds the deviation there to it */
     DARTELM_DOMAIN_PHYSICAL = 1,   /* the fraction that is read: the least that with its own deviation is at least where the
                                     * input lies */
-    DARTELM_NO_DOMAIN = 255        /* told where there are no calibration points */
+    DARTELM_NO_DOMAIN = 255        /* told where there are no calibration points, so with a curve too */
 };
 
 /* The dash that a reading is taken on. Any other byte is taken as 1. */
 enum {
     DARTELM_DASH_LARGE = 0, /* takes every calibration point, 127 at most */
     DARTELM_DASH_SMALL = 1  /* takes 32 at most */
+};
+
+/* What a curve holds at most. */
+enum {
+    DARTELM_CURVE_SEGMENTS = 20,
+    DARTELM_CURVE_TERMS = 30,   /* of all segments */
+    DARTELM_SEGMENT_TERMS = 6,  /* of one; one at least */
+    DARTELM_GREATEST_EXPONENT = 5
 };
 
 /* What dartelm_kind_of gives for a length that no kind of chip has: a kind that every call refuses, with 1. */
@@ -174,6 +186,8 @@ typedef struct dartelm_check_answer {
     uint8_t end_bit;     /* a flag: a closing text follows */
     uint8_t template_id; /* DARTELM_TEMPLATE_BRIDGE or DARTELM_TEMPLATE_RESISTANCE */
     uint8_t domain;      /* of the calibration points, DARTELM_DOMAIN_ELECTRICAL to DARTELM_NO_DOMAIN */
+    uint64_t segments;   /* of a curve */
+    uint64_t terms;      /* of all its segments */
 } dartelm_check_answer;
 
 /* One field. */
@@ -192,7 +206,9 @@ typedef struct dartelm_sheet_answer {
     uint64_t characters;  /* characters of the closing text */
     uint64_t field_count; /* fields that the sheet has: 21, or 19 of template 32 */
     dartelm_fields fields;
-    uint8_t domain; /* of the calibration points, DARTELM_DOMAIN_ELECTRICAL to DARTELM_NO_DOMAIN */
+    uint8_t domain;    /* of the calibration points, DARTELM_DOMAIN_ELECTRICAL to DARTELM_NO_DOMAIN */
+    uint64_t segments; /* of a curve */
+    uint64_t terms;    /* of all its segments */
 } dartelm_sheet_answer;
 
 /* A calibration point and its deviation. */
@@ -202,6 +218,39 @@ typedef struct dartelm_pair_answer {
     int64_t point;     /* billionths of the span */
     int64_t deviation; /* billionths of the span */
 } dartelm_pair_answer;
+
+/* A segment of a curve. */
+typedef struct dartelm_segment_answer {
+    uint8_t number;
+    uint64_t place;
+    int64_t start;  /* billionths of the span */
+    uint64_t terms; /* how many it has */
+} dartelm_segment_answer;
+
+/* A term of a curve. */
+typedef struct dartelm_term_answer {
+    uint8_t number;
+    uint64_t place;
+    int64_t exponent;  /* of the position in per cent of the span */
+    float coefficient; /* per cent of the span */
+} dartelm_term_answer;
+
+/* A curve for a build: so many segments, and the terms of one after the other. What stands behind them is not looked at. */
+typedef struct dartelm_curve_segment {
+    int64_t start;
+    uint64_t terms;
+} dartelm_curve_segment;
+
+typedef struct dartelm_curve_term {
+    int64_t exponent;
+    float coefficient;
+} dartelm_curve_term;
+
+typedef struct dartelm_curve {
+    uint64_t count;
+    dartelm_curve_segment segments[DARTELM_CURVE_SEGMENTS];
+    dartelm_curve_term terms[DARTELM_CURVE_TERMS];
+} dartelm_curve;
 
 /* A character of the closing text. */
 typedef struct dartelm_character_answer {
@@ -262,7 +311,7 @@ uint32_t dartelm_version(void);
 /* The kind of the chip whose image has so many bytes: 0 (40 bytes), 1 (128), 2 (512), else DARTELM_NO_KIND. */
 uint8_t dartelm_kind_of(size_t bytes);
 
-/* Checks an image. Refused with 1 to 7, 17 and 22. */
+/* Checks an image. Refused with 1 to 7, 17, 22, 24 and 25. */
 dartelm_check_answer dartelm_check(uint8_t kind, const uint8_t *image, size_t image_length);
 
 /* Reads field 1 to 21, of template 32 field 1 to 19. Refused as a check is, and with 8 for another field. */
@@ -288,6 +337,12 @@ dartelm_sheet_answer dartelm_sheet(uint8_t kind, const uint8_t *image, size_t im
 /* Reads a calibration point, by index from 0. Refused as a check is, and with 8 past the last. */
 dartelm_pair_answer dartelm_pair(uint8_t kind, const uint8_t *image, size_t image_length, uint64_t index);
 
+/* Reads a segment of a curve, by index from 0. Refused as a check is, and with 8 past the last. */
+dartelm_segment_answer dartelm_segment(uint8_t kind, const uint8_t *image, size_t image_length, uint64_t index);
+
+/* Reads a term of a curve, by index from 0 over all its segments. Refused as a check is, and with 8 past the last. */
+dartelm_term_answer dartelm_term(uint8_t kind, const uint8_t *image, size_t image_length, uint64_t index);
+
 /* Reads a character of the closing text, by index from 0. Refused as a check is, and with 8 past the last. */
 dartelm_character_answer dartelm_character(uint8_t kind, const uint8_t *image, size_t image_length, uint64_t index);
 
@@ -297,6 +352,10 @@ dartelm_character_answer dartelm_character(uint8_t kind, const uint8_t *image, s
 dartelm_write_answer dartelm_build(uint8_t kind, uint8_t *image, size_t image_length, dartelm_fields fields,
                                    const char *text, size_t text_length, uint8_t domain, const int64_t *points,
                                    size_t points_length);
+
+/* Builds an image with a curve in place of points. Refused with 1, 9 to 11, 24 and 25: then the image keeps every byte. */
+dartelm_write_answer dartelm_build_curve(uint8_t kind, uint8_t *image, size_t image_length, dartelm_fields fields,
+                                         const char *text, size_t text_length, dartelm_curve curve);
 
 /* Changes one field of an image, and the check bytes of its pages, as a writer of a level. Refused as a check is, and with 8, 9,
  * 10, 12 and 20: then the image keeps every byte. */
@@ -315,7 +374,8 @@ dartelm_write_answer dartelm_commit(uint8_t kind, uint8_t *image, size_t image_l
 
 /* Takes a reading at an input in nV/V, on a dash. Refused as a check is, with 4 for a sheet of template 32, 23 for one with more
  * points than the small dash takes, and with 13, 14 and 21. At precision 2 the Singles of fields 10 and 11 are taken to the nearest
- * nV/V, halves upward. Where the small dash is not refused with 23, it is answered as the large one is. */
+ * nV/V, halves upward. Where the small dash is not refused with 23, it is answered as the large one is. With a curve the
+ * fraction is where the input lies in the span, and the figure is worked from the curve. */
 dartelm_reading_answer dartelm_reading(uint8_t kind, const uint8_t *image, size_t image_length, int64_t input,
                                        uint8_t dash);
 
@@ -357,25 +417,45 @@ DARTELM_AT(dartelm_fields, values, 0);
 DARTELM_AT(dartelm_fields, end_bit, 336);
 DARTELM_AT(dartelm_fields, level, 337);
 DARTELM_AT(dartelm_fields, template_id, 338);
-DARTELM_ANSWER(dartelm_check_answer, 48);
+DARTELM_ANSWER(dartelm_check_answer, 64);
 DARTELM_AT(dartelm_check_answer, bits, 16);
 DARTELM_AT(dartelm_check_answer, points, 24);
 DARTELM_AT(dartelm_check_answer, characters, 32);
 DARTELM_AT(dartelm_check_answer, end_bit, 40);
 DARTELM_AT(dartelm_check_answer, template_id, 41);
 DARTELM_AT(dartelm_check_answer, domain, 42);
+DARTELM_AT(dartelm_check_answer, segments, 48);
+DARTELM_AT(dartelm_check_answer, terms, 56);
 DARTELM_ANSWER(dartelm_field_answer, 32);
 DARTELM_AT(dartelm_field_answer, value, 16);
-DARTELM_ANSWER(dartelm_sheet_answer, 400);
+DARTELM_ANSWER(dartelm_sheet_answer, 416);
 DARTELM_AT(dartelm_sheet_answer, bits, 16);
 DARTELM_AT(dartelm_sheet_answer, points, 24);
 DARTELM_AT(dartelm_sheet_answer, characters, 32);
 DARTELM_AT(dartelm_sheet_answer, field_count, 40);
 DARTELM_AT(dartelm_sheet_answer, fields, 48);
 DARTELM_AT(dartelm_sheet_answer, domain, 392);
+DARTELM_AT(dartelm_sheet_answer, segments, 400);
+DARTELM_AT(dartelm_sheet_answer, terms, 408);
 DARTELM_ANSWER(dartelm_pair_answer, 32);
 DARTELM_AT(dartelm_pair_answer, point, 16);
 DARTELM_AT(dartelm_pair_answer, deviation, 24);
+DARTELM_ANSWER(dartelm_segment_answer, 32);
+DARTELM_AT(dartelm_segment_answer, start, 16);
+DARTELM_AT(dartelm_segment_answer, terms, 24);
+DARTELM_ANSWER(dartelm_term_answer, 32);
+DARTELM_AT(dartelm_term_answer, exponent, 16);
+DARTELM_AT(dartelm_term_answer, coefficient, 24);
+DARTELM_SIZE(dartelm_curve_segment, 16);
+DARTELM_AT(dartelm_curve_segment, start, 0);
+DARTELM_AT(dartelm_curve_segment, terms, 8);
+DARTELM_SIZE(dartelm_curve_term, 16);
+DARTELM_AT(dartelm_curve_term, exponent, 0);
+DARTELM_AT(dartelm_curve_term, coefficient, 8);
+DARTELM_SIZE(dartelm_curve, 808);
+DARTELM_AT(dartelm_curve, count, 0);
+DARTELM_AT(dartelm_curve, segments, 8);
+DARTELM_AT(dartelm_curve, terms, 328);
 DARTELM_ANSWER(dartelm_character_answer, 24);
 DARTELM_AT(dartelm_character_answer, character, 16);
 DARTELM_ANSWER(dartelm_write_answer, 16);

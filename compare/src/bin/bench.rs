@@ -7,7 +7,7 @@ use std::time::Instant;
 
 use compare::calls::{Calls, Plain};
 use compare::ffi::Product;
-use compare::plain::{Dash, Level, Value};
+use compare::plain::{Curve, Dash, Level, Segment, Term, Value};
 use compare::structs::{ByFlags, Fields};
 
 const ROUNDS: usize = 1_000;
@@ -20,6 +20,7 @@ struct Case {
     fields: Fields,
     text: &'static [u8],
     points: Vec<i64>,
+    curve: Curve,
     index: [u8; 480],
 }
 
@@ -67,10 +68,24 @@ impl Case {
             points: (0..count)
                 .flat_map(|i| [i * 1_000_000_000 / count.max(1), (i * 7_919 % 200 - 100) * 10_000])
                 .collect(),
+            curve: Curve::default(),
             index: [0; 480],
         };
         let number = build(&Plain, &mut case, 0).max(index(&Plain, &mut case, 0));
         assert_eq!(number, 0, "kind {kind}, {count} points");
+        case
+    }
+
+    /// With a curve of so many segments of two terms.
+    fn drawn(kind: u8, segments: usize) -> Case {
+        let mut case = Case::new(kind, values(), 0, b"Dash");
+        case.curve.count = segments as u64;
+        for i in 0..segments {
+            case.curve.segments[i] = Segment { start: i as i64 * 1_000_000_000 / segments as i64, terms: 2 };
+            case.curve.terms[2 * i] = Term { exponent: 0, coefficient: 0.1 };
+            case.curve.terms[2 * i + 1] = Term { exponent: 3, coefficient: -1e-6 };
+        }
+        assert_eq!(build_curve(&Plain, &mut case, 0), 0, "kind {kind}, {segments} segments");
         case
     }
 }
@@ -147,6 +162,13 @@ fn build<C: Calls>(calls: &C, case: &mut Case, _: usize) -> u8 {
     black_box(&answer).number
 }
 
+#[inline(never)]
+fn build_curve<C: Calls>(calls: &C, case: &mut Case, _: usize) -> u8 {
+    let (text, curve) = (black_box(case.text), *black_box(&case.curve));
+    let (kind, image, fields) = (black_box(case.kind), black_box(&mut case.image), *black_box(&case.fields));
+    black_box(&calls.build_curve(kind, image, fields, text, curve)).number
+}
+
 type Run<'a> = &'a dyn Fn(&mut Case, usize);
 
 /// Nanoseconds a call over so many calls.
@@ -207,6 +229,21 @@ fn main() {
         let mut case = Case::new(kind, full_precision(), points, b"Dash");
         let (ours, theirs) = measure(&over(Product, reading), &over(Plain, reading), &mut case);
         println!("| {kind} | {points} | reading, precision 2 | {ours:.0} | {theirs:.0} | {:.2} |", ours / theirs);
+    }
+    println!();
+    println!("| Kind | Segments | Call | Product, ns | Plain, ns | Product / plain |");
+    println!("|---|---|---|---|---|---|");
+    for (kind, segments) in [(1, 2), (2, 2), (2, 15)] {
+        let mut case = Case::drawn(kind, segments);
+        let rows: [(&str, Run, Run); 3] = [
+            ("check", &over(Product, check), &over(Plain, check)),
+            ("reading", &over(Product, reading), &over(Plain, reading)),
+            ("build", &over(Product, build_curve), &over(Plain, build_curve)),
+        ];
+        for (name, product, plain) in rows {
+            let (ours, theirs) = measure(product, plain, &mut case);
+            println!("| {kind} | {segments} | {name} | {ours:.0} | {theirs:.0} | {:.2} |", ours / theirs);
+        }
     }
     println!();
     println!("| Kind | Points | All fields in one call, ns | 21 field reads, ns |");

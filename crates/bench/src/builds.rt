@@ -1,14 +1,15 @@
 // Build.
 use crate::asked;
 use crate::asked::ROOM;
+use crate::curves;
 use crate::printing;
 use build::Sheet;
 use build::Slot;
-use fields::Domain;
 use fields::Level;
 use fields::Template;
 use fields::TemplateAnswer;
 use fields::Value;
+use texts::equal;
 use words::Filled;
 use words::Number;
 use words::Worth;
@@ -20,11 +21,29 @@ ghost use Prim.Native.Nat.{_≤_};
 // The first word that is a value.
 const VALUES: u64 = 5;
 
-// The word of the end bit, behind the values of a template's fields; the text, the domain and the points follow it.
+// The word of the end bit, behind the values of a template's fields; the text follows it, and then the domain and the points, or
+// `curve`, the segment count, the segments and the terms.
 fn end_bit_word(template: Template) -> u64
     ensures { λ r. ⌜ r ≤ 26 ⌝ }
 {
     VALUES + fields::last_field(template)
+}
+
+// Whether a line hands in a curve.
+fn is_drawn(line: &[u8], end: u64) -> bool
+    requires { ⌜ end ≤ 26 ⌝ }
+{
+    equal(word(line, end + 2), b"curve")
+}
+
+// Whether a line has as many words as a build from points or from a curve.
+fn is_whole(line: &[u8], end: u64) -> bool
+    requires { ⌜ end ≤ 26 ⌝ }
+{
+    if is_drawn(line, end) {
+        return words::word_count(line) == end + 6;
+    }
+    words::word_count(line) == end + 4
 }
 
 // The template that word 4 names, if the line has the words of a build from it.
@@ -35,7 +54,7 @@ fn template_in(line: &[u8]) -> TemplateAnswer {
     let TemplateAnswer::Is(template) = fields::template_of(number) else {
         return TemplateAnswer::Unknown;
     };
-    if words::word_count(line) != end_bit_word(template) + 4 {
+    if !is_whole(line, end_bit_word(template)) {
         return TemplateAnswer::Unknown;
     }
     TemplateAnswer::Is(template)
@@ -84,9 +103,15 @@ fn sheet_of(line: &[u8], template: Template, end_bit: bool, level: Level) -> She
 }
 
 // A build of these in a buffer lent, from the text, the domain and the points, the words behind the end bit's.
-fn build_in(image: &mut [u8], kind: u8, line: &[u8], end: u64, sheet: Sheet, domain: Domain)
+fn build_in(image: &mut [u8], kind: u8, line: &[u8], end: u64, sheet: Sheet)
     requires { ⌜ end ≤ 26 ⌝ }
 {
+    let Number::Is(domain) = words::number_of(word(line, end + 2)) else {
+        return printing::unknown();
+    };
+    if domain > 1 {
+        return printing::unknown();
+    }
     let mut text = [0u8; ROOM];
     let Filled::To(characters) = words::bytes_of(word(line, end + 1), &mut text) else {
         return printing::unknown();
@@ -97,12 +122,33 @@ fn build_in(image: &mut [u8], kind: u8, line: &[u8], end: u64, sheet: Sheet, dom
     };
     let text = words::front(&text, characters);
     let points = words::front_figures(&points, figures);
-    let answer = build::build(kind, image, sheet, text, domain, points);
+    let answer = build::build(kind, image, sheet, text, coding::domain_of(domain), points);
     printing::written(answer, image);
 }
 
-// The kind, the buffer's length, the level and the template, words 1 to 4, the values, the end bit, the text, the domain and the
-// points.
+// The same from the text and a curve, whose words stand behind `curve`.
+fn draw_in(image: &mut [u8], kind: u8, line: &[u8], end: u64, sheet: Sheet)
+    requires { ⌜ end ≤ 26 ⌝ }
+{
+    let Number::Is(count) = words::number_of(word(line, end + 3)) else {
+        return printing::unknown();
+    };
+    let mut text = [0u8; ROOM];
+    let Filled::To(characters) = words::bytes_of(word(line, end + 1), &mut text) else {
+        return printing::unknown();
+    };
+    let drawn = curves::curve_of(count, word(line, end + 4), word(line, end + 5));
+    if !drawn.taken {
+        return printing::unknown();
+    }
+    let text = words::front(&text, characters);
+    let curve = drawn.curve;
+    let answer = build::build_curve(kind, image, sheet, text, curve);
+    printing::written(answer, image);
+}
+
+// The kind, the buffer's length, the level and the template, words 1 to 4, the values, the end bit, the text, and the domain and
+// the points or a curve.
 pub fn build(line: &[u8]) {
     let Number::Is(kind) = words::number_of(word(line, 1)) else {
         return printing::unknown();
@@ -123,23 +169,14 @@ pub fn build(line: &[u8]) {
     if end_bit > 1 {
         return printing::unknown();
     }
-    let Number::Is(domain) = words::number_of(word(line, end + 2)) else {
-        return printing::unknown();
-    };
-    if domain > 1 {
-        return printing::unknown();
-    }
     if !are_values(line, end) {
         return printing::unknown();
     }
+    let sheet = sheet_of(line, template, end_bit == 1, level);
     let mut room = [0u8; ROOM];
     let image = front_mut(&mut room, length as usize);
-    build_in(
-        image,
-        asked::kind_of(kind),
-        line,
-        end,
-        sheet_of(line, template, end_bit == 1, level),
-        coding::domain_of(domain),
-    );
+    if is_drawn(line, end) {
+        return draw_in(image, asked::kind_of(kind), line, end, sheet);
+    }
+    build_in(image, asked::kind_of(kind), line, end, sheet);
 }

@@ -15,14 +15,17 @@ use words::Number;
 use words::front;
 use words::word;
 
-const HELP: [u8; 692] = *b"check KIND IMAGE\n\
+const HELP: [u8; 902] = *b"check KIND IMAGE\n\
     page KIND IMAGE PAGE\n\
     field KIND IMAGE FIELD\n\
     pair KIND IMAGE INDEX\n\
+    segment KIND IMAGE INDEX\n\
+    term KIND IMAGE INDEX\n\
     char KIND IMAGE INDEX\n\
     reading KIND IMAGE INPUT DASH\n\
     show KIND IMAGE\n\
     build KIND LENGTH LEVEL TEMPLATE V1 .. Vn ENDBIT TEXT DOMAIN POINTS\n\
+    build KIND LENGTH LEVEL TEMPLATE V1 .. Vn ENDBIT TEXT curve COUNT SEGMENTS TERMS\n\
     change KIND IMAGE FIELD VALUE LEVEL\n\
     index KIND IMAGE BUFFER\n\
     fetch KIND IMAGE BUFFER FIELD\n\
@@ -33,7 +36,8 @@ const HELP: [u8; 692] = *b"check KIND IMAGE\n\
     help\n\
     KIND 0, 1 or 2; IMAGE, TEXT and BUFFER in hexadecimal, - for none; VALUE w7, s3f800000 or m;\n\
     LEVEL owner, calibration or maker; DASH large or small; TEMPLATE 33, of 21 values, or 32, of 19;\n\
-    DOMAIN 0 or 1; POINTS point,deviation,.. or -; a refusal is: no NUMBER PLACE\n";
+    DOMAIN 0 or 1; POINTS point,deviation,.. or -; COUNT of segments; SEGMENTS start,terms,.. or -;\n\
+    TERMS exponent,3f800000,.. or -; a refusal is: no NUMBER PLACE\n";
 
 // Answers a line.
 pub fn answer(line: &[u8]) {
@@ -45,7 +49,7 @@ pub fn answer(line: &[u8]) {
         5 => of_four(line, name),
         6 => of_five(line, name),
         7 => of_six(line, name),
-        28 | 30 => of_sheet(line, name),
+        28 | 30 | 32 => of_sheet(line, name),
         _ => printing::unknown(),
     }
 }
@@ -144,6 +148,12 @@ fn of_number(name: &[u8], kind: u8, image: &[u8], number: u64) {
     }
     if equal(name, b"pair") {
         return reads::pair(kind, image, number);
+    }
+    if equal(name, b"segment") {
+        return reads::segment(kind, image, number);
+    }
+    if equal(name, b"term") {
+        return reads::term(kind, image, number);
     }
     if equal(name, b"char") {
         return reads::character(kind, image, number);

@@ -4,6 +4,7 @@
 mod asked; // asked.rt: the kind and the image of a line
 mod builds; // builds.rt: build
 mod commands; // commands.rt: a command, by its words
+mod curves; // curves.rt: the curve of a build
 mod edits; // edits.rt: change, propose and commit
 mod indexes; // indexes.rt: index and fetch
 mod printing; // printing.rt: what an answer is made of

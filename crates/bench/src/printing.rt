@@ -52,7 +52,7 @@ pub fn refused(r: Refusal) {
 }
 
 // The bits of a float in hexadecimal; a NaN, which no sheet holds and no reading shows, as `nan`.
-fn single(x: f32) {
+pub fn single(x: f32) {
     if x != x {
         return put(b"nan");
     }
@@ -66,11 +66,11 @@ pub fn double(x: f64) {
     io::print_hex(STDOUT_FILENO, f64::to_bits(x), 16);
 }
 
-// A table's domain, `-` where there is no table, at an answer's end.
+// A table's domain, `-` where there is no table.
 pub fn domain(table: TableDomain) {
     match table {
-        TableDomain::NoTable => put(b"-\n"),
-        TableDomain::Is(domain) => number(coding::domain_code(domain)),
+        TableDomain::NoTable => put(b"-"),
+        TableDomain::Is(domain) => put_number(coding::domain_code(domain)),
     }
 }
 

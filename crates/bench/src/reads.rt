@@ -5,8 +5,11 @@ use sheet::CharacterAnswer;
 use sheet::Checked;
 use sheet::FieldAnswer;
 use sheet::PairAnswer;
+use sheet::SegmentAnswer;
 use sheet::Summary;
+use sheet::TermAnswer;
 use shown::put;
+use shown::put_figure;
 use shown::put_number;
 
 fn accepted(summary: Summary) {
@@ -26,6 +29,10 @@ fn accepted(summary: Summary) {
     put(b" ");
     let domain = summary.domain;
     printing::domain(domain);
+    put(b" ");
+    put_number(summary.segments);
+    put(b" ");
+    printing::number(summary.terms);
 }
 
 pub fn check(kind: u8, image: &[u8]) {
@@ -51,6 +58,29 @@ pub fn pair(kind: u8, image: &[u8], index: u64) {
     match sheet::read_pair(kind, image, index) {
         PairAnswer::Holds(pair) => printing::figures(pair.point, pair.deviation),
         PairAnswer::Refused(r) => printing::refused(r),
+    }
+}
+
+pub fn segment(kind: u8, image: &[u8], index: u64) {
+    match sheet::read_segment(kind, image, index) {
+        SegmentAnswer::Holds(segment) => {
+            put_figure(segment.start);
+            put(b" ");
+            printing::number(segment.terms);
+        }
+        SegmentAnswer::Refused(r) => printing::refused(r),
+    }
+}
+
+pub fn term(kind: u8, image: &[u8], index: u64) {
+    match sheet::read_term(kind, image, index) {
+        TermAnswer::Holds(term) => {
+            put_figure(term.exponent);
+            put(b" ");
+            printing::single(term.coefficient);
+            printing::end();
+        }
+        TermAnswer::Refused(r) => printing::refused(r),
     }
 }
 

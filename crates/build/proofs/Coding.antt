@@ -9,7 +9,7 @@ use lib.IntN.{ℤ}
 use mir.Syntax.{w64}
 use mir.Val.{SFits, toZ, ofZ}
 use mir.Facts.{toZ-ofZ}
-use lib.ListN.{length, take, drop, getD, set, replicate, getD-replicate, length-append, length-set, length-map, List·getD-map, drop-of-length-le}
+use lib.ListN.{length, take, drop, getD, set, replicate, length-replicate, getD-replicate, length-append, length-set, length-map, List·getD-map, drop-of-length-le}
 use lib.Seq.{slice, slice-cons, slice-empty, drop-cons, getD-set-same, getD-set-other, take-take}
 use Rattle.refusal.specs.declared.Refusal.{Refusal}
 use Rattle.refusal.specs.Outcome.{Outcome, good, refused, _>>=_}
@@ -33,7 +33,7 @@ use Rattle.build.specs.declared.Slot.{Slot}
 use Rattle.build.specs.declared.Sheet.{Sheet}
 use Rattle.build.specs.declared.plan.CodedField.{CodedField}
 use Rattle.build.specs.Build.{slot, lent, templateIn, linePieces}
-use Rattle.build.specs.Tested.{Encodes, Fitting, FieldsFit, fieldPiece, codedFields, FieldsPlanned}
+use Rattle.build.specs.Tested.{Encodes, Fitting, Fit, blank, fieldPiece, codedFields, FieldsPlanned}
 use Rattle.build.proofs.LinePlans.{bind-good-last}
 use Rattle.fields.proofs.TemplateFacts.{last-most}
 use Rattle.build.proofs.FieldPlans.{withBlock, block-needed, fields-listed}
@@ -56,23 +56,19 @@ unfolding linesOf
 basic-fewer template = omega (arith, length-append basic (templateLines template))
 
 -- One more.
-taken : (fields : List CodedField) (i : ℕ) (x : CodedField) → i < length fields →
+pub taken : (fields : List CodedField) (i : ℕ) (x : CodedField) → i < length fields →
     take (suc i) (map fieldPiece (set fields i x)) ≡ take i (map fieldPiece fields) ++ (fieldPiece x ∷ [])
 taken [] i x h = absurd (omega arith)
 taken (y ∷ fields) zero x h = refl
 taken (y ∷ fields) (suc i) x h = ap (λ l. fieldPiece y ∷ l) (taken fields i x (omega arith))
 
--- A field that is not coded yet.
-abbrev pub blank : CodedField
-blank = record { width = 1; code = 0 }
+pub fit-none : (n : ℕ) → Fit n (replicate n blank)
+fit-none n = record { long = length-replicate n blank; each = λ i none h. rw (getD-replicate n i blank none h) (record { some = omega arith; most = omega arith; fits = omega arith }) }
 
-fit-none : FieldsFit (replicate 21 blank)
-fit-none = record { long = refl; each = λ i none h. rw (getD-replicate 21 i blank none h) (record { some = omega arith; most = omega arith; fits = omega arith }) }
-
-fit-more : (fields : List CodedField) (i : ℕ) (x : CodedField) → FieldsFit fields → Fitting (x .width) (x .code) → FieldsFit (set fields i x)
-fit-more fields i x fit f = record { long = length-set fields i x ∙ fit .long; each = λ k none h. go k none h (ℕ-discrete k i) }
+pub fit-more : {n : ℕ} (fields : List CodedField) (i : ℕ) (x : CodedField) → Fit n fields → Fitting (x .width) (x .code) → Fit n (set fields i x)
+fit-more {n} fields i x fit f = record { long = length-set fields i x ∙ fit .long; each = λ k none h. go k none h (ℕ-discrete k i) }
   where
-    go : (k : ℕ) (none : CodedField) → k < 21 → Dec (k ≡ i) → Fitting (getD (set fields i x) k none .width) (getD (set fields i x) k none .code)
+    go : (k : ℕ) (none : CodedField) → k < n → Dec (k ≡ i) → Fitting (getD (set fields i x) k none .width) (getD (set fields i x) k none .code)
     go k none h (yes e) = rw (e, getD-set-same fields i x none (omega (arith, fit .long))) f
     go k none h (no e) = rw (getD-set-other fields i k x none e) (fit .each k none h)
 
@@ -138,7 +134,7 @@ module _ (sheet : Sheet) where
 
   pub record FieldsDone (fields : List CodedField) (latest bits i : ℕ) : Type 0 where
     pub inside : i ≤ lastField t
-    pub fit : FieldsFit fields
+    pub fit : Fit 21 fields
     pub rest : fromHere fields latest i ≡ linePieces sheet lines 0 1
     pub count : bits ≡ needed (take i (map fieldPiece fields)) + 10
     pub few : bits ≤ 10 + 32 * i
@@ -146,7 +142,7 @@ module _ (sheet : Sheet) where
   pub done-none : FieldsDone (replicate 21 blank) 0 10 0
   done-none = record {
     inside = omega arith;
-    fit = fit-none;
+    fit = fit-none 21;
     rest = from-start (replicate 21 blank);
     count = refl;
     few = omega arith;

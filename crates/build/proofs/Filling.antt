@@ -10,14 +10,14 @@ use lib.Pow.{pow-add, pow-mono}
 use Rattle.memory.specs.declared.Sizes.{Sizes}
 use Rattle.stream.specs.declared.cursor.Cursor.{Cursor}
 use Rattle.memory.specs.Bits.{number, putAt}
-use Rattle.memory.specs.Image.{imageBytes, streamOf, streamNumber, putIn}
+use Rattle.memory.specs.Image.{imageBytes, streamBits, streamOf, streamNumber, putIn}
 use Rattle.memory.specs.Answers.{Whole, streamIndex}
 use Rattle.stream.specs.Answers.{InStream}
 use Rattle.memory.specs.Pieces.{Piece, piece, pack, needed}
 use Rattle.memory.proofs.PieceLaws.{pack-append, needed-append}
 use Rattle.memory.proofs.Streams.{stream-at, stream-length}
 use Rattle.memory.proofs.Written.{put-whole, put-bytes, put-stream}
-use Rattle.build.specs.Filled.{Free, Room, Filled}
+use Rattle.build.specs.Filled.{Free, Room, Filled, Begun}
 
 -- ---- numbers
 
@@ -111,7 +111,7 @@ zeros-at zero i = refl
 zeros-at (suc n) zero = refl
 zeros-at (suc n) (suc i) = zeros-at n i
 
-pub cleared-free : (z : Sizes) (image : List ℕ) → Whole z image → Free z (replicate (length image) 0) 0
+cleared-free : (z : Sizes) (image : List ℕ) → Whole z image → Free z (replicate (length image) 0) 0
 cleared-free z image w =
     let n : ℕ = length image in
     let cleared : List ℕ = replicate n 0 in
@@ -120,8 +120,27 @@ cleared-free z image w =
     zeros-number (streamOf z cleared) (λ i h. stream-at z cleared whole i (omega (arith, stream-length z cleared whole, h)) ∙ zeros-at n (streamIndex z i)) in
     record { whole = record { long = whole; small = w .small }; bytes = (λ i. omega (arith, zeros-at n i)); below = omega (arith, none) }
 
+module _ (z : Sizes) {image a : List ℕ} (whole : Whole z image) (e : a ≡ replicate (length image) 0) where
+  pub cleared : Free z a 0
+  cleared = rw e (cleared-free z image whole)
+
+  pub cleared-room : {k : Cursor} (ps : List Piece) → k .at ≡ 0 → needed ps ≤ streamBits z → Room z a k ps
+  cleared-room ps at h = record { free = rw at cleared; inside = omega (arith, at) }
+
 -- What is filled in from the first bit on is the whole stream.
-pub filled-all : {z : Sizes} {a b : List ℕ} {k n : Cursor} {ps : List Piece} → Filled z a k ps b n → k .at ≡ 0 → Free z a 0 → streamNumber z b ≡ pack ps
-filled-all {z} {a} {ps = ps} l e f =
+pub begun : {z : Sizes} {a b : List ℕ} {k n : Cursor} {ps : List Piece} → Filled z a k ps b n → k .at ≡ 0 → Free z a 0 → Begun z ps b n
+begun {z} {a} {ps = ps} l e f =
     let none : streamNumber z a ≡ 0 = omega (arith, f .below) in
-    l .stream ∙ ap₂ (λ (i x : ℕ). pack ps * 2 ^ i + x) e none ∙ omega arith
+    record {
+      free = l .free;
+      stream = l .stream ∙ ap₂ (λ (i x : ℕ). pack ps * 2 ^ i + x) e none ∙ omega arith;
+      moved = omega (arith, l .moved, e);
+    }
+
+-- What goes behind it.
+module _ {z : Sizes} {a : List ℕ} {k : Cursor} {ps : List Piece} (b : Begun z ps a k) (qs : List Piece) where
+  pub begun-room : needed (ps ++ qs) ≤ streamBits z → Room z a k qs
+  begun-room h = record { free = b .free; inside = omega (arith, b .moved, needed-append ps qs) }
+
+  pub begun-all : pack qs * 2 ^ k .at + streamNumber z a ≡ pack (ps ++ qs)
+  begun-all = ap₂ (λ (i x : ℕ). pack qs * 2 ^ i + x) (b .moved) (b .stream) ∙ sym (pack-append ps qs)

@@ -7,4 +7,7 @@ pub mod Filling
 pub mod TextTurns
 pub mod Coding
 pub mod PairTurns
+pub mod CurvePlans
+pub mod SegmentPlans
+pub mod CurveTurns
 pub mod BuiltIn

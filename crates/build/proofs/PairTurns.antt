@@ -11,7 +11,7 @@ use lib.Seq.{drop-cons}
 use Rattle.refusal.specs.declared.Refusal.{Refusal}
 use Rattle.refusal.specs.Outcome.{Outcome, good, refused, _>>=_, _>>_}
 use Rattle.refusal.proofs.Outcomes.{bind-good, bind-refused}
-use Rattle.memory.specs.Pieces.{Piece, piece}
+use Rattle.memory.specs.Pieces.{Piece, piece, needed}
 use Rattle.fields.specs.declared.Value.the-variants.{Whole}
 use Rattle.fields.specs.declared.Row.{Row}
 use Rattle.fields.specs.declared.Pair.{Pair}
@@ -23,11 +23,12 @@ use Rattle.fields.specs.Stored.{Sound}
 use Rattle.fields.proofs.RowLaws.{point-sound, deviation-sound}
 use Rattle.fields.proofs.StoredLaws.{reads-back}
 use Rattle.layout.specs.Pieces.{blockPieces}
+use Rattle.layout.specs.Places.{tableBits}
 use Rattle.build.specs.Build.{pairsLent, codesFor, pairCodes, pairPieces, tablePieces}
 use Rattle.build.specs.Tested.{tested, piecesOf, Accepted, Fitting, pairAt}
 use Rattle.build.specs.Filled.{codedPair, codedPairs}
 use Rattle.build.proofs.Tests.{tested-made}
-use Rattle.build.proofs.PairPlans.{codes-planned, no-pair, pairs-planned, table-planned, pairs-length}
+use Rattle.build.proofs.PairPlans.{codes-planned, no-pair, pairs-planned, table-planned, table-needed, pairs-length}
 
 -- ---- one pair
 
@@ -141,3 +142,7 @@ module _ (domain : Domain) (points : List ℤ) where
   pub table-some : (length points / 2 ≡ 0 → ⊥) → Accepted (tablePieces domain (pairsLent points)) →
       piecesOf (tablePieces domain (pairsLent points)) ≡ blockPieces 40 ++ (piece 1 (domainCode domain) ∷ piece 7 (length points / 2) ∷ codedPairs 0 (pairsLent points))
   table-some n ok = rw (pairs-length points) at (pairs-some domain (pairsLent points) (λ e. n (sym (pairs-length points) ∙ e)) ok)
+
+  -- Its bits.
+  pub table-bits : Accepted (tablePieces domain (pairsLent points)) → tableBits (length points / 2) ≡ needed (piecesOf (tablePieces domain (pairsLent points)))
+  table-bits ok = sym (table-needed domain (pairsLent points) (piecesOf (tablePieces domain (pairsLent points))) ok ∙ ap tableBits (pairs-length points))

@@ -1,26 +1,31 @@
--- Document 01, and document 02, Notes 7 and 9: build an image. Order: 1, 16, the fields each 9 then 10, the ending 9 then 10, points each 10 for
--- point, 10 for deviation, then 7 and 22; last 11. What is to be written is a list of pieces, widths and codes one after the other.
+-- Document 01, and document 02, Notes 7, 9 and 11: build an image. Order: 1, 16, the fields each 9 then 10, the ending 9 then 10, points each 10
+-- for point, 10 for deviation, then 7 and 22, or the curve's 24, 10 and 25 in stream order; last 11. What is to be written is a list of pieces,
+-- widths and codes one after the other.
 use mathlib.Core.Bool.{Bool, false, not, _||_, _&&_}
 use mathlib.Core.List.{List, [], _∷_, _++_, map}
 use mathlib.Core.Option.{Option, none, some}
-use Prim.Native.Nat.{ℕ, suc, _-_, _%_}
+use Prim.Native.Nat.{ℕ, suc, _+_, _-_, _%_}
 use lib.Dec.{eqb, ltb}
-use lib.ListN.{length, getD}
-use lib.IntN.{ℤ}
+use lib.ListN.{length, getD, take, drop}
+use lib.IntN.{ℤ, pos, _*ℤ_}
 use Rattle.refusal.specs.Outcome.{Outcome, good, _>>_, _>>=_, refuse_if_}
-use Rattle.refusal.specs.Rows.{wrongSort, outOfRange, tooLong, wrongList}
+use Rattle.refusal.specs.Rows.{wrongSort, outOfRange, tooLong, wrongList, wrongCurve, tooManyTerms}
 use Rattle.memory.specs.declared.Sizes.{Sizes}
 use Rattle.memory.specs.Image.{imageSizes, streamBits, imageOf}
 use Rattle.memory.specs.Pieces.{Piece, piece, pack, needed}
 use Rattle.fields.specs.declared.Value.{Value}
-use Rattle.fields.specs.declared.Value.the-variants.{Whole, Missing}
+use Rattle.fields.specs.declared.Value.the-variants.{Whole, Single, Missing}
 use Rattle.fields.specs.declared.Template.{Template}
 use Rattle.fields.specs.declared.Pair.{Pair}
 use Rattle.fields.specs.declared.Codes.{Codes}
 use Rattle.fields.specs.declared.Domain.{Domain}
+use Rattle.fields.specs.declared.Segment.{Segment}
+use Rattle.fields.specs.declared.Term.{Term}
+use Rattle.fields.specs.declared.Curve.{Curve}
 use Rattle.fields.specs.Rules.{encode}
 use Rattle.fields.specs.Lines.{Line, chose, basic, templateLines, numberOf, ending}
 use Rattle.fields.specs.Calibration.{domainCode, calPoint, calDeviation, codesOf, follows}
+use Rattle.fields.specs.Curves.{segmentCount, segmentStart, termCount, exponent, coefficient, isSegmentCount, isTermCount, mostTerms, startFollows, exponentCode}
 use Rattle.layout.specs.Pieces.{blockPieces, endCode}
 use Rattle.build.specs.declared.Slot.{Slot}
 use Rattle.build.specs.declared.Sheet.{Sheet}
@@ -102,26 +107,88 @@ tablePieces domain (p ∷ pairs) = do
   pieces ← pairPieces domain none 0 (p ∷ pairs)
   good (blockPieces 40 ++ (piece 1 (domainCode domain) ∷ piece 7 (length (p ∷ pairs)) ∷ pieces))
 
+-- ---- block 41
+
+-- Terms, from index i over the whole curve: 24 of the exponent, which is stored in tenths, 10 of the coefficient.
+unfoldable pub termPieces : Option ℤ → ℕ → List Term → Outcome (List Piece)
+termPieces before i [] = good []
+termPieces before i (t ∷ terms) = do
+  power ← exponentCode before i (pos 10 *ℤ t .exponent)
+  factor ← encode coefficient i (Single (t .coefficient))
+  rest ← termPieces (some (pos 10 *ℤ t .exponent)) (suc i) terms
+  good (piece (exponent .width) power ∷ piece (coefficient .width) factor ∷ rest)
+
+-- The term count of segment i: 24, then 25 with the terms before it.
+unfoldable pub countTested : ℕ → ℕ → ℕ → Outcome (Unit {0})
+countTested i total terms = do
+  refuse wrongCurve i if not (isTermCount terms)
+  refuse tooManyTerms (total + terms) if ltb mostTerms (total + terms)
+
+-- The code of its start: 10, then 24; then its term count.
+unfoldable pub startCode : Option ℕ → ℕ → ℕ → Segment → Outcome ℕ
+startCode before i total s = do
+  start ← encode segmentStart i (Whole (s .start))
+  refuse wrongCurve i if not (startFollows before start)
+  countTested i total (s .terms)
+  good start
+
+-- Segments from index i on, each with its own of the terms that are left.
+unfoldable pub segmentPieces : Option ℕ → ℕ → ℕ → List Segment → List Term → Outcome (List Piece)
+segmentPieces before i total [] terms = good []
+segmentPieces before i total (s ∷ segments) terms = do
+  start ← startCode before i total s
+  own ← termPieces none total (take (s .terms) terms)
+  rest ← segmentPieces (some start) (suc i) (total + s .terms) segments (drop (s .terms) terms)
+  good (piece (segmentStart .width) start ∷ piece (termCount .width) (s .terms) ∷ (own ++ rest))
+
+-- Selector 0, template 41, domain 0, the segment count and the segments. What stands behind them is not looked at.
+unfoldable pub curvePieces : Curve → Outcome (List Piece)
+curvePieces curve = do
+  refuse wrongCurve (curve .count) if not (isSegmentCount (curve .count))
+  pieces ← segmentPieces none 0 0 (take (curve .count) (curve .segments)) (curve .terms)
+  good (blockPieces 41 ++ (piece 1 0 ∷ piece (segmentCount .width) (curve .count) ∷ pieces))
+
 -- ---- the image
 
+-- A build is handed a points list in a domain, or a curve, not both.
+pub data Table : Type 0 where
+  listed : Domain → List ℤ → Table
+  drawn : Curve → Table
+
+-- Row 16: a points list, odd or over 254 long.
+abbrev pub listTested : Table → Outcome (Unit {0})
+listTested (listed domain points) = refuse wrongList (length points) if eqb (length points % 2) 1 || ltb 254 (length points)
+listTested (drawn curve) = good tt
+
+-- The block behind the fields.
+abbrev pub behindPieces : Table → Outcome (List Piece)
+behindPieces (listed domain points) = tablePieces domain (pairsLent points)
+behindPieces (drawn curve) = curvePieces curve
+
 -- All that a build writes, one piece after the other.
-unfoldable pub plan : Sheet → List ℕ → Domain → List ℤ → Outcome (List Piece)
-plan sheet text domain points = do
-  refuse wrongList (length points) if eqb (length points % 2) 1 || ltb 254 (length points)
+unfoldable pub plan : Sheet → List ℕ → Table → Outcome (List Piece)
+plan sheet text table = do
+  listTested table
   fields ← fieldPieces sheet
   end ← endingPieces (ending (templateIn sheet)) (sheet .«end_bit») text
-  table ← tablePieces domain (pairsLent points)
-  good (fields ++ (table ++ end))
+  behind ← behindPieces table
+  good (fields ++ (behind ++ end))
 
 -- In an image of these sizes. Bits after the end are zero, and with them the zero character that ends a text.
-unfoldable pub builtIn : Sizes → Sheet → List ℕ → Domain → List ℤ → Outcome (List ℕ)
-builtIn z sheet text domain points = do
-  pieces ← plan sheet text domain points
+unfoldable pub builtIn : Sizes → Sheet → List ℕ → Table → Outcome (List ℕ)
+builtIn z sheet text table = do
+  pieces ← plan sheet text table
   refuse tooLong (needed pieces) if ltb (streamBits z) (needed pieces)
   good (imageOf z (pack pieces))
 
 -- The image that a build makes in a buffer of a kind.
-unfoldable pub build : ℕ → List ℕ → Sheet → List ℕ → Domain → List ℤ → Outcome (List ℕ)
-build kind buffer sheet text domain points = do
+unfoldable pub buildWith : ℕ → List ℕ → Sheet → List ℕ → Table → Outcome (List ℕ)
+buildWith kind buffer sheet text table = do
   z ← imageSizes kind (length buffer)
-  builtIn z sheet text domain points
+  builtIn z sheet text table
+
+abbrev pub build : ℕ → List ℕ → Sheet → List ℕ → Domain → List ℤ → Outcome (List ℕ)
+build kind buffer sheet text domain points = buildWith kind buffer sheet text (listed domain points)
+
+abbrev pub buildCurve : ℕ → List ℕ → Sheet → List ℕ → Curve → Outcome (List ℕ)
+buildCurve kind buffer sheet text curve = buildWith kind buffer sheet text (drawn curve)

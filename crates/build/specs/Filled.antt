@@ -5,7 +5,6 @@ use mathlib.Core.Bool.{Bool}
 use mathlib.Core.List.{List, [], _∷_, _++_, map}
 use Prim.Native.Nat.{ℕ, suc, _+_, _*_, _^_, _≤_, _<_}
 use lib.Dec.{ltb}
-use lib.IntN.{ℤ}
 use Rattle.refusal.specs.Outcome.{Outcome, good, refused, _>>_, refuse_if_}
 use Rattle.refusal.specs.Rows.{tooLong}
 use Rattle.memory.specs.declared.Sizes.{Sizes}
@@ -16,13 +15,12 @@ use Rattle.memory.specs.Answers.{Whole}
 use Rattle.memory.specs.Pieces.{Piece, piece, pack, needed}
 use Rattle.fields.specs.declared.Pair.{Pair}
 use Rattle.fields.specs.declared.Codes.{Codes}
-use Rattle.fields.specs.declared.Domain.{Domain}
 use Rattle.fields.specs.declared.Template.{Template}
 use Rattle.fields.specs.Calibration.{calPoint, calDeviation}
 use Rattle.layout.specs.Pieces.{endCode}
 use Rattle.build.specs.declared.plan.CodedField.{CodedField}
-use Rattle.build.specs.Build.{pairsLent, codesFor, tablePieces}
-use Rattle.build.specs.Tested.{piecesOf, codedFields}
+use Rattle.build.specs.Build.{codesFor}
+use Rattle.build.specs.Tested.{codedFields}
 
 -- ---- what stands in the stream
 
@@ -43,6 +41,12 @@ pub record Filled (z : Sizes) (before : List ℕ) (cursor : Cursor) (pieces : Li
   pub stream : streamNumber z after ≡ pack pieces * 2 ^ cursor .at + streamNumber z before
   pub moved : next .at ≡ cursor .at + needed pieces
 
+-- The first pieces of a stream in a cleared image; `next` is the cursor behind them.
+pub record Begun (z : Sizes) (pieces : List Piece) (image : List ℕ) (next : Cursor) : Type 0 where
+  pub free : Free z image (next .at)
+  pub stream : streamNumber z image ≡ pack pieces
+  pub moved : next .at ≡ needed pieces
+
 -- ---- which pieces
 
 -- A pair that has its codes.
@@ -58,10 +62,9 @@ codedPairs i (p ∷ pairs) = codedPair (codesFor i p) ++ codedPairs (suc i) pair
 abbrev pub codedEnding : Bool → List ℕ → List Piece
 codedEnding endBit text = piece 2 3 ∷ piece 1 (endCode endBit) ∷ map (piece 7) text
 
--- All of a sheet.
-abbrev pub codedSheet : Template → List CodedField → Bool → List ℕ → Domain → List ℤ → List Piece
-codedSheet template fields endBit text domain points =
-    codedFields template fields ++ (piecesOf (tablePieces domain (pairsLent points)) ++ codedEnding endBit text)
+-- All of a sheet, with the pieces of the block behind its fields.
+abbrev pub codedSheet : Template → List CodedField → Bool → List ℕ → List Piece → List Piece
+codedSheet template fields endBit text behind = codedFields template fields ++ (behind ++ codedEnding endBit text)
 
 -- Their image, where the stream has the bits that they need.
 unfoldable pub fitted : Sizes → List Piece → Outcome (List ℕ)

@@ -1,23 +1,29 @@
 -- Only inner contracts need this: what the tests of a build answer, and what holds of what they leave to be written.
 use mathlib.Core.Path.{_≡_}
-use mathlib.Core.List.{List, [], _++_, map}
+use mathlib.Core.List.{List, [], _∷_, _++_, map}
+use mathlib.Core.Option.{Option}
 use Prim.Native.Nat.{ℕ, _+_, _*_, _^_, _≤_, _<_}
-use lib.IntN.{ℤ, pos}
-use lib.ListN.{length, getD}
+use lib.IntN.{ℤ, pos, _*ℤ_}
+use lib.ListN.{length, getD, take, set, replicate}
 use lib.Seq.{slice}
-use Rattle.refusal.specs.Outcome.{Outcome, good, refused, _>>_}
+use Rattle.refusal.specs.declared.Refusal.{Refusal}
+use Rattle.refusal.specs.Outcome.{Outcome, good, refused, _>>_, _>>=_}
 use Rattle.memory.specs.Pieces.{Piece, piece, needed}
 use Rattle.fields.specs.declared.Value.{Value}
+use Rattle.fields.specs.declared.Value.the-variants.{Single}
 use Rattle.fields.specs.declared.Row.{Row}
 use Rattle.fields.specs.declared.Pair.{Pair}
 use Rattle.fields.specs.declared.Codes.{Codes}
-use Rattle.fields.specs.declared.Domain.{Domain}
+use Rattle.fields.specs.declared.Segment.{Segment}
+use Rattle.fields.specs.declared.Term.{Term}
+use Rattle.fields.specs.declared.Curve.{Curve}
 use Rattle.fields.specs.declared.Encoded.{Encoded}
 use Rattle.fields.specs.declared.Encoded.the-variants.{Code}
-use Rattle.fields.specs.declared.Judged.the-variants.{Stands}
+use Rattle.fields.specs.declared.Judged.the-variants.{Stands, Refused as TurnedDown}
 use Rattle.fields.specs.declared.Template.{Template}
 use Rattle.fields.specs.Rules.{encode}
 use Rattle.fields.specs.Lines.{basic, numberOf, lastField}
+use Rattle.fields.specs.Curves.{segmentStart, termCount, exponent, coefficient, exponentCode}
 use Rattle.fields.specs.Answers.{encodedSaid, judgedSaid}
 use Rattle.layout.specs.Pieces.{blockPieces}
 use Rattle.build.specs.declared.Sheet.{Sheet}
@@ -25,7 +31,10 @@ use Rattle.build.specs.declared.plan.CodedField.{CodedField}
 use Rattle.build.specs.declared.plan.Plan.{Plan}
 use Rattle.build.specs.declared.plan.PairAnswer.{PairAnswer}
 use Rattle.build.specs.declared.plan.PairAnswer.the-variants.{Are, Refused}
-use Rattle.build.specs.Build.{templateIn, fieldPieces, pairsLent, tablePieces}
+use Rattle.build.specs.declared.drawing.TwoAnswer.{TwoAnswer}
+use Rattle.build.specs.declared.drawing.TwoAnswer.the-variants.{Are as Both, Refused as Neither}
+use Rattle.build.specs.declared.drawing.CurvePlan.{CurvePlan}
+use Rattle.build.specs.Build.{templateIn, fieldPieces, startCode, curvePieces}
 
 -- What a test says: nothing but the refusal.
 abbrev pub tested : {A : Type 0} → Outcome A → Outcome (Unit {0})
@@ -53,10 +62,10 @@ pub record Fitting (width code : ℕ) : Type 0 where
   pub most : width ≤ 32
   pub fits : code < 2 ^ width
 
--- So do the codes of an array of fields.
-pub record FieldsFit (fields : List CodedField) : Type 0 where
-  pub long : length fields ≡ 21
-  pub each : (i : ℕ) (none : CodedField) → i < 21 → Fitting (getD fields i none .width) (getD fields i none .code)
+-- So do the codes of an array of n fields.
+pub record Fit (n : ℕ) (fields : List CodedField) : Type 0 where
+  pub long : length fields ≡ n
+  pub each : (i : ℕ) (none : CodedField) → i < n → Fitting (getD fields i none .width) (getD fields i none .code)
 
 abbrev pub fieldPiece : CodedField → Piece
 fieldPiece x = piece (x .width) (x .code)
@@ -69,7 +78,7 @@ codedFields template fields =
 
 pub record FieldsPlanned (sheet : Sheet) (r : Plan) : Type 0 where
   pub said : (judgedSaid (r .answer) >> good (codedFields (templateIn sheet) (r .fields))) ≡ fieldPieces sheet
-  pub fit : FieldsFit (r .fields)
+  pub fit : Fit 21 (r .fields)
   pub count : r .answer ≡ Stands → r .bits ≡ needed (codedFields (templateIn sheet) (r .fields))
   pub small : r .bits < 2 ^ 16
 
@@ -83,9 +92,55 @@ abbrev pub codesSaid : PairAnswer → Outcome Codes
 codesSaid (Are codes) = good codes
 codesSaid (Refused r) = refused r
 
--- ---- what is left to be written: codes and characters that fit, and points that nothing refuses
-pub record Tested (fields : List CodedField) (text : List ℕ) (domain : Domain) (points : List ℤ) : Type 0 where
-  pub fit : FieldsFit fields
+-- ---- the curve
+
+abbrev pub coded : Row → ℕ → CodedField
+coded row code = record { width = row .width; code = code }
+
+-- Two pieces that fit their bits, or the refusal.
+abbrev pub twoSaid : TwoAnswer → Outcome (List CodedField)
+twoSaid (Both first second) = good (first ∷ second ∷ [])
+twoSaid (Neither r) = refused r
+
+pub record TwoCoded (two : Outcome (List CodedField)) (answer : TwoAnswer) : Type 0 where
+  pub said : twoSaid answer ≡ two
+  pub fits : (first second : CodedField) → answer ≡ Both first second → Fitting (first .width) (first .code) × Fitting (second .width) (second .code)
+
+-- A segment's own two, and a term's.
+unfoldable pub segmentTwo : Option ℕ → ℕ → ℕ → Segment → Outcome (List CodedField)
+segmentTwo before i total s = do
+  start ← startCode before i total s
+  good (coded segmentStart start ∷ coded termCount (s .terms) ∷ [])
+
+unfoldable pub termTwo : Option ℤ → ℕ → Term → Outcome (List CodedField)
+termTwo before i t = do
+  power ← exponentCode before i (pos 10 *ℤ t .exponent)
+  factor ← encode coefficient i (Single (t .coefficient))
+  good (coded exponent power ∷ coded coefficient factor ∷ [])
+
+abbrev pub codedCurve : CurvePlan → List Piece
+codedCurve r = take (r .count) (map fieldPiece (r .codes))
+
+-- A piece that is not coded yet.
+abbrev pub blank : CodedField
+blank = record { width = 1; code = 0 }
+
+-- Room for the pieces of a curve, with those before the first segment.
+unfoldable pub firstFour : ℕ → List CodedField
+firstFour count = set (set (set (replicate 104 blank) 0 (record { width = 2; code = 0 })) 1 (record { width = 8; code = 41 })) 3 (record { width = 8; code = count })
+
+-- A curve that is turned down.
+abbrev pub noCurve : Refusal → List CodedField → CurvePlan
+noCurve r codes = record { answer = TurnedDown r; codes = codes; count = 0; bits = 0 }
+
+pub record CurvePlanned (curve : Curve) (r : CurvePlan) : Type 0 where
+  pub said : (judgedSaid (r .answer) >> good (codedCurve r)) ≡ curvePieces curve
+  pub fit : r .answer ≡ Stands → Fit 104 (r .codes)
+  pub most : r .count ≤ 104
+  pub count : r .answer ≡ Stands → r .bits ≡ needed (codedCurve r)
+  pub small : r .bits < 2 ^ 16
+
+-- ---- what is left to be written: codes and characters that fit
+pub record Tested (fields : List CodedField) (text : List ℕ) : Type 0 where
+  pub fit : Fit 21 fields
   pub characters : (i : ℕ) → getD text i 0 < 128
-  pub table : Accepted (tablePieces domain (pairsLent points))
-  pub list : length points ≤ 254

@@ -1,12 +1,16 @@
 // Build an image in the caller's buffer.
 use crate::Sheet;
+use crate::drawing::CurvePlan;
+use crate::drawing::plan_curve;
 use crate::plan::Plan;
 use crate::plan::check_ending;
 use crate::plan::check_points;
 use crate::plan::is_wrong_list;
 use crate::plan::plan_fields;
 use crate::plan::template_in;
-use crate::write::write;
+use crate::write::write_curve;
+use crate::write::write_table;
+use fields::Curve;
 use fields::Domain;
 use fields::Judged;
 use fields::Template;
@@ -15,13 +19,15 @@ use memory::SizesAnswer;
 use refusal::Written;
 ghost use mathlib.Core.Path.{_≡_};
 ghost use Prim.Native.Nat.{min, _+_, _*_, _^_, _≤_, _<_};
+ghost use lib.Dec.{ltb};
+ghost use lib.ListN.{length};
 ghost use Rattle.refusal.specs.Written.{writtenSaid, afterwards};
-ghost use Rattle.memory.specs.Image.{imageBytes};
+ghost use Rattle.memory.specs.Image.{imageBytes, streamBits};
 ghost use Rattle.memory.specs.Answers.{Whole};
 ghost use Rattle.memory.specs.Pieces.{needed};
 ghost use Rattle.layout.specs.Places.{tableBits};
-ghost use Rattle.build.specs.Build.{builtIn, build as buildOf};
-ghost use Rattle.build.specs.Tested.{codedFields, Tested};
+ghost use Rattle.build.specs.Build.{pairsLent, tablePieces, listed, drawn, builtIn, build as buildOf, buildCurve};
+ghost use Rattle.build.specs.Tested.{piecesOf, Accepted, Fit, codedFields, codedCurve, Tested};
 ghost use Rattle.build.specs.Filled.{codedSheet, fitted};
 
 // The bits of a table of n pairs: none without one.
@@ -35,20 +41,28 @@ fn table_bits(n: u64) -> u64
     18 + 37 * n
 }
 
-// The bits that fields, pairs and characters need. Where the characters are more than the 65,535 that row 11 names at most,
-// so are the bits, and no more is said of them.
-fn bits_needed(fields: u64, pairs: u64, characters: u64) -> u64
-    requires { ⌜ (fields < 2 ^ 16) × (pairs ≤ 127) ⌝ }
-    ensures { λ r. ⌜ min r 65_535 ≡ min (fields + tableBits pairs + 3 + 7 * characters) 65_535 ⌝ }
+// The bits that fields, the block behind them and characters need. Where the characters are more than the 65,535 that row 11
+// names at most, so are the bits, and no more is said of them.
+fn bits_needed(fields: u64, behind: u64, characters: u64) -> u64
+    requires { ⌜ (fields < 2 ^ 16) × (behind < 2 ^ 16) ⌝ }
+    ensures { λ r. ⌜ min r 65_535 ≡ min (fields + behind + 3 + 7 * characters) 65_535 ⌝ }
 {
     if 65_535 < characters {
         return characters;
     }
-    fields + table_bits(pairs) + 3 + 7 * characters
+    fields + behind + 3 + 7 * characters
+}
+
+// Whether the stream has fewer bits.
+fn is_too_long(sizes: Sizes, bits: u64) -> bool
+    requires { ⌜ imageBytes sizes ≤ 512 ⌝ }
+    ensures { λ r. ⌜ r ≡ ltb (streamBits sizes) bits ⌝ }
+{
+    (memory::stream_bits(sizes) as u64) < bits
 }
 
 // What passed its tests: 11 where the stream has fewer bits than are needed, else it is written.
-fn write_planned(
+fn finish_table(
     sizes: Sizes,
     image: &mut [u8],
     template: Template,
@@ -59,17 +73,18 @@ fn write_planned(
     points: &[i64],
 ) -> Written
     requires { ⌜ Whole sizes (now image) × (imageBytes sizes ≤ 512) ⌝ }
-    requires { ⌜ Tested (plan .fields) (now text) domain (now points) ⌝ }
-    requires { ⌜ (plan .bits ≡ needed (codedFields template (plan .fields))) × (plan .bits < 2 ^ 16) ⌝ }
-    ensures { λ r. ⌜ (let outcome = fitted sizes (codedSheet template (plan .fields) «end_bit» (now (text .entry)) domain (now (points .entry))) in
+    requires { ⌜ Tested (plan .fields) (now text) × (plan .bits ≡ needed (codedFields template (plan .fields))) × (plan .bits < 2 ^ 16) ⌝ }
+    requires { ⌜ Accepted (tablePieces domain (pairsLent (now points))) × (length (now points) ≤ 254) ⌝ }
+    ensures { λ r. ⌜ (let outcome = fitted sizes (codedSheet template (plan .fields) «end_bit» (now (text .entry)) (piecesOf (tablePieces domain (pairsLent (now (points .entry)))))) in
         (writtenSaid r (now (image .exit)) ≡ outcome) × (now (image .exit) ≡ afterwards (now (image .entry)) outcome)) ⌝ }
 {
-    let bits = bits_needed(plan.bits, points.len() as u64 / 2, text.len() as u64);
-    if (memory::stream_bits(sizes) as u64) < bits {
+    let behind = table_bits(points.len() as u64 / 2);
+    let bits = bits_needed(plan.bits, behind, text.len() as u64);
+    if is_too_long(sizes, bits) {
         return Written::Refused(refusal::too_long(bits));
     }
     let fields = plan.fields;
-    write(
+    write_table(
         sizes,
         image,
         template,
@@ -79,6 +94,31 @@ fn write_planned(
         domain,
         points,
     );
+    Written::Done
+}
+
+// The same with a curve.
+fn finish_curve(
+    sizes: Sizes,
+    image: &mut [u8],
+    template: Template,
+    plan: Plan,
+    end_bit: bool,
+    text: &[u8],
+    curve: CurvePlan,
+) -> Written
+    requires { ⌜ Whole sizes (now image) × (imageBytes sizes ≤ 512) ⌝ }
+    requires { ⌜ Tested (plan .fields) (now text) × (plan .bits ≡ needed (codedFields template (plan .fields))) × (plan .bits < 2 ^ 16) ⌝ }
+    requires { ⌜ Fit 104 (curve .codes) × (curve .count ≤ 104) × (curve .bits ≡ needed (codedCurve curve)) × (curve .bits < 2 ^ 16) ⌝ }
+    ensures { λ r. ⌜ (let outcome = fitted sizes (codedSheet template (plan .fields) «end_bit» (now (text .entry)) (codedCurve curve)) in
+        (writtenSaid r (now (image .exit)) ≡ outcome) × (now (image .exit) ≡ afterwards (now (image .entry)) outcome)) ⌝ }
+{
+    let bits = bits_needed(plan.bits, curve.bits, text.len() as u64);
+    if is_too_long(sizes, bits) {
+        return Written::Refused(refusal::too_long(bits));
+    }
+    let fields = plan.fields;
+    write_curve(sizes, image, template, fields, end_bit, text, curve);
     Written::Done
 }
 
@@ -92,7 +132,7 @@ fn build_in(
     points: &[i64],
 ) -> Written
     requires { ⌜ Whole sizes (now image) × (imageBytes sizes ≤ 512) ⌝ }
-    ensures { λ r. ⌜ (let outcome = builtIn sizes sheet (now (text .entry)) domain (now (points .entry)) in
+    ensures { λ r. ⌜ (let outcome = builtIn sizes sheet (now (text .entry)) (listed domain (now (points .entry))) in
         (writtenSaid r (now (image .exit)) ≡ outcome) × (now (image .exit) ≡ afterwards (now (image .entry)) outcome)) ⌝ }
 {
     let n = points.len();
@@ -111,7 +151,7 @@ fn build_in(
     if let Judged::Refused(r) = check_points(domain, points) {
         return Written::Refused(r);
     }
-    write_planned(
+    finish_table(
         sizes,
         image,
         template,
@@ -121,6 +161,35 @@ fn build_in(
         domain,
         points,
     )
+}
+
+// The same with a curve, which has no list.
+fn build_curve_in(
+    sizes: Sizes,
+    image: &mut [u8],
+    sheet: Sheet,
+    text: &[u8],
+    curve: Curve,
+) -> Written
+    requires { ⌜ Whole sizes (now image) × (imageBytes sizes ≤ 512) ⌝ }
+    ensures { λ r. ⌜ (let outcome = builtIn sizes sheet (now (text .entry)) (drawn curve) in
+        (writtenSaid r (now (image .exit)) ≡ outcome) × (now (image .exit) ≡ afterwards (now (image .entry)) outcome)) ⌝ }
+{
+    let plan = plan_fields(sheet);
+    let answer = plan.answer;
+    if let Judged::Refused(r) = answer {
+        return Written::Refused(r);
+    }
+    let template = template_in(sheet);
+    if let Judged::Refused(r) = check_ending(template, sheet.end_bit, text) {
+        return Written::Refused(r);
+    }
+    let block = plan_curve(curve);
+    let drawn = block.answer;
+    if let Judged::Refused(r) = drawn {
+        return Written::Refused(r);
+    }
+    finish_curve(sizes, image, template, plan, sheet.end_bit, text, block)
 }
 
 // Writes the image of a sheet: the fields and the end bit by value, the closing text, and the points and deviations by turns,
@@ -142,5 +211,20 @@ pub fn build(
     match memory::image_sizes(kind, image.len()) {
         SizesAnswer::Refused(r) => Written::Refused(r),
         SizesAnswer::Are(sizes) => build_in(sizes, image, sheet, text, domain, points),
+    }
+}
+
+// The same from a curve in place of points, by value, its starts in billionths of the span. Refused is 1 for the kind or the
+// buffer's length, 9 or 10 for a field or the ending, 24 for the number of segments, a start that does not rise as stored, the
+// first of them at 0, a term count that is not 1 to 6 or an exponent that is not a whole number 0 to 5, rising in its segment,
+// 10 for a start or a coefficient that its field can't hold, 25 for more than 30 terms, and 11 where the stream has fewer bits
+// than are needed; then no byte is written.
+pub fn build_curve(kind: u8, image: &mut [u8], sheet: Sheet, text: &[u8], curve: Curve) -> Written
+    ensures { λ r. ⌜ (let outcome = buildCurve kind (now (image .entry)) sheet (now (text .entry)) curve in
+        (writtenSaid r (now (image .exit)) ≡ outcome) × (now (image .exit) ≡ afterwards (now (image .entry)) outcome)) ⌝ }
+{
+    match memory::image_sizes(kind, image.len()) {
+        SizesAnswer::Refused(r) => Written::Refused(r),
+        SizesAnswer::Are(sizes) => build_curve_in(sizes, image, sheet, text, curve),
     }
 }

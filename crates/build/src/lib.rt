@@ -1,10 +1,12 @@
-// Document 01: build an image from a sheet, a text and calibration points. `build` asks nothing of its caller, and a refusal
-// writes to no buffer.
+// Documents 01 and 02: build an image from a sheet, a text, and calibration points or a curve. The two calls ask nothing of
+// their caller, and a refusal writes to no buffer.
 mod building; // building.rt: an image from a sheet
+mod drawing; // drawing.rt: what a build tests of a curve
 mod plan; // plan.rt: what a build tests before it writes
 mod write; // write.rt: what a build writes
 
 pub use building::build;
+pub use building::build_curve;
 use fields::Level;
 use fields::Template;
 use fields::Value;

@@ -1,5 +1,6 @@
 // What a build writes, once nothing turns it down: pieces one behind the other into a cleared image, then every check byte.
 // A function that lays pieces takes the cursor to lay them at, and hands back the cursor behind them.
+use crate::drawing::CurvePlan;
 use crate::plan::CodedField;
 use crate::plan::PairAnswer;
 use crate::plan::code_pair;
@@ -10,15 +11,15 @@ use stream::Cursor;
 ghost use mathlib.Core.Path.{_≡_};
 ghost use mathlib.Core.List.{map};
 ghost use Prim.Native.Nat.{ℕ, _+_, _*_, _^_, _≤_, _<_};
-ghost use lib.ListN.{length, getD};
+ghost use lib.ListN.{length, getD, take};
 ghost use lib.Seq.{slice};
-ghost use Rattle.memory.specs.Image.{streamBits, imageOf};
+ghost use Rattle.memory.specs.Image.{streamBits, streamNumber, imageOf};
 ghost use Rattle.memory.specs.Answers.{Whole};
 ghost use Rattle.memory.specs.Pieces.{piece, pack, needed};
 ghost use Rattle.layout.specs.Pieces.{blockPieces};
 ghost use Rattle.build.specs.Build.{pairsLent, codesFor, tablePieces};
-ghost use Rattle.build.specs.Tested.{piecesOf, Accepted, fieldPiece, FieldsFit, pairAt, Tested};
-ghost use Rattle.build.specs.Filled.{Room, Filled, codedPair, codedPairs, codedEnding, codedSheet};
+ghost use Rattle.build.specs.Tested.{piecesOf, Accepted, fieldPiece, Fit, pairAt, codedFields, codedCurve, Tested};
+ghost use Rattle.build.specs.Filled.{Room, Filled, Begun, codedPair, codedPairs, codedEnding, codedSheet};
 
 // The fields from index `first` up to `end`.
 fn lay_fields(
@@ -30,7 +31,7 @@ fn lay_fields(
     end: usize,
 ) -> Cursor
     requires { ⌜ Room sizes (now image) start (slice first end (map fieldPiece fields)) ⌝ }
-    requires { ⌜ (first ≤ end) × (end ≤ 21) × FieldsFit fields ⌝ }
+    requires { ⌜ (first ≤ end) × (end ≤ 21) × Fit 21 fields ⌝ }
     ensures { λ r. ⌜ Filled sizes (now (image .entry)) start (slice first end (map fieldPiece fields)) (now (image .exit)) r ⌝ }
 {
     let mut cursor = start;
@@ -107,6 +108,28 @@ fn lay_table(
     lay_pairs(sizes, image, pairs, points)
 }
 
+// Block 41, whose pieces have their codes.
+fn lay_curve(
+    sizes: Sizes,
+    image: &mut [u8],
+    start: Cursor,
+    codes: [CodedField; 104],
+    count: usize,
+) -> Cursor
+    requires { ⌜ Room sizes (now image) start (take count (map fieldPiece codes)) ⌝ }
+    requires { ⌜ (count ≤ 104) × Fit 104 codes ⌝ }
+    ensures { λ r. ⌜ Filled sizes (now (image .entry)) start (take count (map fieldPiece codes)) (now (image .exit)) r ⌝ }
+{
+    let mut cursor = start;
+    let mut i: usize = 0;
+    while i < count {
+        let code = codes[i];
+        cursor = cursor.put(sizes, image, code.width as usize, code.code);
+        i += 1;
+    }
+    cursor
+}
+
 // The text in 7-bit characters. The zero that ends it needs no writing.
 fn lay_text(sizes: Sizes, image: &mut [u8], start: Cursor, text: &[u8]) -> Cursor
     requires { ⌜ Room sizes (now image) start (map (piece 7) (now text)) ⌝ }
@@ -133,33 +156,32 @@ fn lay_ending(sizes: Sizes, image: &mut [u8], cursor: Cursor, end_bit: bool, tex
     lay_text(sizes, image, characters, text)
 }
 
-// All of a sheet.
-fn lay_sheet(
-    sizes: Sizes,
-    image: &mut [u8],
-    cursor: Cursor,
-    template: Template,
-    fields: [CodedField; 21],
-    end_bit: bool,
-    text: &[u8],
-    domain: Domain,
-    points: &[i64],
-) -> Cursor
-    requires { ⌜ Room sizes (now image) cursor (codedSheet template fields «end_bit» (now text) domain (now points)) ⌝ }
-    requires { ⌜ Tested fields (now text) domain (now points) ⌝ }
-    ensures { λ r. ⌜ Filled sizes (now (image .entry)) cursor (codedSheet template fields «end_bit» (now (text .entry)) domain (now (points .entry))) (now (image .exit)) r ⌝ }
+// Basic, the first block and the template's own fields, into a cleared image. What stood there before is gone.
+fn lay_front(sizes: Sizes, image: &mut [u8], template: Template, fields: [CodedField; 21]) -> Cursor
+    requires { ⌜ Whole sizes (now image) × Fit 21 fields ⌝ }
+    requires { ⌜ needed (codedFields template fields) ≤ streamBits sizes ⌝ }
+    ensures { λ r. ⌜ Begun sizes (codedFields template fields) (now (image .exit)) r ⌝ }
 {
+    stream::clear(image);
     let basic = fields::basic_fields() as usize;
     let last = fields::last_field(template) as usize;
-    let block = lay_fields(sizes, image, cursor, fields, 0, basic);
+    let block = lay_fields(sizes, image, Cursor::start(), fields, 0, basic);
     let own = lay_block(sizes, image, block, fields::template_number(template));
-    let table = lay_fields(sizes, image, own, fields, basic, last);
-    let ending = lay_table(sizes, image, table, domain, points);
-    lay_ending(sizes, image, ending, end_bit, text)
+    lay_fields(sizes, image, own, fields, basic, last)
 }
 
-// The whole image: the sheet's pieces, zeros behind them, and check bytes. What stood there before is gone.
-pub fn write(
+// The ending, then every check byte.
+fn lay_back(sizes: Sizes, image: &mut [u8], cursor: Cursor, end_bit: bool, text: &[u8])
+    requires { ⌜ Room sizes (now image) cursor (codedEnding «end_bit» (now text)) ⌝ }
+    requires { ⌜ ((i : ℕ) → getD (now text) i 0 < 128) ⌝ }
+    ensures { λ _. ⌜ now (image .exit) ≡ imageOf sizes (pack (codedEnding «end_bit» (now (text .entry))) * 2 ^ cursor .at + streamNumber sizes (now (image .entry))) ⌝ }
+{
+    lay_ending(sizes, image, cursor, end_bit, text);
+    stream::seal_pages(sizes, image);
+}
+
+// The whole image of a sheet with a table: its pieces, zeros behind them, and check bytes.
+pub fn write_table(
     sizes: Sizes,
     image: &mut [u8],
     template: Template,
@@ -169,21 +191,33 @@ pub fn write(
     domain: Domain,
     points: &[i64],
 )
-    requires { ⌜ Whole sizes (now image) × Tested fields (now text) domain (now points) ⌝ }
-    requires { ⌜ needed (codedSheet template fields «end_bit» (now text) domain (now points)) ≤ streamBits sizes ⌝ }
-    ensures { λ _. ⌜ now (image .exit) ≡ imageOf sizes (pack (codedSheet template fields «end_bit» (now (text .entry)) domain (now (points .entry)))) ⌝ }
+    requires { ⌜ Whole sizes (now image) × Tested fields (now text) ⌝ }
+    requires { ⌜ Accepted (tablePieces domain (pairsLent (now points))) × (length (now points) ≤ 254) ⌝ }
+    requires { ⌜ needed (codedSheet template fields «end_bit» (now text) (piecesOf (tablePieces domain (pairsLent (now points))))) ≤ streamBits sizes ⌝ }
+    ensures { λ _. ⌜ now (image .exit) ≡ imageOf sizes (pack (codedSheet template fields «end_bit» (now (text .entry)) (piecesOf (tablePieces domain (pairsLent (now (points .entry))))))) ⌝ }
 {
-    stream::clear(image);
-    lay_sheet(
-        sizes,
-        image,
-        Cursor::start(),
-        template,
-        fields,
-        end_bit,
-        text,
-        domain,
-        points,
-    );
-    stream::seal_pages(sizes, image);
+    let table = lay_front(sizes, image, template, fields);
+    let ending = lay_table(sizes, image, table, domain, points);
+    lay_back(sizes, image, ending, end_bit, text);
+}
+
+// The same with a curve.
+pub fn write_curve(
+    sizes: Sizes,
+    image: &mut [u8],
+    template: Template,
+    fields: [CodedField; 21],
+    end_bit: bool,
+    text: &[u8],
+    curve: CurvePlan,
+)
+    requires { ⌜ Whole sizes (now image) × Tested fields (now text) ⌝ }
+    requires { ⌜ Fit 104 (curve .codes) × (curve .count ≤ 104) ⌝ }
+    requires { ⌜ needed (codedSheet template fields «end_bit» (now text) (codedCurve curve)) ≤ streamBits sizes ⌝ }
+    ensures { λ _. ⌜ now (image .exit) ≡ imageOf sizes (pack (codedSheet template fields «end_bit» (now (text .entry)) (codedCurve curve))) ⌝ }
+{
+    let codes = curve.codes;
+    let block = lay_front(sizes, image, template, fields);
+    let ending = lay_curve(sizes, image, block, codes, curve.count as usize);
+    lay_back(sizes, image, ending, end_bit, text);
 }

@@ -11,7 +11,7 @@ use borrow.Author.Tests.{lt-ltb, eq-eqb, ne-eqb}
 use Rattle.refusal.specs.declared.Refusal.{Refusal}
 use Rattle.refusal.specs.Outcome.{Outcome, good, refused, _>>_, _>>=_, refuse_if_}
 use Rattle.refusal.specs.Rows.{outsideTable, notFinite, otherCode}
-use Rattle.refusal.proofs.Outcomes.{good-same, good-bind, good-then, both, no-value, bind-good}
+use Rattle.refusal.proofs.Outcomes.{good-same, good-bind, good-then, both, no-value, bind-good, passed}
 use Rattle.memory.specs.declared.Sizes.{Sizes}
 use Rattle.memory.specs.Bits.{Bytes}
 use Rattle.memory.specs.Image.{imageSizes}
@@ -49,7 +49,9 @@ module _ (at other : ℕ) where
   meaning-anywhere (Geometric scale) w code v e =
       test-anywhere (outsideTable at) (outsideTable other) (ltb (topCode w) code) (Whole (pos (geometricValue (progression scale) code))) v e
   meaning-anywhere Ieee w code v e =
-      test-anywhere (notFinite at) (notFinite other) (not (finite (ofBits binary32 code))) (Single (ofBits binary32 code)) v e
+      let x = ofBits binary32 code in
+      let (t, f) = passed (outsideTable at) (eqb code (allOnes w)) (refuse notFinite at if not (finite x) >> good (Single x)) v e in
+      rw t (test-anywhere (notFinite at) (notFinite other) (not (finite x)) (Single x) v f)
 
   pub decode-anywhere : (row : Row) (code : ℕ) (v : Value) → decode row at code ≡ good v → decode row other code ≡ good v
   unfolding decode

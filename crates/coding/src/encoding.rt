@@ -110,7 +110,7 @@ fn whole(row: Row, place: u64, figure: i64) -> Encoded
 
 // The bits of a Single, or 10 where it is not finite. A NaN is turned down before its bits are asked for; an exponent of
 // all ones is then an infinity's.
-fn bits(place: u64, x: f32) -> Encoded
+pub fn bits(place: u64, x: f32) -> Encoded
     ensures { λ r. ⌜ encodedSaid r ≡ singleCode Rule.Single place x ⌝ }
 {
     if x != x {

@@ -6,14 +6,13 @@ use fields::all_ones;
 use fields::top_code;
 use refusal::Refusal;
 ghost use mathlib.Core.Path.{_≡_};
-ghost use mathlib.Core.Bool.{not, _&&_, _||_};
+ghost use mathlib.Core.Bool.{_&&_, _||_};
 ghost use Prim.Native.Nat.{_≤_};
 ghost use lib.Dec.{eqb, ltb};
-ghost use lib.Ieee.{binary32, ofBits};
 ghost use Rattle.refusal.specs.Outcome.{refused, refuse_if_};
 ghost use Rattle.refusal.specs.Rows.{outsideTable, notFinite};
-ghost use Rattle.fields.specs.Rules.{allOnes, topCode, finite};
-ghost use Rattle.fields.specs.Judgement.{judge as judgeOf, ruled};
+ghost use Rattle.fields.specs.Rules.{allOnes, topCode};
+ghost use Rattle.fields.specs.Judgement.{judge as judgeOf, ruled, singleRuled};
 ghost use Rattle.fields.specs.Stored.{Sound};
 ghost use Rattle.fields.specs.Answers.{judgedSaid};
 
@@ -71,12 +70,15 @@ pub fn up_to_top(width: u64, at: u64, code: u64) -> Judged
     Judged::Stands
 }
 
-// 6 for the bits of no finite float: an exponent of all ones is an infinity's or a NaN's.
+// 5 for all ones, and 6 for the bits of no finite float: an exponent of all ones is an infinity's or a NaN's.
 pub fn finite_bits(at: u64, code: u64) -> Judged
-    ensures { λ r. ⌜ judgedSaid r ≡ (refuse notFinite at if not (finite (ofBits binary32 code))) ⌝ }
+    ensures { λ r. ⌜ judgedSaid r ≡ singleRuled at code ⌝ }
 {
     if code % 0x8000_0000 < 0x7f80_0000 {
         return Judged::Stands;
+    }
+    if code == 0xffff_ffff {
+        return outside_table(at);
     }
     not_finite(at)
 }

@@ -4,6 +4,7 @@
 // that the template has the field.
 
 mod calibration; // calibration.rt: the calibration table
+mod curves; // curves.rt: curves
 mod decoding; // decoding.rt: what a code means
 mod encoding; // encoding.rt: the code that a value is stored at
 mod judging; // judging.rt: whether a code may stand
@@ -17,6 +18,21 @@ pub use calibration::encode_deviation;
 pub use calibration::encode_point;
 pub use calibration::follows;
 pub use calibration::point_count;
+pub use curves::curve_domain;
+pub use curves::encode_coefficient;
+pub use curves::encode_exponent;
+pub use curves::encode_start;
+pub use curves::exponent_follows;
+pub use curves::exponent_of;
+pub use curves::is_segment_count;
+pub use curves::is_term_count;
+pub use curves::segment_count;
+pub use curves::segment_start;
+pub use curves::start_follows;
+pub use curves::term_coefficient;
+pub use curves::term_count;
+pub use curves::term_exponent;
+pub use curves::too_many;
 pub use decoding::decode;
 pub use encoding::encode;
 pub use encoding::encode_missing;

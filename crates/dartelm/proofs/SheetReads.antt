@@ -65,6 +65,8 @@ module _ (c : Contents) where
         «field_count» = n;
         fields = record { values = array; «end_bit» = endCode (s .«end_bit»); level = 0; template = number };
         domain = domain;
+        segments = s .segments;
+        terms = s .terms;
       }
       ≡ toldAs sheetAnswer fieldNumbers noFields (good (foundFields c))
   all-told i n array s number domain h many t d e f =

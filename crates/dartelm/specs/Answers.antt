@@ -2,7 +2,7 @@
 use mathlib.Core.List.{List, [], _++_, map}
 use Prim.Native.Nat.{ℕ, _-_}
 use lib.IntN.{pos}
-use lib.Ieee.{binary64}
+use lib.Ieee.{binary32, binary64}
 use lib.ListN.{length, replicate}
 use Rattle.refusal.specs.Outcome.{Outcome, good, refused}
 use Rattle.fields.specs.declared.Value.{Value}
@@ -13,6 +13,8 @@ use Rattle.sheet.specs.declared.Summary.{Summary}
 use Rattle.sheet.specs.declared.TableDomain.{TableDomain}
 use Rattle.sheet.specs.declared.TableDomain.the-variants.{NoTable, Is}
 use Rattle.fields.specs.declared.Pair.{Pair}
+use Rattle.fields.specs.declared.Segment.{Segment}
+use Rattle.fields.specs.declared.Term.{Term}
 use Rattle.layout.specs.Pieces.{endCode}
 use Rattle.change.specs.declared.Proposal.{Proposal}
 use Rattle.reading.specs.declared.Reading.{Reading}
@@ -20,6 +22,8 @@ use Rattle.dartelm.specs.declared.answers.DartelmCheckAnswer.{DartelmChe
 use Rattle.dartelm.specs.declared.answers.DartelmFieldAnswer.{DartelmFieldAnswer}
 use Rattle.dartelm.specs.declared.answers.DartelmSheetAnswer.{DartelmSheetAnswer}
 use Rattle.dartelm.specs.declared.answers.DartelmPairAnswer.{DartelmPairAnswer}
+use Rattle.dartelm.specs.declared.answers.DartelmSegmentAnswer.{DartelmSegmentAnswer}
+use Rattle.dartelm.specs.declared.answers.DartelmTermAnswer.{DartelmTermAnswer}
 use Rattle.dartelm.specs.declared.answers.DartelmCharacterAnswer.{DartelmCharacterAnswer}
 use Rattle.dartelm.specs.declared.answers.DartelmWriteAnswer.{DartelmWriteAnswer}
 use Rattle.dartelm.specs.declared.answers.DartelmProposalAnswer.{DartelmProposalAnswer}
@@ -51,6 +55,8 @@ pub record Numbers : Type 0 where
   pub endBit : ℕ
   pub template : ℕ
   pub domain : ℕ
+  pub segments : ℕ
+  pub terms : ℕ
 
 -- The domain of a table; 255 where there is no table.
 abbrev pub domainNumber : TableDomain → ℕ
@@ -65,10 +71,12 @@ numbers s = record {
   endBit = endCode (s .«end_bit»);
   template = numberOf (s .template);
   domain = domainNumber (s .domain);
+  segments = s .segments;
+  terms = s .terms;
 }
 
 abbrev pub noNumbers : Numbers
-noNumbers = record { bits = 0; points = 0; characters = 0; endBit = 0; template = 0; domain = 0 }
+noNumbers = record { bits = 0; points = 0; characters = 0; endBit = 0; template = 0; domain = 0; segments = 0; terms = 0 }
 
 abbrev pub checkAnswer : ℕ → ℕ → Numbers → DartelmCheckAnswer
 checkAnswer n p s =
@@ -81,6 +89,8 @@ checkAnswer n p s =
       «end_bit» = s .endBit;
       template = s .template;
       domain = s .domain;
+      segments = s .segments;
+      terms = s .terms;
     }
 
 abbrev pub fieldAnswer : ℕ → ℕ → Value → DartelmFieldAnswer
@@ -91,6 +101,18 @@ pairAnswer n p pair = record { number = n; place = p; point = pair .point; devia
 
 abbrev pub noPair : Pair
 noPair = record { point = pos 0; deviation = pos 0 }
+
+abbrev pub segmentAnswer : ℕ → ℕ → Segment → DartelmSegmentAnswer
+segmentAnswer n p segment = record { number = n; place = p; start = segment .start; terms = segment .terms }
+
+abbrev pub noSegment : Segment
+noSegment = record { start = pos 0; terms = 0 }
+
+abbrev pub termAnswer : ℕ → ℕ → Term → DartelmTermAnswer
+termAnswer n p term = record { number = n; place = p; exponent = term .exponent; coefficient = term .coefficient }
+
+abbrev pub noTerm : Term
+noTerm = record { exponent = pos 0; coefficient = plusZero binary32 }
 
 abbrev pub characterAnswer : ℕ → ℕ → ℕ → DartelmCharacterAnswer
 characterAnswer n p c = record { number = n; place = p; character = c }

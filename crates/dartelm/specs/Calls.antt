@@ -9,28 +9,31 @@ use Rattle.memory.specs.Image.{imageSizes, pageBytes}
 use Rattle.fields.specs.declared.Value.the-variants.{Whole}
 use Rattle.fields.specs.Calibration.{domainOf}
 use Rattle.texts.specs.Text.{textOf, codeOf}
-use Rattle.sheet.specs.Check.{check, readField, readPair, readCharacter}
+use Rattle.sheet.specs.Check.{check, readField, readPair, readSegment, readTerm, readCharacter}
 use Rattle.index.specs.Index.{index, fetch}
-use Rattle.build.specs.Build.{build}
+use Rattle.build.specs.Build.{build, buildCurve}
 use Rattle.change.specs.Change.{change, propose, commit}
 use Rattle.reading.specs.Reading.{takeReading}
 use Rattle.dartelm.specs.declared.values.DartelmValue.{DartelmValue}
 use Rattle.dartelm.specs.declared.values.DartelmFields.{DartelmFields}
+use Rattle.dartelm.specs.declared.values.DartelmCurve.{DartelmCurve}
 use Rattle.dartelm.specs.declared.answers.DartelmCheckAnswer.{DartelmCheckAnswer}
 use Rattle.dartelm.specs.declared.answers.DartelmFieldAnswer.{DartelmFieldAnswer}
 use Rattle.dartelm.specs.declared.answers.DartelmPairAnswer.{DartelmPairAnswer}
+use Rattle.dartelm.specs.declared.answers.DartelmSegmentAnswer.{DartelmSegmentAnswer}
+use Rattle.dartelm.specs.declared.answers.DartelmTermAnswer.{DartelmTermAnswer}
 use Rattle.dartelm.specs.declared.answers.DartelmCharacterAnswer.{DartelmCharacterAnswer}
 use Rattle.dartelm.specs.declared.answers.DartelmProposalAnswer.{DartelmProposalAnswer}
 use Rattle.dartelm.specs.declared.answers.DartelmReadingAnswer.{DartelmReadingAnswer}
 use Rattle.dartelm.specs.declared.answers.DartelmTextAnswer.{DartelmTextAnswer}
 use Rattle.dartelm.specs.declared.answers.DartelmCodeAnswer.{DartelmCodeAnswer}
 use Rattle.dartelm.specs.declared.answers.DartelmPageAnswer.{DartelmPageAnswer}
-use Rattle.dartelm.specs.Values.{levelOf, dashBy, valueOf, sheetOf}
-use Rattle.dartelm.specs.Answers.{toldAs, told, numbers, noNumbers, checkAnswer, fieldAnswer, pairAnswer, noPair, characterAnswer, proposalAnswer, noProposal, readingAnswer, noReading, textAnswer, codeAnswer, pageAnswer}
+use Rattle.dartelm.specs.Values.{levelOf, dashBy, valueOf, sheetOf, curveOf}
+use Rattle.dartelm.specs.Answers.{toldAs, told, numbers, noNumbers, checkAnswer, fieldAnswer, pairAnswer, noPair, segmentAnswer, noSegment, termAnswer, noTerm, characterAnswer, proposalAnswer, noProposal, readingAnswer, noReading, textAnswer, codeAnswer, pageAnswer}
 
 -- The number of this archive and its header.
 abbrev pub version : ℕ
-version = 5
+version = 6
 
 -- ---- kinds
 
@@ -61,6 +64,12 @@ fetchCall kind image made field = told fieldAnswer (Whole (pos 0)) (fetch kind i
 abbrev pub pairCall : ℕ → List ℕ → ℕ → DartelmPairAnswer
 pairCall kind image index = told pairAnswer noPair (readPair kind image index)
 
+abbrev pub segmentCall : ℕ → List ℕ → ℕ → DartelmSegmentAnswer
+segmentCall kind image index = told segmentAnswer noSegment (readSegment kind image index)
+
+abbrev pub termCall : ℕ → List ℕ → ℕ → DartelmTermAnswer
+termCall kind image index = told termAnswer noTerm (readTerm kind image index)
+
 abbrev pub characterCall : ℕ → List ℕ → ℕ → DartelmCharacterAnswer
 characterCall kind image index = told characterAnswer 0 (readCharacter kind image index)
 
@@ -69,6 +78,9 @@ characterCall kind image index = told characterAnswer 0 (readCharacter kind imag
 -- Domain 0 is electrical, any other physical.
 abbrev pub buildCall : ℕ → List ℕ → DartelmFields → List ℕ → ℕ → List ℤ → Outcome (List ℕ)
 buildCall kind image fields text domain points = build kind image (sheetOf fields) text (domainOf domain) points
+
+abbrev pub buildCurveCall : ℕ → List ℕ → DartelmFields → List ℕ → DartelmCurve → Outcome (List ℕ)
+buildCurveCall kind image fields text curve = buildCurve kind image (sheetOf fields) text (curveOf curve)
 
 abbrev pub changeCall : ℕ → List ℕ → ℕ → ℕ → DartelmValue → Outcome (List ℕ)
 changeCall kind image level field value = change kind image (levelOf level) field (valueOf value)

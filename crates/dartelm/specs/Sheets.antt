@@ -61,6 +61,8 @@ sheetAnswer n p s =
       «field_count» = length (s .values);
       fields = fieldsTold s;
       domain = s .numbers .domain;
+      segments = s .numbers .segments;
+      terms = s .numbers .terms;
     }
 
 abbrev pub sheetCall : ℕ → List ℕ → DartelmSheetAnswer

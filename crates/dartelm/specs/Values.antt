@@ -1,4 +1,4 @@
--- include/dartelm.h: a field's value by two flags, and the sheet record that a build is handed. A flag is yes where it is not 0, so every byte handed in means something.
+-- include/dartelm.h: a field's value by two flags, and the sheet record and the curve that a build is handed. A flag is yes where it is not 0, so every byte handed in means something.
 use mathlib.Core.Bool.{Bool, not, cond}
 use mathlib.Core.List.{map}
 use Prim.Native.Nat.{ℕ, zero, suc}
@@ -12,6 +12,9 @@ use Rattle.fields.specs.declared.Template.the-variants.{Bridge, Resistance}
 use Rattle.fields.specs.Lines.{numberOf}
 use Rattle.fields.specs.declared.Level.{Level}
 use Rattle.fields.specs.declared.Level.the-variants.{Owner, CalibrationRoom, Maker}
+use Rattle.fields.specs.declared.Segment.{Segment}
+use Rattle.fields.specs.declared.Term.{Term}
+use Rattle.fields.specs.declared.Curve.{Curve}
 use Rattle.reading.specs.declared.Dash.{Dash}
 use Rattle.reading.specs.declared.Dash.the-variants.{Large, Small}
 use Rattle.build.specs.declared.Slot.{Slot}
@@ -19,6 +22,9 @@ use Rattle.build.specs.declared.Sheet.{Sheet}
 use Rattle.build.specs.Build.{slot}
 use Rattle.dartelm.specs.declared.values.DartelmValue.{DartelmValue}
 use Rattle.dartelm.specs.declared.values.DartelmFields.{DartelmFields}
+use Rattle.dartelm.specs.declared.values.DartelmCurveSegment.{DartelmCurveSegment}
+use Rattle.dartelm.specs.declared.values.DartelmCurveTerm.{DartelmCurveTerm}
+use Rattle.dartelm.specs.declared.values.DartelmCurve.{DartelmCurve}
 
 abbrev pub yes : ℕ → Bool
 yes flag = not (eqb flag 0)
@@ -62,3 +68,13 @@ slotOf v = slot (valueOf v)
 
 abbrev pub sheetOf : DartelmFields → Sheet
 sheetOf f = record { template = templateBy (f .template); fields = map slotOf (f .values); «end_bit» = yes (f .«end_bit»); level = levelOf (f .level) }
+
+-- The curve handed in.
+abbrev pub segmentOf : DartelmCurveSegment → Segment
+segmentOf s = record { start = s .start; terms = s .terms }
+
+abbrev pub termOf : DartelmCurveTerm → Term
+termOf t = record { exponent = t .exponent; coefficient = t .coefficient }
+
+abbrev pub curveOf : DartelmCurve → Curve
+curveOf c = record { count = c .count; segments = map segmentOf (c .segments); terms = map termOf (c .terms) }

@@ -8,7 +8,8 @@ ghost use mathlib.Core.Path.{_≡_};
 ghost use Rattle.dartelm.specs.Answers.{domainNumber};
 
 // An image that was checked: the bits up to the end (a zero that ends the text counted), the calibration points, the
-// characters of the closing text, the end bit, the first template's number and the domain of the points.
+// characters of the closing text, the end bit, the first template's number, the domain of the points, and a curve's segments
+// and terms.
 #[repr(C)]
 pub struct DartelmCheckAnswer {
     pub number: u8,
@@ -19,6 +20,8 @@ pub struct DartelmCheckAnswer {
     pub end_bit: u8,
     pub template: u8,
     pub domain: u8,
+    pub segments: u64,
+    pub terms: u64,
 }
 
 // A field's value.
@@ -40,6 +43,8 @@ pub struct DartelmSheetAnswer {
     pub field_count: u64,
     pub fields: DartelmFields,
     pub domain: u8,
+    pub segments: u64,
+    pub terms: u64,
 }
 
 // A calibration point and its deviation, in billionths of the span.
@@ -49,6 +54,24 @@ pub struct DartelmPairAnswer {
     pub place: u64,
     pub point: i64,
     pub deviation: i64,
+}
+
+// A segment of a curve: its start in billionths of the span, and the number of its terms.
+#[repr(C)]
+pub struct DartelmSegmentAnswer {
+    pub number: u8,
+    pub place: u64,
+    pub start: i64,
+    pub terms: u64,
+}
+
+// A term of a curve: the power of the position, and what it is multiplied by, both in per cent of the span.
+#[repr(C)]
+pub struct DartelmTermAnswer {
+    pub number: u8,
+    pub place: u64,
+    pub exponent: i64,
+    pub coefficient: f32,
 }
 
 // A character of the closing text.

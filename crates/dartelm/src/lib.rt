@@ -16,8 +16,11 @@ ghost use Rattle.dartelm.specs.Calls.{
   fieldCall,
   fetchCall,
   pairCall,
+  segmentCall,
+  termCall,
   characterCall,
   buildCall,
+  buildCurveCall,
   changeCall,
   indexCall,
   proposeCall,
@@ -31,7 +34,7 @@ ghost use Rattle.dartelm.specs.Sheets.{sheetCall};
 
 mod answers; // answers.rt: the structs that calls answer
 mod sheets; // sheets.rt: all fields of an opened sheet
-mod values; // values.rt: a field's value by flags, and the values of a sheet
+mod values; // values.rt: a field's value by flags, the values of a sheet, and a curve
 
 use answers::DartelmCharacterAnswer;
 use answers::DartelmCheckAnswer;
@@ -41,7 +44,9 @@ use answers::DartelmPageAnswer;
 use answers::DartelmPairAnswer;
 use answers::DartelmProposalAnswer;
 use answers::DartelmReadingAnswer;
+use answers::DartelmSegmentAnswer;
 use answers::DartelmSheetAnswer;
+use answers::DartelmTermAnswer;
 use answers::DartelmTextAnswer;
 use answers::DartelmWriteAnswer;
 use change::ProposalAnswer;
@@ -52,8 +57,11 @@ use sheet::Checked;
 use sheet::FieldAnswer;
 use sheet::OpenedAnswer;
 use sheet::PairAnswer;
+use sheet::SegmentAnswer;
+use sheet::TermAnswer;
 use texts::CodeAnswer;
 use texts::TextAnswer;
+use values::DartelmCurve;
 use values::DartelmFields;
 use values::DartelmValue;
 
@@ -62,7 +70,7 @@ use values::DartelmValue;
 pub extern "C" fn dartelm_version() -> u32
     ensures { λ r. ⌜ r ≡ version ⌝ }
 {
-    5
+    6
 }
 
 // The kind of the images that have so many bytes: 0, 1 or 2; 255 where no kind has.
@@ -93,6 +101,8 @@ pub extern "C" fn dartelm_check(kind: u8, image: &[u8]) -> DartelmCheckAnswer
             end_bit: 0,
             template: 0,
             domain: 0,
+            segments: 0,
+            terms: 0,
         },
         Checked::Accepted(summary) => {
             let template = summary.template;
@@ -106,6 +116,8 @@ pub extern "C" fn dartelm_check(kind: u8, image: &[u8]) -> DartelmCheckAnswer
                 end_bit: summary.end_bit as u8,
                 template: fields::template_number(template) as u8,
                 domain: answers::domain_number(domain),
+                segments: summary.segments,
+                terms: summary.terms,
             }
         }
     }
@@ -182,6 +194,48 @@ pub extern "C" fn dartelm_pair(kind: u8, image: &[u8], index: u64) -> DartelmPai
     }
 }
 
+// Reads a segment of the curve, by index from 0.
+#[no_mangle]
+pub extern "C" fn dartelm_segment(kind: u8, image: &[u8], index: u64) -> DartelmSegmentAnswer
+    ensures { λ r. ⌜ r ≡ segmentCall kind (now (image .entry)) index ⌝ }
+{
+    match sheet::read_segment(kind, image, index) {
+        SegmentAnswer::Refused(r) => DartelmSegmentAnswer {
+            number: r.number,
+            place: r.place,
+            start: 0,
+            terms: 0,
+        },
+        SegmentAnswer::Holds(segment) => DartelmSegmentAnswer {
+            number: 0,
+            place: 0,
+            start: segment.start,
+            terms: segment.terms,
+        },
+    }
+}
+
+// Reads a term of the curve, by index from 0 over all its segments.
+#[no_mangle]
+pub extern "C" fn dartelm_term(kind: u8, image: &[u8], index: u64) -> DartelmTermAnswer
+    ensures { λ r. ⌜ r ≡ termCall kind (now (image .entry)) index ⌝ }
+{
+    match sheet::read_term(kind, image, index) {
+        TermAnswer::Refused(r) => DartelmTermAnswer {
+            number: r.number,
+            place: r.place,
+            exponent: 0,
+            coefficient: 0.0,
+        },
+        TermAnswer::Holds(term) => DartelmTermAnswer {
+            number: 0,
+            place: 0,
+            exponent: term.exponent,
+            coefficient: term.coefficient,
+        },
+    }
+}
+
 // Reads a character of the closing text, by index from 0.
 #[no_mangle]
 pub extern "C" fn dartelm_character(kind: u8, image: &[u8], index: u64) -> DartelmCharacterAnswer
@@ -233,6 +287,22 @@ pub extern "C" fn dartelm_build(
 {
     let found = coding::domain_of(domain as u64);
     wrote(build::build(kind, image, values::sheet_of(fields), text, found, points))
+}
+
+// Builds an image from a sheet, the closing text, and a curve.
+#[no_mangle]
+pub extern "C" fn dartelm_build_curve(
+    kind: u8,
+    image: &mut [u8],
+    fields: DartelmFields,
+    text: &[u8],
+    curve: DartelmCurve,
+) -> DartelmWriteAnswer
+    ensures { λ r. ⌜ (let outcome = buildCurveCall kind (now (image .entry)) fields (now (text .entry)) curve in
+        (r ≡ told writeAnswer [] outcome) × (now (image .exit) ≡ afterwards (now (image .entry)) outcome)) ⌝ }
+{
+    let drawn = values::curve_of(curve);
+    wrote(build::build_curve(kind, image, values::sheet_of(fields), text, drawn))
 }
 
 // Changes one field, as a writer of a level.

@@ -47,6 +47,8 @@ pub fn sheet_in(sheet: Opened, image: &[u8]) -> DartelmSheetAnswer
         field_count: count,
         fields,
         domain: domain_number(domain),
+        segments: summary.segments,
+        terms: summary.terms,
     }
 }
 
@@ -69,5 +71,7 @@ pub fn no_sheet(r: Refusal) -> DartelmSheetAnswer
         field_count: 0,
         fields,
         domain: 0,
+        segments: 0,
+        terms: 0,
     }
 }

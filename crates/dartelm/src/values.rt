@@ -1,10 +1,26 @@
-// A field's value by two flags, and the values of a sheet: what C hands in and is handed. A flag is yes where it is not 0.
+// A field's value by two flags, the values of a sheet, and a curve: what C hands in and is handed. A flag is yes where it is
+// not 0.
 ghost use mathlib.Core.Path.{_≡_};
-ghost use Rattle.dartelm.specs.Values.{levelOf, templateBy, dashBy, valueOf, byFlags, noValue, sheetOf};
+ghost use mathlib.Core.List.{map};
+ghost use Rattle.dartelm.specs.Values.{
+  levelOf,
+  templateBy,
+  dashBy,
+  valueOf,
+  byFlags,
+  noValue,
+  sheetOf,
+  segmentOf,
+  termOf,
+  curveOf,
+};
 use build::Sheet;
 use build::Slot;
+use fields::Curve;
 use fields::Level;
+use fields::Segment;
 use fields::Template;
+use fields::Term;
 use fields::Value;
 use reading::Dash;
 
@@ -26,6 +42,29 @@ pub struct DartelmFields {
     pub end_bit: u8,
     pub level: u8,
     pub template: u8,
+}
+
+// A segment of a curve that is handed in: its start in billionths of the span, and the number of its terms.
+#[repr(C)]
+pub struct DartelmCurveSegment {
+    pub start: i64,
+    pub terms: u64,
+}
+
+// A term of a curve that is handed in.
+#[repr(C)]
+pub struct DartelmCurveTerm {
+    pub exponent: i64,
+    pub coefficient: f32,
+}
+
+// The number of a curve's segments, the segments, and the terms of one after those of the other. What stands behind them is not
+// looked at.
+#[repr(C)]
+pub struct DartelmCurve {
+    pub count: u64,
+    pub segments: [DartelmCurveSegment; 20],
+    pub terms: [DartelmCurveTerm; 30],
 }
 
 // A level as C hands it in: 0 owner, 1 calibration room, 2 maker; any other is taken as the owner, the least of them.
@@ -131,5 +170,65 @@ pub fn sheet_of(given: DartelmFields) -> Sheet
         fields,
         end_bit: given.end_bit != 0,
         level: level_of(given.level),
+    }
+}
+
+fn segment_of(given: DartelmCurveSegment) -> Segment
+    ensures { λ r. ⌜ r ≡ segmentOf given ⌝ }
+{
+    Segment {
+        start: given.start,
+        terms: given.terms,
+    }
+}
+
+fn term_of(given: DartelmCurveTerm) -> Term
+    ensures { λ r. ⌜ r ≡ termOf given ⌝ }
+{
+    Term {
+        exponent: given.exponent,
+        coefficient: given.coefficient,
+    }
+}
+
+fn segments_of(given: [DartelmCurveSegment; 20]) -> [Segment; 20]
+    ensures { λ r. ⌜ r ≡ map segmentOf given ⌝ }
+{
+    let mut segments = [Segment { start: 0, terms: 0 }; 20];
+    let mut at: usize = 0;
+    while at < 20 {
+        let segment = given[at];
+        segments[at] = segment_of(segment);
+        at += 1;
+    }
+    segments
+}
+
+fn terms_of(given: [DartelmCurveTerm; 30]) -> [Term; 30]
+    ensures { λ r. ⌜ r ≡ map termOf given ⌝ }
+{
+    let mut terms = [Term {
+        exponent: 0,
+        coefficient: 0.0,
+    }; 30];
+    let mut at: usize = 0;
+    while at < 30 {
+        let term = given[at];
+        terms[at] = term_of(term);
+        at += 1;
+    }
+    terms
+}
+
+// The curve that C hands in.
+pub fn curve_of(given: DartelmCurve) -> Curve
+    ensures { λ r. ⌜ r ≡ curveOf given ⌝ }
+{
+    let segments = given.segments;
+    let terms = given.terms;
+    Curve {
+        count: given.count,
+        segments: segments_of(segments),
+        terms: terms_of(terms),
     }
 }

@@ -1,23 +1,31 @@
 -- Judgements and what comes behind them.
 use mathlib.Core.Path.{_≡_, refl, sym, ap, _∙_}
-use mathlib.Core.Bool.{Bool, true, false, _&&_, cond}
+use mathlib.Core.Bool.{Bool, true, false, not, _&&_, cond}
 use Prim.Native.Nat.{ℕ}
+use borrow.Author.Tests.{not-false}
 use lib.Dec.{eqb}
+use lib.Ieee.{binary32, ofBits}
 use Rattle.refusal.specs.Outcome.{Outcome, good, refused, _>>_, refuse_if_}
+use Rattle.refusal.specs.Rows.{outsideTable, notFinite}
 use Rattle.refusal.specs.declared.Refusal.{Refusal}
 use Rattle.refusal.proofs.Outcomes.{passed}
-use Rattle.fields.specs.declared.Value.the-variants.{Missing}
+use Rattle.fields.specs.declared.Value.the-variants.{Single, Missing}
+use Rattle.fields.specs.declared.Rule.the-variants.{Single as Ieee}
 use Rattle.fields.specs.declared.Judged.{Judged}
 use Rattle.fields.specs.declared.Judged.the-variants.{Stands, Refused}
 use Rattle.fields.specs.declared.Row.{Row}
-use Rattle.fields.specs.Rules.{allOnes, meaning, decode}
-use Rattle.fields.specs.Judgement.{judge, ruled}
+use Rattle.fields.specs.Rules.{allOnes, finite, meaning, decode}
+use Rattle.fields.specs.Judgement.{judge, ruled, singleRuled}
 use Rattle.fields.specs.Answers.{judgedSaid}
 
 -- With the value left out, the tests before it are left.
 pub left-out : {A : Type 0} (o : Outcome (Unit {0})) (a : A) → ((o >> good a) >> good tt) ≡ o
 left-out (good u) a = refl
 left-out (refused r) a = refl
+
+left-out-2 : {A : Type 0} (p q : Outcome (Unit {0})) (a : A) → ((p >> (q >> good a)) >> good tt) ≡ (p >> q)
+left-out-2 (good u) q a = left-out q a
+left-out-2 (refused r) q a = refl
 
 -- A code that stands by its rule stands, missing or not.
 pub stands-by-rule : (row : Row) (at code : ℕ) → good (tt {0}) ≡ ruled row at code → good (tt {0}) ≡ judge row at code
@@ -42,3 +50,23 @@ tested r t e = passed r t (good (tt {0})) tt (ap (λ (o : Outcome (Unit {0})). o
 
 pub untouched : (r : Refusal) (t : Bool) {j : Judged} → judgedSaid j ≡ (refuse r if t) → j ≡ Stands → t ≡ false
 untouched r t e k = tested r t (sym e ∙ ap judgedSaid k)
+
+-- Where the bits of a Single stand it is finite.
+pub single-stands : (at code : ℕ) {j : Judged} → judgedSaid j ≡ singleRuled at code → j ≡ Stands → finite (ofBits binary32 code) ≡ true
+single-stands at code e k =
+    let x = ofBits binary32 code in
+    let (t, q) = passed (outsideTable at) (eqb code (allOnes 32)) (refuse notFinite at if not (finite x)) tt (sym e ∙ ap judgedSaid k) in
+    not-false (finite x) (tested (notFinite at) (not (finite x)) q)
+
+-- A Single's rule in a row, and what its bits mean.
+pub single-by-rule : (row : Row) (at code : ℕ) → row .rule ≡ Ieee → row .width ≡ 32 → singleRuled at code ≡ ruled row at code
+single-by-rule row at code r w =
+    let x = ofBits binary32 code in
+    rw (r, w) (sym (left-out-2 (refuse outsideTable at if eqb code (allOnes 32)) (refuse notFinite at if not (finite x)) (Single x)))
+
+in-turn : {A : Type 0} (p q : Outcome (Unit {0})) (x : Outcome A) → ((p >> q) >> x) ≡ (p >> (q >> x))
+in-turn (good u) q x = refl
+in-turn (refused r) q x = refl
+
+pub single-means : (at code : ℕ) → (singleRuled at code >> good (Single (ofBits binary32 code))) ≡ meaning Ieee 32 at code
+single-means at code = in-turn (refuse outsideTable at if eqb code (allOnes 32)) (refuse notFinite at if not (finite (ofBits binary32 code))) _

@@ -7,7 +7,7 @@ use borrow.Author.Tests.{eq-eqb, ne-eqb}
 use lib.Count.{trailingZeros}
 use lib.Dec.{T, eqb, leb, le→leb, lt→ltb}
 use lib.IntN.{ℤ, pos, negsuc, natAbs}
-use lib.Ieee.{Float, nan, inf, fin, ne, odd, ofFields, ofBits, toBits, isNan, fits, inFloat, nanBits, binary32, binary64, ofInt, round, units, size, climb, span}
+use lib.Ieee.{Float, nan, inf, fin, ne, odd, ofFields, ofBits, toBits, isNan, fits, inFloat, nanBits, binary32, binary64, ofInt, round, units, size, climb, span, div}
 use lib.Ieee.Compare.{differs-from-itself, nan-differs}
 use lib.Ieee.Bits.{ofBits-toBits, nanBits-is}
 use Rattle.fields.specs.Figure.{billion}
@@ -82,3 +82,8 @@ in-float (negsuc n) h = lt→ltb n (2 ^ 53) h
 pub billion-is : ofBits binary64 0x41cd_cd65_0000_0000 ≡ ofInt binary64 (pos billion)
 unfolding ofBits ofInt ofFields round units odd size climb span trailingZeros
 billion-is = refl
+
+-- 0 / 0, which code gives for a NaN.
+pub no-number : div binary32 (ofBits binary32 0) (ofBits binary32 0) ≡ nan
+unfolding div ofBits ofFields odd
+no-number = refl

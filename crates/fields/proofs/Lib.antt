@@ -5,6 +5,7 @@ pub mod StepLaws
 pub mod Table
 pub mod RuleLaws
 pub mod CalibrationLaws
+pub mod CurveLaws
 pub mod ScaleLaws
 pub mod StoringRule
 pub mod StoringLaws

@@ -16,6 +16,7 @@ use Rattle.fields.specs.declared.Layout.{Layout}
 use Rattle.fields.specs.Rows.{optional, bridgeEnd, resistanceEnd}
 use Rattle.fields.specs.Lines.{Line, basic, template33, template32, templateLines, linesOf, lastField, lineOf, rowOf, rowsOf, noLine}
 use Rattle.fields.specs.Calibration.{calDomain, pointCount, calPoint, calDeviation}
+use Rattle.fields.specs.Curves.{curveDomain, segmentCount, segmentStart, termCount, exponent, coefficient}
 use Rattle.fields.specs.Stored.{Sound, SoundRule, AllSound, RowsSound}
 use Rattle.fields.proofs.CodeLaws.{below-2^32}
 use Rattle.fields.proofs.Table.{at}
@@ -29,13 +30,14 @@ pub past : (first n : ℕ) {f : ℕ} → first ≤ f → None first n f → firs
 past first zero h none = omega arith
 past first (suc n) h none = omega (arith, past first n h (none .0), none .1)
 
--- The one field whose code sets widths.
-agree : (a b : Bool) → T (Bool·beq a b) → a ≡ b
+-- Two tests that agree.
+pub agree : (a b : Bool) → T (Bool·beq a b) → a ≡ b
 agree true true t = refl
 agree false false t = refl
 agree true false t = absurd t
 agree false true t = absurd t
 
+-- The one field whose code sets widths.
 pub sets-at : (t : Template) (f : ℕ) → f ≤ lastField t → eqb f 9 ≡ lineOf t f .sets
 unfolding basic template33 template32 linesOf
 sets-at Bridge f h = agree _ _ (at (λ f. Bool·beq (eqb f 9) (lineOf Bridge f .sets)) 21 f tt h)
@@ -119,5 +121,29 @@ point-sound = omega arith
 pub deviation-sound : Sound calDeviation
 deviation-sound = omega arith
 
+-- ---- curves
+
+pub curve-domain-sound : Sound curveDomain
+curve-domain-sound = omega arith
+
+pub segment-count-sound : Sound segmentCount
+segment-count-sound = omega arith
+
+pub start-sound : Sound segmentStart
+start-sound = omega arith
+
+pub term-count-sound : Sound termCount
+term-count-sound = omega arith
+
+pub exponent-sound : Sound exponent
+exponent-sound = omega arith
+
+pub coefficient-sound : Sound coefficient
+coefficient-sound = omega arith
+
 pub rows-sound : RowsSound
-rows-sound template latest = (all-lines template latest, (domain-sound, (count-sound, (point-sound, (deviation-sound, tt)))))
+rows-sound template latest = (
+  all-lines template latest,
+  (domain-sound, (count-sound, (point-sound, (deviation-sound, tt)))),
+  (curve-domain-sound, (segment-count-sound, (start-sound, (term-count-sound, (exponent-sound, (coefficient-sound, tt)))))),
+)

@@ -106,7 +106,8 @@ whole-back w (Geometric scale) m place at code z s e =
 whole-back w Ieee m place at code z s e = never e
 
 single-back : (w : ℕ) (m : Bool) (place at code : ℕ) (x : Float) → w ≡ 32 → T (fits binary32 x) → singleCode Ieee place x ≡ good code → Room w m code × (meaning Ieee w at code ≡ good (Single x))
-single-back w m place at code x h f e = (below-top w m code (omega arith) (rw h (omega (arith, rw (p .1) at (toBits-lt binary32 x f), not-ones))), rw (bits, number))
+single-back w m place at code x h f e =
+    (below-top w m code (omega arith) (rw h (omega (arith, rw (p .1) at (toBits-lt binary32 x f), not-ones))), rw (h, ne-eqb code (2 ^ 32 - 1) not-ones, bits, number))
   where
     p : (not (finite x) ≡ false) × (toBits binary32 x ≡ code)
     p = given (outOfRange place) (not (finite x)) (toBits binary32 x) code e
@@ -162,7 +163,7 @@ again w (Geometric scale) m place at code v s h e =
     rw (← same, low, high, own value (topCode w) code rising most)
 again w Ieee m place at code v s h e =
     let x = ofBits binary32 code in
-    let (test, same) = given (notFinite at) (not (finite x)) (Single x) v e in
+    let (test, same) = given (notFinite at) (not (finite x)) (Single x) v (passed (outsideTable at) (eqb code (allOnes w)) _ v e .1) in
     rw (← same, test, toBits-ofBits binary32 code (rw (s .rules) at h) (no-nan x (not-false (finite x) test)))
 
 -- All ones means missing, or the code means what the rule says.

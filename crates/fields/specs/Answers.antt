@@ -16,6 +16,8 @@ use Rattle.fields.specs.declared.TemplateAnswer.the-variants.{Is, Unknow
 use Rattle.fields.specs.declared.Codes.{Codes}
 use Rattle.fields.specs.declared.Previous.{Previous}
 use Rattle.fields.specs.declared.Previous.the-variants.{Nothing, Pair as Behind}
+use Rattle.fields.specs.declared.Earlier.{Earlier}
+use Rattle.fields.specs.declared.Earlier.the-variants.{Nothing as First, Code as After}
 use Rattle.fields.specs.declared.Rounded.{Rounded}
 use Rattle.fields.specs.declared.Rounded.the-variants.{To, Outside}
 
@@ -40,6 +42,10 @@ templateSaid Unknown = none
 abbrev pub previousSaid : Previous → Option Codes
 previousSaid Nothing = none
 previousSaid (Behind codes) = some codes
+
+abbrev pub earlierSaid : Earlier → Option ℕ
+earlierSaid First = none
+earlierSaid (After code) = some code
 
 abbrev pub roundedSaid : Rounded → Option ℤ
 roundedSaid (To n) = some n

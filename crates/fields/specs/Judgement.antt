@@ -1,8 +1,12 @@
 -- Only inner contracts need these: whether a code may stand in a row.
+use mathlib.Core.Bool.{not}
 use Prim.Native.Nat.{ℕ}
-use Rattle.refusal.specs.Outcome.{Outcome, good, _>>_}
+use lib.Dec.{eqb}
+use lib.Ieee.{binary32, ofBits}
+use Rattle.refusal.specs.Outcome.{Outcome, good, _>>_, refuse_if_}
+use Rattle.refusal.specs.Rows.{outsideTable, notFinite}
 use Rattle.fields.specs.declared.Row.{Row}
-use Rattle.fields.specs.Rules.{meaning, decode}
+use Rattle.fields.specs.Rules.{allOnes, finite, meaning, decode}
 
 -- What the code means, with the value left out.
 abbrev pub judge : Row → ℕ → ℕ → Outcome (Unit {0})
@@ -11,3 +15,9 @@ judge row at code = decode row at code >> good tt
 -- What the rule alone says of it, whether or not the row calls it missing.
 abbrev pub ruled : Row → ℕ → ℕ → Outcome (Unit {0})
 ruled row at code = meaning (row .rule) (row .width) at code >> good tt
+
+-- What is said of the bits of a Single.
+abbrev pub singleRuled : ℕ → ℕ → Outcome (Unit {0})
+singleRuled at code = do
+  refuse outsideTable at if eqb code (allOnes 32)
+  refuse notFinite at if not (finite (ofBits binary32 code))

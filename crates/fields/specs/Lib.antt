@@ -3,6 +3,7 @@ pub mod Rows
 pub mod Lines
 pub mod Levels
 pub mod Calibration
+pub mod Curves
 pub mod Stored
 pub mod Figure
 pub mod Singles

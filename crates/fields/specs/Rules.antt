@@ -68,6 +68,7 @@ meaning (Geometric scale) w at code = do
   refuse outsideTable at if ltb (topCode w) code
   good (Whole (pos (geometricValue (progression scale) code)))
 meaning Ieee w at code = do
+  refuse outsideTable at if eqb code (allOnes w)
   refuse notFinite at if not (finite (ofBits binary32 code))
   good (Single (ofBits binary32 code))
 

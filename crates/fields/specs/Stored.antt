@@ -19,6 +19,7 @@ use Rattle.fields.specs.Rules.{topCode, steppedValue, steppedCode, progr
 use Rattle.fields.specs.declared.Template.{Template}
 use Rattle.fields.specs.Lines.{linesOf, rowsOf}
 use Rattle.fields.specs.Calibration.{calDomain, pointCount, calPoint, calDeviation}
+use Rattle.fields.specs.Curves.{curveDomain, segmentCount, segmentStart, termCount, exponent, coefficient}
 
 -- A stepped or geometric figure at the step its rule gives; any other value as it is.
 abbrev pub keptBy : Rule → ℕ → Value → Value
@@ -51,7 +52,7 @@ pub record Sound (row : Row) : Type 0 where
   pub most : row .width ≤ 32
   pub rules : SoundRule (row .rule) row
 
--- So is every row of every template, whatever the choice, and of the calibration table.
+-- So is every row of every template, whatever the choice, of the calibration table and of a curve.
 abbrev pub AllSound : List Row → Type 0
 AllSound [] = Unit {0}
 AllSound (row ∷ rows) = Sound row × AllSound rows
@@ -59,7 +60,9 @@ AllSound (row ∷ rows) = Sound row × AllSound rows
 abbrev pub RowsSound : Type 0
 RowsSound =
     (template : Template) (latest : ℕ) →
-    AllSound (rowsOf (linesOf template) latest) × AllSound (calDomain ∷ pointCount ∷ calPoint ∷ calDeviation ∷ [])
+    AllSound (rowsOf (linesOf template) latest) ×
+    AllSound (calDomain ∷ pointCount ∷ calPoint ∷ calDeviation ∷ []) ×
+    AllSound (curveDomain ∷ segmentCount ∷ segmentStart ∷ termCount ∷ exponent ∷ coefficient ∷ [])
 
 -- ---- for any row
 

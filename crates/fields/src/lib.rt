@@ -1,5 +1,5 @@
 // Document 01, "Layout": a field's value, the rows of the table of fields, the templates that put them in order, the
-// calibration table, and the two ways between a code and a value.
+// calibration table and curves, and the two ways between a code and a value.
 // All of it is here as definitions and laws, with the calls that tell rows, marks, levels and the physical figure. The calls
 // between codes and values are those of `scales` and `coding`.
 use refusal::Refusal;
@@ -16,6 +16,7 @@ pub use levels::may_write;
 pub use limits::all_ones;
 pub use limits::top_code;
 pub use rows::always;
+pub use rows::any;
 pub use templates::basic_fields;
 pub use templates::bits_before;
 pub use templates::is_choice;
@@ -110,6 +111,32 @@ pub enum Previous {
     Pair(Codes),
 }
 
+// A curve's segment: its start in billionths of the span, and the number of its terms.
+pub struct Segment {
+    pub start: i64,
+    pub terms: u64,
+}
+
+// A term of a segment: the power of the argument, and what it is multiplied by.
+pub struct Term {
+    pub exponent: i64,
+    pub coefficient: f32,
+}
+
+// A curve: the number of its segments, the segments, and the terms of one after those of the other. What stands behind them
+// is not looked at.
+pub struct Curve {
+    pub count: u64,
+    pub segments: [Segment; 20],
+    pub terms: [Term; 30],
+}
+
+// The code of the start or exponent before another, if there is one.
+pub enum Earlier {
+    Nothing,
+    Code(u64),
+}
+
 // The template of a number, if it is one of them.
 pub enum TemplateAnswer {
     Is(Template),
@@ -128,7 +155,7 @@ pub enum Judged {
     Refused(Refusal),
 }
 
-// The code that a value is stored at, or 9 or 10.
+// The code that a value is stored at, or 9, 10 or 24.
 pub enum Encoded {
     Code(u64),
     Refused(Refusal),

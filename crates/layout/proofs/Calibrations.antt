@@ -1,4 +1,4 @@
--- Behind the fields: what may stand as a calibration table, and the pieces that it is.
+-- Behind the fields: what may stand as a calibration table or a curve, and the pieces that it is.
 use mathlib.Core.Path.{_≡_, refl, sym, ap, ap₂, _∙_, subst, subst₂}
 use mathlib.Core.Bool.{Bool, true, false, not, cond}
 use mathlib.Core.List.{List, [], _∷_, _++_}
@@ -7,7 +7,6 @@ use Prim.Native.Nat.{ℕ, zero, suc, _+_, _*_, _^_, _≤_, _<_}
 use native.Mathlib.Omega.{arith}
 use lib.Dec.{eqb}
 use lib.ListN.{length}
-use lib.IntN.{pos}
 use borrow.Author.Tests.{eqb-true, eq-eqb, not-false}
 use Rattle.refusal.specs.Outcome.{Outcome, good, refused}
 use Rattle.refusal.specs.Rows.{wrongBlock}
@@ -16,18 +15,16 @@ use Rattle.memory.proofs.PieceLaws.{needed-append}
 use Rattle.fields.specs.declared.Codes.{Codes}
 use Rattle.fields.specs.declared.Domain.{Domain}
 use Rattle.fields.specs.Calibration.{calDomain, domainCode, domainOf, pointCount, calPoint, calDeviation, follows}
-use Rattle.fields.specs.declared.Value.the-variants.{Whole}
-use Rattle.fields.specs.declared.Rule.the-variants.{Plain}
-use Rattle.fields.specs.Rows.{always}
-use Rattle.fields.proofs.RuleLaws.{plain-good, plain-bounds}
+use Rattle.fields.proofs.RuleLaws.{plain-bounds}
 use Rattle.fields.proofs.CalibrationLaws.{domain-coded, code-domained, domain-most}
-use Rattle.layout.specs.Format.{Format, ends, _>>=_, _>>_, bits, given, refuse_if_}
-use Rattle.layout.specs.Contents.{Found, FoundPair, Calibration, bare, table, paired, codesIn, fieldOf, selectorOf, pairOf, pairsOf, tableOf, blockAt, calibrationOf}
-use Rattle.layout.specs.Image.{pairsIn}
-use Rattle.layout.specs.Places.{tableBits}
+use Rattle.layout.specs.Format.{Format, ends, stops, _>>=_, _>>_, given, refuse_if_}
+use Rattle.layout.specs.Contents.{Found, FoundPair, Calibration, bare, table, curve, paired, codesIn, fieldOf, selectorOf, pairOf, pairsOf, tableOf, nothingPassed, curveOf, blockOf, blockAt, calibrationOf}
+use Rattle.layout.specs.Image.{pairsIn, segmentsIn, allTerms}
+use Rattle.layout.specs.Places.{tableBits, curveBits}
 use Rattle.layout.specs.Pieces.{blockPieces}
 use Rattle.layout.proofs.Formats.{Parses, parses-bind, parses-halves, ends-pieces, refuse-pieces, parses-made, made-pieces, fixed-pieces}
-use Rattle.layout.proofs.Fields.{pieceOf, found, FieldAt, width-is, at-is, field-parses, field-pieces}
+use Rattle.layout.proofs.Fields.{pieceOf, FieldAt, width-is, at-is, plain-field, field-parses, field-pieces}
+use Rattle.layout.proofs.Curves.{curvePieces, CurveAt, SegmentsAt, segments-needed, curve-parses, curve-pieces}
 
 -- ---- pairs
 
@@ -126,10 +123,11 @@ pairs-pieces S domain (suc n) before at ps pairs l =
 
 -- ---- the block, and what stands in its place
 
--- Selector 0, template 40, the domain, the count and the pairs; nothing where there is no table.
+-- Selector 0, template 40, the domain, the count and the pairs; those of a curve, template 41; nothing where there is neither.
 abbrev pub calibrationPieces : Calibration → List Piece
 calibrationPieces bare = []
 calibrationPieces (table domain pairs) = blockPieces 40 ++ (piece 1 (domainCode domain) ∷ piece 7 (length pairs) ∷ foundPairsPieces pairs)
+calibrationPieces (curve segments) = blockPieces 41 ++ curvePieces segments
 
 pub record TableAt (at : ℕ) (domain : Domain) (pairs : List FoundPair) : Type 0 where
   pub some : 1 ≤ length pairs
@@ -139,19 +137,21 @@ pub record TableAt (at : ℕ) (domain : Domain) (pairs : List FoundPair) : Type 
 abbrev pub CalibrationAt : ℕ → Calibration → Type 0
 CalibrationAt at bare = Unit {0}
 CalibrationAt at (table domain pairs) = TableAt at domain pairs
+CalibrationAt at (curve segments) = CurveAt at segments
 
-pub table-needed : (at : ℕ) (c : Calibration) → CalibrationAt at c → needed (calibrationPieces c) ≡ tableBits (length (pairsIn c))
-table-needed at bare h = refl
-table-needed at (table domain pairs) h = go (length pairs) refl (h .some)
+pub calibration-needed : (at : ℕ) (c : Calibration) → CalibrationAt at c →
+    needed (calibrationPieces c) ≡ tableBits (length (pairsIn c)) + curveBits (length (segmentsIn c)) (length (allTerms (segmentsIn c)))
+calibration-needed at bare h = refl
+calibration-needed at (curve segments) h = go (length segments) refl (h .some)
   where
-    go : (n : ℕ) → length pairs ≡ n → 1 ≤ n → needed (calibrationPieces (table domain pairs)) ≡ tableBits n
+    go : (n : ℕ) → length segments ≡ n → 1 ≤ n → needed (calibrationPieces (curve segments)) ≡ 0 + curveBits n (length (allTerms segments))
+    go zero f l = absurd (omega arith)
+    go (suc n) f l = omega (arith, segments-needed nothingPassed (at + 19) segments (h .stand))
+calibration-needed at (table domain pairs) h = go (length pairs) refl (h .some)
+  where
+    go : (n : ℕ) → length pairs ≡ n → 1 ≤ n → needed (calibrationPieces (table domain pairs)) ≡ tableBits n + 0
     go zero f l = absurd (omega arith)
     go (suc n) f l = omega (arith, pairs-needed domain none (at + 18) pairs (h .stand))
-
--- A plain code that stands in its row.
-plain-field : (w least greatest at code : ℕ) → least ≤ code → code ≤ greatest → code < 2 ^ w →
-    FieldAt (always w (Plain least greatest)) at (found (always w (Plain least greatest)) at code (Whole (pos code)))
-plain-field w least greatest at code l g fits = record { is = refl; fits = fits; means = plain-good w least greatest at code l g }
 
 module _ (S at : ℕ) where
   -- Behind the block's template number.
@@ -211,20 +211,56 @@ module _ (S at : ℕ) where
   abbrev afterBlock : Calibration → Format Calibration
   afterBlock c = selectorOf 3 >> ends c
 
-  pub calibration-parses : (c : Calibration) → CalibrationAt at c → Parses S calibrationOf at (calibrationPieces c ++ (piece 2 3 ∷ [])) c
+  -- A block whose selector 0 stands here, and the last selector behind it.
+  only-parses : (number : ℕ) (c : Calibration) (ps : List Piece) → number < 2 ^ 8 → Parses S (blockOf at number) (at + 2 + 8) ps c →
+      Parses S calibrationOf at ((blockPieces number ++ ps) ++ (piece 2 3 ∷ [])) c
   unfolding calibrationOf blockAt selectorOf
+  only-parses number c ps small l =
+      (refl, omega arith, parses-bind S (blockAt at) afterBlock (at + 2) (piece 8 number ∷ ps) (piece 2 3 ∷ []) c c (refl, small, l) (refl, omega arith, refl))
+
+  pub calibration-parses : (c : Calibration) → CalibrationAt at c → Parses S calibrationOf at (calibrationPieces c ++ (piece 2 3 ∷ [])) c
+  unfolding calibrationOf selectorOf
   calibration-parses bare h = (refl, omega arith, refl)
   calibration-parses (table domain pairs) h =
       let e : at + 18 ≡ at + 2 + 8 + 1 + 7 = omega arith in
-      let l = table-parses S (at + 2 + 8) domain pairs (h .some) (h .most) (subst (λ (n : ℕ). PairsAt domain none n pairs) e (h .stand)) in (
-        refl,
-        omega arith,
-        parses-bind S (blockAt at) afterBlock (at + 2) (piece 8 40 ∷ countedPieces S at domain pairs) (piece 2 3 ∷ []) (table domain pairs) (table domain pairs) (refl, omega arith, l) (refl, omega arith, refl),
-      )
+      only-parses 40 (table domain pairs) _ (omega arith)
+      (table-parses S (at + 2 + 8) domain pairs (h .some) (h .most) (subst (λ (n : ℕ). PairsAt domain none n pairs) e (h .stand)))
+  calibration-parses (curve segments) h =
+      let e : at + 19 ≡ at + 2 + 8 + 1 + 8 = omega arith in
+      only-parses 41 (curve segments) _ (omega arith)
+      (curve-parses S (at + 2 + 8) segments (h .some) (h .most) (subst (λ (n : ℕ). SegmentsAt nothingPassed n segments) e (h .stand)))
+
+  -- The pieces of a block behind its selector 0.
+  block-pieces : (ps : List Piece) (c : Calibration) → Parses S (blockAt at) (at + 2) ps c → (piece 2 0 ∷ ps ≡ calibrationPieces c) × CalibrationAt at c
+  unfolding blockAt
+  block-pieces [] c l = absurd l
+  block-pieces (p ∷ ps) c l = go (eqb (p .code) 40) refl (eqb (p .code) 41) refl (l .2)
+    where
+      number : (n : ℕ) → p .code ≡ n → p ≡ piece 8 n
+      number n e = λ i. record { width = l .0 i; code = e i }
+
+      go : (t : Bool) → eqb (p .code) 40 ≡ t → (u : Bool) → eqb (p .code) 41 ≡ u →
+          Parses S (cond t tableOf (cond u curveOf (stops (wrongBlock at)))) (at + 2 + 8) ps c →
+          (piece 2 0 ∷ p ∷ ps ≡ calibrationPieces c) × CalibrationAt at c
+      go true e u f m =
+          let t = table-pieces S (at + 2 + 8) ps c m in
+          let n : at + 2 + 8 + 1 + 7 ≡ at + 18 = omega arith in
+          subst (λ (d : Calibration). (piece 2 0 ∷ p ∷ ps ≡ calibrationPieces d) × CalibrationAt at d) (t .is) (
+            ap₂ (λ x q. piece 2 0 ∷ x ∷ q) (number 40 (eqb-true (p .code) 40 e)) (t .split),
+            record { some = t .some; most = t .most; stand = subst (λ (k : ℕ). PairsAt (t .domain) none k (t .pairs)) n (t .stand) },
+          )
+      go false e true f m =
+          let t = curve-pieces S (at + 2 + 8) ps c m in
+          let n : at + 2 + 8 + 1 + 8 ≡ at + 19 = omega arith in
+          subst (λ (d : Calibration). (piece 2 0 ∷ p ∷ ps ≡ calibrationPieces d) × CalibrationAt at d) (t .is) (
+            ap₂ (λ x q. piece 2 0 ∷ x ∷ q) (number 41 (eqb-true (p .code) 41 f)) (t .split),
+            record { some = t .some; most = t .most; stand = subst (λ (k : ℕ). SegmentsAt nothingPassed k (t .segments)) n (t .stand) },
+          )
+      go false e false f m = absurd m
 
   pub calibration-pieces : (ps : List Piece) (c : Calibration) → Parses S calibrationOf at ps c →
       (ps ≡ calibrationPieces c ++ (piece 2 3 ∷ [])) × CalibrationAt at c
-  unfolding calibrationOf blockAt selectorOf
+  unfolding calibrationOf selectorOf
   calibration-pieces [] c l = absurd l
   calibration-pieces (p ∷ ps) c l = go (eqb (p .code) 0) refl (l .2)
     where
@@ -236,15 +272,13 @@ module _ (S at : ℕ) where
           (p ∷ ps ≡ calibrationPieces c ++ (piece 2 3 ∷ [])) × CalibrationAt at c
       go true e m =
           let h = parses-halves S (blockAt at) afterBlock (at + 2) ps c m in
-          let (qs, f, k) = fixed-pieces S 8 40 (wrongBlock at) tableOf (at + 2) (h .first) (h .middle) (h .front) in
-          let t = table-pieces S (at + 2 + 8) qs (h .middle) k in
+          let (f, k) = block-pieces (h .first) (h .middle) (h .front) in
           let (rs, g, j) = fixed-pieces S 2 3 (wrongBlock _) (ends (h .middle)) _ (h .second) c (h .back) in
           let (z, i) = ends-pieces S (h .middle) _ rs c j in
-          let n : at + 2 + 8 + 1 + 7 ≡ at + 18 = omega arith in
-          subst (λ (d : Calibration). (p ∷ ps ≡ calibrationPieces d ++ (piece 2 3 ∷ [])) × CalibrationAt at d) (t .is ∙ i) (
-            ap₂ (λ q r. q ∷ r) (selector 0 (eqb-true (p .code) 0 e))
-                (sym (h .joined) ∙ ap₂ (λ q r. q ++ r) (f ∙ ap (λ q. piece 8 40 ∷ q) (t .split)) (g ∙ ap (λ q. piece 2 3 ∷ q) z)),
-            record { some = t .some; most = t .most; stand = subst (λ (k : ℕ). PairsAt (t .domain) none k (t .pairs)) n (t .stand) },
+          subst (λ (d : Calibration). (p ∷ ps ≡ calibrationPieces d ++ (piece 2 3 ∷ [])) × CalibrationAt at d) i (
+            ap₂ (λ q r. q ∷ r) (selector 0 (eqb-true (p .code) 0 e)) (sym (h .joined))
+                ∙ ap₂ (λ q r. q ++ r) f (g ∙ ap (λ q. piece 2 3 ∷ q) z),
+            k,
           )
       go false e m =
           let (t, k) = refuse-pieces S (wrongBlock at) (not (eqb (p .code) 3)) (ends bare) (at + 2) ps c m in

@@ -2,15 +2,20 @@
 use mathlib.Core.Path.{_≡_, refl, sym, ap, ap₂, _∙_, subst}
 use mathlib.Core.Bool.{Bool, true, false}
 use mathlib.Core.List.{List, [], _∷_, _++_, map}
-use Prim.Native.Nat.{ℕ, zero, suc, _+_, _^_, _<_}
+use Prim.Native.Nat.{ℕ, zero, suc, _+_, _^_, _≤_, _<_}
 use native.Mathlib.Omega.{arith}
+use lib.IntN.{pos}
 use lib.ListN.{length, getD, set}
 use Rattle.refusal.specs.Outcome.{Outcome, good, refused}
 use Rattle.memory.specs.Pieces.{Piece, piece, needed}
 use Rattle.fields.specs.declared.Value.{Value}
+use Rattle.fields.specs.declared.Value.the-variants.{Whole}
+use Rattle.fields.specs.declared.Rule.the-variants.{Plain}
 use Rattle.fields.specs.declared.Row.{Row}
+use Rattle.fields.specs.Rows.{always}
 use Rattle.fields.specs.Rules.{decode}
 use Rattle.fields.specs.Lines.{Line, chose}
+use Rattle.fields.proofs.RuleLaws.{plain-good}
 use Rattle.layout.specs.Format.{Format, ends, _>>=_, given}
 use Rattle.layout.specs.Contents.{Found, fieldOf, fieldsOf}
 use Rattle.layout.specs.Image.{nothing}
@@ -39,6 +44,11 @@ module _ {row : Row} {at : ℕ} {x : Found} (h : FieldAt row at x) where
 
   pub width-is : x .row .width ≡ row .width
   width-is = ap (λ y. y .width) row-is
+
+-- A plain code that stands in its row.
+pub plain-field : (w least greatest at code : ℕ) → least ≤ code → code ≤ greatest → code < 2 ^ w →
+    FieldAt (always w (Plain least greatest)) at (found (always w (Plain least greatest)) at code (Whole (pos code)))
+plain-field w least greatest at code l g fits = record { is = refl; fits = fits; means = plain-good w least greatest at code l g }
 
 -- The field at another code.
 abbrev pub recoded : Found → ℕ → Value → Found

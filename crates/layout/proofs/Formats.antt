@@ -45,6 +45,16 @@ module _ {A B : Type 0} (s : Stream) (m : Format A) (k : A → Format B) (at : �
   pub parse-refused : {r : Refusal} → refused r ≡ parse s m at → parse s (m >>= k) at ≡ refused r
   parse-refused e = parse-bind s m k at ∙ ap (λ o. outcome._>>=_ o (λ x. parse s (k (x .found)) (x .next))) (sym e)
 
+  -- What was parsed by both was parsed by each.
+  pub parse-split : {b : B} {n : ℕ} → good (parsed b n) ≡ parse s (m >>= k) at →
+      (a : A) × (i : ℕ) × (good (parsed a i) ≡ parse s m at) × (good (parsed b n) ≡ parse s (k a) i)
+  parse-split {b} {n} e = go (parse s m at) refl (e ∙ parse-bind s m k at)
+    where
+      go : (o : Outcome (Parsed A)) → parse s m at ≡ o → good (parsed b n) ≡ outcome._>>=_ o (λ x. parse s (k (x .found)) (x .next)) →
+          (a : A) × (i : ℕ) × (good (parsed a i) ≡ parse s m at) × (good (parsed b n) ≡ parse s (k a) i)
+      go (good x) f g = (x .found, x .next, sym f, g)
+      go (refused r) f g = absurd (let z : _≡_ {A = ℕ} 0 1 = cc in omega arith)
+
 -- A bind within a bind, and a bind whose next formats are parsed alike.
 pub parse-assoc : {A B C : Type 0} (s : Stream) (m : Format A) (k : A → Format B) (j : B → Format C) (at : ℕ) →
     parse s ((m >>= k) >>= j) at ≡ parse s (m >>= λ a. k a >>= j) at

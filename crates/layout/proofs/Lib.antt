@@ -1,6 +1,9 @@
 pub mod Formats
 pub mod Fields
 pub mod Choices
+pub mod Repeats
+pub mod Curves
+pub mod CurveTerms
 pub mod Calibrations
 pub mod Endings
 pub mod Sheets
@@ -8,4 +11,5 @@ pub mod Places
 pub mod Accepted
 pub mod Puts
 pub mod Standing
+pub mod CurvePlaces
 pub mod Numbers

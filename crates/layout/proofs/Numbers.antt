@@ -9,7 +9,7 @@ use lib.Ieee.{binary32, ofBits}
 use lib.Signed.{leZ}
 use Rattle.refusal.specs.declared.Refusal.{Refusal}
 use Rattle.refusal.specs.Outcome.{Outcome, good, refused}
-use Rattle.refusal.specs.Rows.{wrongBlock, outsideTable, notFinite, notRising, sumsNotRising}
+use Rattle.refusal.specs.Rows.{wrongBlock, outsideTable, notFinite, notRising, sumsNotRising, wrongCurve, tooManyTerms}
 use Rattle.refusal.proofs.Outcomes.{Elsewhere, Other, other-cond, other-test, other-then}
 use Rattle.fields.specs.declared.Row.{Row}
 use Rattle.fields.specs.declared.Rule.{Rule}
@@ -20,7 +20,8 @@ use Rattle.fields.specs.declared.Domain.{Domain}
 use Rattle.fields.specs.Rules.{allOnes, topCode, finite, meaning, decode}
 use Rattle.fields.specs.Lines.{Line, chose, basic, templateLines, templateOf}
 use Rattle.fields.specs.Calibration.{calDomain, pointCount, calPoint, calDeviation, domainOf, isPhysical, storedSum, follows}
-use Rattle.layout.specs.Format.{Format, ends, stops, takes, looks, _>>=_, given, refuse_if_, Stream, parse}
+use Rattle.fields.specs.Curves.{curveDomain, segmentCount, segmentStart, termCount, exponent, coefficient, isSegmentCount, isTermCount, mostTerms, startFollows, tenthsOf, tenthsBefore, exponentFollows}
+use Rattle.layout.specs.Format.{Format, ends, stops, takes, looks, _>>=_, given, refuse_if_, repeated, Stream, parse}
 use Rattle.layout.specs.Contents.{
   Found,
   fieldOf,
@@ -33,6 +34,16 @@ use Rattle.layout.specs.Contents.{
   pairOf,
   pairsOf,
   tableOf,
+  Passed,
+  ruledOf,
+  termOf,
+  behindTerm,
+  termsOf,
+  segmentOf,
+  behindSegment,
+  nothingPassed,
+  segmentsOf,
+  curveOf,
   blockAt,
   calibrationOf,
   charactersOf,
@@ -79,7 +90,9 @@ meaning-other : (rule : Rule) (w at code : ℕ) → Other (meaning rule w at cod
 meaning-other (Plain least greatest) w at code = other-then (outsideTable at) (ltb code least || ltb greatest code) _ (omega arith) tt
 meaning-other (Stepped start step) w at code = other-then (outsideTable at) (ltb (topCode w) code) _ (omega arith) tt
 meaning-other (Geometric scale) w at code = other-then (outsideTable at) (ltb (topCode w) code) _ (omega arith) tt
-meaning-other Single w at code = other-then (notFinite at) (not (finite (ofBits binary32 code))) _ (omega arith) tt
+meaning-other Single w at code =
+    other-then (outsideTable at) (eqb code (allOnes w)) _ (omega arith)
+    (other-then (notFinite at) (not (finite (ofBits binary32 code))) _ (omega arith) tt)
 
 decode-other : (row : Row) (at code : ℕ) → Other (decode row at code)
 unfolding decode
@@ -135,15 +148,49 @@ table-others =
     others-bind (fieldOf pointCount) _ (field-others pointCount) (λ n.
     others-bind (pairsOf (domainOf (d .code)) (n .code) none) _ (pairs-others (domainOf (d .code)) (n .code) none) (λ pairs. tt)))
 
-block40-others : (at : ℕ) → Others (blockAt at)
+ruled-others : (row : Row) (rule : ℕ → Bool) → Others (ruledOf row rule)
+unfolding ruledOf
+ruled-others row rule =
+    others-bind (fieldOf row) _ (field-others row) (λ x.
+    others-bind (refuse wrongCurve (x .at) if not (rule (x .code))) _ (others-test (wrongCurve (x .at)) (not (rule (x .code))) (omega arith)) (λ u. tt))
+
+repeated-others : {A B : Type 0} (one : B → Format A) (behind : B → A → B) → ((before : B) → Others (one before)) → (n : ℕ) (before : B) → Others (repeated one behind n before)
+unfolding repeated
+repeated-others one behind h zero before = tt
+repeated-others one behind h (suc n) before =
+    others-bind (one before) _ (h before) (λ x. others-bind (repeated one behind n (behind before x)) _ (repeated-others one behind h n (behind before x)) (λ rest. tt))
+
+term-others : (before : Option ℕ) → Others (termOf before)
+unfolding termOf
+term-others before =
+    others-bind (ruledOf exponent (λ code. exponentFollows (tenthsBefore before) (tenthsOf code))) _ (ruled-others exponent _) (λ x.
+    others-bind (fieldOf coefficient) _ (field-others coefficient) (λ c. tt))
+
+segment-others : (before : Passed) → Others (segmentOf before)
+unfolding segmentOf termsOf
+segment-others before =
+    others-bind (ruledOf segmentStart (startFollows (before .start))) _ (ruled-others segmentStart _) (λ start.
+    others-bind (ruledOf termCount isTermCount) _ (ruled-others termCount isTermCount) (λ count.
+    let total = before .terms + count .code in
+    others-bind (refuse tooManyTerms total if ltb mostTerms total) _ (others-test (tooManyTerms total) (ltb mostTerms total) (omega arith)) (λ u.
+    others-bind (termsOf (count .code)) _ (repeated-others termOf behindTerm term-others (count .code) none) (λ terms. tt))))
+
+curve-others : Others curveOf
+unfolding curveOf segmentsOf
+curve-others =
+    others-bind (fieldOf curveDomain) _ (field-others curveDomain) (λ d.
+    others-bind (ruledOf segmentCount isSegmentCount) _ (ruled-others segmentCount isSegmentCount) (λ n.
+    others-bind (segmentsOf (n .code)) _ (repeated-others segmentOf behindSegment segment-others (n .code) nothingPassed) (λ segments. tt)))
+
+only-others : (at : ℕ) → Others (blockAt at)
 unfolding blockAt
-block40-others at = λ number. others-bind (refuse wrongBlock at if not (eqb number 40)) _ (others-test (wrongBlock at) (not (eqb number 40)) (omega arith)) (λ u. table-others)
+only-others at = λ number. others-cond (eqb number 40) _ _ table-others (others-cond (eqb number 41) _ _ curve-others (omega arith))
 
 calibration-others : Others calibrationOf
 unfolding calibrationOf
 calibration-others = λ at left. λ selector.
     others-cond (eqb selector 0) _ _
-    (others-bind (blockAt at) _ (block40-others at) (λ k. others-bind (selectorOf 3) _ (selector-others 3) (λ u. tt)))
+    (others-bind (blockAt at) _ (only-others at) (λ k. others-bind (selectorOf 3) _ (selector-others 3) (λ u. tt)))
     (others-bind (refuse wrongBlock at if not (eqb selector 3)) _ (others-test (wrongBlock at) (not (eqb selector 3)) (omega arith)) (λ u. tt))
 
 text-others : (n : ℕ) → Others (charactersOf n)

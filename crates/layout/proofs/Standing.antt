@@ -22,13 +22,13 @@ use Rattle.fields.specs.Rules.{decode}
 use Rattle.fields.specs.Calibration.{domainCode, calPoint, calDeviation}
 use Rattle.fields.specs.Lines.{numberOf, lastField, rowOf}
 use Rattle.layout.specs.Format.{Format, ends, _>>=_, given, Stream, parse}
-use Rattle.layout.specs.Contents.{Found, FoundPair, Calibration, bare, table, Contents, codesIn, fieldOf}
-use Rattle.layout.specs.Image.{nothing, field, layoutOf, pairsIn}
-use Rattle.layout.specs.Places.{fieldPlace, behindFields, tableBits, pairPlace, characterPlace}
+use Rattle.layout.specs.Contents.{Found, FoundPair, Calibration, bare, table, curve, Contents, codesIn, fieldOf}
+use Rattle.layout.specs.Image.{nothing, field, layoutOf, pairsIn, segmentsIn, allTerms}
+use Rattle.layout.specs.Places.{fieldPlace, pairPlace, behindBlock}
 use Rattle.layout.specs.Pieces.{blockPieces, endCode}
 use Rattle.layout.proofs.Formats.{parsed}
 use Rattle.layout.proofs.Fields.{pieceOf, found, FieldAt, row-is, at-is, width-is}
-use Rattle.layout.proofs.Calibrations.{foundPairPieces, PairAt, foundPairsPieces, PairsAt, pairs-needed, calibrationPieces, CalibrationAt, table-needed}
+use Rattle.layout.proofs.Calibrations.{foundPairPieces, PairAt, foundPairsPieces, PairsAt, pairs-needed, calibrationPieces, CalibrationAt, calibration-needed}
 use Rattle.layout.proofs.Endings.{zeroIf, text-needed, charactersFrom, endPieces}
 use Rattle.layout.proofs.Sheets.{Formed, restPieces, sheetPieces, sheet-needed}
 use Rattle.layout.proofs.Places.{field-at, behind-is, fields-count}
@@ -123,7 +123,7 @@ module _ {s : Stream} {c : Contents} (h : Holding s c) where
   abbrev rest : List Piece
   rest = restPieces (s .bits) (h .formed .endAt) c
 
-  rest-holds : Holds (s .number) (h .formed .behind) rest × Fit rest
+  pub rest-holds : Holds (s .number) (h .formed .behind) rest × Fit rest
   rest-holds =
       let f = h .formed in
       let front : List Piece = map pieceOf (f .basics) ++ (blockPieces (numberOf (c .template)) ++ map pieceOf (f .own)) in
@@ -134,9 +134,12 @@ module _ {s : Stream} {c : Contents} (h : Holding s c) where
       (subst (λ (k : ℕ). Holds (s .number) k rest) n (holds-back (s .number) 0 front rest (fit .0) (subst (Holds (s .number) 0) e (h .holds))), fit .1)
 
   -- Where the ending begins.
-  end-place : h .formed .endAt ≡ behindFields (layoutOf c) + tableBits (length (pairsIn (c .calibration))) + 2
+  abbrev blockEnd : ℕ
+  blockEnd = behindBlock (layoutOf c) (length (pairsIn (c .calibration))) (length (segmentsIn (c .calibration))) (length (allTerms (segmentsIn (c .calibration))))
+
+  end-place : h .formed .endAt ≡ blockEnd + 2
   end-place =
-      omega (arith, h .formed .end-at, behind-is (h .formed), table-needed (h .formed .behind) (c .calibration) (h .formed .calibrated))
+      omega (arith, h .formed .end-at, behind-is (h .formed), calibration-needed (h .formed .behind) (c .calibration) (h .formed .calibrated))
 
   -- Pair i, counted from 0.
   pub pair-here : (i : ℕ) (none : FoundPair) → i < length (pairsIn (c .calibration)) → PairStands s (pairPlace (layoutOf c) i) (getD (pairsIn (c .calibration)) i none)
@@ -150,6 +153,7 @@ module _ {s : Stream} {c : Contents} (h : Holding s c) where
       go : (k : Calibration) → CalibrationAt (h .formed .behind) k → i < length (pairsIn k) → Holds (s .number) (h .formed .behind) (calibrationPieces k ++ (piece 2 3 ∷ []) ++ end) →
           Fit (calibrationPieces k ++ (piece 2 3 ∷ []) ++ end) → h .formed .behind + needed (calibrationPieces k) ≤ s .bits → PairStands s (pairPlace (layoutOf c) i) (getD (pairsIn k) i none)
       go bare t m holds fit inside = absurd (omega arith)
+      go (curve segments) t m holds fit inside = absurd (omega arith)
       go (table domain pairs) t m holds fit inside =
           let start : List Piece = blockPieces 40 ++ (piece 1 (domainCode domain) ∷ piece 7 (length pairs) ∷ []) in
           let ps : List Piece = foundPairsPieces pairs in
@@ -163,8 +167,7 @@ module _ {s : Stream} {c : Contents} (h : Holding s c) where
 
   -- Character i, counted from 0.
   pub character-here : (i : ℕ) → i < length (c .text) →
-      (fieldAt (s .number) (characterPlace (layoutOf c) (length (pairsIn (c .calibration))) i) 7 ≡ getD (c .text) i 0) ×
-      (characterPlace (layoutOf c) (length (pairsIn (c .calibration))) i + 7 ≤ s .bits)
+      (fieldAt (s .number) (blockEnd + 3 + 7 * i) 7 ≡ getD (c .text) i 0) × (blockEnd + 3 + 7 * i + 7 ≤ s .bits)
   character-here i l =
       let ts : List Piece = calibrationPieces (c .calibration) in
       let b : Piece = piece 1 (endCode (c .endBit)) in
@@ -179,7 +182,7 @@ module _ {s : Stream} {c : Contents} (h : Holding s c) where
       holds-front (s .number) (h .formed .endAt + 1) text zero (g .0)
       (subst (λ (k : ℕ). Holds (s .number) k (text ++ zero)) n
       (holds-back (s .number) (h .formed .behind) front (text ++ zero) (f .0) (subst (Holds (s .number) (h .formed .behind)) e (rest-holds .0)))) in
-      let at : h .formed .endAt + 1 + 7 * i ≡ characterPlace (layoutOf c) (length (pairsIn (c .calibration))) i = omega (arith, end-place) in (
+      let at : h .formed .endAt + 1 + 7 * i ≡ blockEnd + 3 + 7 * i = omega (arith, end-place) in (
         ap (λ (k : ℕ). fieldAt (s .number) k 7) (sym at) ∙ characters-stand (s .number) (h .formed .endAt + 1) (c .text) (g .0) held i l,
         omega (arith, at, h .formed .bits-are, h .inside, needed-append text zero, text-needed (c .text)),
       )

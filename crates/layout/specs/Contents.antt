@@ -1,11 +1,11 @@
--- Document 01, "Layout" and "Turning down": the stream from its start. One format says all that a sheet may hold, in the order of the stream, with
+-- Document 01, "Layout" and "Turning down", and document 02, Notes 7, 9 and 11: the stream from its start. One format says all that a sheet may hold, in the order of the stream, with
 -- the refusals on the way; a check parses an image's stream by it.
 use mathlib.Core.Bool.{Bool, not, cond}
 use mathlib.Core.List.{List, [], _∷_, _++_}
 use mathlib.Core.Option.{Option, none, some}
-use Prim.Native.Nat.{ℕ, zero, suc, _/_}
-use lib.Dec.{eqb}
-use Rattle.refusal.specs.Rows.{wrongBlock}
+use Prim.Native.Nat.{ℕ, zero, suc, _+_, _/_}
+use lib.Dec.{eqb, ltb}
+use Rattle.refusal.specs.Rows.{wrongBlock, wrongCurve, tooManyTerms}
 use Rattle.fields.specs.declared.Value.{Value}
 use Rattle.fields.specs.declared.Row.{Row}
 use Rattle.fields.specs.declared.Template.{Template}
@@ -14,7 +14,22 @@ use Rattle.fields.specs.declared.Domain.{Domain}
 use Rattle.fields.specs.Rules.{decode}
 use Rattle.fields.specs.Lines.{Line, chose, basic, templateLines, templateOf}
 use Rattle.fields.specs.Calibration.{calDomain, domainOf, pointCount, calPoint, calDeviation, codesOf, follows}
-use Rattle.layout.specs.Format.{Format, ends, stops, _>>=_, _>>_, bits, place, remaining, given, refuse_if_}
+use Rattle.fields.specs.Curves.{
+  curveDomain,
+  segmentCount,
+  segmentStart,
+  termCount,
+  exponent,
+  coefficient,
+  isSegmentCount,
+  isTermCount,
+  mostTerms,
+  startFollows,
+  tenthsOf,
+  tenthsBefore,
+  exponentFollows,
+}
+use Rattle.layout.specs.Format.{Format, ends, stops, _>>=_, _>>_, bits, place, remaining, given, refuse_if_, repeated}
 
 -- ---- what a sheet holds
 
@@ -30,10 +45,22 @@ pub record FoundPair : Type 0 where
   pub point : Found
   pub deviation : Found
 
--- Behind the fields: nothing, or a calibration table in its domain.
+-- A term of a curve.
+pub record FoundTerm : Type 0 where
+  pub exponent : Found
+  pub coefficient : Found
+
+-- A segment of a curve: its start, the number of its terms, and the terms.
+pub record FoundSegment : Type 0 where
+  pub start : Found
+  pub count : Found
+  pub terms : List FoundTerm
+
+-- Behind the fields: nothing, a calibration table in its domain, or a curve.
 pub data Calibration : Type 0 where
   bare : Calibration
   table : Domain → List FoundPair → Calibration
+  curve : List FoundSegment → Calibration
 
 -- Its template, its fields from 1 on, its calibration, the end bit, the text, and the bits up to the end.
 pub record Contents : Type 0 where
@@ -116,12 +143,73 @@ tableOf = do
   pairs ← pairsOf (domainOf (x .code)) (count .code) none
   ends (table (domainOf (x .code)) pairs)
 
--- The block whose selector 0 was taken at a place: template 40.
+-- ---- block 41
+
+-- Row 24 behind 3, 5 and 6: the field of a row, which a rule of a curve has to take.
+unfoldable pub ruledOf : Row → (ℕ → Bool) → Format Found
+ruledOf row rule = do
+  x ← fieldOf row
+  refuse wrongCurve (x .at) if not (rule (x .code))
+  ends x
+
+-- A term behind the one before it in its segment: 3, 5 and 24 of the exponent, 3, 5 and 6 of the coefficient.
+unfoldable pub termOf : Option ℕ → Format FoundTerm
+termOf before = do
+  x ← ruledOf exponent (λ code. exponentFollows (tenthsBefore before) (tenthsOf code))
+  c ← fieldOf coefficient
+  ends (record { exponent = x; coefficient = c })
+
+abbrev pub behindTerm : Option ℕ → FoundTerm → Option ℕ
+behindTerm before t = some (t .exponent .code)
+
+-- n terms, one after the other.
+unfoldable pub termsOf : ℕ → Format (List FoundTerm)
+termsOf n = repeated termOf behindTerm n none
+
+-- What stands before a segment: the start of the last, if there is one, and the number of terms.
+pub record Passed : Type 0 where
+  pub start : Option ℕ
+  pub terms : ℕ
+
+-- A segment: 3, 5 and 24 of the start, 3, 24 and 25 of the number of terms, and the terms.
+unfoldable pub segmentOf : Passed → Format FoundSegment
+segmentOf before = do
+  start ← ruledOf segmentStart (startFollows (before .start))
+  count ← ruledOf termCount isTermCount
+  let total = before .terms + count .code
+  refuse tooManyTerms total if ltb mostTerms total
+  terms ← termsOf (count .code)
+  ends (record { start = start; count = count; terms = terms })
+
+abbrev pub behindSegment : Passed → FoundSegment → Passed
+behindSegment before s = record { start = some (s .start .code); terms = before .terms + s .count .code }
+
+abbrev pub nothingPassed : Passed
+nothingPassed = record { start = none; terms = 0 }
+
+-- n segments, one after the other.
+unfoldable pub segmentsOf : ℕ → Format (List FoundSegment)
+segmentsOf n = repeated segmentOf behindSegment n nothingPassed
+
+-- The domain, the number of segments and the segments.
+unfoldable pub curveOf : Format Calibration
+curveOf = do
+  fieldOf curveDomain
+  count ← ruledOf segmentCount isSegmentCount
+  segments ← segmentsOf (count .code)
+  ends (curve segments)
+
+-- ---- one block of either
+
+-- Row 4: the block of a template's number, if it is one of them, whose selector stands at a place.
+abbrev pub blockOf : ℕ → ℕ → Format Calibration
+blockOf at number = cond (eqb number 40) tableOf (cond (eqb number 41) curveOf (stops (wrongBlock at)))
+
+-- The block whose selector 0 was taken at a place: template 40 or 41.
 unfoldable pub blockAt : ℕ → Format Calibration
 blockAt at = do
   number ← bits 8
-  refuse wrongBlock at if not (eqb number 40)
-  tableOf
+  blockOf at number
 
 -- Behind the fields: one block and selector 3, or selector 3 alone.
 unfoldable pub calibrationOf : Format Calibration

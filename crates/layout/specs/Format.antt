@@ -1,7 +1,8 @@
 -- What may stand in a stream from a place on, as steps: bits are taken one field after the other, and what was taken decides what follows. Document
 -- 01's "the stream from its start" is a format, and a check parses the stream by it.
 use mathlib.Core.Bool.{Bool, true, false, cond}
-use Prim.Native.Nat.{ℕ, _+_, _-_}
+use mathlib.Core.List.{List, [], _∷_}
+use Prim.Native.Nat.{ℕ, zero, suc, _+_, _-_}
 use lib.Dec.{ltb}
 use Rattle.refusal.specs.declared.Refusal.{Refusal}
 use Rattle.refusal.specs.Outcome.{Outcome, good, refused}
@@ -52,6 +53,14 @@ infix 2 refuse_if_
 abbrev pub refuse_if_ : Refusal → Bool → Format (Unit {0})
 refuse_if_ r true = stops r
 refuse_if_ r false = ends tt
+
+-- n of a format, one after the other: each goes by what stands before it.
+unfoldable pub repeated : {A B : Type 0} → (B → Format A) → (B → A → B) → ℕ → B → Format (List A)
+repeated one behind zero before = ends []
+repeated one behind (suc n) before = do
+  x ← one before
+  rest ← repeated one behind n (behind before x)
+  ends (x ∷ rest)
 
 -- ---- a stream parsed by a format
 

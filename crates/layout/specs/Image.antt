@@ -1,10 +1,11 @@
 -- Document 01: what an image holds, or why it is turned down. Every call that checks an image starts here.
 use mathlib.Core.Bool.{_||_}
-use mathlib.Core.List.{List, [], _∷_, map}
-use Prim.Native.Nat.{ℕ, _-_}
+use mathlib.Core.List.{List, [], _∷_, _++_, map}
+use Prim.Native.Nat.{ℕ, _-_, _/_}
 use lib.Dec.{eqb, ltb}
 use lib.ListN.{length, getD}
-use lib.IntN.{ℤ, pos}
+use lib.IntN.{ℤ, pos, natAbs}
+use lib.Ieee.{Float, nan}
 use Rattle.refusal.specs.Outcome.{Outcome, good, _>>_, _>>=_, refuse_if_}
 use Rattle.refusal.specs.Rows.{noSuch}
 use Rattle.memory.specs.declared.Sizes.{Sizes}
@@ -13,10 +14,12 @@ use Rattle.fields.specs.declared.Value.{Value}
 use Rattle.fields.specs.declared.Value.the-variants.{Whole, Single, Missing}
 use Rattle.fields.specs.declared.Layout.{Layout}
 use Rattle.fields.specs.declared.Pair.{Pair}
+use Rattle.fields.specs.declared.Segment.{Segment}
+use Rattle.fields.specs.declared.Term.{Term}
 use Rattle.fields.specs.Rows.{any}
 use Rattle.fields.specs.Lines.{Line, chose, linesOf}
 use Rattle.layout.specs.Format.{Stream, parse}
-use Rattle.layout.specs.Contents.{Found, FoundPair, Calibration, bare, table, Contents, sheetOf}
+use Rattle.layout.specs.Contents.{Found, FoundPair, FoundTerm, FoundSegment, Calibration, bare, table, curve, Contents, sheetOf}
 
 abbrev pub streamIn : Sizes → List ℕ → Stream
 streamIn z image = record { bits = streamBits z; number = streamNumber z image }
@@ -59,6 +62,17 @@ layoutOf c = record { template = c .template; precision = lastChoice (linesOf (c
 abbrev pub pairsIn : Calibration → List FoundPair
 pairsIn bare = []
 pairsIn (table domain pairs) = pairs
+pairsIn (curve segments) = []
+
+-- The segments of its curve: none where there is no curve. And the terms over the whole curve.
+abbrev pub segmentsIn : Calibration → List FoundSegment
+segmentsIn bare = []
+segmentsIn (table domain pairs) = []
+segmentsIn (curve segments) = segments
+
+abbrev pub allTerms : List FoundSegment → List FoundTerm
+allTerms [] = []
+allTerms (s ∷ segments) = s .terms ++ allTerms segments
 
 abbrev pub figure : Value → ℤ
 figure (Whole z) = z
@@ -68,5 +82,24 @@ figure Missing = pos 0
 abbrev pub pairIn : FoundPair → Pair
 pairIn p = record { point = figure (p .point .value); deviation = figure (p .deviation .value) }
 
+abbrev pub float : Value → Float
+float (Whole z) = nan
+float (Single x) = x
+float Missing = nan
+
+-- Its start in billionths of the span, and the number of its terms.
+abbrev pub segmentIn : FoundSegment → Segment
+segmentIn s = record { start = figure (s .start .value); terms = length (s .terms) }
+
+-- Its exponent, which is a whole number, and its coefficient.
+abbrev pub termIn : FoundTerm → Term
+termIn t = record { exponent = pos (natAbs (figure (t .exponent .value)) / 10); coefficient = float (t .coefficient .value) }
+
 abbrev pub points : Contents → List Pair
 points c = map pairIn (pairsIn (c .calibration))
+
+abbrev pub segments : Contents → List Segment
+segments c = map segmentIn (segmentsIn (c .calibration))
+
+abbrev pub terms : Contents → List Term
+terms c = map termIn (allTerms (segmentsIn (c .calibration)))

@@ -1,4 +1,4 @@
--- Document 01, "Layout": where fields, pairs and characters stand in an accepted sheet, as the widths of what stands before them add up.
+-- Document 01, "Layout", and document 02, Note 11: where fields, pairs and characters stand in an accepted sheet, as the widths of what stands before them add up.
 use mathlib.Core.Bool.{cond}
 use Prim.Native.Nat.{ℕ, zero, suc, _+_, _-_, _*_}
 use lib.Dec.{ltb}
@@ -41,6 +41,25 @@ tableBits (suc n) = tableStart + pairBits * suc n
 abbrev pub pairPlace : Layout → ℕ → ℕ
 pairPlace layout i = behindFields layout + tableStart + pairBits * i
 
--- The first bit of character i behind n pairs: selector 3 and the end bit stand before the first.
-abbrev pub characterPlace : Layout → ℕ → ℕ → ℕ
-characterPlace layout n i = behindFields layout + tableBits n + 3 + 7 * i
+-- A curve's block, domain and number of segments stand before its segments, a segment's start and number of terms before its terms, of 39 bits each.
+abbrev pub curveStart : ℕ
+curveStart = 19
+
+abbrev pub segmentHead : ℕ
+segmentHead = 20
+
+abbrev pub termBits : ℕ
+termBits = 39
+
+-- The bits of a curve of n segments and so many terms: none without one.
+abbrev pub curveBits : ℕ → ℕ → ℕ
+curveBits zero terms = 0
+curveBits (suc n) terms = curveStart + segmentHead * suc n + termBits * terms
+
+-- The first bit behind the table or the curve, whichever there is.
+abbrev pub behindBlock : Layout → ℕ → ℕ → ℕ → ℕ
+behindBlock layout points segments terms = behindFields layout + tableBits points + curveBits segments terms
+
+-- The first bit of character i: selector 3 and the end bit stand before the first.
+abbrev pub characterPlace : Layout → ℕ → ℕ → ℕ → ℕ → ℕ
+characterPlace layout points segments terms i = behindBlock layout points segments terms + 3 + 7 * i

@@ -8,7 +8,7 @@ use Rattle.refusal.specs.Outcome.{good}
 use Rattle.refusal.proofs.Outcomes.{good-same}
 use Rattle.fields.specs.declared.Pair.{Pair}
 use Rattle.fields.specs.declared.Domain.the-variants.{Electrical, Physical}
-use Rattle.layout.specs.Contents.{Calibration, bare, table, Contents}
+use Rattle.layout.specs.Contents.{Calibration, bare, table, curve, Contents}
 use Rattle.layout.specs.Image.{contents, pairIn, pairsIn, points}
 use Rattle.layout.proofs.Calibrations.{CalibrationAt}
 use Rattle.layout.proofs.Accepted.{contents-accepted}
@@ -34,6 +34,7 @@ sums-rise : (at : ℕ) (k : Calibration) → CalibrationAt at k → (domainIn k 
 sums-rise at bare h n = tt
 sums-rise at (table Electrical pairs) h n = absurd (n refl)
 sums-rise at (table Physical pairs) h n = calibration-rises at (table Physical pairs) Physical h refl
+sums-rise at (curve segments) h n = tt
 
 -- Two domains.
 not-electrical : (d : TableDomain) → d ≡ Is Physical → d ≡ Is Electrical → ⊥

@@ -16,7 +16,7 @@ use Rattle.fields.specs.Calibration.{D, R}
 use Rattle.fields.specs.Figure.{billion}
 use Rattle.layout.specs.Image.{points}
 use Rattle.sheet.specs.declared.TableDomain.the-variants.{Is}
-use Rattle.build.specs.Build.{pairsLent, pairPieces, tablePieces}
+use Rattle.build.specs.Build.{pairsLent, pairPieces, tablePieces, listed}
 use Rattle.build.proofs.PairPlans.{table-planned}
 use Rattle.line.specs.Line.{deviation, certificateLine}
 use Rattle.line.specs.Certificate.{Slopes, Within}
@@ -66,8 +66,8 @@ distance-of domain lent stored ps q v e f low high K h span slopes p r l g = rw 
 -- Demand 3.
 pub certificate-distance : CertificateDistance
 certificate-distance kind buffer sheet text domain lentPoints image alterations readingKind v dash r K lendable real straight made taken slopes =
-    let b = built kind buffer sheet text domain lentPoints image made in
-    let (ps, pairs) = planned-pairs domain (pairsLent lentPoints) _ (plan-parts sheet text domain lentPoints (b .pieces) (b .plans) .tablePlanned) in
+    let b = built kind buffer sheet text (listed domain lentPoints) image made in
+    let (ps, pairs) = planned-pairs domain (pairsLent lentPoints) _ (plan-parts sheet text (listed domain lentPoints) (b .pieces) (b .plans) .behindPlanned) in
     let s = shown readingKind (altered image alterations) v dash r taken in
     let k = kept-lent kind buffer sheet text domain lentPoints image alterations readingKind (s .holds) lendable real made (s .accepted) in
     let ends = ends-read readingKind (altered image alterations) (s .holds) (s .accepted) in

@@ -18,7 +18,7 @@ use Rattle.layout.specs.Image.{contents, pairIn, pairsIn, points}
 use Rattle.sheet.specs.Check.{domainIn}
 use Rattle.sheet.proofs.ReadLaws.{accepted-reads}
 use Rattle.build.specs.declared.Sheet.{Sheet}
-use Rattle.build.specs.Build.{pairsLent, build}
+use Rattle.build.specs.Build.{pairsLent, listed, build}
 use Rattle.reading.specs.Reading.{least, greatest}
 use Rattle.promises.specs.Lent.{Lendable}
 use Rattle.promises.specs.Again.{keptPair, domainLent}
@@ -36,9 +36,9 @@ pub kept-lent : (kind : ℕ) (buffer : List ℕ) (sheet : Sheet) (text : List �
     Lendable sheet → RealAlterations alterations → build kind buffer sheet text domain lentPoints ≡ good image → contents readingKind (altered image alterations) ≡ good c →
     KeptLent domain lentPoints c
 kept-lent kind buffer sheet text domain lentPoints image alterations readingKind c lendable real made reads =
-    let b = built kind buffer sheet text domain lentPoints image made in
+    let b = built kind buffer sheet text (listed domain lentPoints) image made in
     let bytes : Bytes image = subst Bytes (b .made) (image-bytes (b .sizes) (pack (b .pieces))) in
-    let w = written-and-read-again kind buffer sheet text domain lentPoints image lendable made in
+    let w = written-and-read-again kind buffer sheet text (listed domain lentPoints) image lendable tt made in
     let last : List ℕ = altered image alterations in
     let after : contents kind last ≡ good (held kind (w .0) alterations) = after-alterations kind image (w .0) alterations bytes real (w .1) in
     let k : readingKind ≡ kind = same-kind kind readingKind last (held kind (w .0) alterations) c after reads in
@@ -53,5 +53,5 @@ kept-lent kind buffer sheet text domain lentPoints image alterations readingKind
 pub ends-read : (kind : ℕ) (image : List ℕ) (c : Contents) → contents kind image ≡ good c → (leastIn kind image ≡ least c) × (greatestIn kind image ≡ greatest c)
 ends-read kind image c e =
     let read = accepted-reads kind image c e .fields in
-    let listed : 11 ≤ lastField (c .template) = span-listed (c .template) (le-refl 11) in
-    (ap whole (read 10 (omega arith) (omega (arith, listed))), ap whole (read 11 (omega arith) listed))
+    let many : 11 ≤ lastField (c .template) = span-listed (c .template) (le-refl 11) in
+    (ap whole (read 10 (omega arith) (omega (arith, many))), ap whole (read 11 (omega arith) many))

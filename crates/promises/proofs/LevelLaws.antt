@@ -26,7 +26,7 @@ use Rattle.layout.specs.Pieces.{blockPieces}
 use Rattle.layout.specs.Contents.{Found, Contents}
 use Rattle.layout.specs.Image.{contents, field}
 use Rattle.build.specs.declared.Sheet.{Sheet}
-use Rattle.build.specs.Build.{lent, templateIn, linePieces, fieldPieces, plan, builtIn, build}
+use Rattle.build.specs.Build.{lent, templateIn, linePieces, fieldPieces, plan, builtIn, buildWith}
 use Rattle.change.specs.Change.{changeable, codeFor, rewritten, change, propose, mayCommit, commit}
 use Rattle.change.proofs.Recoding.{Changeable, changeable-good, code-found, change-is, change-made}
 use Rattle.change.proofs.CommitLaws.{commit-is}
@@ -144,5 +144,5 @@ module _ (level : Level) (sheet : Sheet) where
   fields-as = rw (lines-as basic 0 1, lines-as (templateLines (templateIn sheet)) 0 (suc (length basic)))
 
 pub build-asks-no-level : BuildAsksNoLevel
-unfolding build builtIn plan
-build-asks-no-level level kind buffer sheet text domain points = rw (fields-as level sheet)
+unfolding buildWith builtIn plan
+build-asks-no-level level kind buffer sheet text table = rw (fields-as level sheet)

@@ -7,6 +7,7 @@ pub mod LevelLaws
 pub mod ByIndex
 pub mod PlannedFields
 pub mod PlannedPairs
+pub mod PlannedCurve
 pub mod PlannedSheet
 pub mod Written
 pub mod Rebuilt

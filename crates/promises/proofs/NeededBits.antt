@@ -2,15 +2,17 @@
 use mathlib.Core.Path.{_≡_, refl, sym, ap, ap₂, _∙_, subst}
 use mathlib.Core.Bool.{Bool, true, false, cond}
 use mathlib.Core.List.{List, [], _∷_, _++_, map}
+use mathlib.Core.Option.{Option, none as none-before, some}
 use Prim.Native.Nat.{ℕ, zero, suc, _+_, _-_, _*_, _≤_}
 use native.Mathlib.Omega.{arith}
-use lib.Dec.{ltb}
+use lib.Dec.{ltb, leb}
 use lib.IntN.{ℤ, pos}
-use lib.ListN.{length, length-map, length-append}
-use borrow.Author.Tests.{lt-ltb}
+use lib.ListN.{length, drop, length-map, length-append}
+use lib.Seq.{length-take-le}
+use borrow.Author.Tests.{lt-ltb, leb-true}
 use Rattle.refusal.specs.Outcome.{good, _>>=_}
 use Rattle.refusal.specs.Rows.{outOfRange}
-use Rattle.refusal.proofs.Outcomes.{good-same, good-bind, passed}
+use Rattle.refusal.proofs.Outcomes.{good-same, good-bind, passed, both}
 use Rattle.memory.specs.Pieces.{Piece, piece, needed}
 use Rattle.memory.proofs.PieceLaws.{needed-append}
 use Rattle.fields.specs.declared.Value.the-variants.{Whole}
@@ -22,17 +24,21 @@ use Rattle.fields.specs.declared.Layout.{Layout}
 use Rattle.fields.specs.Rules.{outside, encode}
 use Rattle.fields.specs.Rows.{always, bridgePrecision, resistancePrecision}
 use Rattle.fields.specs.Lines.{Line, chose, basic, template33, template32, templateLines, linesOf, numberOf, bitsBefore}
-use Rattle.layout.specs.Image.{pairIn, pairsIn}
-use Rattle.layout.specs.Places.{blockBits, fieldPlace, behindFields, tableBits}
+use Rattle.fields.specs.declared.Segment.{Segment}
+use Rattle.fields.specs.declared.Term.{Term}
+use Rattle.layout.specs.Image.{pairIn, pairsIn, segmentsIn, segmentIn, allTerms, termIn}
+use Rattle.layout.specs.Places.{blockBits, fieldPlace, behindFields, tableBits, curveBits}
 use Rattle.layout.specs.Pieces.{blockPieces, endCode}
 use Rattle.layout.proofs.Choices.{Steady, basic-settled, template-steady, bits-append}
-use Rattle.layout.proofs.Calibrations.{table-needed}
+use Rattle.layout.proofs.Calibrations.{calibration-needed}
 use Rattle.layout.proofs.Endings.{text-needed}
 use Rattle.build.specs.declared.Sheet.{Sheet}
-use Rattle.build.specs.Build.{lent, templateIn, linePieces, pairsLent}
-use Rattle.promises.specs.Again.{keptPair, BitsNeeded, BridgeBits, ResistanceBits}
-use Rattle.promises.proofs.PlannedPairs.{table-stands}
-use Rattle.promises.proofs.PlannedSheet.{plan-parts, half}
+use Rattle.build.specs.Build.{lent, templateIn, linePieces, pairsLent, segmentPieces, Table, listed, drawn, behindPieces}
+use Rattle.build.proofs.CurvePlans.{segments-planned, block-planned}
+use Rattle.build.proofs.SegmentPlans.{start-planned}
+use Rattle.promises.specs.Again.{keptPair, keptSegment, segmentsLent, termsIn, behindBits, BitsNeeded, BridgeBits, ResistanceBits}
+use Rattle.promises.specs.Lent.{LendableTable}
+use Rattle.promises.proofs.PlannedSheet.{plan-parts, BehindStands, behind-stands}
 
 -- ---- the bits of lines
 
@@ -107,16 +113,41 @@ fields-needed t choice =
       ap (λ (b : Bool). cond b blockBits 0) (lt-ltb (length basic) (suc (length (basic ++ templateLines t))) (omega (arith, length-append basic (templateLines t)))),
     )
 
+-- The bits of what stands behind the fields.
+behind-bits : (table : Table) → LendableTable table → (ps : List Piece) → behindPieces table ≡ good ps → (k : BehindStands 0 table ps) →
+    tableBits (length (pairsIn (k .calibration))) + curveBits (length (segmentsIn (k .calibration))) (length (allTerms (segmentsIn (k .calibration)))) ≡ behindBits table
+behind-bits (listed domain points) lendable ps e k =
+    let count : length (pairsIn (k .calibration)) ≡ length (pairsLent points) =
+    sym (length-map (pairsIn (k .calibration)) pairIn) ∙ ap length (k .keepsPoints) ∙ length-map (pairsLent points) keptPair in
+    let none : length (segmentsIn (k .calibration)) ≡ 0 = sym (length-map (segmentsIn (k .calibration)) segmentIn) ∙ ap length (k .keepsSegments) in
+    omega (arith, ap tableBits count, ap (λ (n : ℕ). curveBits n (length (allTerms (segmentsIn (k .calibration))))) none)
+behind-bits (drawn given) lendable ps e k =
+    let b = block-planned given ps e in
+    let most = leb-true (given .count) 20 (both (leb 1 (given .count)) (leb (given .count) 20) (b .counted) .1) in
+    let none : length (pairsIn (k .calibration)) ≡ 0 = sym (length-map (pairsIn (k .calibration)) pairIn) ∙ ap length (k .keepsPoints) in
+    let count : length (segmentsIn (k .calibration)) ≡ given .count =
+    sym (length-map (segmentsIn (k .calibration)) segmentIn) ∙ ap length (k .keepsSegments) ∙ length-map (segmentsLent given) keptSegment
+    ∙ length-take-le (given .count) (given .segments) (omega (arith, lendable .segments)) in
+    let all : length (allTerms (segmentsIn (k .calibration))) ≡ termsIn (segmentsLent given) =
+    sym (length-map (allTerms (segmentsIn (k .calibration))) termIn) ∙ ap length (k .keepsTerms)
+    ∙ length-take-le (termsIn (segmentsLent given)) (given .terms) (omega (arith, lendable .terms, terms-few none-before 0 0 (segmentsLent given) (given .terms) (b .pieces) (b .plans) (omega arith))) in
+    omega (arith, ap tableBits none, ap₂ curveBits count all)
+  where
+    terms-few : (before : Option ℕ) (i total : ℕ) (segments : List Segment) (terms : List Term) (ps : List Piece) → segmentPieces before i total segments terms ≡ good ps → total ≤ 30 → total + termsIn segments ≤ 30
+    terms-few before i total [] terms ps e few = omega arith
+    terms-few before i total (s ∷ segments) terms ps e few =
+        let d = segments-planned before i total s segments terms ps e in
+        let p = start-planned before i total s (d .start) (d .startCoded) in
+        omega (arith, terms-few (some (d .start)) (suc i) (total + s .terms) segments (drop (s .terms) terms) (d .rest) (d .others) (p .few))
+
 pub bits-needed : BitsNeeded
-bits-needed sheet text domain lentPoints precision pieces v e =
-    let d = plan-parts sheet text domain lentPoints pieces e in
+bits-needed sheet text table precision pieces lendable v e =
+    let d = plan-parts sheet text table pieces e in
     let t : Template = templateIn sheet in
-    let ts : List Piece = d .table in
+    let ts : List Piece = d .behind in
     let es : List Piece = piece 2 3 ∷ piece 1 (endCode (sheet .«end_bit»)) ∷ map (piece 7) text in
     let (choice, own, chosen) = steady-needed sheet (templateLines t) (template-steady t) 0 (suc (length basic)) (d .own) (d .ownPlanned) in
-    let k = table-stands 0 domain (pairsLent lentPoints) ts (omega (arith, half lentPoints, d .few)) (d .tablePlanned) in
-    let count : length (pairsIn (k .calibration)) ≡ length (pairsLent lentPoints) =
-    sym (length-map (pairsIn (k .calibration)) pairIn) ∙ ap length (k .keeps) ∙ length-map (pairsLent lentPoints) keptPair in
+    let k = behind-stands 0 table ts lendable (d .tested) (d .behindPlanned) in
     let same : precision ≡ choice = lent-choice sheet t precision choice v chosen in
     let fs : List Piece = d .basics ++ (blockPieces (numberOf t) ++ d .own) in
     omega (
@@ -131,8 +162,8 @@ bits-needed sheet text domain lentPoints precision pieces v e =
       basic-bits choice,
       own,
       ap needed (k .pieces),
-      table-needed 0 (k .calibration) (k .stands),
-      ap tableBits count,
+      calibration-needed 0 (k .calibration) (k .stands),
+      behind-bits table lendable ts (d .behindPlanned) k,
       fields-needed t choice,
       ap (λ (n : ℕ). behindFields (record { template = t; precision = n })) same,
     )

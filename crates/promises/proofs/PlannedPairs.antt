@@ -21,8 +21,8 @@ use Rattle.fields.proofs.RowLaws.{point-sound, deviation-sound}
 use Rattle.fields.proofs.RuleLaws.{stepped-whole}
 use Rattle.fields.proofs.CalibrationLaws.{follows-anywhere}
 use Rattle.fields.proofs.StoredLaws.{reads-back, stored-again}
-use Rattle.layout.specs.Contents.{Found, FoundPair, Calibration, bare, table, paired, codesIn}
-use Rattle.layout.specs.Image.{figure, pairIn, pairsIn}
+use Rattle.layout.specs.Contents.{Found, FoundPair, Calibration, bare, table, curve, paired, codesIn}
+use Rattle.layout.specs.Image.{figure, pairIn, pairsIn, segmentsIn}
 use Rattle.layout.specs.Pieces.{blockPieces}
 use Rattle.layout.proofs.Fields.{found, FieldAt, width-is}
 use Rattle.layout.proofs.Calibrations.{foundPairPieces, PairAt, foundPairsPieces, PairsAt, calibrationPieces, TableAt, CalibrationAt}
@@ -106,9 +106,10 @@ pub record TableStands (at : ℕ) (domain : Domain) (pairs : List Pair) (ps : Li
   pub stands : CalibrationAt at calibration
   pub keeps : map pairIn (pairsIn calibration) ≡ map keptPair pairs
   pub domained : domainIn calibration ≡ domainLent domain pairs
+  pub straight : segmentsIn calibration ≡ []
 
 pub table-stands : (at : ℕ) (domain : Domain) (pairs : List Pair) (ps : List Piece) → length pairs ≤ 127 → tablePieces domain pairs ≡ good ps → TableStands at domain pairs ps
-table-stands at domain [] ps few e = record { calibration = bare; pieces = sym (no-table domain ps e); stands = tt; keeps = refl; domained = refl }
+table-stands at domain [] ps few e = record { calibration = bare; pieces = sym (no-table domain ps e); stands = tt; keeps = refl; domained = refl; straight = refl }
 table-stands at domain (p ∷ pairs) ps few e =
     let d = table-planned domain p pairs ps e in
     let r = pairs-stand domain none 0 (at + 18) (p ∷ pairs) (d .pieces) (d .plans) in
@@ -120,12 +121,14 @@ table-stands at domain (p ∷ pairs) ps few e =
       stands = record { some = omega (arith, r .count); most = omega (arith, r .count); stand = r .stand };
       keeps = r .keeps;
       domained = refl;
+      straight = refl;
     }
 
-pub table-again : (at : ℕ) (c : Calibration) (domain : Domain) → CalibrationAt at c → InDomain (domainIn c) domain → tablePieces domain (map pairIn (pairsIn c)) ≡ good (calibrationPieces c)
+pub table-again : (at : ℕ) (c : Calibration) (domain : Domain) → CalibrationAt at c → segmentsIn c ≡ [] → InDomain (domainIn c) domain → tablePieces domain (map pairIn (pairsIn c)) ≡ good (calibrationPieces c)
 unfolding tablePieces
-table-again at bare domain h d = refl
-table-again at (table found []) domain h d = absurd (omega (arith, h .some))
-table-again at (table found (x ∷ xs)) domain h d =
+table-again at bare domain h z d = refl
+table-again at (table found []) domain h z d = absurd (omega (arith, h .some))
+table-again at (table found (x ∷ xs)) domain h z d =
     rw (← d, pairs-again found none 0 (at + 18) (x ∷ xs) (h .stand))
     (ap (λ (n : ℕ). good (blockPieces 40 ++ (piece 1 (domainCode found) ∷ piece 7 (suc n) ∷ foundPairsPieces (x ∷ xs)))) (length-map xs pairIn))
+table-again at (curve segments) domain h z d = absurd (omega (arith, h .some, ap length z))

@@ -2,15 +2,16 @@
 use mathlib.Core.Path.{_≡_, refl, sym, ap, ap₂, _∙_, subst}
 use mathlib.Core.Bool.{Bool, true, false, not, _&&_, _||_}
 use mathlib.Core.List.{List, [], _∷_, _++_, map, append-assoc}
-use Prim.Native.Nat.{ℕ, zero, suc, _+_, _-_, _*_, _/_, _%_, _≤_}
+use Prim.Native.Nat.{ℕ, zero, suc, _+_, _-_, _*_, _/_, _%_, _≤_, _<_}
 use native.Mathlib.Omega.{arith}
 use lib.Dec.{eqb, ltb, leb}
 use lib.IntN.{ℤ}
-use lib.ListN.{length, length-map}
+use lib.ListN.{length, take, length-map}
 use borrow.Author.Tests.{ltb-false, le-ltb, lt-ltb, leb-true, leb-false, eqb-false, ne-eqb}
-use Rattle.refusal.specs.Outcome.{good}
+use Rattle.refusal.specs.declared.Refusal.{Refusal}
+use Rattle.refusal.specs.Outcome.{good, refuse_if_}
 use Rattle.refusal.specs.Rows.{wrongSort, outOfRange, wrongList}
-use Rattle.refusal.proofs.Outcomes.{good-same, good-bind, passed, neither, bind-good}
+use Rattle.refusal.proofs.Outcomes.{good-same, good-bind, good-then, passed, no-value, neither, bind-good}
 use Rattle.memory.specs.Pieces.{Piece, piece, needed}
 use Rattle.memory.proofs.PieceLaws.{needed-append}
 use Rattle.fields.specs.declared.Template.{Template}
@@ -18,8 +19,8 @@ use Rattle.fields.specs.Lines.{basic, templateLines, numberOf, ending}
 use Rattle.fields.specs.Stored.{Real}
 use Rattle.fields.specs.declared.Domain.{Domain}
 use Rattle.fields.proofs.RowLaws.{basic-sound, lines-sound}
-use Rattle.layout.specs.Contents.{Found, Calibration, bare, table, Contents}
-use Rattle.layout.specs.Image.{pairIn, pairsIn, points}
+use Rattle.layout.specs.Contents.{Found, Calibration, bare, table as tableFound, curve as curveFound, Contents}
+use Rattle.layout.specs.Image.{pairIn, pairsIn, segmentsIn, allTerms, segmentIn, termIn, points, segments, terms}
 use Rattle.layout.specs.Pieces.{blockPieces, endCode}
 use Rattle.layout.proofs.Fields.{pieceOf, laid-length}
 use Rattle.layout.proofs.Calibrations.{calibrationPieces, CalibrationAt}
@@ -27,10 +28,12 @@ use Rattle.layout.proofs.Endings.{Characters, zeroIf, text-needed, charactersFr
 use Rattle.layout.proofs.Sheets.{Formed, sheetPieces}
 use Rattle.sheet.specs.Check.{domainIn}
 use Rattle.build.specs.declared.Sheet.{Sheet}
-use Rattle.build.specs.Build.{lent, templateIn, linePieces, fieldPieces, unfit, endingPieces, pairsLent, tablePieces, plan}
-use Rattle.promises.specs.Again.{keptPair, domainLent, InDomain}
+use Rattle.build.specs.Build.{lent, templateIn, linePieces, fieldPieces, unfit, endingPieces, pairsLent, tablePieces, Table, listed, drawn, listTested, behindPieces, plan}
+use Rattle.promises.specs.Lent.{LendableTable}
+use Rattle.promises.specs.Again.{segmentsLent, keptPoints, keptDomain, keptSegments, keptTerms, InDomain}
 use Rattle.promises.proofs.PlannedFields.{KeptFrom, LentFrom, lines-stand, lines-again, kept-append, lent-split}
 use Rattle.promises.proofs.PlannedPairs.{table-stands, table-again}
+use Rattle.promises.proofs.PlannedCurve.{curve-stands, curve-again}
 
 -- ---- the ending
 
@@ -76,28 +79,28 @@ laid-ending f endBit text stray h = rw (stray, characters-fit text h)
 
 -- ---- a plan in its parts
 
-pub record PlanParts (sheet : Sheet) (text : List ℕ) (domain : Domain) (lentPoints : List ℤ) (pieces : List Piece) : Type 0 where
+pub record PlanParts (sheet : Sheet) (text : List ℕ) (table : Table) (pieces : List Piece) : Type 0 where
   pub basics : List Piece
   pub own : List Piece
-  pub table : List Piece
-  pub few : length lentPoints ≤ 254
+  pub behind : List Piece
+  pub tested : listTested table ≡ good tt
   pub basicsPlanned : linePieces sheet basic 0 1 ≡ good basics
   pub ownPlanned : linePieces sheet (templateLines (templateIn sheet)) 0 (suc (length basic)) ≡ good own
   pub stray : strayText (sheet .«end_bit») text ≡ false
   pub characters : Characters text
-  pub tablePlanned : tablePieces domain (pairsLent lentPoints) ≡ good table
-  pub joined : (basics ++ (blockPieces (numberOf (templateIn sheet)) ++ own)) ++ (table ++ endLaid (sheet .«end_bit») text) ≡ pieces
+  pub behindPlanned : behindPieces table ≡ good behind
+  pub joined : (basics ++ (blockPieces (numberOf (templateIn sheet)) ++ own)) ++ (behind ++ endLaid (sheet .«end_bit») text) ≡ pieces
 
-pub plan-parts : (sheet : Sheet) (text : List ℕ) (domain : Domain) (lentPoints : List ℤ) (pieces : List Piece) → plan sheet text domain lentPoints ≡ good pieces →
-    PlanParts sheet text domain lentPoints pieces
+pub plan-parts : (sheet : Sheet) (text : List ℕ) (table : Table) (pieces : List Piece) → plan sheet text table ≡ good pieces →
+    PlanParts sheet text table pieces
 unfolding plan fieldPieces endingPieces
-plan-parts sheet text domain lentPoints pieces e =
+plan-parts sheet text table pieces e =
     let f : ℕ = ending (templateIn sheet) in
     let b : Bool = sheet .«end_bit» in
-    let (t, e0) = passed (wrongList (length lentPoints)) (eqb (length lentPoints % 2) 1 || ltb 254 (length lentPoints)) _ pieces e in
+    let (t, e0) = good-then (listTested table) _ pieces e in
     let (fs, e1, e2) = good-bind (fieldPieces sheet) _ pieces e0 in
     let (es, e3, e4) = good-bind (endingPieces f b text) _ pieces e2 in
-    let (ts, e5, e6) = good-bind (tablePieces domain (pairsLent lentPoints)) _ pieces e4 in
+    let (ts, e5, e6) = good-bind (behindPieces table) _ pieces e4 in
     let (bs, f1, f2) = good-bind (linePieces sheet basic 0 1) _ fs e1 in
     let (os, f3, f4) = good-bind (linePieces sheet (templateLines (templateIn sheet)) 0 (suc (length basic))) _ fs f2 in
     let (s, g1) = passed (wrongSort f) (strayText b text) _ es e3 in
@@ -105,13 +108,13 @@ plan-parts sheet text domain lentPoints pieces e =
     record {
       basics = bs;
       own = os;
-      table = ts;
-      few = ltb-false 254 (length lentPoints) (neither (eqb (length lentPoints % 2) 1) (ltb 254 (length lentPoints)) t .1);
+      behind = ts;
+      tested = t;
       basicsPlanned = f1;
       ownPlanned = f3;
       stray = s;
       characters = fit-characters text u;
-      tablePlanned = e5;
+      behindPlanned = e5;
       joined = ap₂ (λ p q. p ++ (ts ++ q)) (good-same f4) (good-same g2) ∙ good-same e6;
     }
 
@@ -119,6 +122,49 @@ pub half : (lentPoints : List ℤ) → 2 * length (pairsLent lentPoints) ≤ len
 half [] = omega arith
 half (a ∷ []) = omega arith
 half (a ∷ s ∷ lentPoints) = omega (arith, half lentPoints)
+
+-- ---- what stands behind the fields
+
+stands : (r : Refusal) (t : Bool) → (refuse r if t) ≡ good tt → t ≡ false
+stands r true e = no-value e
+stands r false e = refl
+
+few-lent : (domain : Domain) (lentPoints : List ℤ) → listTested (listed domain lentPoints) ≡ good tt → length lentPoints ≤ 254
+few-lent domain lentPoints e =
+    ltb-false 254 (length lentPoints) (neither (eqb (length lentPoints % 2) 1) (ltb 254 (length lentPoints)) (stands (wrongList (length lentPoints)) _ e) .1)
+
+pub record BehindStands (at : ℕ) (table : Table) (ps : List Piece) : Type 0 where
+  pub calibration : Calibration
+  pub pieces : ps ≡ calibrationPieces calibration
+  pub stands : CalibrationAt at calibration
+  pub keepsPoints : map pairIn (pairsIn calibration) ≡ keptPoints table
+  pub keepsDomain : domainIn calibration ≡ keptDomain table
+  pub keepsSegments : map segmentIn (segmentsIn calibration) ≡ keptSegments table
+  pub keepsTerms : map termIn (allTerms (segmentsIn calibration)) ≡ keptTerms table
+
+pub behind-stands : (at : ℕ) (table : Table) (ps : List Piece) → LendableTable table → listTested table ≡ good tt → behindPieces table ≡ good ps → BehindStands at table ps
+behind-stands at (listed domain lentPoints) ps lendable t e =
+    let k = table-stands at domain (pairsLent lentPoints) ps (omega (arith, half lentPoints, few-lent domain lentPoints t)) e in
+    record {
+      calibration = k .calibration;
+      pieces = k .pieces;
+      stands = k .stands;
+      keepsPoints = k .keeps;
+      keepsDomain = k .domained;
+      keepsSegments = ap (map segmentIn) (k .straight);
+      keepsTerms = ap (λ l. map termIn (allTerms l)) (k .straight);
+    }
+behind-stands at (drawn given) ps lendable t e =
+    let k = curve-stands at given ps lendable e in
+    record {
+      calibration = curveFound (k .founds);
+      pieces = k .pieces;
+      stands = k .stands;
+      keepsPoints = refl;
+      keepsDomain = refl;
+      keepsSegments = k .keeps;
+      keepsTerms = k .keepsTerms;
+    }
 
 -- ---- the pieces of a plan, in the order of a sheet's
 
@@ -153,33 +199,35 @@ module _ (S number : ℕ) (endBit : Bool) (text : List ℕ) (bs os ts : List Pie
 
 -- ---- planned, and standing
 
-pub record PlanStands (S : ℕ) (sheet : Sheet) (text : List ℕ) (domain : Domain) (lentPoints : List ℤ) (pieces : List Piece) : Type 0 where
+pub record PlanStands (S : ℕ) (sheet : Sheet) (text : List ℕ) (table : Table) (pieces : List Piece) : Type 0 where
   pub contents : Contents
   pub formed : Formed S contents
   pub pieces-are : sheetPieces formed ≡ pieces ++ zeroIf (sheet .«end_bit» && leb (needed pieces + 7) S)
   pub sameTemplate : contents .template ≡ templateIn sheet
   pub keepsFields : KeptFrom sheet 1 (contents .fields)
-  pub keepsPoints : points contents ≡ map keptPair (pairsLent lentPoints)
-  pub keepsDomain : domainIn (contents .calibration) ≡ domainLent domain (pairsLent lentPoints)
+  pub keepsPoints : points contents ≡ keptPoints table
+  pub keepsDomain : domainIn (contents .calibration) ≡ keptDomain table
+  pub keepsSegments : segments contents ≡ keptSegments table
+  pub keepsTerms : terms contents ≡ keptTerms table
   pub sameEnd : contents .endBit ≡ sheet .«end_bit»
   pub sameText : contents .text ≡ text
 
-pub plan-stands : (S : ℕ) (sheet : Sheet) (text : List ℕ) (domain : Domain) (lentPoints : List ℤ) (pieces : List Piece) → ((f : ℕ) → Real (lent sheet f)) →
-    plan sheet text domain lentPoints ≡ good pieces → needed pieces ≤ S → PlanStands S sheet text domain lentPoints pieces
-plan-stands S sheet text domain lentPoints pieces real e inside =
-    let d = plan-parts sheet text domain lentPoints pieces e in
+pub plan-stands : (S : ℕ) (sheet : Sheet) (text : List ℕ) (table : Table) (pieces : List Piece) → ((f : ℕ) → Real (lent sheet f)) → LendableTable table →
+    plan sheet text table ≡ good pieces → needed pieces ≤ S → PlanStands S sheet text table pieces
+plan-stands S sheet text table pieces real lendable e inside =
+    let d = plan-parts sheet text table pieces e in
     let t : Template = templateIn sheet in
     let b : Bool = sheet .«end_bit» in
     let a = lines-stand sheet real basic 0 1 0 (d .basics) basic-sound (d .basicsPlanned) in
     let ownAt : ℕ = needed (map pieceOf (a .fields)) + 10 in
     let o = lines-stand sheet real (templateLines t) 0 (suc (length basic)) ownAt (d .own) (lines-sound t) (d .ownPlanned) in
     let behind : ℕ = ownAt + needed (map pieceOf (o .fields)) in
-    let k = table-stands behind domain (pairsLent lentPoints) (d .table) (omega (arith, half lentPoints, d .few)) (d .tablePlanned) in
+    let k = behind-stands behind table (d .behind) lendable (d .tested) (d .behindPlanned) in
     let ts : List Piece = calibrationPieces (k .calibration) in
     let endAt : ℕ = behind + needed ts + 2 in
     let p : laidDown S (numberOf t) b text (map pieceOf (a .fields)) (map pieceOf (o .fields)) ts ≡ pieces =
     ap₂ (λ q r. (q ++ (blockPieces (numberOf t) ++ map pieceOf (o .fields))) ++ (r ++ endLaid b text)) (sym (a .pieces)) (sym (k .pieces))
-    ∙ ap (λ q. (d .basics ++ (blockPieces (numberOf t) ++ q)) ++ (d .table ++ endLaid b text)) (sym (o .pieces)) ∙ d .joined in
+    ∙ ap (λ q. (d .basics ++ (blockPieces (numberOf t) ++ q)) ++ (d .behind ++ endLaid b text)) (sym (o .pieces)) ∙ d .joined in
     let n : endAt + 1 + 7 * length text ≡ needed pieces =
     laid-needed S (numberOf t) b text (map pieceOf (a .fields)) (map pieceOf (o .fields)) ts ∙ ap needed p in
     let first : suc (length basic) ≡ 1 + length (a .fields) = omega (arith, laid-length basic 0 0 (a .fields) (a .laid)) in
@@ -213,8 +261,10 @@ plan-stands S sheet text domain lentPoints pieces real e inside =
           ∙ ap (λ q. q ++ zeroIf (b && leb (needed q + 7) S)) p;
       sameTemplate = refl;
       keepsFields = kept-append sheet 1 (a .fields) (o .fields) (a .keeps) (subst (λ (f : ℕ). KeptFrom sheet f (o .fields)) first (o .keeps));
-      keepsPoints = k .keeps;
-      keepsDomain = k .domained;
+      keepsPoints = k .keepsPoints;
+      keepsDomain = k .keepsDomain;
+      keepsSegments = k .keepsSegments;
+      keepsTerms = k .keepsTerms;
       sameEnd = refl;
       sameText = refl;
     }
@@ -230,11 +280,36 @@ few-pairs at c h = omega (arith, length-map (pairsIn (c .calibration)) pairIn, g
   where
     go : (k : Calibration) → CalibrationAt at k → length (pairsIn k) ≤ 127
     go bare h = omega arith
-    go (table domain pairs) h = h .most
+    go (tableFound domain pairs) h = h .most
+    go (curveFound segments) h = omega arith
 
-module _ {S : ℕ} {c : Contents} (h : Formed S c) (sheet : Sheet) (domain : Domain) (lentPoints : List ℤ) (lents : LentFrom sheet 1 (c .fields)) (sameTemplate : templateIn sheet ≡ c .template)
-    (sameEnd : sheet .«end_bit» ≡ c .endBit) (samePoints : pairsLent lentPoints ≡ points c) (two : length lentPoints ≡ 2 * length (points c))
-    (inDomain : InDomain (domainIn (c .calibration)) domain) where
+-- What is lent behind the fields is what stands there.
+abbrev pub LentBehind : Table → Contents → Type 0
+LentBehind (listed domain lentPoints) c =
+    (pairsLent lentPoints ≡ points c) × (length lentPoints ≡ 2 * length (points c)) × (segmentsIn (c .calibration) ≡ []) × InDomain (domainIn (c .calibration)) domain
+LentBehind (drawn given) c =
+    (given .count ≡ length (segments c)) × (segmentsLent given ≡ segments c) × (take (length (terms c)) (given .terms) ≡ terms c) × (0 < length (segments c))
+
+tested-again : (at : ℕ) (c : Contents) → CalibrationAt at (c .calibration) → (table : Table) → LentBehind table c → listTested table ≡ good tt
+tested-again at c h (listed domain lentPoints) l = rw (right-length lentPoints (length (points c)) (l .1) (few-pairs at c h))
+tested-again at c h (drawn given) l = refl
+
+behind-again : (at : ℕ) (c : Contents) → CalibrationAt at (c .calibration) → (table : Table) → LentBehind table c → behindPieces table ≡ good (calibrationPieces (c .calibration))
+behind-again at c h (listed domain lentPoints) l = ap (tablePieces domain) (l .0) ∙ table-again at (c .calibration) domain h (l .2) (l .3)
+behind-again at c h (drawn given) l = go (c .calibration) refl h
+  where
+    go : (k : Calibration) → c .calibration ≡ k → CalibrationAt at k → behindPieces (drawn given) ≡ good (calibrationPieces (c .calibration))
+    go bare e h = absurd (omega (arith, l .3, ap (λ q. length (map segmentIn (segmentsIn q))) e))
+    go (tableFound domain pairs) e h = absurd (omega (arith, l .3, ap (λ q. length (map segmentIn (segmentsIn q))) e))
+    go (curveFound xs) e h =
+        let same : segments c ≡ map segmentIn xs = ap (λ q. map segmentIn (segmentsIn q)) e in
+        let all : terms c ≡ map termIn (allTerms xs) = ap (λ q. map termIn (allTerms (segmentsIn q))) e in
+        curve-again at xs given h (l .0 ∙ ap length same ∙ length-map xs segmentIn) (l .1 ∙ same)
+        (ap (λ (n : ℕ). take n (given .terms)) (sym (ap length all ∙ length-map (allTerms xs) termIn)) ∙ l .2 ∙ all)
+        ∙ ap (λ q. good (calibrationPieces q)) (sym e)
+
+module _ {S : ℕ} {c : Contents} (h : Formed S c) (sheet : Sheet) (table : Table) (lents : LentFrom sheet 1 (c .fields)) (sameTemplate : templateIn sheet ≡ c .template)
+    (sameEnd : sheet .«end_bit» ≡ c .endBit) (lentBehind : LentBehind table c) where
   abbrev bs : List Piece
   bs = map pieceOf (h .basics)
 
@@ -259,14 +334,14 @@ module _ {S : ℕ} {c : Contents} (h : Formed S c) (sheet : Sheet) (domain : Dom
       bind-good _ (lines-again sheet basic 0 1 0 (h .basics) basic-sound (h .basicsLaid) first) ∙ bind-good _ own
       ∙ ap (λ t. good (bs ++ (blockPieces (numberOf t) ++ os))) sameTemplate
 
-  pub plan-again : plan sheet (c .text) domain lentPoints ≡ good again
+  pub plan-again : plan sheet (c .text) table ≡ good again
   unfolding plan
   plan-again =
       let stray = room-text S (c .endBit) (h .endAt + 1) (c .text) (h .ending .room) in
-      rw (right-length lentPoints (length (points c)) two (few-pairs (h .behind) c (h .calibrated)))
+      rw (tested-again (h .behind) c (h .calibrated) table lentBehind)
       (bind-good _ fields-again
       ∙ bind-good _ (ap (λ b. endingPieces (ending (templateIn sheet)) b (c .text)) sameEnd ∙ laid-ending (ending (templateIn sheet)) (c .endBit) (c .text) stray (h .ending .characters))
-      ∙ bind-good _ (ap (tablePieces domain) samePoints ∙ table-again (h .behind) (c .calibration) domain (h .calibrated) inDomain))
+      ∙ bind-good _ (behind-again (h .behind) c (h .calibrated) table lentBehind))
 
   pub zero-behind : again ++ zeroIf (c .endBit && leb (needed again + 7) S) ≡ sheetPieces h
   zero-behind =

@@ -6,7 +6,6 @@ use Prim.Native.Nat.{ℕ, zero, suc, _+_, _-_, _^_, _≤_, _<_}
 use native.Mathlib.Nat.{lt-of-lt-of-le}
 use native.Mathlib.Omega.{arith}
 use lib.Dec.{leb, ltb}
-use lib.IntN.{ℤ}
 use lib.ListN.{length}
 use lib.Pow.{pow-mono}
 use borrow.Author.Tests.{leb-true, ltb-false}
@@ -18,7 +17,6 @@ use Rattle.memory.specs.Image.{imageSizes, streamBits, imageOf}
 use Rattle.memory.specs.Pieces.{Piece, pack, needed}
 use Rattle.memory.proofs.PieceLaws.{Holds, pack-lt, holds-pack}
 use Rattle.fields.proofs.TemplateFacts.{last-most}
-use Rattle.fields.specs.declared.Domain.{Domain}
 use Rattle.fields.specs.Stored.{kept, Real}
 use Rattle.layout.specs.Contents.{Found, Contents, sheetOf}
 use Rattle.layout.specs.Image.{contents}
@@ -29,8 +27,8 @@ use Rattle.layout.proofs.Places.{fields-count, fields-rows}
 use Rattle.layout.proofs.Accepted.{written-contents}
 use Rattle.build.specs.declared.Slot.{Slot}
 use Rattle.build.specs.declared.Sheet.{Sheet}
-use Rattle.build.specs.Build.{plan, builtIn, build}
-use Rattle.promises.specs.Lent.{AllReal, Lendable}
+use Rattle.build.specs.Build.{Table, plan, builtIn, buildWith}
+use Rattle.promises.specs.Lent.{AllReal, Lendable, LendableTable}
 use Rattle.promises.specs.Again.{keptAll, SameSheet, WrittenAndReadAgain, ZeroEndsText}
 use Rattle.promises.proofs.PlannedFields.{KeptFrom, valueAt, Slots, slots-all, slot-first, slots-others}
 use Rattle.promises.proofs.PlannedSheet.{plan-stands}
@@ -62,20 +60,20 @@ kept-values sheet f (x ∷ xs) (s ∷ slots) h few k =
 
 -- ---- a build's parts
 
-pub record Built (kind : ℕ) (buffer : List ℕ) (sheet : Sheet) (text : List ℕ) (domain : Domain) (points : List ℤ) (image : List ℕ) : Type 0 where
+pub record Built (kind : ℕ) (buffer : List ℕ) (sheet : Sheet) (text : List ℕ) (table : Table) (image : List ℕ) : Type 0 where
   pub sizes : Sizes
   pub pieces : List Piece
   pub fitting : imageSizes kind (length buffer) ≡ good sizes
-  pub plans : plan sheet text domain points ≡ good pieces
+  pub plans : plan sheet text table ≡ good pieces
   pub inside : needed pieces ≤ streamBits sizes
   pub made : imageOf sizes (pack pieces) ≡ image
 
-pub built : (kind : ℕ) (buffer : List ℕ) (sheet : Sheet) (text : List ℕ) (domain : Domain) (points : List ℤ) (image : List ℕ) →
-    build kind buffer sheet text domain points ≡ good image → Built kind buffer sheet text domain points image
-unfolding build builtIn
-built kind buffer sheet text domain points image e =
+pub built : (kind : ℕ) (buffer : List ℕ) (sheet : Sheet) (text : List ℕ) (table : Table) (image : List ℕ) →
+    buildWith kind buffer sheet text table ≡ good image → Built kind buffer sheet text table image
+unfolding buildWith builtIn
+built kind buffer sheet text table image e =
     let (z, e1, e2) = good-bind (imageSizes kind (length buffer)) _ image e in
-    let (pieces, e3, e4) = good-bind (plan sheet text domain points) _ image e2 in
+    let (pieces, e3, e4) = good-bind (plan sheet text table) _ image e2 in
     let (t, e5) = passed (tooLong (needed pieces)) (ltb (streamBits z) (needed pieces)) _ image e4 in
     record { sizes = z; pieces = pieces; fitting = e1; plans = e3; inside = ltb-false (streamBits z) (needed pieces) t; made = cc }
 
@@ -97,19 +95,19 @@ image-contents kind bytes z pieces t c f sizes same inside =
     })
 
 -- What a check of a built image finds.
-record ReadAgain (sheet : Sheet) (text : List ℕ) (domain : Domain) (points : List ℤ) (z : Sizes) (pieces : List Piece) (kind : ℕ) (image : List ℕ) : Type 0 where
+record ReadAgain (sheet : Sheet) (text : List ℕ) (table : Table) (z : Sizes) (pieces : List Piece) (kind : ℕ) (image : List ℕ) : Type 0 where
   found : Contents
   reads : contents kind image ≡ good found
-  same : SameSheet sheet text domain points found
+  same : SameSheet sheet text table found
   bits : found .bits ≡ needed pieces + cond (sheet .«end_bit» && leb (needed pieces + 7) (streamBits z)) 7 0
 
-read-again : (kind : ℕ) (buffer : List ℕ) (sheet : Sheet) (text : List ℕ) (domain : Domain) (points : List ℤ) (z : Sizes) (pieces : List Piece) → Lendable sheet →
-    imageSizes kind (length buffer) ≡ good z → plan sheet text domain points ≡ good pieces → needed pieces ≤ streamBits z →
-    ReadAgain sheet text domain points z pieces kind (imageOf z (pack pieces))
-read-again kind buffer sheet text domain points z pieces lendable sizes plans inside =
+read-again : (kind : ℕ) (buffer : List ℕ) (sheet : Sheet) (text : List ℕ) (table : Table) (z : Sizes) (pieces : List Piece) → Lendable sheet → LendableTable table →
+    imageSizes kind (length buffer) ≡ good z → plan sheet text table ≡ good pieces → needed pieces ≤ streamBits z →
+    ReadAgain sheet text table z pieces kind (imageOf z (pack pieces))
+read-again kind buffer sheet text table z pieces lendable behind sizes plans inside =
     let S : ℕ = streamBits z in
     let t : Bool = sheet .«end_bit» && leb (needed pieces + 7) S in
-    let p = plan-stands S sheet text domain points pieces (λ f. real-at (sheet .fields) (lendable .singles) (f - 1)) plans inside in
+    let p = plan-stands S sheet text table pieces (λ f. real-at (sheet .fields) (lendable .singles) (f - 1)) behind plans inside in
     let c : Contents = p .contents in
     let few : length (c .fields) ≤ length (sheet .fields) = omega (arith, fields-count (p .formed), last-most (c .template), lendable .fields) in
     record {
@@ -122,6 +120,8 @@ read-again kind buffer sheet text domain points z pieces lendable sizes plans in
         sameFields = kept-values sheet 1 (c .fields) (sheet .fields) (slots-all sheet) few (p .keepsFields) ∙ ap (λ rs. keptAll rs (sheet .fields)) (fields-rows (p .formed));
         samePoints = p .keepsPoints;
         sameDomain = p .keepsDomain;
+        sameSegments = p .keepsSegments;
+        sameTerms = p .keepsTerms;
         sameEnd = p .sameEnd;
         sameText = p .sameText;
       };
@@ -129,15 +129,15 @@ read-again kind buffer sheet text domain points z pieces lendable sizes plans in
     }
 
 pub written-and-read-again : WrittenAndReadAgain
-written-and-read-again kind buffer sheet text domain points image lendable e =
-    let b = built kind buffer sheet text domain points image e in
-    let r = read-again kind buffer sheet text domain points (b .sizes) (b .pieces) lendable (b .fitting) (b .plans) (b .inside) in
+written-and-read-again kind buffer sheet text table image lendable behind e =
+    let b = built kind buffer sheet text table image e in
+    let r = read-again kind buffer sheet text table (b .sizes) (b .pieces) lendable behind (b .fitting) (b .plans) (b .inside) in
     (r .found, ap (contents kind) (sym (b .made)) ∙ r .reads, r .same)
 
 pub written-bits : ZeroEndsText
-written-bits kind buffer sheet text domain points image z pieces c lendable sizes plans e reads =
-    let b = built kind buffer sheet text domain points image e in
-    let r = read-again kind buffer sheet text domain points (b .sizes) (b .pieces) lendable (b .fitting) (b .plans) (b .inside) in
+written-bits kind buffer sheet text table image z pieces c lendable behind sizes plans e reads =
+    let b = built kind buffer sheet text table image e in
+    let r = read-again kind buffer sheet text table (b .sizes) (b .pieces) lendable behind (b .fitting) (b .plans) (b .inside) in
     let same : r .found ≡ c = good-same (sym (r .reads) ∙ ap (contents kind) (b .made) ∙ reads) in
     ap (λ x. x .bits) (sym same) ∙ r .bits
     ∙ ap₂ (λ ps y. needed ps + cond (sheet .«end_bit» && leb (needed ps + 7) (streamBits y)) 7 0)

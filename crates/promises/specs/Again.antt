@@ -1,11 +1,11 @@
--- Demand 2, for both templates: written and read again; read and rebuilt; and the bits that a build needs.
+-- Demand 2, for both templates, with points in either domain or a curve: written and read again; read and rebuilt; and the bits that a build needs.
 use mathlib.Core.Path.{_≡_}
 use mathlib.Core.Bool.{_&&_, cond}
 use mathlib.Core.List.{List, [], _∷_, _++_, map}
 use Prim.Native.Nat.{ℕ, zero, suc, _+_, _-_, _*_, _^_, _<_}
 use lib.Dec.{leb}
 use lib.IntN.{ℤ, pos}
-use lib.ListN.{length, getD, replicate}
+use lib.ListN.{length, getD, take, replicate}
 use Rattle.refusal.specs.Outcome.{good}
 use Rattle.memory.specs.declared.Sizes.{Sizes}
 use Rattle.memory.specs.Bits.{Bytes}
@@ -19,21 +19,25 @@ use Rattle.fields.specs.declared.Template.{Template}
 use Rattle.fields.specs.declared.Template.the-variants.{Bridge, Resistance}
 use Rattle.fields.specs.declared.Layout.{Layout}
 use Rattle.fields.specs.declared.Pair.{Pair}
+use Rattle.fields.specs.declared.Segment.{Segment}
+use Rattle.fields.specs.declared.Term.{Term}
+use Rattle.fields.specs.declared.Curve.{Curve}
 use Rattle.fields.specs.declared.Domain.{Domain}
 use Rattle.fields.specs.Lines.{linesOf, rowsOf}
 use Rattle.fields.specs.Calibration.{calPoint, calDeviation, noPair}
+use Rattle.fields.specs.Curves.{segmentStart, noSegment, noTerm}
 use Rattle.fields.specs.Stored.{kept}
-use Rattle.layout.specs.Contents.{Contents}
-use Rattle.layout.specs.Image.{contents, layoutOf, figure, points}
-use Rattle.layout.specs.Places.{behindFields, tableBits}
+use Rattle.layout.specs.Contents.{Calibration, bare, table as tableFound, curve as curveFound, Contents}
+use Rattle.layout.specs.Image.{contents, layoutOf, figure, pairIn, points, segments, terms}
+use Rattle.layout.specs.Places.{behindFields, tableBits, curveBits}
 use Rattle.sheet.specs.declared.TableDomain.{TableDomain}
 use Rattle.sheet.specs.declared.TableDomain.the-variants.{NoTable, Is}
 use Rattle.sheet.specs.declared.Summary.{Summary}
-use Rattle.sheet.specs.Check.{domainIn, check, readField, readPair, readCharacter}
+use Rattle.sheet.specs.Check.{domainIn, check, readField, readPair, readCharacter, readSegment, readTerm}
 use Rattle.build.specs.declared.Slot.{Slot}
 use Rattle.build.specs.declared.Sheet.{Sheet}
-use Rattle.build.specs.Build.{slot, lent, templateIn, pairsLent, plan, build}
-use Rattle.promises.specs.Lent.{Lendable}
+use Rattle.build.specs.Build.{slot, lent, templateIn, pairsLent, Table, listed, drawn, plan, buildWith}
+use Rattle.promises.specs.Lent.{Lendable, LendableTable}
 
 abbrev pub values : Contents → List Value
 values c = map (λ x. x .value) (c .fields)
@@ -54,33 +58,65 @@ abbrev pub domainLent : Domain → List Pair → TableDomain
 domainLent domain [] = NoTable
 domainLent domain (p ∷ pairs) = Is domain
 
+abbrev pub keptSegment : Segment → Segment
+keptSegment s = record { start = figure (kept segmentStart (Whole (s .start))); terms = s .terms }
+
+-- The segments that a curve lends, and the number of their terms.
+abbrev pub segmentsLent : Curve → List Segment
+segmentsLent curve = take (curve .count) (curve .segments)
+
+abbrev pub termsIn : List Segment → ℕ
+termsIn [] = 0
+termsIn (s ∷ segments) = s .terms + termsIn segments
+
+abbrev pub termsLent : Curve → List Term
+termsLent curve = take (termsIn (segmentsLent curve)) (curve .terms)
+
+-- What is kept of what was lent behind the fields: of a list its points, in their domain; of a curve its segments, and its terms as they are.
+abbrev pub keptPoints : Table → List Pair
+keptPoints (listed domain points) = map keptPair (pairsLent points)
+keptPoints (drawn curve) = []
+
+abbrev pub keptDomain : Table → TableDomain
+keptDomain (listed domain points) = domainLent domain (pairsLent points)
+keptDomain (drawn curve) = NoTable
+
+abbrev pub keptSegments : Table → List Segment
+keptSegments (listed domain points) = []
+keptSegments (drawn curve) = map keptSegment (segmentsLent curve)
+
+abbrev pub keptTerms : Table → List Term
+keptTerms (listed domain points) = []
+keptTerms (drawn curve) = termsLent curve
+
 -- The same sheet, each stepped or geometric figure at the step its rule gives.
-pub record SameSheet (sheet : Sheet) (text : List ℕ) (domain : Domain) (pointsLent : List ℤ) (c : Contents) : Type 0 where
+pub record SameSheet (sheet : Sheet) (text : List ℕ) (table : Table) (c : Contents) : Type 0 where
   pub sameTemplate : c .template ≡ templateIn sheet
   pub sameFields : values c ≡ keptAll (rowsOf (linesOf (c .template)) (layoutOf c .precision)) (sheet .fields)
-  pub samePoints : points c ≡ map keptPair (pairsLent pointsLent)
-  pub sameDomain : domainIn (c .calibration) ≡ domainLent domain (pairsLent pointsLent)
+  pub samePoints : points c ≡ keptPoints table
+  pub sameDomain : domainIn (c .calibration) ≡ keptDomain table
+  pub sameSegments : segments c ≡ keptSegments table
+  pub sameTerms : terms c ≡ keptTerms table
   pub sameEnd : c .endBit ≡ sheet .«end_bit»
   pub sameText : c .text ≡ text
 
 abbrev pub WrittenAndReadAgain : Type 0
 WrittenAndReadAgain =
-    (kind : ℕ) (buffer : List ℕ) (sheet : Sheet) (text : List ℕ) (domain : Domain) (pointsLent : List ℤ) (image : List ℕ) → Lendable sheet →
-    build kind buffer sheet text domain pointsLent ≡ good image →
-    (c : Contents) × (contents kind image ≡ good c) × SameSheet sheet text domain pointsLent c
+    (kind : ℕ) (buffer : List ℕ) (sheet : Sheet) (text : List ℕ) (table : Table) (image : List ℕ) → Lendable sheet → LendableTable table →
+    buildWith kind buffer sheet text table ≡ good image →
+    (c : Contents) × (contents kind image ≡ good c) × SameSheet sheet text table c
 
 -- A check of it gives the bits needed; and 7 more where the end bit is 1 and 7 bits remain, since a zero character ends the text there.
 abbrev pub ZeroEndsText : Type 0
 ZeroEndsText =
-    (kind : ℕ) (buffer : List ℕ) (sheet : Sheet) (text : List ℕ) (domain : Domain) (pointsLent : List ℤ) (image : List ℕ) (z : Sizes) (pieces : List Piece) (c : Contents) →
-    Lendable sheet → imageSizes kind (length buffer) ≡ good z → plan sheet text domain pointsLent ≡ good pieces →
-    build kind buffer sheet text domain pointsLent ≡ good image → contents kind image ≡ good c →
+    (kind : ℕ) (buffer : List ℕ) (sheet : Sheet) (text : List ℕ) (table : Table) (image : List ℕ) (z : Sizes) (pieces : List Piece) (c : Contents) →
+    Lendable sheet → LendableTable table → imageSizes kind (length buffer) ≡ good z → plan sheet text table ≡ good pieces →
+    buildWith kind buffer sheet text table ≡ good image → contents kind image ≡ good c →
     c .bits ≡ needed pieces + cond (sheet .«end_bit» && leb (needed pieces + 7) (streamBits z)) 7 0
 
 -- ---- read and rebuilt
 
--- What an image reads, as a sheet and as points lent by turns. A template with fewer fields leaves the last slots missing; the level is not stored,
--- and any is as good.
+-- What an image reads, as a sheet. A template with fewer fields leaves the last slots missing; the level is not stored, and any is as good.
 abbrev pub sheetRead : Contents → Level → Sheet
 sheetRead c level = record {
   template = c .template;
@@ -89,14 +125,25 @@ sheetRead c level = record {
   level = level;
 }
 
+-- Its points lent by turns, or its curve in a room for 20 segments and 30 terms. A sheet without points is handed any domain.
 abbrev pub turns : List Pair → List ℤ
 turns [] = []
 turns (p ∷ pairs) = p .point ∷ p .deviation ∷ turns pairs
 
--- The domain that was found, and any where there is none.
-abbrev pub InDomain : TableDomain → Domain → Type 0
-InDomain NoTable domain = Unit {0}
-InDomain (Is found) domain = found ≡ domain
+abbrev pub curveRead : Contents → Curve
+curveRead c = record {
+  count = length (segments c);
+  segments = segments c ++ replicate (20 - length (segments c)) noSegment;
+  terms = terms c ++ replicate (30 - length (terms c)) noTerm;
+}
+
+abbrev pub tableOf : Contents → Domain → Calibration → Table
+tableOf c domain bare = listed domain []
+tableOf c domain (tableFound found pairs) = listed found (turns (map pairIn pairs))
+tableOf c domain (curveFound found) = drawn (curveRead c)
+
+abbrev pub tableRead : Contents → Domain → Table
+tableRead c domain = tableOf c domain (c .calibration)
 
 -- An accepted image with zeros after its end, rebuilt from what it reads at any level, is the same bytes, in whatever buffer of its length.
 abbrev pub RebuiltSameBytes : Type 0
@@ -104,38 +151,61 @@ RebuiltSameBytes =
     (kind : ℕ) (image buffer : List ℕ) (level : Level) (z : Sizes) (c : Contents) (domain : Domain) → Bytes image → length buffer ≡ length image →
     imageSizes kind (length image) ≡ good z →
     contents kind image ≡ good c →
-    InDomain (domainIn (c .calibration)) domain →
     streamNumber z image < 2 ^ c .bits →
-    build kind buffer (sheetRead c level) (c .text) domain (turns (points c)) ≡ good image
+    buildWith kind buffer (sheetRead c level) (c .text) (tableRead c domain) ≡ good image
+
+-- The domain that was found, and any where there is none.
+abbrev pub InDomain : TableDomain → Domain → Type 0
+InDomain NoTable domain = Unit {0}
+InDomain (Is found) domain = found ≡ domain
 
 -- The same of whatever a caller hands in who read the image through the calls: the sheet has the template that the check gives and each field that
--- is read, text and points have each character and pair, as many as the check gives, in the domain that it gives.
-pub record ReadOff (kind : ℕ) (image : List ℕ) (s : Summary) (sheet : Sheet) (text : List ℕ) (domain : Domain) (pointsLent : List ℤ) : Type 0 where
+-- is read, text, points, segments and terms have each that is read, as many as the check gives, in the domain that it gives. Where it gives segments
+-- they are a curve, else points.
+pub record ReadOff (kind : ℕ) (image : List ℕ) (s : Summary) (sheet : Sheet) (text : List ℕ) : Type 0 where
   pub template : templateIn sheet ≡ s .template
   pub fields : (f : ℕ) (v : Value) → readField kind image f ≡ good v → lent sheet f ≡ v
   pub endBit : sheet .«end_bit» ≡ s .«end_bit»
   pub characters : length text ≡ s .characters
   pub character : (i x : ℕ) → readCharacter kind image i ≡ good x → getD text i 0 ≡ x
+
+pub record PointsReadOff (kind : ℕ) (image : List ℕ) (s : Summary) (domain : Domain) (pointsLent : List ℤ) : Type 0 where
+  pub none : s .segments ≡ 0
   pub pairs : length pointsLent ≡ 2 * s .points
   pub pair : (i : ℕ) (p : Pair) → readPair kind image i ≡ good p → getD (pairsLent pointsLent) i noPair ≡ p
   pub inDomain : InDomain (s .domain) domain
 
+pub record CurveReadOff (kind : ℕ) (image : List ℕ) (s : Summary) (curve : Curve) : Type 0 where
+  pub some : 0 < s .segments
+  pub count : curve .count ≡ s .segments
+  pub segment : (i : ℕ) (x : Segment) → readSegment kind image i ≡ good x → getD (curve .segments) i noSegment ≡ x
+  pub term : (i : ℕ) (t : Term) → readTerm kind image i ≡ good t → getD (curve .terms) i noTerm ≡ t
+
+abbrev pub TableReadOff : ℕ → List ℕ → Summary → Table → Type 0
+TableReadOff kind image s (listed domain points) = PointsReadOff kind image s domain points
+TableReadOff kind image s (drawn curve) = CurveReadOff kind image s curve
+
 abbrev pub RebuiltFromReads : Type 0
 RebuiltFromReads =
-    (kind : ℕ) (image buffer : List ℕ) (z : Sizes) (s : Summary) (sheet : Sheet) (text : List ℕ) (domain : Domain) (pointsLent : List ℤ) → Bytes image →
-    length buffer ≡ length image → imageSizes kind (length image) ≡ good z →
-    check kind image ≡ good s → ReadOff kind image s sheet text domain pointsLent →
+    (kind : ℕ) (image buffer : List ℕ) (z : Sizes) (s : Summary) (sheet : Sheet) (text : List ℕ) (table : Table) → Bytes image →
+    length buffer ≡ length image → imageSizes kind (length image) ≡ good z → LendableTable table →
+    check kind image ≡ good s → ReadOff kind image s sheet text → TableReadOff kind image s table →
     streamNumber z image < 2 ^ s .bits →
-    build kind buffer sheet text domain pointsLent ≡ good image
+    buildWith kind buffer sheet text table ≡ good image
 
 -- ---- row 11's bits
 
--- The fields with the first block's selector and number, block 40 if there are points, selector 3, end bit and text.
+-- Block 40 if there are points, or block 41.
+abbrev pub behindBits : Table → ℕ
+behindBits (listed domain points) = tableBits (length (pairsLent points))
+behindBits (drawn curve) = curveBits (curve .count) (termsIn (segmentsLent curve))
+
+-- The fields with the first block's selector and number, the block behind them, selector 3, end bit and text.
 abbrev pub BitsNeeded : Type 0
 BitsNeeded =
-    (sheet : Sheet) (text : List ℕ) (domain : Domain) (pointsLent : List ℤ) (precision : ℕ) (pieces : List Piece) →
-    lent sheet 9 ≡ Whole (pos precision) → plan sheet text domain pointsLent ≡ good pieces →
-    needed pieces ≡ behindFields (record { template = templateIn sheet; precision = precision }) + tableBits (length (pairsLent pointsLent)) + 3 + 7 * length text
+    (sheet : Sheet) (text : List ℕ) (table : Table) (precision : ℕ) (pieces : List Piece) → LendableTable table →
+    lent sheet 9 ≡ Whole (pos precision) → plan sheet text table ≡ good pieces →
+    needed pieces ≡ behindFields (record { template = templateIn sheet; precision = precision }) + behindBits table + 3 + 7 * length text
 
 -- Template 33 with its number takes 209, 225 or 251 bits for precision 0, 1, 2, behind Basic's 64 and a selector.
 abbrev pub bridgeBits : ℕ → ℕ

@@ -3,13 +3,11 @@ use mathlib.Core.Path.{_≡_}
 use mathlib.Core.Bool.{true, false, cond}
 use mathlib.Core.List.{List, [], _∷_}
 use Prim.Native.Nat.{ℕ, suc, _≤_}
-use lib.IntN.{ℤ}
 use lib.ListN.{length}
 use Rattle.refusal.specs.Outcome.{Outcome, good, refused, _>>_, _>>=_, refuse_if_}
 use Rattle.refusal.specs.Written.{afterwards}
 use Rattle.refusal.specs.Rows.{changedAlone, levelTooLow}
 use Rattle.fields.specs.declared.Value.{Value}
-use Rattle.fields.specs.declared.Domain.{Domain}
 use Rattle.fields.specs.declared.Level.{Level}
 use Rattle.fields.specs.declared.Level.the-variants.{Owner, CalibrationRoom, Maker}
 use Rattle.fields.specs.declared.Template.{Template}
@@ -20,7 +18,7 @@ use Rattle.fields.specs.Levels.{mayWrite, rank}
 use Rattle.layout.specs.Contents.{Contents}
 use Rattle.layout.specs.Image.{contents, numbered}
 use Rattle.build.specs.declared.Sheet.{Sheet}
-use Rattle.build.specs.Build.{build}
+use Rattle.build.specs.Build.{Table, buildWith}
 use Rattle.change.specs.Change.{rewritten, change, propose, commit}
 
 -- ---- the fields that a level writes
@@ -91,5 +89,5 @@ atLevel level sheet = record { template = sheet .template; fields = sheet .field
 -- A build tests no level and stores none: at every level its outcome is the same.
 abbrev pub BuildAsksNoLevel : Type 0
 BuildAsksNoLevel =
-    (level : Level) (kind : ℕ) (buffer : List ℕ) (sheet : Sheet) (text : List ℕ) (domain : Domain) (points : List ℤ) →
-    build kind buffer (atLevel level sheet) text domain points ≡ build kind buffer sheet text domain points
+    (level : Level) (kind : ℕ) (buffer : List ℕ) (sheet : Sheet) (text : List ℕ) (table : Table) →
+    buildWith kind buffer (atLevel level sheet) text table ≡ buildWith kind buffer sheet text table

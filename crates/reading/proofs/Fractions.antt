@@ -15,8 +15,8 @@ use Rattle.fields.specs.declared.Pair.{Pair}
 use Rattle.fields.specs.declared.Domain.{Domain}
 use Rattle.fields.specs.declared.Domain.the-variants.{Electrical, Physical}
 use Rattle.fields.specs.Calibration.{noPair}
-use Rattle.fields.specs.Figure.{floatFraction, physicalFigure}
-use Rattle.layout.specs.Contents.{Calibration, bare, table, Contents}
+use Rattle.fields.specs.Figure.{physicalFigure}
+use Rattle.layout.specs.Contents.{Calibration, bare, table, curve, Contents}
 use Rattle.layout.specs.Image.{pairIn, pairsIn}
 use Rattle.layout.proofs.Calibrations.{CalibrationAt}
 use Rattle.line.specs.Before.{Before}
@@ -32,7 +32,7 @@ use Rattle.sheet.specs.Check.{domainIn}
 use Rattle.sheet.specs.Opened.{Opens}
 use Rattle.sheet.proofs.HeldLaws.{holding}
 use Rattle.reading.specs.declared.span.Span.{Span}
-use Rattle.reading.specs.Reading.{position, fractionBy, fraction, readingAt}
+use Rattle.reading.specs.Reading.{position, fractionBy, fraction, share, readingAt}
 use Rattle.reading.specs.Steps.{figureIn, heldIn, betweenIn}
 use Rattle.reading.proofs.Opening.{RisesIn, pairs-table, pairs-rise}
 
@@ -69,21 +69,25 @@ module _ (domain : Domain) (p : ℤ) (pairs : List Pair) where
 pub table-shows : (k : Calibration) (domain : Domain) (p : ℤ) → domainIn k ≡ Is domain → fractionBy domain (map pairIn (pairsIn k)) p ≡ fraction k p
 table-shows bare domain p e = absurd (let z : _≡_ {A = ℕ} 0 1 = cc in omega arith)
 table-shows (table found pairs) domain p e = let same : domain ≡ found = cc in rw same
+table-shows (curve segments) domain p e = absurd (let z : _≡_ {A = ℕ} 0 1 = cc in omega arith)
 
 pub no-table-shows : (k : Calibration) (p : ℤ) → domainIn k ≡ NoTable → p ≡ fraction k p
 no-table-shows bare p e = refl
 no-table-shows (table found pairs) p e = absurd (let z : _≡_ {A = ℕ} 0 1 = cc in omega arith)
+no-table-shows (curve segments) p e = refl
 
 -- Where the table is not of the other domain, a calibration has one of the two.
 pub by-deviation : (k : Calibration) (p : ℤ) → (domainIn k ≡ Is Physical → ⊥) → fraction k p ≡ p +ℤ deviation (map pairIn (pairsIn k)) p
 by-deviation bare p h = none-deviates p
 by-deviation (table Electrical pairs) p h = refl
 by-deviation (table Physical pairs) p h = absurd (h refl)
+by-deviation (curve segments) p h = none-deviates p
 
 pub by-crossing : (k : Calibration) (p : ℤ) → (domainIn k ≡ Is Electrical → ⊥) → fraction k p ≡ crossing (map pairIn (pairsIn k)) p
 by-crossing bare p h = none-crosses p
 by-crossing (table Electrical pairs) p h = absurd (h refl)
 by-crossing (table Physical pairs) p h = refl
+by-crossing (curve segments) p h = none-crosses p
 
 -- ---- small
 
@@ -100,11 +104,12 @@ fraction-small {c = c} h p small = go _ (c .calibration) (holding h .formed .cal
     go : (at : ℕ) (k : Calibration) → CalibrationAt at k → natAbs (fraction k p) ≤ 2 ^ 33
     go at bare l = omega arith
     go at (table domain pairs) l = by-small domain (map pairIn pairs) p (pairs-table domain none _ pairs (l .stand)) (pairs-rise domain none _ pairs (l .stand)) small
+    go at (curve segments) l = omega arith
 
 -- ---- the reading
 
 pub reading-made : (k : Calibration) (s : Span) (v : ℤ) {q : ℤ} {x y : Float} → SFits w64 q → q ≡ fraction k (position v (s .least) (s .greatest)) →
-    y ≡ floatFraction (toZ w64 (ofZ w64 q)) → x ≡ physicalFigure (s .low) (s .high) y →
+    y ≡ share k (position v (s .least) (s .greatest)) → x ≡ physicalFigure (s .low) (s .high) y →
     record { fraction = toZ w64 (ofZ w64 q); figure = x } ≡ readingAt k s v
 unfolding readingAt
 reading-made k s v f e hy hx = rw (hx, hy, toZ-ofZ f, e)

@@ -4,3 +4,5 @@ pub mod EndLaws
 pub mod Spans
 pub mod Orders
 pub mod Fractions
+pub mod Serving
+pub mod Terms

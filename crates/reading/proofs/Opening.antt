@@ -35,7 +35,7 @@ use Rattle.fields.proofs.FloatLaws.{no-nan}
 use Rattle.fields.proofs.SingleLaws.{nanovolts-within}
 use Rattle.fields.proofs.RuleLaws.{stepped-whole}
 use Rattle.fields.proofs.CalibrationLaws.{follows-rises, follows-climbs}
-use Rattle.layout.specs.Contents.{Found, FoundPair, Calibration, bare, table, Contents, codesIn}
+use Rattle.layout.specs.Contents.{Found, FoundPair, Calibration, bare, table, curve, Contents, codesIn}
 use Rattle.layout.specs.Image.{figure, field, layoutOf, pairsIn, pairIn, points}
 use Rattle.layout.specs.Places.{fieldPlace}
 use Rattle.layout.proofs.Fields.{FieldAt}
@@ -115,7 +115,8 @@ module _ {row : Row} {at : ℕ} {x : Found} (h : FieldAt row at x) where
   floated r =
       either Floated tt
       (λ e.
-      let p = passed (notFinite at) (not (finite (ofBits binary32 (x .code)))) _ (x .value) (rw r at e) in
+      let q = passed (outsideTable at) (eqb (x .code) (allOnes (row .width))) _ (x .value) (rw r at e) in
+      let p = passed (notFinite at) (not (finite (ofBits binary32 (x .code)))) _ (x .value) (q .1) in
       subst Floated (good-same (p .1)) (not-false (finite (ofBits binary32 (x .code))) (p .0)))
 
 -- ---- the calibration points: they rise, and they and their deviations are small
@@ -154,6 +155,7 @@ pairs-table domain before at (p ∷ r ∷ pairs) h =
 pub calibration-table : (at : ℕ) (c : Calibration) → CalibrationAt at c → Table (map pairIn (pairsIn c))
 calibration-table at bare h = record { rises = tt; figures = tt }
 calibration-table at (table domain pairs) h = pairs-table domain none (at + 18) pairs (h .stand)
+calibration-table at (curve segments) h = record { rises = tt; figures = tt }
 
 -- In domain 1 their sums rise.
 sum-is : {domain : Domain} {before : Option Codes} {at : ℕ} {p : FoundPair} → PairAt domain before at p → sum (pairIn p) ≡ storedSum (codesIn p)
@@ -178,6 +180,7 @@ calibration-rises at bare domain h e = tt
 calibration-rises at (table found pairs) domain h e =
     let same : found ≡ domain = cc in
     subst (λ (d : Domain). RisesIn d (map pairIn pairs)) same (pairs-rise found none (at + 18) pairs (h .stand))
+calibration-rises at (curve segments) domain h e = tt
 
 -- ---- the sheet
 

@@ -1,6 +1,6 @@
--- Document 01, "Reading", and document 02, Notes 7 to 10: take a reading. Order: check, 4, 23, 13 for a missing one, 21, 13 for e ≥ f, 14. A reading is
+-- Document 01, "Reading", and document 02, Notes 7 to 11: take a reading. Order: check, 4, 23, 13 for a missing one, 21, 13 for e ≥ f, 14. A reading is
 -- told in its steps: the span that its fields give, the position of the input in it, the fraction, and the physical figure.
-use mathlib.Core.Bool.{Bool, true, false, _||_}
+use mathlib.Core.Bool.{Bool, true, false, _||_, cond}
 use mathlib.Core.List.{List, [], _∷_, map}
 use Prim.Native.Nat.{ℕ}
 use lib.Dec.{ltb}
@@ -21,11 +21,13 @@ use Rattle.fields.specs.declared.Domain.{Domain}
 use Rattle.fields.specs.declared.Domain.the-variants.{Electrical, Physical}
 use Rattle.fields.specs.Figure.{billion, floatFraction, physicalFigure}
 use Rattle.fields.specs.Singles.{outsideTwo, nanovolts}
-use Rattle.layout.specs.Contents.{Calibration, bare, table, Contents}
-use Rattle.layout.specs.Image.{contents, field, pairIn, points}
+use Rattle.fields.specs.declared.Term.{Term}
+use Rattle.layout.specs.Contents.{FoundSegment, Calibration, bare, table, curve, Contents}
+use Rattle.layout.specs.Image.{contents, field, pairIn, segmentIn, termIn, points}
 use Rattle.layout.specs.Places.{firstSelector}
 use Rattle.line.specs.Line.{deviation}
 use Rattle.line.specs.Crossing.{crossing}
+use Rattle.curve.specs.Curve.{fractionOf}
 use Rattle.reading.specs.declared.Dash.{Dash}
 use Rattle.reading.specs.declared.Dash.the-variants.{Large, Small}
 use Rattle.reading.specs.declared.Reading.{Reading}
@@ -110,16 +112,32 @@ abbrev pub fractionBy : Domain → List Pair → ℤ → ℤ
 fractionBy Electrical pairs p = p +ℤ deviation pairs p
 fractionBy Physical pairs p = crossing pairs p
 
--- Without a table the deviation is 0, and q is p.
+-- Without a table the deviation is 0, and q is p; with a curve it is p too.
 abbrev pub fraction : Calibration → ℤ → ℤ
 fraction bare p = p
 fraction (table domain pairs) p = fractionBy domain (map pairIn pairs) p
+fraction (curve segments) p = p
+
+-- The segment that serves: the last one whose start in billionths is at or below p; before 0 the first one.
+unfoldable pub serving : ℤ → FoundSegment → List FoundSegment → FoundSegment
+serving p s [] = s
+serving p s (next ∷ segments) = cond (leZ (segmentIn next .start) p) (serving p next segments) s
+
+abbrev pub servingTerms : ℤ → List FoundSegment → List Term
+servingTerms p [] = []
+servingTerms p (s ∷ segments) = map termIn (serving p s segments .terms)
+
+-- What the physical figure goes by: q / 1,000,000,000; with a curve its float fraction.
+abbrev pub share : Calibration → ℤ → Float
+share bare p = floatFraction (fraction bare p)
+share (table domain pairs) p = floatFraction (fraction (table domain pairs) p)
+share (curve segments) p = fractionOf (servingTerms p segments) p
 
 -- The reading of an input by a calibration: q and the physical figure together.
 unfoldable pub readingAt : Calibration → Span → ℤ → Reading
 readingAt k s v =
-    let q = fraction k (position v (s .least) (s .greatest)) in
-    record { fraction = q; figure = physicalFigure (s .low) (s .high) (floatFraction q) }
+    let p = position v (s .least) (s .greatest) in
+    record { fraction = fraction k p; figure = physicalFigure (s .low) (s .high) (share k p) }
 
 -- ---- the reading
 

@@ -6,6 +6,7 @@ use crate::dashes::is_too_many;
 use crate::fraction::fraction;
 use crate::position::is_too_far;
 use crate::position::position;
+use crate::share::share;
 use crate::span::Span;
 use crate::span::SpanAnswer;
 use crate::span::span_in;
@@ -28,10 +29,11 @@ fn shown(sheet: Opened, image: &[u8], span: Span, input: i64) -> Reading
     requires { ⌜ Held sheet (now image) × Ready span × (tooFar input (span .least) (span .greatest) ≡ false) ⌝ }
     ensures { λ r. ⌜ ((kind : ℕ) (c : Contents) → Opens kind (now (image .entry)) sheet c → r ≡ readingAt (c .calibration) span input) ⌝ }
 {
-    let q = fraction(sheet, image, position(input, span));
+    let p = position(input, span);
+    let q = fraction(sheet, image, p);
     Reading {
         fraction: q,
-        figure: fields::physical_figure(span.low, span.high, fields::float_fraction(q)),
+        figure: fields::physical_figure(span.low, span.high, share(sheet, image, p, q)),
     }
 }
 

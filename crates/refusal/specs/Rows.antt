@@ -17,11 +17,11 @@ wrongSum page = returned 2 page
 abbrev pub pastEnd : ℕ → Refusal
 pastEnd bit = returned 3 bit
 
--- 4: selector 1 or 2; first selector 3; first template not 32 or 33, second not 40; selector 0 after block 40; a reading of template 32.
+-- 4: selector 1 or 2; first selector 3; first template not 32 or 33, second not 40 or 41; selector 0 after that block; a reading of template 32.
 abbrev pub wrongBlock : ℕ → Refusal
 wrongBlock selectorBit = returned 4 selectorBit
 
--- 5: code outside the table; count 0; all ones in a point or deviation.
+-- 5: code outside the table; count of points 0; all ones in a point, deviation, start, exponent or coefficient; domain 1 of a curve.
 abbrev pub outsideTable : ℕ → Refusal
 outsideTable bit = returned 5 bit
 
@@ -33,7 +33,7 @@ notFinite bit = returned 6 bit
 abbrev pub notRising : ℕ → Refusal
 notRising place = returned 7 place
 
--- 8: field not 1 to the template's last; pair or character index past the last; for text, field not 3, 18 or 19.
+-- 8: field not 1 to the template's last; pair, character, segment or term index past the last; for text, field not 3, 18 or 19.
 abbrev pub noSuch : ℕ → Refusal
 noSuch given = returned 8 given
 
@@ -41,7 +41,7 @@ noSuch given = returned 8 given
 abbrev pub wrongSort : ℕ → Refusal
 wrongSort field = returned 9 field
 
--- 10: figure out of range, Single not finite, character 0 or above 127; text or code that the field can't hold. The place is the field, or the index from 0 of the point.
+-- 10: figure out of range, Single not finite, character 0 or above 127; text or code that the field can't hold. The place is the field, or the index from 0 of the point, segment or term.
 abbrev pub outOfRange : ℕ → Refusal
 outOfRange place = returned 10 place
 
@@ -92,3 +92,12 @@ sumsNotRising place = returned 22 place
 -- 23 (Note 10): reading: more points than the small dash takes. The place is the point count.
 abbrev pub tooManyPoints : ℕ → Refusal
 tooManyPoints points = returned 23 points
+
+-- 24 (Note 11): a segment or term count, exponent or segment start that breaks the rules of a curve. The place is the field's bit; in a build the
+-- index from 0 of the segment or term, or the segment count itself.
+abbrev pub wrongCurve : ℕ → Refusal
+wrongCurve place = returned 24 place
+
+-- 25 (Note 11): more terms than a curve has. The place is the total so far.
+abbrev pub tooManyTerms : ℕ → Refusal
+tooManyTerms total = returned 25 total

@@ -20,7 +20,9 @@ pub use rows::short_index;
 pub use rows::sums_not_rising;
 pub use rows::too_long;
 pub use rows::too_many_points;
+pub use rows::too_many_terms;
 pub use rows::wrong_block;
+pub use rows::wrong_curve;
 pub use rows::wrong_image;
 pub use rows::wrong_list;
 pub use rows::wrong_sort;
@@ -82,3 +84,7 @@ pub const END_OUTSIDE: u8 = 21;
 pub const SUMS_NOT_RISING: u8 = 22;
 
 pub const TOO_MANY_POINTS: u8 = 23;
+
+pub const WRONG_CURVE: u8 = 24;
+
+pub const TOO_MANY_TERMS: u8 = 25;

@@ -23,6 +23,8 @@ ghost use Rattle.refusal.specs.Rows.{
   endOutside,
   sumsNotRising,
   tooManyPoints,
+  wrongCurve,
+  tooManyTerms,
 };
 use crate::Refusal;
 
@@ -228,5 +230,23 @@ pub fn too_many_points(points: u64) -> Refusal
     Refusal {
         number: crate::TOO_MANY_POINTS,
         place: points,
+    }
+}
+
+pub fn wrong_curve(place: u64) -> Refusal
+    ensures { λ r. ⌜ r ≡ wrongCurve place ⌝ }
+{
+    Refusal {
+        number: crate::WRONG_CURVE,
+        place,
+    }
+}
+
+pub fn too_many_terms(total: u64) -> Refusal
+    ensures { λ r. ⌜ r ≡ tooManyTerms total ⌝ }
+{
+    Refusal {
+        number: crate::TOO_MANY_TERMS,
+        place: total,
     }
 }

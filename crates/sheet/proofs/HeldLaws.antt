@@ -1,8 +1,8 @@
 -- What an opened sheet holds stands in its image where the check found it.
-use mathlib.Core.Path.{_≡_, sym, ap, ap₂, _∙_, subst, subst₂}
+use mathlib.Core.Path.{_≡_, refl, sym, ap, ap₂, _∙_, subst}
 use mathlib.Core.Bool.{Bool, cond}
-use mathlib.Core.List.{List}
-use Prim.Native.Nat.{ℕ, _+_, _*_, _^_, _≤_, _<_}
+use mathlib.Core.List.{List, [], _∷_, map}
+use Prim.Native.Nat.{ℕ, zero, suc, _+_, _*_, _^_, _≤_, _<_}
 use native.Mathlib.Omega.{arith}
 use lib.ListN.{length, getD, length-map, List·getD-map}
 use borrow.Author.Tests.{le-ltb}
@@ -17,18 +17,27 @@ use Rattle.fields.specs.declared.Layout.{Layout}
 use Rattle.fields.specs.declared.Pair.{Pair}
 use Rattle.fields.specs.Lines.{lastField, rowOf}
 use Rattle.fields.specs.Calibration.{calPoint, calDeviation, noPair}
+use Rattle.fields.specs.Curves.{noSegment, noTerm}
 use Rattle.layout.specs.Format.{bits, Stream, parse}
-use Rattle.layout.specs.Contents.{Contents, FoundPair, fieldOf}
-use Rattle.layout.specs.Image.{streamIn, nothing, field, layoutOf, pairsIn, pairIn, figure, points}
-use Rattle.layout.specs.Places.{fieldPlace, tableBits, pairPlace, characterPlace}
+use Rattle.layout.specs.Contents.{Contents, FoundPair, FoundTerm, FoundSegment, fieldOf}
+use Rattle.layout.specs.Image.{streamIn, nothing, field, layoutOf, pairsIn, pairIn, segmentsIn, segmentIn, allTerms, termIn, figure, points, segments, terms}
+use Rattle.layout.specs.Places.{fieldPlace, behindFields, pairPlace, behindBlock, characterPlace}
 use Rattle.layout.proofs.Formats.{parsed}
 use Rattle.layout.proofs.Accepted.{Holding, accepted-at}
 use Rattle.layout.proofs.Standing.{field-stands, stands-parse, PairStands, pair-here, character-here}
+use Rattle.layout.proofs.CurvePlaces.{CurveStands, curve-here}
 use Rattle.sheet.specs.declared.opening.Opened.{Opened}
 use Rattle.sheet.specs.Check.{domainIn}
 use Rattle.sheet.specs.Opened.{Opens}
-use Rattle.sheet.specs.Walk.{valueIn}
+use Rattle.sheet.specs.Walk.{valueIn, segmentAt, termAt, behindSegments, termPlace}
 use Rattle.sheet.proofs.PlaceSteps.{table-least}
+use Rattle.sheet.proofs.CurvePlaces.{curve-few, segment-is, segment-place, term-place}
+
+-- An element of what is made of a list.
+getD-mapped : {A B : Type 0} (f : A → B) (xs : List A) (i : ℕ) (none : A) (other : B) → i < length xs → getD (map f xs) i other ≡ f (getD xs i none)
+getD-mapped f [] i none other l = absurd (omega arith)
+getD-mapped f (x ∷ xs) zero none other l = refl
+getD-mapped f (x ∷ xs) (suc i) none other l = getD-mapped f xs i none other (omega arith)
 
 module _ {kind : ℕ} {image : List ℕ} {o : Opened} {c : Contents} (h : Opens kind image o c) where
   abbrev s : Stream
@@ -39,6 +48,12 @@ module _ {kind : ℕ} {image : List ℕ} {o : Opened} {c : Contents} (h : Opens 
 
   pub points-are : o .summary .points ≡ length (points c)
   points-are = ap (λ u. u .summary .points) (h .is)
+
+  pub segments-are : o .summary .segments ≡ length (segments c)
+  segments-are = ap (λ u. u .summary .segments) (h .is)
+
+  pub terms-are : o .summary .terms ≡ length (terms c)
+  terms-are = ap (λ u. u .summary .terms) (h .is)
 
   pub domain-is : o .summary .domain ≡ domainIn (c .calibration)
   domain-is = ap (λ u. u .summary .domain) (h .is)
@@ -89,18 +104,62 @@ module _ {kind : ℕ} {image : List ℕ} {o : Opened} {c : Contents} (h : Opens 
   -- ---- a character
 
   abbrev place : ℕ → ℕ
-  place i = characterPlace (o .layout) (o .summary .points) i
+  place i = characterPlace (o .layout) (o .summary .points) (o .summary .segments) (o .summary .terms) i
+
+  end-is : behindBlock (layoutOf c) (length (pairsIn (c .calibration))) (length (segmentsIn (c .calibration))) (length (allTerms (segmentsIn (c .calibration)))) ≡
+      behindBlock (o .layout) (o .summary .points) (o .summary .segments) (o .summary .terms)
+  end-is = λ j.
+      behindBlock (sym layout-is j) (sym (points-are ∙ length-map (pairsIn (c .calibration)) pairIn) j)
+      (sym (segments-are ∙ length-map (segmentsIn (c .calibration)) segmentIn) j) (sym (terms-are ∙ length-map (allTerms (segmentsIn (c .calibration))) termIn) j)
 
   character-stands : (i : ℕ) → i < o .summary .characters → (fieldAt (s .number) (place i) 7 ≡ getD (c .text) i 0) × (place i + 7 ≤ s .bits)
   character-stands i l =
-      let n : length (pairsIn (c .calibration)) ≡ o .summary .points = sym (points-are ∙ length-map (pairsIn (c .calibration)) pairIn) in
-      subst₂ (λ (y : Layout) (k : ℕ). (fieldAt (s .number) (characterPlace y k i) 7 ≡ getD (c .text) i 0) × (characterPlace y k i + 7 ≤ s .bits)) (sym layout-is) n
+      subst (λ (n : ℕ). (fieldAt (s .number) (n + 3 + 7 * i) 7 ≡ getD (c .text) i 0) × (n + 3 + 7 * i + 7 ≤ s .bits)) end-is
       (character-here holding i (omega (arith, characters-are)))
 
-  pub place-few : (i : ℕ) → i < o .summary .characters → (o .summary .points < 2 ^ 32) × (i < 2 ^ 32)
-  place-few i l = let h = character-stands i l .1 in (omega (arith, table-least (o .summary .points), bits-few), omega (arith, bits-few))
+  pub place-few : (i : ℕ) → i < o .summary .characters →
+      (o .summary .points < 2 ^ 32) × (o .summary .segments < 2 ^ 32) × (o .summary .terms < 2 ^ 32) × (i < 2 ^ 32)
+  place-few i l =
+      let h = character-stands i l .1 in
+      let few = curve-few (holding .formed .behind) (c .calibration) (holding .formed .calibrated) in (
+        omega (arith, table-least (o .summary .points), bits-few),
+        omega (arith, segments-are, length-map (segmentsIn (c .calibration)) segmentIn, few .0),
+        omega (arith, terms-are, length-map (allTerms (segmentsIn (c .calibration))) termIn, few .1),
+        omega (arith, bits-few),
+      )
 
   pub held-character : (i : ℕ) → i < o .summary .characters → {at : ℕ} → at ≡ place i → parse s (bits 7) at ≡ good (parsed (getD (c .text) i 0) (at + 7))
   held-character i l {at} e =
       let (is, inside) = character-stands i l in
       ap₂ (λ (b : Bool) (v : ℕ). cond b (refused (pastEnd at)) (good (parsed v (at + 7)))) (le-ltb (s .bits) (at + 7) (omega (arith, e, inside))) (ap (λ (n : ℕ). fieldAt (s .number) n 7) e ∙ is)
+
+  -- ---- a segment and a term
+
+  pub segments-few : o .summary .segments ≤ 20
+  segments-few =
+      omega (arith, segments-are, length-map (segmentsIn (c .calibration)) segmentIn, curve-few (holding .formed .behind) (c .calibration) (holding .formed .calibrated) .0)
+
+  -- The first segment stands at the curve's place.
+  pub held-curve : CurveStands s (behindFields (o .layout) + 19) (segmentsIn (c .calibration))
+  held-curve = subst (λ (l : Layout). CurveStands s (behindFields l + 19) (segmentsIn (c .calibration))) (sym layout-is) (curve-here holding)
+
+  abbrev noFoundTerm : FoundTerm
+  noFoundTerm = record { exponent = nothing; coefficient = nothing }
+
+  abbrev noFoundSegment : FoundSegment
+  noFoundSegment = record { start = nothing; count = nothing; terms = [] }
+
+  pub held-segment : (i : ℕ) → i < o .summary .segments → segmentAt s (behindSegments s (behindFields (o .layout) + 19) i) ≡ getD (segments c) i noSegment
+  held-segment i l =
+      let xs : List FoundSegment = segmentsIn (c .calibration) in
+      let n : i < length xs = omega (arith, segments-are, length-map xs segmentIn) in
+      ap (segmentAt s) (segment-place (behindFields (o .layout) + 19) xs held-curve i noFoundSegment n) ∙ segment-is (held-curve .stand i noFoundSegment n)
+      ∙ sym (getD-mapped segmentIn xs i noFoundSegment noSegment n)
+
+  pub held-term : (i : ℕ) → i < o .summary .terms → termAt s (termPlace s (behindFields (o .layout) + 19) (o .summary .segments) i) ≡ getD (terms c) i noTerm
+  held-term i l =
+      let xs : List FoundSegment = segmentsIn (c .calibration) in
+      let n : i < length (allTerms xs) = omega (arith, terms-are, length-map (allTerms xs) termIn) in
+      ap (λ (k : ℕ). termAt s (termPlace s (behindFields (o .layout) + 19) k i)) (segments-are ∙ length-map xs segmentIn)
+      ∙ term-place (behindFields (o .layout) + 19) xs held-curve i noFoundTerm n
+      ∙ sym (getD-mapped termIn (allTerms xs) i noFoundTerm noTerm n)

@@ -9,7 +9,7 @@ use borrow.Author.Tests.{lt-ltb, le-ltb}
 use Rattle.fields.specs.declared.Layout.{Layout}
 use Rattle.fields.specs.Lines.{Line, basic, templateLines, linesOf, lastField, ending, bitsBefore}
 use Rattle.fields.proofs.TemplateFacts.{bits-few}
-use Rattle.layout.specs.Places.{blockBits, fieldPlace, behindFields, tableBits}
+use Rattle.layout.specs.Places.{blockBits, fieldPlace, behindFields, tableBits, curveBits}
 
 bits-most : (lines : List Line) (p i : ℕ) → bitsBefore lines p i ≤ bitsBefore lines p (length lines)
 bits-most [] p i = omega arith
@@ -49,3 +49,11 @@ table-most (suc n) = omega arith
 pub table-least : (n : ℕ) → n ≤ tableBits n
 table-least zero = omega arith
 table-least (suc n) = omega arith
+
+pub curve-some : (n terms : ℕ) → (n ≡ 0 → ⊥) → 19 + 20 * n + 39 * terms ≡ curveBits n terms
+curve-some zero terms h = absurd (h refl)
+curve-some (suc n) terms h = refl
+
+pub curve-most : (n terms : ℕ) → curveBits n terms ≤ 19 + 20 * n + 39 * terms
+curve-most zero terms = omega arith
+curve-most (suc n) terms = omega arith

@@ -10,12 +10,13 @@ use Rattle.refusal.specs.declared.Refusal.{Refusal}
 use Rattle.refusal.specs.Outcome.{Outcome, good, refused}
 use Rattle.refusal.specs.Rows.{noSuch}
 use Rattle.fields.specs.Calibration.{noPair}
+use Rattle.fields.specs.Curves.{noSegment, noTerm}
 use Rattle.fields.specs.Lines.{lastField}
 use Rattle.layout.specs.Contents.{Contents}
-use Rattle.layout.specs.Image.{contents, field, points}
+use Rattle.layout.specs.Image.{contents, field, points, segments as segmentsOf, terms as termsOf}
 use Rattle.layout.proofs.Places.{fields-count}
 use Rattle.layout.proofs.Accepted.{contents-accepted}
-use Rattle.sheet.specs.Check.{summary, check, indexed, readField, readPair, readCharacter}
+use Rattle.sheet.specs.Check.{summary, check, indexed, readField, readPair, readCharacter, readSegment, readTerm}
 
 -- The item of an index, and an index past the last.
 module _ {A : Type 0} (items : List A) (none : A) (i : ℕ) where
@@ -25,7 +26,7 @@ module _ {A : Type 0} (items : List A) (none : A) (i : ℕ) where
   indexed-none : length items ≤ i → indexed items none i ≡ refused (noSuch i)
   indexed-none h = rw (le-leb (length items) i h)
 
--- Of an accepted image every field, pair and character is read, and no other.
+-- Of an accepted image every field, pair, character, segment and term is read, and no other.
 pub record Reads (kind : ℕ) (image : List ℕ) (c : Contents) : Type 0 where
   pub checked : check kind image ≡ good (summary c)
   pub fields : (f : ℕ) → 1 ≤ f → f ≤ lastField (c .template) → readField kind image f ≡ good (field c f .value)
@@ -34,6 +35,10 @@ pub record Reads (kind : ℕ) (image : List ℕ) (c : Contents) : Type 0 where
   pub no-pair : (i : ℕ) → length (points c) ≤ i → readPair kind image i ≡ refused (noSuch i)
   pub characters : (i : ℕ) → i < length (c .text) → readCharacter kind image i ≡ good (getD (c .text) i 0)
   pub no-character : (i : ℕ) → length (c .text) ≤ i → readCharacter kind image i ≡ refused (noSuch i)
+  pub segments : (i : ℕ) → i < length (segmentsOf c) → readSegment kind image i ≡ good (getD (segmentsOf c) i noSegment)
+  pub no-segment : (i : ℕ) → length (segmentsOf c) ≤ i → readSegment kind image i ≡ refused (noSuch i)
+  pub terms : (i : ℕ) → i < length (termsOf c) → readTerm kind image i ≡ good (getD (termsOf c) i noTerm)
+  pub no-term : (i : ℕ) → length (termsOf c) ≤ i → readTerm kind image i ≡ refused (noSuch i)
 
 module _ (kind : ℕ) (image : List ℕ) (c : Contents) (e : contents kind image ≡ good c) where
   -- An accepted image has all fields of its template.
@@ -41,7 +46,7 @@ module _ (kind : ℕ) (image : List ℕ) (c : Contents) (e : contents kind image
   fields-are = fields-count (contents-accepted kind image c e .holding .formed)
 
   pub accepted-reads : Reads kind image c
-  unfolding check readField readPair readCharacter
+  unfolding check readField readPair readCharacter readSegment readTerm
   accepted-reads = record {
     checked = rw e;
     fields = λ f lo hi. rw (e, fields-are, ne-eqb f 0 (λ z. omega arith), le-ltb (lastField (c .template)) f hi);
@@ -53,6 +58,10 @@ module _ (kind : ℕ) (image : List ℕ) (c : Contents) (e : contents kind image
     no-pair = λ i h. rw e (indexed-none (points c) noPair i h);
     characters = λ i h. rw e (indexed-good (c .text) 0 i h);
     no-character = λ i h. rw e (indexed-none (c .text) 0 i h);
+    segments = λ i h. rw e (indexed-good (segmentsOf c) noSegment i h);
+    no-segment = λ i h. rw e (indexed-none (segmentsOf c) noSegment i h);
+    terms = λ i h. rw e (indexed-good (termsOf c) noTerm i h);
+    no-term = λ i h. rw e (indexed-none (termsOf c) noTerm i h);
   }
 
 -- Of a refused image nothing is read: each read gives the check's refusal.
@@ -61,7 +70,9 @@ pub record Turned (kind : ℕ) (image : List ℕ) (r : Refusal) : Type 0 where
   pub field : (f : ℕ) → readField kind image f ≡ refused r
   pub pair : (i : ℕ) → readPair kind image i ≡ refused r
   pub character : (i : ℕ) → readCharacter kind image i ≡ refused r
+  pub segment : (i : ℕ) → readSegment kind image i ≡ refused r
+  pub term : (i : ℕ) → readTerm kind image i ≡ refused r
 
 pub refused-reads : (kind : ℕ) (image : List ℕ) (r : Refusal) → contents kind image ≡ refused r → Turned kind image r
-unfolding check readField readPair readCharacter
-refused-reads kind image r e = record { checked = rw e; field = λ f. rw e; pair = λ i. rw e; character = λ i. rw e }
+unfolding check readField readPair readCharacter readSegment readTerm
+refused-reads kind image r e = record { checked = rw e; field = λ f. rw e; pair = λ i. rw e; character = λ i. rw e; segment = λ i. rw e; term = λ i. rw e }

@@ -15,7 +15,7 @@ use Rattle.fields.specs.declared.Template.{Template}
 use Rattle.fields.specs.Lines.{Line, basic, templateLines, linesOf, lastField}
 use Rattle.layout.specs.Format.{Format, ends, _>>=_, place, Stream, Parsed, parse}
 use Rattle.layout.specs.Contents.{Found, Calibration, Contents, Ending, fieldsOf, firstBlock, calibrationOf, endingOf, sheetOf}
-use Rattle.layout.specs.Image.{streamIn, lastChoice, layoutOf, pairIn, pairsIn}
+use Rattle.layout.specs.Image.{streamIn, lastChoice, layoutOf, pairIn, pairsIn, segmentIn, segmentsIn, termIn, allTerms}
 use Rattle.layout.proofs.Formats.{parsed, parse-next, parse-refused, parsed-by}
 use Rattle.layout.proofs.Fields.{laid-pieces, laid-length}
 use Rattle.layout.proofs.Choices.{last-append, basic-last}
@@ -24,14 +24,14 @@ use Rattle.sheet.specs.declared.walk.ChoiceStep.{ChoiceStep}
 use Rattle.sheet.specs.declared.walk.ChoiceStep.the-variants.{Chosen, Refused as NoChoice}
 use Rattle.sheet.specs.declared.walk.TemplateStep.{TemplateStep}
 use Rattle.sheet.specs.declared.walk.TemplateStep.the-variants.{Named, Refused as NoTemplate}
-use Rattle.sheet.specs.declared.TableDomain.{TableDomain}
-use Rattle.sheet.specs.declared.table.TableStep.{TableStep}
-use Rattle.sheet.specs.declared.table.TableStep.the-variants.{Found as FoundTable, Refused as NoTable}
+use Rattle.sheet.specs.declared.block.Counts.{Counts}
+use Rattle.sheet.specs.declared.block.BlockStep.{BlockStep}
+use Rattle.sheet.specs.declared.block.BlockStep.the-variants.{Found as FoundBlock, Refused as NoBlock}
 use Rattle.sheet.specs.declared.ending.EndStep.{EndStep}
 use Rattle.sheet.specs.declared.ending.EndStep.the-variants.{Ended, Refused as NoEnd}
 use Rattle.sheet.specs.Check.{domainIn}
 use Rattle.sheet.specs.Opened.{openedAs}
-use Rattle.sheet.specs.Walk.{keeping, choiceOn, TableCount, tableCount, EndCount, endCount, linesFrom, walked, choiceSaid, templateStepSaid, tableSaid, endSaid}
+use Rattle.sheet.specs.Walk.{keeping, choiceOn, countsOf, EndCount, endCount, linesFrom, walked, choiceSaid, templateStepSaid, blockSaid, endSaid}
 use Rattle.sheet.proofs.Steps.{kept, keep-next, keep-refused}
 use Rattle.sheet.proofs.WalkSteps.{basic-lines, own-lines}
 
@@ -59,18 +59,37 @@ abbrev afterBasics : List Found → Format Contents
 afterBasics bs = firstBlock >>= afterBlock bs
 
 -- What is opened of a sheet whose parts are kept.
-abbrev pub opens : Sizes → Template → ℕ → TableCount → EndCount → ℕ → Opened
-opens z template precision table ending end = record {
+abbrev pub opens : Sizes → Template → ℕ → Counts → EndCount → ℕ → Opened
+opens z template precision counts ending end = record {
   sizes = z;
   layout = record { template = template; precision = precision };
   summary = record {
     bits = end;
-    points = table .points;
+    points = counts .points;
     «end_bit» = ending .endBit;
     characters = ending .characters;
     template = template;
-    domain = table .domain;
+    domain = counts .domain;
+    segments = counts .segments;
+    terms = counts .terms;
   };
+}
+
+-- What is counted of a calibration, as a check gives it.
+abbrev countsIn : Calibration → Counts
+countsIn c = record {
+  domain = domainIn c;
+  points = length (map pairIn (pairsIn c));
+  segments = length (map segmentIn (segmentsIn c));
+  terms = length (map termIn (allTerms (segmentsIn c)));
+}
+
+counts-are : (c : Calibration) → countsIn c ≡ countsOf c
+counts-are c = λ j. record {
+  domain = domainIn c;
+  points = length-map (pairsIn c) pairIn j;
+  segments = length-map (segmentsIn c) segmentIn j;
+  terms = length-map (allTerms (segmentsIn c)) termIn j;
 }
 
 -- The latest choice of a sheet is that behind its template's own fields.
@@ -129,22 +148,22 @@ module _ (z : Sizes) (image : List ℕ) where
         own-halts m =
             halted (at-own ∙ keep-refused (choiceOn (templateLines t) 0) s (fieldsOf (templateLines t) 0) (λ os. afterOwn t (bs ++ os)) (own .at) (told choiceSaid m k))
 
-        module _ {p : ℕ} {behind : Cursor} (m : w ≡ Chosen p behind) (v : TableStep) (i : tableSaid v ≡ keeping tableCount (parse s calibrationOf (behind .at))) where
+        module _ {p : ℕ} {behind : Cursor} (m : w ≡ Chosen p behind) (v : BlockStep) (i : blockSaid v ≡ keeping countsOf (parse s calibrationOf (behind .at))) where
           owns : (os : List Found) × (choiceOn (templateLines t) 0 os ≡ p) × Reached (afterOwn t (bs ++ os)) (behind .at)
           owns =
               let (os, q, r) = keep-next (choiceOn (templateLines t) 0) s (fieldsOf (templateLines t) 0) (λ os. afterOwn t (bs ++ os)) (own .at) (told choiceSaid m k) in
               (os, q, at-own ∙ r)
 
-          pub calibration-halts : {r : Refusal} → v ≡ NoTable r → refused r ≡ walked z image
+          pub calibration-halts : {r : Refusal} → v ≡ NoBlock r → refused r ≡ walked z image
           calibration-halts j =
               let (os, q, r) = owns in
-              halted (r ∙ keep-refused tableCount s calibrationOf (afterCalibration t (bs ++ os)) (behind .at) (told tableSaid j i))
+              halted (r ∙ keep-refused countsOf s calibrationOf (afterCalibration t (bs ++ os)) (behind .at) (told blockSaid j i))
 
-          module _ {domain : TableDomain} {n : ℕ} {last : Cursor} (j : v ≡ FoundTable domain n last) (u : EndStep) (l : endSaid u ≡ keeping endCount (parse s endingOf (last .at))) where
-            at-end : (os : List Found) × (choiceOn (templateLines t) 0 os ≡ p) × (c : Calibration) × (tableCount c ≡ record { domain = domain; points = n }) × Reached (afterCalibration t (bs ++ os) c) (last .at)
+          module _ {n : Counts} {last : Cursor} (j : v ≡ FoundBlock n last) (u : EndStep) (l : endSaid u ≡ keeping endCount (parse s endingOf (last .at))) where
+            at-end : (os : List Found) × (choiceOn (templateLines t) 0 os ≡ p) × (c : Calibration) × (countsOf c ≡ n) × Reached (afterCalibration t (bs ++ os) c) (last .at)
             at-end =
                 let (os, q, r) = owns in
-                let (c, a, b) = keep-next tableCount s calibrationOf (afterCalibration t (bs ++ os)) (behind .at) (told tableSaid j i) in
+                let (c, a, b) = keep-next countsOf s calibrationOf (afterCalibration t (bs ++ os)) (behind .at) (told blockSaid j i) in
                 (os, q, c, a, r ∙ b)
 
             abbrev finish : List Found → Calibration → Ending → Format Contents
@@ -156,12 +175,11 @@ module _ (z : Sizes) (image : List ℕ) where
                 halted (r ∙ keep-refused endCount s endingOf (finish os c) (last .at) (told endSaid o l))
 
             pub sheet-opens : {endBit : Bool} {characters : ℕ} {end : Cursor} → u ≡ Ended endBit characters end →
-                good (opens z t p (record { domain = domain; points = n }) (record { endBit = endBit; characters = characters }) (end .at)) ≡ walked z image
+                good (opens z t p n (record { endBit = endBit; characters = characters }) (end .at)) ≡ walked z image
             sheet-opens {endBit} {characters} {end} o =
                 let (os, q, c, a, r) = at-end in
                 let (e, b, d) = keep-next endCount s endingOf (finish os c) (last .at) (told endSaid o l) in
                 let precise : p ≡ lastChoice (linesOf t) (bs ++ os) 0 = sym (choice-is s t bs os (block .at) (basics .2) ∙ q) in
-                let table : _≡_ {A = TableCount} (record { domain = domain; points = n }) (record { domain = domainIn c; points = length (map pairIn (pairsIn c)) }) =
-                sym ((λ j. record { domain = domainIn c; points = length-map (pairsIn c) pairIn j }) ∙ a) in
+                let table : n ≡ countsIn c = sym (counts-are c ∙ a) in
                 (λ i. good (opens z t (precise i) (table i) (sym b i) (end .at)))
                 ∙ sym (ap (λ o. outcome._>>=_ o (λ x. good (openedAs z (x .found)))) (r ∙ d))

@@ -1,18 +1,14 @@
--- The walk over what stands behind the fields: block 40 and the last selector.
+-- The walk over block 40.
 use mathlib.Core.Path.{_≡_, refl, sym, ap, ap₂, _∙_}
-use mathlib.Core.Bool.{Bool, not, cond}
 use mathlib.Core.List.{List, [], _∷_}
 use mathlib.Core.Option.{Option, none, some}
 use Prim.Native.Nat.{ℕ, suc, _+_, _-_, _≤_, _<_}
 use native.Mathlib.Nat.{sub-zero}
 use native.Mathlib.Omega.{arith}
-use lib.Dec.{eqb}
 use lib.ListN.{length}
-use borrow.Author.Tests.{eq-eqb, ne-eqb}
 use Rattle.refusal.specs.declared.Refusal.{Refusal}
 use Rattle.refusal.specs.Outcome as outcome
 use Rattle.refusal.specs.Outcome.{Outcome, good, refused}
-use Rattle.refusal.specs.Rows.{wrongBlock}
 use Rattle.refusal.proofs.Outcomes.{told}
 use Rattle.stream.specs.declared.cursor.Cursor.{Cursor}
 use Rattle.fields.specs.declared.Judged.{Judged}
@@ -21,22 +17,17 @@ use Rattle.fields.specs.declared.Codes.{Codes}
 use Rattle.fields.specs.declared.Domain.{Domain}
 use Rattle.fields.specs.Answers.{judgedSaid}
 use Rattle.fields.specs.Calibration.{calDomain, domainOf, pointCount, calPoint, calDeviation, codesOf, follows}
-use Rattle.layout.specs.Format.{Format, ends, _>>=_, _>>_, bits, given, refuse_if_, Stream, Parsed, parse}
-use Rattle.layout.specs.Contents.{Found, FoundPair, Calibration, bare, table, paired, codesIn, fieldOf, selectorOf, pairOf, pairsOf, tableOf, blockAt, calibrationOf}
-use Rattle.layout.proofs.Formats.{parsed, parse-next, parse-refused}
+use Rattle.layout.specs.Format.{Format, ends, _>>=_, _>>_, given, Stream, Parsed, parse}
+use Rattle.layout.specs.Contents.{Found, FoundPair, Calibration, table, paired, codesIn, fieldOf, pairOf, pairsOf, tableOf}
 use Rattle.sheet.specs.declared.walk.CodeStep.{CodeStep}
 use Rattle.sheet.specs.declared.walk.CodeStep.the-variants.{Code, Refused as NoCode}
-use Rattle.sheet.specs.declared.walk.MarkStep.{MarkStep}
-use Rattle.sheet.specs.declared.walk.MarkStep.the-variants.{Behind, Refused as NoMark}
 use Rattle.sheet.specs.declared.table.CodesStep.{CodesStep}
 use Rattle.sheet.specs.declared.table.CodesStep.the-variants.{Stand, Refused as NoCodes}
 use Rattle.sheet.specs.declared.table.CountStep.{CountStep}
 use Rattle.sheet.specs.declared.table.CountStep.the-variants.{Counted, Refused as NoCount}
-use Rattle.sheet.specs.declared.TableDomain.{TableDomain}
-use Rattle.sheet.specs.declared.TableDomain.the-variants.{NoTable as NotThere, Is}
-use Rattle.sheet.specs.declared.table.TableStep.{TableStep}
-use Rattle.sheet.specs.declared.table.TableStep.the-variants.{Found as FoundTable, Refused as NoTable}
-use Rattle.sheet.specs.Walk.{keeping, Coded, coded, TableCount, tableCount, markOf, tableFrom, onlyBlock, behind, codeSaid, markSaid, codesSaid, countSaid, tableSaid}
+use Rattle.sheet.specs.declared.TableDomain.the-variants.{Is}
+use Rattle.sheet.specs.declared.block.Counts.{Counts}
+use Rattle.sheet.specs.Walk.{keeping, Coded, coded, countsOf, tableFrom, behind, codeSaid, codesSaid, countSaid}
 use Rattle.sheet.proofs.Steps.{keep-next, keep-refused, keep-made, keep-twice, countLeft, count-more}
 
 -- ---- the codes of a pair
@@ -106,110 +97,46 @@ module _ (s : Stream) (domain : Domain) (n : ℕ) (before : Option Codes) (left 
 -- ---- the table that they are
 
 module _ (s : Stream) (domain : Domain) (n at : ℕ) (x : CountStep) (e : countSaid x ≡ keeping length (parse s (pairsOf domain n none) at)) where
-  abbrev inDomain : ℕ → TableCount
-  inDomain k = record { domain = Is domain; points = k }
+  abbrev inDomain : ℕ → Counts
+  inDomain k = record { domain = Is domain; points = k; segments = 0; terms = 0 }
 
-  listed-as : keeping inDomain (countSaid x) ≡ keeping tableCount (parse s (tableFrom domain n) at)
+  listed-as : keeping inDomain (countSaid x) ≡ keeping countsOf (parse s (tableFrom domain n) at)
   listed-as =
       ap (keeping inDomain) e ∙ keep-twice inDomain length (parse s (pairsOf domain n none) at)
-      ∙ sym (keep-made tableCount (table domain) s (pairsOf domain n none) at)
+      ∙ sym (keep-made countsOf (table domain) s (pairsOf domain n none) at)
 
-  pub listed-halts : {r : Refusal} → x ≡ NoCount r → refused r ≡ keeping tableCount (parse s (tableFrom domain n) at)
+  pub listed-halts : {r : Refusal} → x ≡ NoCount r → refused r ≡ keeping countsOf (parse s (tableFrom domain n) at)
   listed-halts h = told (λ w. keeping inDomain (countSaid w)) h listed-as
 
-  pub listed-stands : {k : ℕ} {end : Cursor} → x ≡ Counted k end → behind (inDomain k) end ≡ keeping tableCount (parse s (tableFrom domain n) at)
+  pub listed-stands : {k : ℕ} {end : Cursor} → x ≡ Counted k end → behind (inDomain k) end ≡ keeping countsOf (parse s (tableFrom domain n) at)
   listed-stands h = told (λ w. keeping inDomain (countSaid w)) h listed-as
 
--- ---- the block behind its selector
+-- ---- the block behind its template number
 
-module _ (s : Stream) (at here : ℕ) (x : MarkStep) (e : markSaid x ≡ parse s (markOf 8 40 at) here) where
+module _ (s : Stream) (at : ℕ) (x : CodeStep) (e : codeSaid at x ≡ keeping coded (parse s (fieldOf calDomain) at)) where
   abbrev listed : Domain → Found → Format Calibration
   listed domain n = tableFrom domain (n .code)
 
   abbrev withCount : ℕ → Format Calibration
   withCount code = fieldOf pointCount >>= listed (domainOf code)
 
-  pub number-halts : {r : Refusal} → x ≡ NoMark r → refused r ≡ keeping tableCount (parse s (blockAt at) here)
-  unfolding blockAt
-  number-halts h = sym (ap (keeping tableCount) (parse-refused s (markOf 8 40 at) (λ u. tableOf) here (told markSaid h e)))
+  pub domain-halts : {r : Refusal} → x ≡ NoCode r → refused r ≡ keeping countsOf (parse s tableOf at)
+  unfolding tableOf
+  domain-halts h = sym (ap (keeping countsOf) (keep-refused coded s (fieldOf calDomain) (λ d. withCount (d .code)) at (told (codeSaid at) h e)))
 
-  module _ {next : Cursor} (h : x ≡ Behind next) (y : CodeStep) (f : codeSaid (next .at) y ≡ keeping coded (parse s (fieldOf calDomain) (next .at))) where
-    at-domain : parse s (blockAt at) here ≡ parse s (fieldOf calDomain >>= λ d. withCount (d .code)) (next .at)
-    unfolding blockAt tableOf
-    at-domain = parse-next s (markOf 8 40 at) (λ u. tableOf) here (told markSaid h e)
+  module _ {code : ℕ} {count : Cursor} (h : x ≡ Code code count) (y : CodeStep)
+      (f : codeSaid (count .at) y ≡ keeping coded (parse s (fieldOf pointCount) (count .at))) where
+    at-count : parse s tableOf at ≡ parse s (withCount code) (count .at)
+    unfolding tableOf
+    at-count =
+        let (d, q, p) = keep-next coded s (fieldOf calDomain) (λ d. withCount (d .code)) at (told (codeSaid at) h e) in
+        p ∙ ap (λ (v : Coded). parse s (withCount (v .code)) (count .at)) q
 
-    pub domain-halts : {r : Refusal} → y ≡ NoCode r → refused r ≡ keeping tableCount (parse s (blockAt at) here)
-    domain-halts g =
-        sym (ap (keeping tableCount) (at-domain ∙ keep-refused coded s (fieldOf calDomain) (λ d. withCount (d .code)) (next .at) (told (codeSaid (next .at)) g f)))
+    pub count-halts : {r : Refusal} → y ≡ NoCode r → refused r ≡ keeping countsOf (parse s tableOf at)
+    count-halts g = sym (ap (keeping countsOf) (at-count ∙ keep-refused coded s (fieldOf pointCount) (listed (domainOf code)) (count .at) (told (codeSaid (count .at)) g f)))
 
-    module _ {code : ℕ} {count : Cursor} (g : y ≡ Code code count) (w : CodeStep)
-        (k : codeSaid (count .at) w ≡ keeping coded (parse s (fieldOf pointCount) (count .at))) where
-      at-count : parse s (blockAt at) here ≡ parse s (withCount code) (count .at)
-      at-count =
-          let (d, q, p) = keep-next coded s (fieldOf calDomain) (λ d. withCount (d .code)) (next .at) (told (codeSaid (next .at)) g f) in
-          at-domain ∙ p ∙ ap (λ (v : Coded). parse s (withCount (v .code)) (count .at)) q
-
-      pub count-halts : {r : Refusal} → w ≡ NoCode r → refused r ≡ keeping tableCount (parse s (blockAt at) here)
-      count-halts m = sym (ap (keeping tableCount) (at-count ∙ keep-refused coded s (fieldOf pointCount) (listed (domainOf code)) (count .at) (told (codeSaid (count .at)) m k)))
-
-      pub count-stands : {n : ℕ} {pairs : Cursor} → w ≡ Code n pairs →
-          keeping tableCount (parse s (tableFrom (domainOf code) n) (pairs .at)) ≡ keeping tableCount (parse s (blockAt at) here)
-      count-stands {n} {pairs} m =
-          let (c, q, p) = keep-next coded s (fieldOf pointCount) (listed (domainOf code)) (count .at) (told (codeSaid (count .at)) m k) in
-          ap (λ (v : Coded). keeping tableCount (parse s (tableFrom (domainOf code) (v .code)) (pairs .at))) (sym q) ∙ sym (ap (keeping tableCount) (at-count ∙ p))
-
--- ---- the block and the selector behind it
-
-abbrev selected : Calibration → Format Calibration
-selected c = selectorOf 3 >> ends c
-
-module _ (s : Stream) (at here : ℕ) (x : TableStep) (e : tableSaid x ≡ keeping tableCount (parse s (blockAt at) here)) where
-  pub table-halts : {r : Refusal} → x ≡ NoTable r → refused r ≡ keeping tableCount (parse s (onlyBlock at) here)
-  table-halts h = sym (ap (keeping tableCount) (keep-refused tableCount s (blockAt at) selected here (told tableSaid h e)))
-
-  module _ {domain : TableDomain} {n : ℕ} {next : Cursor} (h : x ≡ FoundTable domain n next) (y : MarkStep) (f : markSaid y ≡ parse s (markOf 2 3 (next .at)) (next .at)) where
-    abbrev count : TableCount
-    count = record { domain = domain; points = n }
-
-    at-selector : keeping (λ u. count) (markSaid y) ≡ keeping tableCount (parse s (onlyBlock at) here)
-    unfolding selectorOf
-    at-selector =
-        let (c, q, p) = keep-next tableCount s (blockAt at) selected here (told tableSaid h e) in
-        ap₂ (λ (m : TableCount) o. keeping (λ u. m) o) (sym q) f
-        ∙ sym (ap (keeping tableCount) p ∙ keep-made tableCount (λ u. c) s (selectorOf 3) (next .at))
-
-    pub last-halts : {r : Refusal} → y ≡ NoMark r → refused r ≡ keeping tableCount (parse s (onlyBlock at) here)
-    last-halts g = told (λ w. keeping (λ u. count) (markSaid w)) g at-selector
-
-    pub last-stands : {end : Cursor} → y ≡ Behind end → behind count end ≡ keeping tableCount (parse s (onlyBlock at) here)
-    last-stands g = told (λ w. keeping (λ u. count) (markSaid w)) g at-selector
-
--- ---- one block, or none
-
-module _ (s : Stream) (at : ℕ) where
-  abbrev alone : Bool → Format Calibration
-  alone last = refuse wrongBlock at if not last >> ends bare
-
-  abbrev picked : Bool → ℕ → Format Calibration
-  picked first selector = cond first (onlyBlock at) (alone (eqb selector 3))
-
-  pub selector-past : {r : Refusal} → refused r ≡ parse s (bits 2) at → refused r ≡ keeping tableCount (parse s calibrationOf at)
-  unfolding calibrationOf
-  selector-past e = sym (ap (keeping tableCount) (parse-refused s (bits 2) (λ selector. picked (eqb selector 0) selector) at e))
-
-  module _ {selector n : ℕ} (e : good (parsed selector n) ≡ parse s (bits 2) at) where
-    at-choice : keeping tableCount (parse s calibrationOf at) ≡ keeping tableCount (parse s (picked (eqb selector 0) selector) n)
-    unfolding calibrationOf
-    at-choice = ap (keeping tableCount) (parse-next s (bits 2) (λ selector. picked (eqb selector 0) selector) at e)
-
-    pub selects-table : selector ≡ 0 → keeping tableCount (parse s (onlyBlock at) n) ≡ keeping tableCount (parse s calibrationOf at)
-    selects-table h = sym (at-choice ∙ ap (λ b. keeping tableCount (parse s (picked b selector) n)) (eq-eqb selector 0 h))
-
-    no-table : (selector ≡ 0 → ⊥) → keeping tableCount (parse s calibrationOf at) ≡ keeping tableCount (parse s (alone (eqb selector 3)) n)
-    no-table h = at-choice ∙ ap (λ b. keeping tableCount (parse s (picked b selector) n)) (ne-eqb selector 0 h)
-
-    pub selects-end : (selector ≡ 0 → ⊥) → selector ≡ 3 → good (parsed (record { domain = NotThere; points = 0 }) n) ≡ keeping tableCount (parse s calibrationOf at)
-    selects-end h k = sym (no-table h ∙ ap (λ b. keeping tableCount (parse s (alone b) n)) (eq-eqb selector 3 k))
-
-    pub selects-none : (selector ≡ 0 → ⊥) → (selector ≡ 3 → ⊥) → refused (wrongBlock at) ≡ keeping tableCount (parse s calibrationOf at)
-    selects-none h k = sym (no-table h ∙ ap (λ b. keeping tableCount (parse s (alone b) n)) (ne-eqb selector 3 k))
+    pub count-stands : {n : ℕ} {pairs : Cursor} → y ≡ Code n pairs →
+        keeping countsOf (parse s (tableFrom (domainOf code) n) (pairs .at)) ≡ keeping countsOf (parse s tableOf at)
+    count-stands {n} {pairs} g =
+        let (c, q, p) = keep-next coded s (fieldOf pointCount) (listed (domainOf code)) (count .at) (told (codeSaid (count .at)) g f) in
+        ap (λ (v : Coded). keeping countsOf (parse s (tableFrom (domainOf code) (v .code)) (pairs .at))) (sym q) ∙ sym (ap (keeping countsOf) (at-count ∙ p))

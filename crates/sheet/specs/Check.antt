@@ -1,4 +1,4 @@
--- Document 01, and document 02, Note 7: check an image; read a field, a pair, a character. Each starts from what the image holds (layout, `contents`), and a read then looks up
+-- Document 01, and document 02, Notes 7 and 11: check an image; read a field, a pair, a character, a segment, a term. Each starts from what the image holds (layout, `contents`), and a read then looks up
 -- one thing by its number.
 use mathlib.Core.List.{List}
 use Prim.Native.Nat.{ℕ}
@@ -8,9 +8,12 @@ use Rattle.refusal.specs.Outcome.{Outcome, good, refused, _>>_, _>>=_, refuse_i
 use Rattle.refusal.specs.Rows.{noSuch}
 use Rattle.fields.specs.declared.Value.{Value}
 use Rattle.fields.specs.declared.Pair.{Pair}
+use Rattle.fields.specs.declared.Segment.{Segment}
+use Rattle.fields.specs.declared.Term.{Term}
 use Rattle.fields.specs.Calibration.{noPair}
-use Rattle.layout.specs.Contents.{Calibration, bare, table, Contents}
-use Rattle.layout.specs.Image.{contents, numbered, points}
+use Rattle.fields.specs.Curves.{noSegment, noTerm}
+use Rattle.layout.specs.Contents.{Calibration, bare, table, curve, Contents}
+use Rattle.layout.specs.Image.{contents, numbered, points, segments, terms}
 use Rattle.sheet.specs.declared.TableDomain.{TableDomain}
 use Rattle.sheet.specs.declared.TableDomain.the-variants.{NoTable, Is}
 use Rattle.sheet.specs.declared.Summary.{Summary}
@@ -22,13 +25,19 @@ use Rattle.sheet.specs.declared.PairAnswer.{PairAnswer}
 use Rattle.sheet.specs.declared.PairAnswer.the-variants.{Holds as HoldsPair, Refused as NoPair}
 use Rattle.sheet.specs.declared.CharacterAnswer.{CharacterAnswer}
 use Rattle.sheet.specs.declared.CharacterAnswer.the-variants.{Holds as HoldsCharacter, Refused as NoCharacter}
+use Rattle.sheet.specs.declared.SegmentAnswer.{SegmentAnswer}
+use Rattle.sheet.specs.declared.SegmentAnswer.the-variants.{Holds as HoldsSegment, Refused as NoSegment}
+use Rattle.sheet.specs.declared.TermAnswer.{TermAnswer}
+use Rattle.sheet.specs.declared.TermAnswer.the-variants.{Holds as HoldsTerm, Refused as NoTerm}
 
--- A table has a domain; without one there is none.
+-- A table has a domain; without one there is none, and a curve has none.
 abbrev pub domainIn : Calibration → TableDomain
 domainIn bare = NoTable
 domainIn (table domain pairs) = Is domain
+domainIn (curve segments) = NoTable
 
--- An accepted check gives the bits up to the end, n, the end bit, the number of characters, the first template and the domain.
+-- An accepted check gives the bits up to the end, n, the end bit, the number of characters, the first template, the domain, and the numbers of segments
+-- and of terms.
 abbrev pub summary : Contents → Summary
 summary c = record {
   bits = c .bits;
@@ -37,6 +46,8 @@ summary c = record {
   characters = length (c .text);
   template = c .template;
   domain = domainIn (c .calibration);
+  segments = length (segments c);
+  terms = length (terms c);
 }
 
 unfoldable pub check : ℕ → List ℕ → Outcome Summary
@@ -68,6 +79,16 @@ readCharacter kind image i = do
   c ← contents kind image
   indexed (c .text) 0 i
 
+unfoldable pub readSegment : ℕ → List ℕ → ℕ → Outcome Segment
+readSegment kind image i = do
+  c ← contents kind image
+  indexed (segments c) noSegment i
+
+unfoldable pub readTerm : ℕ → List ℕ → ℕ → Outcome Term
+readTerm kind image i = do
+  c ← contents kind image
+  indexed (terms c) noTerm i
+
 -- ---- the answers: document 01's number, place and values for each case
 
 abbrev pub checkSaid : Checked → Outcome Summary
@@ -85,3 +106,11 @@ pairSaid (NoPair r) = refused r
 abbrev pub characterSaid : CharacterAnswer → Outcome ℕ
 characterSaid (HoldsCharacter c) = good c
 characterSaid (NoCharacter r) = refused r
+
+abbrev pub segmentSaid : SegmentAnswer → Outcome Segment
+segmentSaid (HoldsSegment s) = good s
+segmentSaid (NoSegment r) = refused r
+
+abbrev pub termSaid : TermAnswer → Outcome Term
+termSaid (HoldsTerm t) = good t
+termSaid (NoTerm r) = refused r

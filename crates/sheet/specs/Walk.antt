@@ -1,9 +1,10 @@
 -- Only inner contracts need these: the walk over a stream, which parses it by the formats of layout and keeps of what they find only what a check gives.
-use mathlib.Core.Bool.{Bool, not}
-use mathlib.Core.List.{List}
-use mathlib.Core.Option.{none}
-use Prim.Native.Nat.{ℕ, suc, _-_}
-use lib.Dec.{eqb}
+use mathlib.Core.Bool.{Bool, not, cond}
+use mathlib.Core.List.{List, [], _∷_}
+use mathlib.Core.Option.{Option, none}
+use Prim.Native.Nat.{ℕ, zero, suc, _+_, _-_, _*_, _/_}
+use lib.Dec.{eqb, ltb}
+use lib.IntN.{pos, natAbs}
 use lib.ListN.{length, take, drop}
 use Rattle.refusal.specs.Outcome as outcome
 use Rattle.refusal.specs.Outcome.{Outcome, good, refused}
@@ -18,12 +19,17 @@ use Rattle.fields.specs.declared.Row.{Row}
 use Rattle.fields.specs.declared.Template.{Template}
 use Rattle.fields.specs.declared.Codes.{Codes}
 use Rattle.fields.specs.declared.Domain.{Domain}
+use Rattle.fields.specs.declared.Earlier.{Earlier}
+use Rattle.fields.specs.declared.Segment.{Segment}
+use Rattle.fields.specs.declared.Term.{Term}
+use Rattle.fields.specs.Answers.{earlierSaid}
+use Rattle.fields.specs.Curves.{segmentStart, exponent, coefficient, tenthsOf, tenthsBefore, exponentFollows}
 use Rattle.fields.specs.Judgement.{judge}
 use Rattle.fields.specs.Lines.{Line, linesOf}
-use Rattle.layout.specs.Format.{Format, ends, _>>=_, _>>_, bits, refuse_if_, Parsed, parse}
-use Rattle.layout.specs.Contents.{Found, Calibration, table, Ending, selectorOf, pairsOf, blockAt, sheetOf}
-use Rattle.layout.specs.Image.{streamIn, lastChoice, pairsIn}
-use Rattle.sheet.specs.declared.TableDomain.{TableDomain}
+use Rattle.layout.specs.Format.{Format, ends, _>>=_, _>>_, bits, refuse_if_, Stream, Parsed, parse}
+use Rattle.layout.specs.Contents.{Found, Calibration, table, Passed, Ending, fieldOf, selectorOf, pairsOf, blockAt, sheetOf}
+use Rattle.layout.specs.Image.{streamIn, lastChoice, pairsIn, segmentsIn, allTerms, figure, float}
+use Rattle.layout.specs.Places.{segmentHead, termBits}
 use Rattle.sheet.specs.declared.opening.Opened.{Opened}
 use Rattle.sheet.specs.declared.walk.CodeStep.{CodeStep}
 use Rattle.sheet.specs.declared.walk.CodeStep.the-variants.{Code, Refused as NoCode}
@@ -37,8 +43,13 @@ use Rattle.sheet.specs.declared.table.CodesStep.{CodesStep}
 use Rattle.sheet.specs.declared.table.CodesStep.the-variants.{Stand, Refused as NoCodes}
 use Rattle.sheet.specs.declared.table.CountStep.{CountStep}
 use Rattle.sheet.specs.declared.table.CountStep.the-variants.{Counted, Refused as NoCount}
-use Rattle.sheet.specs.declared.table.TableStep.{TableStep}
-use Rattle.sheet.specs.declared.table.TableStep.the-variants.{Found as FoundTable, Refused as NoTable}
+use Rattle.sheet.specs.declared.block.Counts.{Counts}
+use Rattle.sheet.specs.declared.block.BlockStep.{BlockStep}
+use Rattle.sheet.specs.declared.block.BlockStep.the-variants.{Found as FoundBlock, Refused as NoBlock}
+use Rattle.sheet.specs.declared.curve.EarlierStep.{EarlierStep}
+use Rattle.sheet.specs.declared.curve.EarlierStep.the-variants.{Behind as Before, Refused as NoTerm}
+use Rattle.sheet.specs.declared.curve.SegmentStep.{SegmentStep}
+use Rattle.sheet.specs.declared.curve.SegmentStep.the-variants.{Behind as BeforeSegment, Refused as NoSegment}
 use Rattle.sheet.specs.declared.ending.EndStep.{EndStep}
 use Rattle.sheet.specs.declared.ending.EndStep.the-variants.{Ended, Refused as NoEnd}
 use Rattle.sheet.specs.Check.{domainIn}
@@ -63,13 +74,22 @@ coded x = record { at = x .at; code = x .code }
 abbrev pub choiceOn : List Line → ℕ → List Found → ℕ
 choiceOn lines latest xs = lastChoice lines xs latest
 
--- Of a calibration its domain and the number of its pairs.
-pub record TableCount : Type 0 where
-  pub domain : TableDomain
-  pub points : ℕ
+-- Of a calibration its domain and the numbers of its pairs, segments and terms.
+abbrev pub countsOf : Calibration → Counts
+countsOf c = record {
+  domain = domainIn c;
+  points = length (pairsIn c);
+  segments = length (segmentsIn c);
+  terms = length (allTerms (segmentsIn c));
+}
 
-abbrev pub tableCount : Calibration → TableCount
-tableCount c = record { domain = domainIn c; points = length (pairsIn c) }
+-- Of formats one after the other what stands before the next.
+abbrev pub passedBy : {A B : Type 0} → (B → A → B) → B → List A → B
+passedBy behind before [] = before
+passedBy behind before (x ∷ xs) = passedBy behind (behind before x) xs
+
+abbrev pub passed : Earlier → ℕ → Passed
+passed start terms = record { start = earlierSaid start; terms = terms }
 
 -- Of an ending the end bit and the number of its characters.
 pub record EndCount : Type 0 where
@@ -88,6 +108,11 @@ abbrev pub valueIn : Outcome (Parsed Found) → Value
 valueIn (good x) = x .found .value
 valueIn (refused r) = Missing
 
+-- Of bits that stand their code.
+abbrev pub numberIn : Outcome (Parsed ℕ) → ℕ
+numberIn (good x) = x .found
+numberIn (refused r) = 0
+
 -- ---- what is walked over
 
 -- The lines of fields first to last, counted from 1.
@@ -102,9 +127,40 @@ markOf width wanted at = bits width >>= λ code. refuse wrongBlock at if not (eq
 abbrev pub tableFrom : Domain → ℕ → Format Calibration
 tableFrom domain n = pairsOf domain n none >>= λ pairs. ends (table domain pairs)
 
--- Block 40 whose selector 0 was taken at a place, and selector 3 behind it.
+-- The rule of an exponent, by its code.
+abbrev pub rises : Option ℕ → ℕ → Bool
+rises before code = exponentFollows (tenthsBefore before) (tenthsOf code)
+
+-- The block whose selector 0 was taken at a place, and selector 3 behind it.
 abbrev pub onlyBlock : ℕ → Format Calibration
 onlyBlock at = blockAt at >>= λ calibration. selectorOf 3 >> ends calibration
+
+-- ---- what stands in a curve
+
+-- The segment at a place, and a term.
+abbrev pub segmentAt : Stream → ℕ → Segment
+segmentAt s at = record { start = figure (valueIn (parse s (fieldOf segmentStart) at)); terms = numberIn (parse s (bits 7) (at + 13)) }
+
+abbrev pub termAt : Stream → ℕ → Term
+termAt s at = record {
+  exponent = pos (natAbs (figure (valueIn (parse s (fieldOf exponent) at))) / 10);
+  coefficient = float (valueIn (parse s (fieldOf coefficient) (at + 7)));
+}
+
+-- The place behind so many terms of it.
+abbrev pub segmentEnd : ℕ → ℕ → ℕ
+segmentEnd at terms = at + segmentHead + termBits * terms
+
+-- The place behind n segments from a place on.
+abbrev pub behindSegments : Stream → ℕ → ℕ → ℕ
+behindSegments s at zero = at
+behindSegments s at (suc n) = behindSegments s (segmentEnd at (segmentAt s at .terms)) n
+
+-- The place of term i of n segments from a place on.
+abbrev pub termPlace : Stream → ℕ → ℕ → ℕ → ℕ
+termPlace s at zero i = at
+termPlace s at (suc n) i =
+    let own = segmentAt s at .terms in cond (ltb i own) (segmentEnd at i) (termPlace s (segmentEnd at own) n (i - own))
 
 -- ---- the answers: what is kept and the place behind it, for each case
 
@@ -140,9 +196,17 @@ abbrev pub countSaid : CountStep → Outcome (Parsed ℕ)
 countSaid (Counted n cursor) = behind n cursor
 countSaid (NoCount r) = refused r
 
-abbrev pub tableSaid : TableStep → Outcome (Parsed TableCount)
-tableSaid (FoundTable domain points cursor) = behind (record { domain = domain; points = points }) cursor
-tableSaid (NoTable r) = refused r
+abbrev pub earlierStepSaid : EarlierStep → Outcome (Parsed (Option ℕ))
+earlierStepSaid (Before last cursor) = behind (earlierSaid last) cursor
+earlierStepSaid (NoTerm r) = refused r
+
+abbrev pub segmentStepSaid : SegmentStep → Outcome (Parsed Passed)
+segmentStepSaid (BeforeSegment start terms cursor) = behind (passed start terms) cursor
+segmentStepSaid (NoSegment r) = refused r
+
+abbrev pub blockSaid : BlockStep → Outcome (Parsed Counts)
+blockSaid (FoundBlock counts cursor) = behind counts cursor
+blockSaid (NoBlock r) = refused r
 
 abbrev pub endSaid : EndStep → Outcome (Parsed EndCount)
 endSaid (Ended endBit characters cursor) = behind (record { endBit = endBit; characters = characters }) cursor

@@ -1,25 +1,32 @@
-// The calls of a dash: check an image; read a field, a pair, a character.
+// The calls of a dash: check an image; read a field, a pair, a character, a segment, a term.
 ghost use mathlib.Core.Path.{_≡_};
 ghost use Rattle.sheet.specs.Check.{
   check as checkOf,
   readField,
   readPair,
   readCharacter,
+  readSegment,
+  readTerm,
   checkSaid,
   fieldSaid,
   pairSaid,
   characterSaid,
+  segmentSaid,
+  termSaid,
 };
 use crate::CharacterAnswer;
 use crate::Checked;
 use crate::FieldAnswer;
 use crate::PairAnswer;
+use crate::SegmentAnswer;
+use crate::TermAnswer;
 use crate::held;
 use crate::opening::OpenedAnswer;
 use crate::opening::open;
+use crate::segments;
 
-// The bits up to the end, the points, the end bit, the characters and the domain of an image; or 1, 17, 2 by page, or the
-// first of 3 to 7 and 22 from the stream's start.
+// What an accepted image holds, in figures; or 1, 17, 2 by page, or the first of 3 to 7, 22, 24 and 25 from the stream's
+// start.
 pub fn check(kind: u8, image: &[u8]) -> Checked
     ensures { λ r. ⌜ checkSaid r ≡ checkOf kind (now (image .entry)) ⌝ }
 {
@@ -80,6 +87,38 @@ pub fn read_character(kind: u8, image: &[u8], index: u64) -> CharacterAnswer
                 return CharacterAnswer::Refused(refusal::no_such(index));
             }
             CharacterAnswer::Holds(held::character_in(sheet, image, index))
+        }
+    }
+}
+
+// A segment of the curve, counted from 0; or the check's refusal, or 8 where there are not so many.
+pub fn read_segment(kind: u8, image: &[u8], index: u64) -> SegmentAnswer
+    ensures { λ r. ⌜ segmentSaid r ≡ readSegment kind (now (image .entry)) index ⌝ }
+{
+    match open(kind, image) {
+        OpenedAnswer::Refused(r) => SegmentAnswer::Refused(r),
+        OpenedAnswer::Sheet(sheet) => {
+            let summary = sheet.summary;
+            if summary.segments <= index {
+                return SegmentAnswer::Refused(refusal::no_such(index));
+            }
+            SegmentAnswer::Holds(segments::segment_in(sheet, image, index))
+        }
+    }
+}
+
+// A term, counted from 0 over the whole curve; or the check's refusal, or 8 where there are not so many.
+pub fn read_term(kind: u8, image: &[u8], index: u64) -> TermAnswer
+    ensures { λ r. ⌜ termSaid r ≡ readTerm kind (now (image .entry)) index ⌝ }
+{
+    match open(kind, image) {
+        OpenedAnswer::Refused(r) => TermAnswer::Refused(r),
+        OpenedAnswer::Sheet(sheet) => {
+            let summary = sheet.summary;
+            if summary.terms <= index {
+                return TermAnswer::Refused(refusal::no_such(index));
+            }
+            TermAnswer::Holds(segments::term_in(sheet, image, index))
         }
     }
 }

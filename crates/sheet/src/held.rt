@@ -23,7 +23,7 @@ use stream::Cursor;
 use stream::Taken;
 
 // The value of the field of a row at a place: missing where none stands.
-fn value_at(sizes: Sizes, image: &[u8], at: usize, row: Row) -> Value
+pub fn value_at(sizes: Sizes, image: &[u8], at: usize, row: Row) -> Value
     requires { ⌜ Whole sizes (now image) × Sound row ⌝ }
     ensures { λ r. ⌜ r ≡ valueIn (parse (streamIn sizes (now (image .entry))) (fieldOf row) at) ⌝ }
 {
@@ -37,8 +37,8 @@ fn value_at(sizes: Sizes, image: &[u8], at: usize, row: Row) -> Value
     }
 }
 
-// The figure of a point or a deviation, which is always a whole number.
-fn figure(value: Value) -> i64
+// The figure of a point, a deviation, a start or an exponent, which is always a whole number.
+pub fn figure(value: Value) -> i64
     ensures { λ r. ⌜ r ≡ figureOf value ⌝ }
 {
     match value {
@@ -94,7 +94,13 @@ pub fn character_in(sheet: Opened, image: &[u8], index: u64) -> u8
     let layout = sheet.layout;
     let summary = sheet.summary;
     let cursor = Cursor {
-        at: places::locate_character(layout, summary.points, index),
+        at: places::locate_character(
+            layout,
+            summary.points,
+            summary.segments,
+            summary.terms,
+            index,
+        ),
     };
     match cursor.take(sizes, image, 7) {
         Taken::Refused(_) => 0,

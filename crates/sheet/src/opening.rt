@@ -4,10 +4,10 @@ ghost use Rattle.memory.specs.Answers.{Whole};
 ghost use Rattle.sheet.specs.Opened.{opened, openedSaid};
 ghost use Rattle.sheet.specs.Walk.{walked};
 use crate::Summary;
+use crate::block;
+use crate::block::BlockStep;
 use crate::ending;
 use crate::ending::EndStep;
-use crate::table;
-use crate::table::TableStep;
 use crate::walk;
 use crate::walk::ChoiceStep;
 use crate::walk::TemplateStep;
@@ -50,13 +50,13 @@ fn walk_sheet(sizes: Sizes, image: &[u8]) -> OpenedAnswer
                 fields::last_field(template),
             ) {
                 ChoiceStep::Refused(r) => OpenedAnswer::Refused(r),
-                ChoiceStep::Chosen(precision, fields_end) => match table::take_calibration(
+                ChoiceStep::Chosen(precision, fields_end) => match block::take_calibration(
                     sizes,
                     image,
                     fields_end,
                 ) {
-                    TableStep::Refused(r) => OpenedAnswer::Refused(r),
-                    TableStep::Found(domain, points, last) => match ending::take_ending(
+                    BlockStep::Refused(r) => OpenedAnswer::Refused(r),
+                    BlockStep::Found(counts, last) => match ending::take_ending(
                         sizes,
                         image,
                         last,
@@ -67,13 +67,16 @@ fn walk_sheet(sizes: Sizes, image: &[u8]) -> OpenedAnswer
                                 template,
                                 precision,
                             };
+                            let domain = counts.domain;
                             let summary = Summary {
                                 bits: end.at as u64,
-                                points,
+                                points: counts.points,
                                 end_bit,
                                 characters,
                                 template,
                                 domain,
+                                segments: counts.segments,
+                                terms: counts.terms,
                             };
                             OpenedAnswer::Sheet(Opened {
                                 sizes,

@@ -1,4 +1,4 @@
-// Behind the fields: block 40, the calibration table, where there is one, and selector 3.
+// Block 40, the calibration table.
 ghost use mathlib.Core.Path.{_≡_};
 ghost use mathlib.Core.Option.{none};
 ghost use lib.ListN.{length};
@@ -6,13 +6,14 @@ ghost use Rattle.memory.specs.Answers.{Whole};
 ghost use Rattle.fields.specs.Answers.{previousSaid};
 ghost use Rattle.fields.specs.Calibration.{calPoint, calDeviation};
 ghost use Rattle.layout.specs.Format.{parse};
-ghost use Rattle.layout.specs.Contents.{fieldOf, codesIn, pairOf, pairsOf, blockAt, calibrationOf};
+ghost use Rattle.layout.specs.Contents.{fieldOf, codesIn, pairOf, pairsOf, tableOf};
 ghost use Rattle.layout.specs.Image.{streamIn};
-ghost use Rattle.sheet.specs.Walk.{keeping, coded, tableCount, tableFrom, onlyBlock, codeSaid, codesSaid, countSaid, tableSaid};
+ghost use Rattle.sheet.specs.Walk.{keeping, coded, countsOf, tableFrom, codeSaid, codesSaid, countSaid, blockSaid};
 use crate::TableDomain;
+use crate::block::BlockStep;
+use crate::block::Counts;
 use crate::walk;
 use crate::walk::CodeStep;
-use crate::walk::MarkStep;
 use fields::Codes;
 use fields::Domain;
 use fields::Judged;
@@ -20,7 +21,6 @@ use fields::Previous;
 use memory::Sizes;
 use refusal::Refusal;
 use stream::Cursor;
-use stream::Taken;
 
 // The codes of a pair.
 pub enum CodesStep {
@@ -33,15 +33,6 @@ pub enum CountStep {
     Counted(u64, Cursor),
     Refused(Refusal),
 }
-
-// What stands behind the fields: the domain of a table, if there is one, and the number of its pairs.
-pub enum TableStep {
-    Found(TableDomain, u64, Cursor),
-    Refused(Refusal),
-}
-
-// The number of the calibration table's template.
-const TABLE: u64 = 40;
 
 // The code of a calibration point: `take_code` of its row, which is a constant here. That makes a check of a long table
 // twice as fast.
@@ -123,82 +114,41 @@ fn take_pairs(sizes: Sizes, image: &[u8], start: Cursor, domain: Domain, count: 
 }
 
 // The table that they are, in its domain.
-fn take_listed(sizes: Sizes, image: &[u8], start: Cursor, domain: Domain, count: u64) -> TableStep
+fn take_listed(sizes: Sizes, image: &[u8], start: Cursor, domain: Domain, count: u64) -> BlockStep
     requires { ⌜ Whole sizes (now image) ⌝ }
-    ensures { λ r. ⌜ tableSaid r ≡ keeping tableCount (parse (streamIn sizes (now (image .entry))) (tableFrom domain count) (start .at)) ⌝ }
+    ensures { λ r. ⌜ blockSaid r ≡ keeping countsOf (parse (streamIn sizes (now (image .entry))) (tableFrom domain count) (start .at)) ⌝ }
 {
     match take_pairs(sizes, image, start, domain, count) {
-        CountStep::Refused(r) => TableStep::Refused(r),
-        CountStep::Counted(n, end) => TableStep::Found(TableDomain::Is(domain), n, end),
-    }
-}
-
-// Block 40 behind its selector, which stands at bit `at`: template number, domain, count and pairs.
-fn take_table(sizes: Sizes, image: &[u8], cursor: Cursor, at: u64) -> TableStep
-    requires { ⌜ Whole sizes (now image) ⌝ }
-    ensures { λ r. ⌜ tableSaid r ≡ keeping tableCount (parse (streamIn sizes (now (image .entry))) (blockAt at) (cursor .at)) ⌝ }
-{
-    match walk::take_mark(sizes, image, cursor, walk::NUMBER_BITS, TABLE, at) {
-        MarkStep::Refused(r) => TableStep::Refused(r),
-        MarkStep::Behind(domain) => match walk::take_code(
-            sizes,
-            image,
-            domain,
-            coding::cal_domain(),
-        ) {
-            CodeStep::Refused(r) => TableStep::Refused(r),
-            CodeStep::Code(code, count) => match walk::take_code(
-                sizes,
-                image,
-                count,
-                coding::point_count(),
-            ) {
-                CodeStep::Refused(r) => TableStep::Refused(r),
-                CodeStep::Code(n, pairs) => {
-                    take_listed(sizes, image, pairs, coding::domain_of(code), n)
-                }
-            },
-        },
-    }
-}
-
-// The same, and the selector behind it, which has to be 3.
-fn take_only_block(sizes: Sizes, image: &[u8], cursor: Cursor, at: u64) -> TableStep
-    requires { ⌜ Whole sizes (now image) ⌝ }
-    ensures { λ r. ⌜ tableSaid r ≡ keeping tableCount (parse (streamIn sizes (now (image .entry))) (onlyBlock at) (cursor .at)) ⌝ }
-{
-    match take_table(sizes, image, cursor, at) {
-        TableStep::Refused(r) => TableStep::Refused(r),
-        TableStep::Found(domain, n, last) => match walk::take_mark(
-            sizes,
-            image,
-            last,
-            walk::SELECTOR_BITS,
-            3,
-            last.at as u64,
-        ) {
-            MarkStep::Refused(r) => TableStep::Refused(r),
-            MarkStep::Behind(end) => TableStep::Found(domain, n, end),
-        },
-    }
-}
-
-// One block 40 and selector 3, or selector 3 alone: the domain and the number of pairs.
-pub fn take_calibration(sizes: Sizes, image: &[u8], cursor: Cursor) -> TableStep
-    requires { ⌜ Whole sizes (now image) ⌝ }
-    ensures { λ r. ⌜ tableSaid r ≡ keeping tableCount (parse (streamIn sizes (now (image .entry))) calibrationOf (cursor .at)) ⌝ }
-{
-    let at = cursor.at as u64;
-    match cursor.take(sizes, image, walk::SELECTOR_BITS) {
-        Taken::Refused(r) => TableStep::Refused(r),
-        Taken::Field(selector, next) => {
-            if selector == 0 {
-                return take_only_block(sizes, image, next, at);
-            }
-            if selector == 3 {
-                return TableStep::Found(TableDomain::NoTable, 0, next);
-            }
-            TableStep::Refused(refusal::wrong_block(at))
+        CountStep::Refused(r) => BlockStep::Refused(r),
+        CountStep::Counted(n, end) => {
+            let counts = Counts {
+                domain: TableDomain::Is(domain),
+                points: n,
+                segments: 0,
+                terms: 0,
+            };
+            BlockStep::Found(counts, end)
         }
+    }
+}
+
+// Block 40 behind its template number: domain, count and pairs.
+pub fn take_table(sizes: Sizes, image: &[u8], cursor: Cursor) -> BlockStep
+    requires { ⌜ Whole sizes (now image) ⌝ }
+    ensures { λ r. ⌜ blockSaid r ≡ keeping countsOf (parse (streamIn sizes (now (image .entry))) tableOf (cursor .at)) ⌝ }
+{
+    match walk::take_code(sizes, image, cursor, coding::cal_domain()) {
+        CodeStep::Refused(r) => BlockStep::Refused(r),
+        CodeStep::Code(code, count) => match walk::take_code(
+            sizes,
+            image,
+            count,
+            coding::point_count(),
+        ) {
+            CodeStep::Refused(r) => BlockStep::Refused(r),
+            CodeStep::Code(n, pairs) => {
+                take_listed(sizes, image, pairs, coding::domain_of(code), n)
+            }
+        },
     }
 }

@@ -1,10 +1,11 @@
-// A sheet line by line: its template, its fields, its calibration table, its ending, its bits, the small dash.
+// A sheet line by line: its template, its fields, its calibration table or curve, its ending, its bits, the small dash.
 use crate::naming::print_name;
 use crate::output::put;
 use crate::output::put_character;
 use crate::output::put_figure;
 use crate::output::put_number;
 use crate::reasons::refused;
+use crate::singles::print_single;
 use crate::values::print_value;
 use fields::Domain;
 use fields::Template;
@@ -14,8 +15,10 @@ use sheet::CharacterAnswer;
 use sheet::Checked;
 use sheet::FieldAnswer;
 use sheet::PairAnswer;
+use sheet::SegmentAnswer;
 use sheet::Summary;
 use sheet::TableDomain;
+use sheet::TermAnswer;
 
 // A field's line, or its refusal's; the numbers stand in two columns.
 fn print_field(kind: u8, image: &[u8], template: Template, field: u64) {
@@ -51,6 +54,38 @@ fn print_point(kind: u8, image: &[u8], index: u64) {
     }
 }
 
+// A segment's line, or its refusal's.
+fn print_segment(kind: u8, image: &[u8], index: u64) {
+    match sheet::read_segment(kind, image, index) {
+        SegmentAnswer::Refused(r) => refused(r),
+        SegmentAnswer::Holds(segment) => {
+            put(b"segment ");
+            put_number(index);
+            put(b": from ");
+            put_figure(segment.start);
+            put(b" (billionths of the span), terms ");
+            put_number(segment.terms);
+            put(b"\n");
+        }
+    }
+}
+
+// A term's line, or its refusal's.
+fn print_term(kind: u8, image: &[u8], index: u64) {
+    match sheet::read_term(kind, image, index) {
+        TermAnswer::Refused(r) => refused(r),
+        TermAnswer::Holds(term) => {
+            put(b"term ");
+            put_number(index);
+            put(b": power ");
+            put_figure(term.exponent);
+            put(b", coefficient ");
+            print_single(term.coefficient);
+            put(b"\n");
+        }
+    }
+}
+
 // A character of the closing text, or its refusal's line.
 fn print_character(kind: u8, image: &[u8], index: u64) {
     match sheet::read_character(kind, image, index) {
@@ -62,6 +97,8 @@ fn print_character(kind: u8, image: &[u8], index: u64) {
 enum Part {
     Field(Template),
     Point,
+    Segment,
+    Term,
     Character,
 }
 
@@ -69,6 +106,8 @@ fn print_part(kind: u8, image: &[u8], part: Part, index: u64) {
     match part {
         Part::Field(template) => print_field(kind, image, template, index),
         Part::Point => print_point(kind, image, index),
+        Part::Segment => print_segment(kind, image, index),
+        Part::Term => print_term(kind, image, index),
         Part::Character => print_character(kind, image, index),
     }
 }
@@ -93,6 +132,12 @@ fn print_points(kind: u8, image: &[u8], summary: Summary) {
         Domain::Physical => put(b"domain: 1 (physical)\n"),
     }
     print_parts(kind, image, Part::Point, 0, summary.points);
+}
+
+// The segments and the terms of a curve; nothing where there is none.
+fn print_curve(kind: u8, image: &[u8], summary: Summary) {
+    print_parts(kind, image, Part::Segment, 0, summary.segments);
+    print_parts(kind, image, Part::Term, 0, summary.terms);
 }
 
 // The end bit, and the closing text if there is one.
@@ -134,7 +179,7 @@ fn print_small_dash(kind: u8, image: &[u8], template: Template) {
 }
 
 // Prints the whole sheet of an image, a line for the template, for each field, for the domain of a table and each of its points,
-// the ending, the bits up to the end and the small dash; or the check's refusal.
+// for each segment and term of a curve, the ending, the bits up to the end and the small dash; or the check's refusal.
 pub fn show(kind: u8, image: &[u8]) {
     match sheet::check(kind, image) {
         Checked::Refused(r) => refused(r),
@@ -145,6 +190,7 @@ pub fn show(kind: u8, image: &[u8]) {
             put(b"\n");
             print_fields(kind, image, template);
             print_points(kind, image, summary);
+            print_curve(kind, image, summary);
             print_ending(kind, image, summary);
             put(b"bits: ");
             put_number(summary.bits);

@@ -6,7 +6,7 @@ use refusal::Refusal;
 
 // A line a row, from 0, which is none, nor is 15 any more: what its place is, with no word for it where a row has more than one
 // sort of place, and what it means.
-const ROWS: [u8; 1146] = *b"place;no row of the table\n\
+const ROWS: [u8; 1264] = *b"place;no row of the table\n\
     place;no such kind of chip, or an image of another length\n\
     page;the bytes of this page do not add up\n\
     bit;what begins here would pass the end of the chip\n\
@@ -14,7 +14,7 @@ const ROWS: [u8; 1146] = *b"place;no row of the table\n\
     bit;a code outside its table\n\
     bit;a Single that is not finite\n\
     place;the calibration points do not rise\n\
-    number;there is no such field, point or character\n\
+    number;there is no such field, point, segment, term or character\n\
     field;a value or text of the wrong sort for this field\n\
     place;a figure, character or text out of range\n\
     bits;so many are needed, and the chip has fewer\n\
@@ -29,7 +29,9 @@ const ROWS: [u8; 1146] = *b"place;no row of the table\n\
     field;the writer's level is too low to write it\n\
     field;no reading: this value lies outside -2 to 2 V/V\n\
     place;the calibration points plus their deviations do not rise\n\
-    points;no reading: the small dash takes 32 at most";
+    points;no reading: the small dash takes 32 at most\n\
+    place;a count, exponent or segment start that breaks the rules of a curve\n\
+    terms;a curve has 30 at most";
 
 // Prints a refusal's number, place and meaning, on a line.
 pub fn refused(r: Refusal) {

@@ -9,7 +9,7 @@ use borrow.Author.Tests.{eq-eqb, ne-eqb}
 use lib.Dec.{eqb}
 use lib.ListN.{length, getD, take, drop, drop-of-length-le, length-drop}
 use lib.Seq.{drop-cons, drop-drop, drop-length, take-all}
-use Rattle.words.specs.Words.{upTo, isMinus, before, pieces, wordCount, pieceAt}
+use Rattle.words.specs.Words.{upTo, isMinus, before, pieces, pieceCount, pieceAt}
 
 -- ---- up to a separator
 
@@ -112,7 +112,7 @@ pub piece-end : (s : ℕ) (l : List ℕ) (at left : ℕ) → left ≤ 0 → upTo
 piece-end s l at zero h = sym (pieces-head s (drop at l))
 piece-end s l at (suc left) h = absurd (omega arith)
 
--- The count of words: a turn at a space, a turn at another byte, and the end.
+-- The count of pieces: a turn at a separator, a turn at another byte, and the end.
 before-length : (b : ℕ) (l : List (List ℕ)) → 0 < length l → length (before b l) ≡ length l
 before-length b [] h = absurd (omega arith)
 before-length b (piece ∷ l) h = refl
@@ -132,14 +132,14 @@ some-piece s (b ∷ l) = by (eqb b s)
 pub pieces-split : (s : ℕ) (l : List ℕ) → pieces s l ≡ upTo s l ∷ drop 1 (pieces s l)
 pieces-split s l = drop-cons (pieces s l) 0 [] (some-piece s l) ∙ ap {B = List (List ℕ)} (λ m. m ∷ drop 1 (pieces s l)) (pieces-head s l)
 
-pub count-space : (l : List ℕ) (at : ℕ) → at < length l → getD l at 0 ≡ 32 → wordCount (drop at l) ≡ suc (wordCount (drop (at + 1) l))
-count-space l at h e = rw (add-one, drop-cons l at 0 h, eq-eqb (getD l at 0) 32 e)
+pub count-separator : (sep : ℕ) (l : List ℕ) (at : ℕ) → at < length l → getD l at 0 ≡ sep → pieceCount sep (drop at l) ≡ suc (pieceCount sep (drop (at + 1) l))
+count-separator sep l at h e = rw (add-one, drop-cons l at 0 h, eq-eqb (getD l at 0) sep e)
 
-pub count-other : (l : List ℕ) (at : ℕ) → at < length l → (getD l at 0 ≡ 32 → ⊥) → wordCount (drop at l) ≡ wordCount (drop (at + 1) l)
-count-other l at h ne = rw (add-one, drop-cons l at 0 h, ne-eqb (getD l at 0) 32 ne) (before-length (getD l at 0) (pieces 32 (drop (suc at) l)) (some-piece 32 (drop (suc at) l)))
+pub count-other : (sep : ℕ) (l : List ℕ) (at : ℕ) → at < length l → (getD l at 0 ≡ sep → ⊥) → pieceCount sep (drop at l) ≡ pieceCount sep (drop (at + 1) l)
+count-other sep l at h ne = rw (add-one, drop-cons l at 0 h, ne-eqb (getD l at 0) sep ne) (before-length (getD l at 0) (pieces sep (drop (suc at) l)) (some-piece sep (drop (suc at) l)))
 
-pub count-end : (l : List ℕ) (at : ℕ) → length l ≤ at → wordCount (drop at l) ≡ 1
-count-end l at h = rw (drop-of-length-le l h)
+pub count-end : (sep : ℕ) (l : List ℕ) (at : ℕ) → length l ≤ at → pieceCount sep (drop at l) ≡ 1
+count-end sep l at h = rw (drop-of-length-le l h)
 
 -- ---- a minus alone
 

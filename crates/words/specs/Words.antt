@@ -27,12 +27,12 @@ isMinus [] = false
 isMinus (b ∷ []) = eqb b 45
 isMinus (b ∷ c ∷ word) = false
 
--- The words of a line, which one space (32) separates.
-abbrev pub words : List ℕ → List (List ℕ)
-words line = pieces 32 line
+abbrev pub pieceCount : ℕ → List ℕ → ℕ
+pieceCount separator line = length (pieces separator line)
 
+-- The words of a line, which one space (32) separates.
 abbrev pub wordCount : List ℕ → ℕ
-wordCount line = length (words line)
+wordCount line = pieceCount 32 line
 
 -- The piece of an index, from 0; empty where the line has none such.
 abbrev pub pieceAt : ℕ → ℕ → List ℕ → List ℕ

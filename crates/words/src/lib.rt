@@ -17,9 +17,12 @@ pub use levels::level_of;
 pub use parts::front;
 pub use parts::front_figures;
 pub use parts::front_mut;
+pub use parts::is_minus;
 pub use parts::piece_at;
+pub use parts::piece_count;
 pub use parts::word;
 pub use parts::word_count;
+pub use values::single_word;
 pub use values::value_of;
 
 // A word's number.

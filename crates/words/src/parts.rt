@@ -2,7 +2,7 @@
 ghost use mathlib.Core.Path.{_≡_};
 ghost use Prim.Native.Nat.{_+_};
 ghost use lib.ListN.{length, take, drop};
-ghost use Rattle.words.specs.Words.{isMinus, upTo, wordCount, pieceAt, wordAt};
+ghost use Rattle.words.specs.Words.{isMinus, upTo, pieceCount, wordCount, pieceAt, wordAt};
 
 // Whether a word is a minus alone.
 pub fn is_minus(word: &[u8]) -> bool
@@ -14,19 +14,26 @@ pub fn is_minus(word: &[u8]) -> bool
     word[0] == b'-'
 }
 
-// How many words a line has: one more than its spaces.
-pub fn word_count(line: &[u8]) -> u64
-    ensures { λ r. ⌜ r ≡ wordCount (now (line .entry)) ⌝ }
+// How many pieces a line has: one more than its separators.
+pub fn piece_count(line: &[u8], separator: u8) -> u64
+    ensures { λ r. ⌜ r ≡ pieceCount separator (now (line .entry)) ⌝ }
 {
     let mut count = 1;
     let mut at = 0;
     while at < line.len() {
-        if line[at] == b' ' {
+        if line[at] == separator {
             count += 1;
         }
         at += 1;
     }
     count
+}
+
+// How many words a line has.
+pub fn word_count(line: &[u8]) -> u64
+    ensures { λ r. ⌜ r ≡ wordCount (now (line .entry)) ⌝ }
+{
+    piece_count(line, b' ')
 }
 
 // Where the first `separator` at or behind `from` stands, or the line's end; `from` where that is behind the line's end.

@@ -33,8 +33,8 @@ fn single_of(bits: u32) -> f32
     f32::from_bits(bits)
 }
 
-// What stands behind the letter of a Single.
-fn single_word(digits: &[u8]) -> Worth
+// A Single, by the eight hexadecimal digits of its bits.
+pub fn single_word(digits: &[u8]) -> Worth
     ensures { λ r. ⌜ valueSaid r ≡ single (every (bytesIn (now (digits .entry)))) ⌝ }
 {
     let mut bytes = [0u8; 4];

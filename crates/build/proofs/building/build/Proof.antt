@@ -6,6 +6,7 @@ use Rattle.refusal.proofs.Outcomes.{told}
 use Rattle.refusal.proofs.WrittenLaws.{written-refused}
 use Rattle.memory.specs.Answers.{sizesSaid}
 use Rattle.memory.proofs.Chips.{sizes-chip, sizes-whole}
+use Rattle.build.specs.Build.{listed}
 use Rattle.build.proofs.BuiltIn.{build-refused, build-sized}
 use Rattle.build.proofs.building.build.Statement.{statement}
 use Rattle.build.proofs.building.build.Tie as tie
@@ -20,13 +21,13 @@ returns : tie.Need-returns
 returns c =
     let a = c .before .before .before .before .before .before .args in
     let e = sym (told sizesSaid (c .before .r .given .1) (c .before .before .before .image-sizes .ensures)) in
-    written-refused _ refl (build-refused (a .kind) (a .image .now) (a .sheet) (a .text .now) (a .domain) (a .points .now) e)
+    written-refused _ refl (build-refused (a .kind) (a .image .now) (a .sheet) (a .text .now) (listed (a .domain) (a .points .now)) e)
 
 returns-2 : tie.Need-returns-2
 returns-2 c =
     let a = c .before .before .before .before .before .before .before .before .before .before .args in
     let e = sym (told sizesSaid (c .before .before .before .before .before .sizes .given .1) (c .before .before .before .before .before .before .before .image-sizes .ensures)) in
-    rw (build-sized (a .kind) (a .image .now) (a .sheet) (a .text .now) (a .domain) (a .points .now) e) (c .before .before .build-in .ensures)
+    rw (build-sized (a .kind) (a .image .now) (a .sheet) (a .text .now) (listed (a .domain) (a .points .now)) e) (c .before .before .build-in .ensures)
 
 pub build-spec : {M : Type 1} → statement M
 build-spec =

@@ -3,62 +3,73 @@ use mathlib.Core.Path.{refl, sym, ap, _∙_}
 use borrow.Author.Needs.{needs}
 use Rattle.refusal.specs.declared.Written.the-variants.{Refused}
 use Rattle.refusal.proofs.WrittenLaws.{written-refused}
+use Rattle.build.specs.Build.{listed}
 use Rattle.build.proofs.Tests.{turned-down, accepted}
-use Rattle.build.proofs.BuiltIn.{few-points, fields-down, fields-good, text-fits, built-list, built-fields, built-ending, built-points, built-fitted}
+use Rattle.build.proofs.BuiltIn.{list-wrong, list-right, few-points, fields-down, fields-good, text-fits, built-list, built-fields, built-ending, built-behind, built-fitted}
 use Rattle.build.proofs.building.build_in.Statement.{statement}
 use Rattle.build.proofs.building.build_in.Tie as tie
 
 returns : tie.Need-returns
 returns c =
     let a = c .before .before .before .before .before .args in
-    let right = sym (c .before .before .is-wrong-list .ensures) ∙ c .before .if1 .taken in
-    written-refused _ (ap Refused (c .wrong-list .ensures)) (built-list (a .sizes) (a .sheet) (a .text .now) (a .domain) (a .points .now) right)
+    let t = listed (a .domain) (a .points .now) in
+    let wrong = list-wrong (a .domain) (a .points .now) (sym (c .before .before .is-wrong-list .ensures) ∙ c .before .if1 .taken) in
+    written-refused _ (ap Refused (c .wrong-list .ensures)) (built-list (a .sizes) (a .sheet) (a .text .now) t wrong)
 
 returns-2 : tie.Need-returns-2
 returns-2 c =
     let a = c .before .before .before .before .before .before .before .before .args in
-    let right = sym (c .before .before .before .before .before .is-wrong-list .ensures) ∙ c .before .before .before .before .if1 .left in
-    written-refused _ refl (built-fields (a .sizes) (a .sheet) (a .text .now) (a .domain) (a .points .now) right (fields-down (c .before .before .before .plan-fields .ensures) (c .before .answer .given .1)))
+    let t = listed (a .domain) (a .points .now) in
+    let length = sym (c .before .before .before .before .before .is-wrong-list .ensures) ∙ c .before .before .before .before .if1 .left in
+    let right = list-right (a .domain) (a .points .now) length in
+    written-refused _ refl (built-fields (a .sizes) (a .sheet) (a .text .now) t right (fields-down (c .before .before .before .plan-fields .ensures) (c .before .answer .given .1)))
 
 returns-3 : tie.Need-returns-3
 returns-3 c =
     let a = c .before .before .before .before .before .before .before .before .before .before .before .before .args in
-    let right = sym (c .before .before .before .before .before .before .before .before .before .is-wrong-list .ensures) ∙ c .before .before .before .before .before .before .before .before .if1 .left in
+    let t = listed (a .domain) (a .points .now) in
+    let length = sym (c .before .before .before .before .before .before .before .before .before .is-wrong-list .ensures) ∙ c .before .before .before .before .before .before .before .before .if1 .left in
+    let right = list-right (a .domain) (a .points .now) length in
     let fields = fields-good (c .before .before .before .before .before .before .before .plan-fields .ensures) (c .before .before .before .before .before .enum-told .given .1) in
     let down = turned-down _ (rw (c .before .before .before .before .template-in .ensures) at (c .before .before .before .check-ending .ensures)) (c .before .r .given .1) in
-    written-refused _ refl (built-ending (a .sizes) (a .sheet) (a .text .now) (a .domain) (a .points .now) right fields down)
+    written-refused _ refl (built-ending (a .sizes) (a .sheet) (a .text .now) t right fields down)
 
 returns-4 : tie.Need-returns-4
 returns-4 c =
     let a = c .before .before .before .before .before .before .before .before .before .before .before .before .before .before .before .args in
-    let right = sym (c .before .before .before .before .before .before .before .before .before .before .before .before .is-wrong-list .ensures) ∙ c .before .before .before .before .before .before .before .before .before .before .before .if1 .left in
+    let t = listed (a .domain) (a .points .now) in
+    let length = sym (c .before .before .before .before .before .before .before .before .before .before .before .before .is-wrong-list .ensures) ∙ c .before .before .before .before .before .before .before .before .before .before .before .if1 .left in
+    let right = list-right (a .domain) (a .points .now) length in
     let fields = fields-good (c .before .before .before .before .before .before .before .before .before .before .plan-fields .ensures) (c .before .before .before .before .before .before .before .before .enum-told .given .1) in
     let ends = accepted _ (rw (c .before .before .before .before .before .before .before .template-in .ensures) at (c .before .before .before .before .before .before .check-ending .ensures)) (c .before .before .before .before .enum-told2 .given .1) in
-    written-refused _ refl (built-points (a .sizes) (a .sheet) (a .text .now) (a .domain) (a .points .now) right fields ends (turned-down _ (c .before .before .before .check-points .ensures) (c .before .r2 .given .1)))
+    written-refused _ refl (built-behind (a .sizes) (a .sheet) (a .text .now) t right fields ends (turned-down _ (c .before .before .before .check-points .ensures) (c .before .r2 .given .1)))
 
-write-planned-requires : tie.Need-write-planned-requires
-write-planned-requires c κs =
+finish-table-requires : tie.Need-finish-table-requires
+finish-table-requires c κs =
     let a = c .before .before .before .before .before .before .before .before .before .before .before .before .before .before .before .args in
-    let right = sym (c .before .before .before .before .before .before .before .before .before .before .before .before .is-wrong-list .ensures) ∙ c .before .before .before .before .before .before .before .before .before .before .before .if1 .left in
-    let fields = fields-good (c .before .before .before .before .before .before .before .before .before .before .plan-fields .ensures) (c .before .before .before .before .before .before .before .before .enum-told .given .1) in
+    let t = listed (a .domain) (a .points .now) in
+    let length = sym (c .before .before .before .before .before .before .before .before .before .before .before .before .is-wrong-list .ensures) ∙ c .before .before .before .before .before .before .before .before .before .before .before .if1 .left in
+    let right = list-right (a .domain) (a .points .now) length in
     let ends = accepted _ (rw (c .before .before .before .before .before .before .before .template-in .ensures) at (c .before .before .before .before .before .before .check-ending .ensures)) (c .before .before .before .before .enum-told2 .given .1) in
     let table = accepted _ (c .before .before .before .check-points .ensures) (c .before .enum-told3 .given .1) in
     let plan = c .before .before .before .before .before .before .before .before .before .before .plan-fields .ensures in (
       c .before .before .before .before .before .before .before .before .before .before .before .before .before .before .before .pre,
       (
-        record { fit = plan .fit; characters = text-fits _ _ _ ends; table = table; list = few-points (a .points .now) right },
-        rw (c .before .before .before .before .before .before .before .template-in .ensures) (plan .count (c .before .before .before .before .before .before .before .before .enum-told .given .1), plan .small),
+        (record { fit = plan .fit; characters = text-fits _ _ _ ends }, rw (c .before .before .before .before .before .before .before .template-in .ensures) (plan .count (c .before .before .before .before .before .before .before .before .enum-told .given .1)), plan .small),
+        (table, few-points (a .points .now) length),
       ),
     )
 
 returns-5 : tie.Need-returns-5
 returns-5 c =
     let a = c .before .before .before .before .before .before .before .before .before .before .before .before .before .before .before .before .before .before .args in
-    let right = sym (c .before .before .before .before .before .before .before .before .before .before .before .before .before .before .before .is-wrong-list .ensures) ∙ c .before .before .before .before .before .before .before .before .before .before .before .before .before .before .if1 .left in
+    let t = listed (a .domain) (a .points .now) in
+    let length = sym (c .before .before .before .before .before .before .before .before .before .before .before .before .before .before .before .is-wrong-list .ensures) ∙ c .before .before .before .before .before .before .before .before .before .before .before .before .before .before .if1 .left in
+    let right = list-right (a .domain) (a .points .now) length in
     let fields = fields-good (c .before .before .before .before .before .before .before .before .before .before .before .before .before .plan-fields .ensures) (c .before .before .before .before .before .before .before .before .before .before .before .enum-told .given .1) in
     let ends = accepted _ (rw (c .before .before .before .before .before .before .before .before .before .before .template-in .ensures) at (c .before .before .before .before .before .before .before .before .before .check-ending .ensures)) (c .before .before .before .before .before .before .before .enum-told2 .given .1) in
     let table = accepted _ (c .before .before .before .before .before .before .check-points .ensures) (c .before .before .before .before .enum-told3 .given .1) in
-    rw (built-fitted (a .sizes) (a .sheet) (a .text .now) (a .domain) (a .points .now) right fields ends table) (rw (c .before .before .before .before .before .before .before .before .before .before .template-in .ensures) at (c .before .before .write-planned .ensures))
+    rw (built-fitted (a .sizes) (a .sheet) (a .text .now) t right fields ends table) (rw (c .before .before .before .before .before .before .before .before .before .before .template-in .ensures) at (c .before .before .finish-table .ensures))
 
 pub build-in-spec : {M : Type 1} → statement M
 build-in-spec =
@@ -80,6 +91,6 @@ build-in-spec =
     (λ c. search needs)
     returns-4
     (λ c. search needs)
-    write-planned-requires
+    finish-table-requires
     (λ c. search needs)
     returns-5)

@@ -40,4 +40,4 @@ decode-spec =
     rw (← (n .before .is-missing .ensures), n .if1 .left, c .before .before .rule3 .given .1) (c .geometric .ensures))
     (λ c.
     let n = c .before .before .before in
-    rw (← (n .before .is-missing .ensures), n .if1 .left, c .before .enum-told .given .1) (c .single .ensures)))
+    rw (← (n .before .is-missing .ensures), n .if1 .left, c .before .enum-told .given .1, sound-rule (n .before .before .pre .0) (c .before .enum-told .given .1)) (c .single .ensures)))

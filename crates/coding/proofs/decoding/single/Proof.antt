@@ -1,10 +1,10 @@
 use borrow.Author.Needs.{needs}
-use borrow.Author.Tests.{not-false}
-use mathlib.Core.Bool.{not}
+use mathlib.Core.Path.{_∙_}
 use lib.Ieee.{binary32, ofBits}
-use Rattle.fields.specs.Rules.{finite}
+use Rattle.refusal.specs.Outcome.{good}
+use Rattle.fields.specs.declared.Value.the-variants.{Single}
 use Rattle.fields.proofs.FloatLaws.{pattern-no-nan}
-use Rattle.fields.proofs.DecodeLaws.{turned, stood, untouched}
+use Rattle.fields.proofs.DecodeLaws.{turned, stood, single-means, single-stands}
 use Rattle.coding.proofs.decoding.single.Statement.{statement}
 use Rattle.coding.proofs.decoding.single.Tie as tie
 
@@ -14,10 +14,14 @@ single-spec =
     (tie.spec
     (λ c κs. search needs)
     (λ c. search needs)
-    (λ c. turned _ (c .before .before .before .finite-bits .ensures) (c .before .r .given .1))
+    (λ c.
+    let a = c .before .before .before .before .args in
+    turned (good (Single (ofBits binary32 (a .code)))) (c .before .before .before .finite-bits .ensures) (c .before .r .given .1) ∙ single-means (a .at) (a .code))
     (λ c. search needs)
     (λ c. search needs)
     (λ c.
-    let x = ofBits binary32 (c .before .before .before .args .code) in
-    pattern-no-nan _ (not-false (finite x) (untouched _ (not (finite x)) (c .before .before .finite-bits .ensures) (c .enum-told .given .1))))
-    (λ c. stood _ (c .before .before .finite-bits .ensures) (c .enum-told .given .1)))
+    let a = c .before .before .before .args in
+    pattern-no-nan _ (single-stands (a .at) (a .code) (c .before .before .finite-bits .ensures) (c .enum-told .given .1)))
+    (λ c.
+    let a = c .before .before .before .args in
+    stood (good (Single (ofBits binary32 (a .code)))) (c .before .before .finite-bits .ensures) (c .enum-told .given .1) ∙ single-means (a .at) (a .code)))

@@ -1,6 +1,8 @@
 -- `judging::by_rule` meets its contract: each rule's own test, with the value left out.
+use mathlib.Core.Path.{_∙_}
 use borrow.Author.Needs.{needs}
-use Rattle.fields.proofs.DecodeLaws.{left-out}
+use Rattle.fields.proofs.RowLaws.{sound-rule}
+use Rattle.fields.proofs.DecodeLaws.{left-out, single-by-rule}
 use Rattle.coding.proofs.judging.by_rule.Statement.{statement}
 use Rattle.coding.proofs.judging.by_rule.Tie as tie
 
@@ -19,4 +21,4 @@ by-rule-spec =
     (λ c. rw (c .before .before .rule .given .1, left-out) (c .in-table .ensures))
     (λ c. rw (c .before .enum-told .given .1, left-out) (c .up-to-top .ensures))
     (λ c. rw (c .before .enum-told2 .given .1, left-out) (c .up-to-top2 .ensures))
-    (λ c. rw (c .before .enum-told3 .given .1, left-out) (c .finite-bits .ensures)))
+    (λ c. let e = c .before .enum-told3 .given .1 in c .finite-bits .ensures ∙ single-by-rule (c .before .before .before .args .row) _ _ e (sound-rule (c .before .before .before .pre) e)))

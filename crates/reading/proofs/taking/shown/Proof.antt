@@ -1,5 +1,5 @@
 use borrow.Author.Needs.{needs, sfits-of}
-use mathlib.Core.Path.{_≡_, ap, _∙_}
+use mathlib.Core.Path.{_≡_, sym, ap, _∙_}
 use Prim.Native.Nat.{ℕ, _^_, _≤_}
 use native.Mathlib.Omega.{arith}
 use lib.IntN.{ℤ, natAbs}
@@ -7,7 +7,7 @@ use mir.Facts.{toZ-ofZ}
 use Rattle.layout.specs.Contents.{Contents}
 use Rattle.line.proofs.Sums.{told-small}
 use Rattle.sheet.specs.Opened.{Opens}
-use Rattle.reading.specs.Reading.{position, fraction}
+use Rattle.reading.specs.Reading.{position, fraction, share}
 use Rattle.reading.proofs.Positions.{position-small}
 use Rattle.reading.proofs.Fractions.{fraction-small, reading-made}
 use Rattle.reading.proofs.taking.shown.Statement.{statement}
@@ -35,7 +35,11 @@ returns : tie.Need-returns
 returns c =
     let f = c .before .before in
     let a = f .before .before .before .args in
-    λ kind x h. reading-made (x .calibration) (a .span) (a .input) (sfits-of (f .fraction .ok)) (is f kind x h) (c .before .float-fraction .ensures) (c .physical-figure .ensures)
+    λ kind x h.
+    let p = toZ-ofZ (sfits-of (f .before .position .ok)) ∙ at (f .before) in
+    let q = toZ-ofZ (sfits-of (f .fraction .ok)) ∙ is f kind x h in
+    reading-made (x .calibration) (a .span) (a .input) (sfits-of (f .fraction .ok)) (is f kind x h)
+    (c .before .share .ensures kind x h (q ∙ ap (fraction (x .calibration)) (sym p)) ∙ ap (share (x .calibration)) p) (c .physical-figure .ensures)
 
 pub shown-spec : {M : Type 1} → statement M
 shown-spec =
@@ -43,6 +47,6 @@ shown-spec =
     (tie.spec
     (λ c κs. let s = c .before in (s .pre .1, rw (toZ-ofZ (s .fits .input)) (s .pre .2)))
     (λ c κs. (c .before .before .pre .0, told-small {z = c .position .result} (sfits-of (c .position .ok)) (near c)))
-    (λ c κs. told-small {z = c .fraction .result} (sfits-of (c .fraction .ok)) (omega (arith, small c)))
+    (λ c κs. (c .before .before .before .pre .0, told-small {z = c .fraction .result} (sfits-of (c .fraction .ok)) (omega (arith, small c))))
     (λ c κs. search needs)
     returns)

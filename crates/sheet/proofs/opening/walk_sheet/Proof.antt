@@ -77,7 +77,7 @@ returns-5 c =
     (t .before .before .block .given .1) _ (t .take-template .ensures)
     (o .before .before .before .template .given .1) _ (o .before .last-field .ensures) _ (o .take-fields2 .ensures)
     (k .before .before .precision .given .1) _ (k .take-calibration .ensures)
-    (e .before .before .domain .given .1) _ (e .take-ending .ensures) (c .before .r5 .given .1)
+    (e .before .before .counts .given .1) _ (e .take-ending .ensures) (c .before .r5 .given .1)
 
 returns-6 : tie.Need-returns-6
 returns-6 c =
@@ -92,7 +92,7 @@ returns-6 c =
     (t .before .before .block .given .1) _ (t .take-template .ensures)
     (o .before .before .before .template .given .1) _ (o .before .last-field .ensures) _ (o .take-fields2 .ensures)
     (k .before .before .precision .given .1) _ (k .take-calibration .ensures)
-    (e .before .before .domain .given .1) _ (e .take-ending .ensures) (c .before .end-bit .given .1)
+    (e .before .before .counts .given .1) _ (e .take-ending .ensures) (c .before .end-bit .given .1)
 
 pub walk-sheet-spec : {M : Type 1} → statement M
 walk-sheet-spec =

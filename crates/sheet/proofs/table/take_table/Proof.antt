@@ -2,49 +2,35 @@ use borrow.Author.Needs.{needs}
 use mathlib.Core.Path.{_∙_}
 use Rattle.fields.proofs.RowLaws.{domain-sound, count-sound}
 use Rattle.layout.specs.Image.{streamIn}
-use Rattle.sheet.proofs.TableSteps.{number-halts, domain-halts, count-halts, count-stands}
+use Rattle.sheet.proofs.TableSteps.{domain-halts, count-halts, count-stands}
 use Rattle.sheet.proofs.table.take_table.Statement.{statement}
 use Rattle.sheet.proofs.table.take_table.Tie as tie
 
-take-code-requires : tie.Need-take-code-requires
-take-code-requires c κs = (c .before .before .before .before .before .before .pre, rw (c .cal-domain .ensures) domain-sound)
-
 take-code-requires-2 : tie.Need-take-code-requires-2
-take-code-requires-2 c κs =
-    (c .before .before .before .before .before .before .before .before .before .before .before .pre, rw (c .point-count .ensures) count-sound)
+take-code-requires-2 c κs = (c .before .before .before .before .before .before .before .pre, rw (c .point-count .ensures) count-sound)
 
 returns : tie.Need-returns
 returns c =
-    let m = c .before .before .before in
-    let a = m .before .before .args in
-    number-halts (streamIn (a .sizes) (a .image .now)) (a .at) (a .cursor .at) _ (m .take-mark .ensures) (c .before .r .given .1)
+    let d = c .before .before .before in
+    let a = d .before .before .before .args in
+    domain-halts (streamIn (a .sizes) (a .image .now)) (a .cursor .at) _ (rw (d .before .cal-domain .ensures) at (d .take-code .ensures)) (c .before .r .given .1)
 
 returns-2 : tie.Need-returns-2
 returns-2 c =
-    let d = c .before .before .before in
-    let m = d .before .before .before .before .before in
-    let a = m .before .before .args in
-    domain-halts (streamIn (a .sizes) (a .image .now)) (a .at) (a .cursor .at) _ (m .take-mark .ensures) (d .before .before .before .domain .given .1) _
-    (rw (d .before .cal-domain .ensures) at (d .take-code .ensures)) (c .before .r2 .given .1)
+    let n = c .before .before .before in
+    let d = n .before .before .before .before .before in
+    let a = d .before .before .before .args in
+    count-halts (streamIn (a .sizes) (a .image .now)) (a .cursor .at) _
+    (rw (d .before .cal-domain .ensures) at (d .take-code .ensures)) (n .before .before .before .code .given .1) _
+    (rw (n .before .point-count .ensures) at (n .take-code2 .ensures)) (c .before .r2 .given .1)
 
 returns-3 : tie.Need-returns-3
 returns-3 c =
-    let n = c .before .before .before in
-    let d = n .before .before .before .before .before in
-    let m = d .before .before .before .before .before in
-    let a = m .before .before .args in
-    count-halts (streamIn (a .sizes) (a .image .now)) (a .at) (a .cursor .at) _ (m .take-mark .ensures) (d .before .before .before .domain .given .1) _
-    (rw (d .before .cal-domain .ensures) at (d .take-code .ensures)) (n .before .before .before .code .given .1) _
-    (rw (n .before .point-count .ensures) at (n .take-code2 .ensures)) (c .before .r3 .given .1)
-
-returns-4 : tie.Need-returns-4
-returns-4 c =
     let n = c .before .before .before .before .before in
     let d = n .before .before .before .before .before in
-    let m = d .before .before .before .before .before in
-    let a = m .before .before .args in
+    let a = d .before .before .before .args in
     (rw (c .before .domain-of .ensures) at (c .take-listed .ensures))
-    ∙ count-stands (streamIn (a .sizes) (a .image .now)) (a .at) (a .cursor .at) _ (m .take-mark .ensures) (d .before .before .before .domain .given .1) _
+    ∙ count-stands (streamIn (a .sizes) (a .image .now)) (a .cursor .at) _
     (rw (d .before .cal-domain .ensures) at (d .take-code .ensures)) (n .before .before .before .code .given .1) _
     (rw (n .before .point-count .ensures) at (n .take-code2 .ensures)) (c .before .before .before .n .given .1)
 
@@ -53,10 +39,7 @@ take-table-spec =
     tie.close
     (tie.spec
     (λ c κs. search needs)
-    (λ c. search needs)
-    (λ c. search needs)
-    (λ c κs. search needs)
-    take-code-requires
+    (λ c κs. (c .before .before .pre, rw (c .cal-domain .ensures) domain-sound))
     (λ c. search needs)
     (λ c. search needs)
     (λ c κs. search needs)
@@ -67,5 +50,4 @@ take-table-spec =
     (λ c κs. search needs)
     returns
     returns-2
-    returns-3
-    returns-4)
+    returns-3)

@@ -1,0 +1,158 @@
+// The curve of a build, from its words.
+use fields::Curve;
+use fields::Segment;
+use fields::Term;
+use fields::Value;
+use words::Figure;
+use words::Number;
+use words::Worth;
+use words::piece_at;
+use words::piece_count;
+ghost use Prim.Native.Nat.{_<_};
+
+// A segment, and a term, of a list.
+enum SegmentItem {
+    Is(Segment),
+    Not,
+}
+
+enum TermItem {
+    Is(Term),
+    Not,
+}
+
+// The segments of a list, the terms, and the curve of both, with zeros behind the last of them; and whether all were such.
+struct Segments {
+    taken: bool,
+    segments: [Segment; 20],
+}
+
+struct Terms {
+    taken: bool,
+    terms: [Term; 30],
+}
+
+pub struct Drawn {
+    pub taken: bool,
+    pub curve: Curve,
+}
+
+// How many pairs of items a list has, of which commas separate the items; `-` is none at all, and an odd number is no pairs.
+fn pairs_in(list: &[u8]) -> Number {
+    if words::is_minus(list) {
+        return Number::Is(0);
+    }
+    let items = piece_count(list, b',');
+    if items % 2 == 1 {
+        return Number::Not;
+    }
+    Number::Is(items / 2)
+}
+
+// Start and term count, at this pair of a list.
+fn segment_at(list: &[u8], pair: u64) -> SegmentItem
+    requires { ⌜ pair < 100 ⌝ }
+{
+    let Figure::Is(start) = words::figure_of(piece_at(list, 2 * pair, b',')) else {
+        return SegmentItem::Not;
+    };
+    let Number::Is(terms) = words::number_of(piece_at(list, 2 * pair + 1, b',')) else {
+        return SegmentItem::Not;
+    };
+    SegmentItem::Is(Segment { start, terms })
+}
+
+// Exponent and coefficient, at this pair of a list.
+fn term_at(list: &[u8], pair: u64) -> TermItem
+    requires { ⌜ pair < 100 ⌝ }
+{
+    let Figure::Is(exponent) = words::figure_of(piece_at(list, 2 * pair, b',')) else {
+        return TermItem::Not;
+    };
+    let Worth::Is(value) = words::single_word(piece_at(list, 2 * pair + 1, b',')) else {
+        return TermItem::Not;
+    };
+    let Value::Single(coefficient) = value else {
+        return TermItem::Not;
+    };
+    TermItem::Is(Term {
+        exponent,
+        coefficient,
+    })
+}
+
+fn no_segments() -> Segments {
+    Segments {
+        taken: false,
+        segments: [Segment { start: 0, terms: 0 }; 20],
+    }
+}
+
+fn no_terms() -> Terms {
+    Terms {
+        taken: false,
+        terms: [Term {
+            exponent: 0,
+            coefficient: 0.0,
+        }; 30],
+    }
+}
+
+fn segments_of(list: &[u8]) -> Segments {
+    let Number::Is(count) = pairs_in(list) else {
+        return no_segments();
+    };
+    if count > 20 {
+        return no_segments();
+    }
+    let mut segments = [Segment { start: 0, terms: 0 }; 20];
+    let mut at: usize = 0;
+    while at < count as usize {
+        match segment_at(list, at as u64) {
+            SegmentItem::Is(segment) => segments[at] = segment,
+            SegmentItem::Not => return no_segments(),
+        }
+        at += 1;
+    }
+    Segments {
+        taken: true,
+        segments,
+    }
+}
+
+fn terms_of(list: &[u8]) -> Terms {
+    let Number::Is(count) = pairs_in(list) else {
+        return no_terms();
+    };
+    if count > 30 {
+        return no_terms();
+    }
+    let mut terms = [Term {
+        exponent: 0,
+        coefficient: 0.0,
+    }; 30];
+    let mut at: usize = 0;
+    while at < count as usize {
+        match term_at(list, at as u64) {
+            TermItem::Is(term) => terms[at] = term,
+            TermItem::Not => return no_terms(),
+        }
+        at += 1;
+    }
+    Terms { taken: true, terms }
+}
+
+// The curve of a segment count, a list of segments and a list of terms.
+pub fn curve_of(count: u64, segments: &[u8], terms: &[u8]) -> Drawn {
+    let found = segments_of(segments);
+    let listed = terms_of(terms);
+    let curve = Curve {
+        count,
+        segments: found.segments,
+        terms: listed.terms,
+    };
+    Drawn {
+        taken: found.taken && listed.taken,
+        curve,
+    }
+}

@@ -1,0 +1,8 @@
+use borrow.Author.Needs.{needs}
+use Rattle.fields.specs.Rules.{encode}
+use Rattle.coding.proofs.curves.encode_coefficient.Statement.{statement}
+use Rattle.coding.proofs.curves.encode_coefficient.Tie as tie
+
+pub encode-coefficient-spec : {M : Type 1} → statement M
+unfolding encode
+encode-coefficient-spec = tie.close (tie.spec (λ c κs. search needs) (λ c. c .bits .ensures))

@@ -1,0 +1,11 @@
+use borrow.Author.Needs.{needs}
+use mir.Facts.{toZ-ofZ}
+use Rattle.fields.specs.Rules.{encode}
+use Rattle.coding.proofs.curves.encode_start.Statement.{statement}
+use Rattle.coding.proofs.curves.encode_start.Tie as tie
+
+pub encode-start-spec : {M : Type 1} → statement M
+unfolding encode
+encode-start-spec =
+    tie.close
+    (tie.spec (λ c κs. search needs) (λ c. rw (toZ-ofZ (c .before .fits .figure)) at (c .stepped .ensures)))

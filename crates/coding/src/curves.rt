@@ -1,0 +1,187 @@
+// Document 02, Note 11: curves, template 41. The rows of its fields, the codes of a start, an exponent and a coefficient, and
+// the rules of a curve, which a check and a build share.
+use crate::encoding::bits;
+use crate::encoding::stepped;
+use fields::Earlier;
+use fields::Encoded;
+use fields::Row;
+use fields::Rule;
+use fields::Value;
+use fields::always;
+use fields::any;
+use integers::minus;
+use integers::plus;
+ghost use mathlib.Core.Path.{_≡_};
+ghost use Prim.Native.Nat.{_/_};
+ghost use lib.Dec.{ltb};
+ghost use lib.IntN.{pos, natAbs, _*ℤ_};
+ghost use Rattle.refusal.specs.Outcome.{refused};
+ghost use Rattle.refusal.specs.Rows.{wrongCurve};
+ghost use Rattle.fields.specs.Rules.{encode as encodeOf};
+ghost use Rattle.fields.specs.Curves as spec;
+ghost use Rattle.fields.specs.Answers.{encodedSaid, earlierSaid};
+
+// The bits of a start and its step, in billionths of the span; those of an exponent, in tenths, and the least.
+const START_BITS: u64 = 13;
+
+const START_STEP: u64 = 123_000;
+
+const EXPONENT_BITS: u64 = 7;
+
+const EXPONENT_STEP: u64 = 5;
+
+const LEAST_EXPONENT: i64 = -320;
+
+// The codes of the exponents 0 and 5; each whole number is two codes above the one before it.
+const FIRST_EXPONENT: u64 = 64;
+
+const LAST_EXPONENT: u64 = 74;
+
+// The most segments of a curve, terms of a segment and terms of a curve.
+const MOST_SEGMENTS: u64 = 20;
+
+const MOST_OWN: u64 = 6;
+
+const MOST_TERMS: u64 = 30;
+
+pub fn curve_domain() -> Row
+    ensures { λ r. ⌜ r ≡ spec.curveDomain ⌝ }
+{
+    always(1, Rule::Plain(0, 0))
+}
+
+pub fn segment_count() -> Row
+    ensures { λ r. ⌜ r ≡ spec.segmentCount ⌝ }
+{
+    any(8)
+}
+
+pub fn segment_start() -> Row
+    ensures { λ r. ⌜ r ≡ spec.segmentStart ⌝ }
+{
+    always(START_BITS, Rule::Stepped(0, START_STEP))
+}
+
+pub fn term_count() -> Row
+    ensures { λ r. ⌜ r ≡ spec.termCount ⌝ }
+{
+    any(7)
+}
+
+pub fn term_exponent() -> Row
+    ensures { λ r. ⌜ r ≡ spec.exponent ⌝ }
+{
+    always(EXPONENT_BITS, Rule::Stepped(LEAST_EXPONENT, EXPONENT_STEP))
+}
+
+pub fn term_coefficient() -> Row
+    ensures { λ r. ⌜ r ≡ spec.coefficient ⌝ }
+{
+    always(32, Rule::Single)
+}
+
+// Row 24.
+fn wrong_curve(place: u64) -> Encoded
+    ensures { λ r. ⌜ encodedSaid r ≡ refused (wrongCurve place) ⌝ }
+{
+    Encoded::Refused(refusal::wrong_curve(place))
+}
+
+// The code of a start in billionths of the span, or 10: `encode` of its row.
+pub fn encode_start(place: u64, figure: i64) -> Encoded
+    ensures { λ r. ⌜ encodedSaid r ≡ encodeOf spec.segmentStart place (Value.Whole figure) ⌝ }
+{
+    stepped(0, START_STEP, START_BITS, place, figure)
+}
+
+// The same of a coefficient.
+pub fn encode_coefficient(place: u64, x: f32) -> Encoded
+    ensures { λ r. ⌜ encodedSaid r ≡ encodeOf spec.coefficient place (Value.Single x) ⌝ }
+{
+    bits(place, x)
+}
+
+// Whether the exponent of a code is a whole number 0 to 5.
+fn is_exponent(code: u64) -> bool
+    ensures { λ r. ⌜ r ≡ spec.isExponent (spec.tenthsOf code) ⌝ }
+{
+    if code < FIRST_EXPONENT {
+        return false;
+    }
+    if LAST_EXPONENT < code {
+        return false;
+    }
+    code % 2 == 0
+}
+
+// Whether an exponent, as its code, may stand behind the one before it in its segment.
+pub fn exponent_follows(before: Earlier, code: u64) -> bool
+    ensures { λ r. ⌜ r ≡ spec.exponentFollows (spec.tenthsBefore (earlierSaid before)) (spec.tenthsOf code) ⌝ }
+{
+    if is_exponent(code) {
+        return match before {
+            Earlier::Nothing => true,
+            Earlier::Code(last) => last < code,
+        };
+    }
+    false
+}
+
+// The code of an exponent, or 24 where it may not stand behind the one before it in its segment.
+pub fn encode_exponent(before: Earlier, place: u64, exponent: i64) -> Encoded
+    ensures { λ r. ⌜ encodedSaid r ≡ spec.exponentCode (spec.tenthsBefore (earlierSaid before)) place (pos 10 *ℤ exponent) ⌝ }
+{
+    if exponent < 0 {
+        return wrong_curve(place);
+    }
+    if 5 < exponent {
+        return wrong_curve(place);
+    }
+    let code = FIRST_EXPONENT + 2 * plus(exponent);
+    if exponent_follows(before, code) {
+        return Encoded::Code(code);
+    }
+    wrong_curve(place)
+}
+
+// The exponent that tenths stand for.
+pub fn exponent_of(tenths: i64) -> i64
+    ensures { λ r. ⌜ r ≡ pos (natAbs tenths / 10) ⌝ }
+{
+    ((plus(tenths) + minus(tenths)) / 10) as i64
+}
+
+// Whether a start, as its code, may stand behind the one before it.
+pub fn start_follows(before: Earlier, code: u64) -> bool
+    ensures { λ r. ⌜ r ≡ spec.startFollows (earlierSaid before) code ⌝ }
+{
+    match before {
+        Earlier::Nothing => code == 0,
+        Earlier::Code(last) => last < code,
+    }
+}
+
+// Whether a curve may have so many segments, a segment so many terms, and whether these are more terms than a curve has.
+pub fn is_segment_count(count: u64) -> bool
+    ensures { λ r. ⌜ r ≡ spec.isSegmentCount count ⌝ }
+{
+    if 1 <= count {
+        return count <= MOST_SEGMENTS;
+    }
+    false
+}
+
+pub fn is_term_count(count: u64) -> bool
+    ensures { λ r. ⌜ r ≡ spec.isTermCount count ⌝ }
+{
+    if 1 <= count {
+        return count <= MOST_OWN;
+    }
+    false
+}
+
+pub fn too_many(total: u64) -> bool
+    ensures { λ r. ⌜ r ≡ ltb spec.mostTerms total ⌝ }
+{
+    MOST_TERMS < total
+}

@@ -1,0 +1,2 @@
+pub mod NestedLaws
+pub mod PowerLaws

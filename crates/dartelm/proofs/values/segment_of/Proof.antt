@@ -1,0 +1,13 @@
+-- `values::segment_of` meets its contract.
+-- Assumes nothing.
+use borrow.Author.Needs.{needs}
+use mir.Facts.{toZ-ofZ}
+use mir.Syntax.{w64}
+use Rattle.dartelm.proofs.values.segment_of.Statement.{statement}
+use Rattle.dartelm.proofs.values.segment_of.Tie as tie
+
+returns : tie.Need-returns
+returns c = rw (toZ-ofZ {w = w64} {z = c .before .args .given .start} (search needs))
+
+pub segment-of-spec : {M : Type 1} → statement M
+segment-of-spec = tie.close (tie.spec returns)

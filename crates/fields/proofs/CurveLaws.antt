@@ -1,0 +1,138 @@
+-- The exponents of a curve: tenths, codes and whole numbers.
+use mathlib.Core.Path.{_≡_, refl, sym, _∙_}
+use mathlib.Core.Bool.{Bool, true, false, not, _&&_, _||_, Bool·beq, true≢false}
+use mathlib.Core.Option.{Option, none, some}
+use Prim.Native.Nat.{ℕ, _+_, _*_, _/_, _%_, _≤_, _<_}
+use native.Mathlib.Omega.{arith}
+use native.Mathlib.Decide.{decLt}
+use borrow.Author.Tests.{le-leb, leb-true, le-ltb, ltb-true, ltb-false}
+use lib.Dec.{eqb, leb, ltb, ltb→lt, eqb→eq}
+use mir.Facts.{and-yes}
+use lib.IntN.{ℤ, pos, negsuc, natAbs, _*ℤ_}
+use lib.Signed.{leZ, ltZ}
+use Rattle.integers.specs.Parts.{up, dn}
+use Rattle.integers.proofs.PartLaws.{same, add-parts, mul-parts, ltZ-parts, nltZ-parts, le-leZ, lt-leZ, lt-ltZ, le-ltZ, is-true, is-false}
+use Rattle.refusal.specs.Outcome.{good, refused}
+use Rattle.refusal.specs.Rows.{wrongCurve}
+use Rattle.refusal.proofs.Outcomes.{both}
+use Rattle.fields.specs.declared.Value.the-variants.{Whole}
+use Rattle.fields.specs.Rules.{decode, encode}
+use Rattle.fields.specs.Curves.{leastExponent, exponent, isTermCount, isExponent, exponentFollows, exponentCode, tenthsOf}
+use Rattle.fields.proofs.RowLaws.{agree, exponent-sound}
+use Rattle.fields.proofs.Table.{at}
+use Rattle.fields.proofs.StoredLaws.{stored-again}
+
+tenths-parts : (code : ℕ) → up (tenthsOf code) + 320 ≡ dn (tenthsOf code) + 5 * code
+tenths-parts code = omega (arith, add-parts leastExponent (pos (5 * code)))
+
+-- Below and above the exponents that we take.
+pub negative-exponent : (z : ℤ) → up z < dn z → isExponent z ≡ false
+negative-exponent z h = rw (lt-leZ (pos 0) z (omega arith))
+
+pub great-exponent : (z : ℤ) → dn z + 50 < up z → isExponent z ≡ false
+great-exponent z h = rw (le-leZ (pos 0) z (omega arith), lt-leZ z (pos 50) (omega arith))
+
+pub low-code : (code : ℕ) → code < 64 → isExponent (tenthsOf code) ≡ false
+low-code code h = negative-exponent (tenthsOf code) (omega (arith, tenths-parts code))
+
+pub high-code : (code : ℕ) → 74 < code → isExponent (tenthsOf code) ≡ false
+high-code code h = great-exponent (tenthsOf code) (omega (arith, tenths-parts code))
+
+-- Between them, codes go by halves.
+pub inner-code : (code : ℕ) → 64 ≤ code → code ≤ 74 → isExponent (tenthsOf code) ≡ eqb (code % 2) 0
+inner-code code l h =
+    agree (isExponent (tenthsOf code)) _
+    (rw (le-leb 64 code l) at (at (λ c. Bool·beq (isExponent (tenthsOf c)) (leb 64 c && eqb (c % 2) 0)) 74 code tt h))
+
+-- The order of tenths is that of codes.
+pub tenths-order : (b c : ℕ) → ltb b c ≡ ltZ (tenthsOf b) (tenthsOf c)
+tenths-order b c = go (ltb b c) refl
+  where
+    go : (t : Bool) → ltb b c ≡ t → t ≡ ltZ (tenthsOf b) (tenthsOf c)
+    go true e = sym (lt-ltZ (tenthsOf b) (tenthsOf c) (omega (arith, tenths-parts b, tenths-parts c, ltb-true b c e)))
+    go false e = sym (le-ltZ (tenthsOf b) (tenthsOf c) (omega (arith, tenths-parts b, tenths-parts c, ltb-false b c e)))
+
+-- No other exponent follows any.
+pub follows-none : (before : Option ℤ) (z : ℤ) → isExponent z ≡ false → exponentFollows before z ≡ false
+follows-none none z h = h
+follows-none (some b) z h = rw h
+
+-- One that follows is an exponent.
+pub follows-some : (before : Option ℤ) (z : ℤ) → exponentFollows before z ≡ true → isExponent z ≡ true
+follows-some none z h = h
+follows-some (some b) z h = both (isExponent z) (ltZ b z) h .0
+
+-- The whole number that an exponent's code stands for.
+abbrev pub power : ℕ → ℕ
+power code = natAbs (tenthsOf code) / 10
+
+module _ (code : ℕ) (h : isExponent (tenthsOf code) ≡ true) where
+  pub power-is : (power code < 6) × (64 + 2 * power code ≡ code)
+  power-is = go (decLt 74 code)
+    where
+      go : Dec (74 < code) → (power code < 6) × (64 + 2 * power code ≡ code)
+      go (yes l) = absurd (true≢false (sym h ∙ high-code code l))
+      go (no l) =
+          let t = and-yes (ltb (power code) 6) (eqb (64 + 2 * power code) code)
+          (rw h at (at (λ c. not (isExponent (tenthsOf c)) || (ltb (power c) 6 && eqb (64 + 2 * power c) c)) 74 code tt (omega arith))) in
+          (ltb→lt (power code) 6 (t .0), eqb→eq (64 + 2 * power code) code (t .1))
+
+  pub power-back : pos 10 *ℤ pos (power code) ≡ tenthsOf code
+  power-back = same (pos 10 *ℤ pos (power code)) (tenthsOf code) (omega (arith, mul-parts (pos 10) (pos (power code)), tenths-parts code, power-is .1))
+
+pub power-rises : (b code : ℕ) → isExponent (tenthsOf b) ≡ true → exponentFollows (some (tenthsOf b)) (tenthsOf code) ≡ true → power b < power code
+power-rises b code h e =
+    let (own, above) = both (isExponent (tenthsOf code)) (ltZ (tenthsOf b) (tenthsOf code)) e in
+    omega (arith, power-is b h .1, power-is code own .1, ltb-true b code (tenths-order b code ∙ above))
+
+-- ---- counts
+
+pub terms-most : (n : ℕ) → isTermCount n ≡ true → n ≤ 6
+terms-most n e = leb-true n 6 (both (leb 1 n) (leb n 6) e .1)
+
+-- ---- whole exponents
+
+module _ (e : ℤ) where
+  pub below-zero : ltZ e (pos 0) ≡ true → isExponent (pos 10 *ℤ e) ≡ false
+  below-zero h = negative-exponent (pos 10 *ℤ e) (omega (arith, mul-parts (pos 10) e, below))
+    where
+      below : up e + 0 < 0 + dn e
+      below = ltZ-parts e (pos 0) (is-true h)
+
+  pub above-five : ltZ (pos 5) e ≡ true → isExponent (pos 10 *ℤ e) ≡ false
+  above-five h = great-exponent (pos 10 *ℤ e) (omega (arith, mul-parts (pos 10) e, ltZ-parts (pos 5) e (is-true h)))
+
+  pub between : ltZ e (pos 0) ≡ false → ltZ (pos 5) e ≡ false → (up e ≤ 5) × (tenthsOf (64 + 2 * up e) ≡ pos 10 *ℤ e)
+  between l h =
+      let low = nltZ-parts e (pos 0) (is-false l) in
+      let high = nltZ-parts (pos 5) e (is-false h) in
+      let none : dn e ≡ 0 = nonnegative e low in
+      (omega arith, same (tenthsOf (64 + 2 * up e)) (pos 10 *ℤ e) (omega (arith, tenths-parts (64 + 2 * up e), mul-parts (pos 10) e)))
+    where
+      nonnegative : (z : ℤ) → 0 + dn z ≤ up z + 0 → dn z ≡ 0
+      nonnegative (pos n) h = refl
+      nonnegative (negsuc n) h = absurd (omega arith)
+
+-- The code of an exponent's tenths.
+pub exponent-coded : (place code : ℕ) → code ≤ 74 → encode exponent place (Whole (tenthsOf code)) ≡ good code
+unfolding decode
+exponent-coded place code h = stored-again exponent place 0 code (Whole (tenthsOf code)) exponent-sound (omega arith) meant
+  where
+    meant : decode exponent 0 code ≡ good (Whole (tenthsOf code))
+    meant = rw (le-ltb 126 code (omega arith))
+
+-- ---- the code of an exponent, or 24
+
+module _ (before : Option ℤ) (place : ℕ) where
+  pub exponent-refused : (z : ℤ) → exponentFollows before z ≡ false → refused (wrongCurve place) ≡ exponentCode before place z
+  exponent-refused z h = rw h
+
+  module _ (e : ℤ) (l : ltZ e (pos 0) ≡ false) (h : ltZ (pos 5) e ≡ false) where
+    pub exponent-taken : true ≡ exponentFollows before (tenthsOf (64 + 2 * up e)) → good (64 + 2 * up e) ≡ exponentCode before place (pos 10 *ℤ e)
+    exponent-taken t =
+        let (most, same) = between e l h in
+        let coded = exponent-coded place (64 + 2 * up e) (omega arith) in
+        rw (← same, ← t) (sym coded)
+
+    pub exponent-turned : false ≡ exponentFollows before (tenthsOf (64 + 2 * up e)) → refused (wrongCurve place) ≡ exponentCode before place (pos 10 *ℤ e)
+    exponent-turned t = exponent-refused (pos 10 *ℤ e) (rw (← (between e l h .1)) (sym t))

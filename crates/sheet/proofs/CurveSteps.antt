@@ -1,0 +1,314 @@
+-- The walk over block 41.
+use mathlib.Core.Path.{_≡_, refl, sym, ap, ap₂, _∙_}
+use mathlib.Core.Bool.{Bool, true, false, not, cond}
+use mathlib.Core.List.{List, [], _∷_, _++_}
+use mathlib.Core.Option.{Option, none, some}
+use Prim.Native.Nat.{ℕ, zero, suc, _+_, _-_, _≤_, _<_}
+use native.Mathlib.Omega.{arith}
+use borrow.Author.Tests.{ltb-false}
+use lib.Dec.{ltb}
+use lib.ListN.{length, length-append}
+use Rattle.refusal.specs.declared.Refusal.{Refusal}
+use Rattle.refusal.specs.Outcome.{Outcome, good, refused}
+use Rattle.refusal.specs.Rows.{wrongCurve, tooManyTerms}
+use Rattle.refusal.proofs.Outcomes.{good-same, no-value, told}
+use Rattle.stream.specs.declared.cursor.Cursor.{Cursor}
+use Rattle.fields.specs.declared.Row.{Row}
+use Rattle.fields.specs.declared.Earlier.{Earlier}
+use Rattle.fields.specs.Curves.{curveDomain, segmentCount, segmentStart, termCount, exponent, coefficient, isSegmentCount, isTermCount, mostTerms, startFollows}
+use Rattle.layout.specs.Format.{Format, ends, _>>=_, _>>_, refuse_if_, repeated, Stream, Parsed, parse}
+use Rattle.layout.specs.Contents.{
+  Found,
+  FoundTerm,
+  FoundSegment,
+  Calibration,
+  curve,
+  Passed,
+  fieldOf,
+  ruledOf,
+  termOf,
+  behindTerm,
+  termsOf,
+  segmentOf,
+  behindSegment,
+  nothingPassed,
+  segmentsOf,
+  curveOf,
+}
+use Rattle.layout.specs.Image.{allTerms}
+use Rattle.layout.proofs.Formats.{parsed, parse-split}
+use Rattle.sheet.specs.declared.TableDomain.the-variants.{NoTable as NotThere}
+use Rattle.sheet.specs.declared.walk.CodeStep.{CodeStep}
+use Rattle.sheet.specs.declared.walk.CodeStep.the-variants.{Code, Refused as NoCode}
+use Rattle.sheet.specs.declared.block.Counts.{Counts}
+use Rattle.sheet.specs.declared.curve.EarlierStep.{EarlierStep}
+use Rattle.sheet.specs.declared.curve.EarlierStep.the-variants.{Behind as Before, Refused as NoTerm}
+use Rattle.sheet.specs.declared.curve.SegmentStep.{SegmentStep}
+use Rattle.sheet.specs.declared.curve.SegmentStep.the-variants.{Behind as BeforeSegment, Refused as NoSegment}
+use Rattle.sheet.specs.Walk.{keeping, Coded, coded, countsOf, passedBy, passed, rises, behind, codeSaid, earlierStepSaid, segmentStepSaid}
+use Rattle.sheet.proofs.Steps.{kept, keep-next, keep-refused, keep-made}
+
+-- ---- a field that a rule takes
+
+module _ (s : Stream) (row : Row) (rule : ℕ → Bool) (at : ℕ) (x : CodeStep) (e : codeSaid at x ≡ keeping coded (parse s (fieldOf row) at)) where
+  abbrev tested : Found → Format Found
+  tested y = refuse wrongCurve (y .at) if not (rule (y .code)) >> ends y
+
+  pub ruled-halts : {r : Refusal} → x ≡ NoCode r → refused r ≡ keeping coded (parse s (ruledOf row rule) at)
+  unfolding ruledOf
+  ruled-halts h = sym (ap (keeping coded) (keep-refused coded s (fieldOf row) tested at (told (codeSaid at) h e)))
+
+  pub ruled-steps : {code : ℕ} {next : Cursor} {takes : Bool} → x ≡ Code code next → takes ≡ rule code →
+      cond takes (behind (record { at = at; code = code }) next) (refused (wrongCurve at)) ≡ keeping coded (parse s (ruledOf row rule) at)
+  unfolding ruledOf
+  ruled-steps {code} {next} {takes} h t =
+      let (y, q, p) = keep-next coded s (fieldOf row) tested at (told (codeSaid at) h e) in
+      ap (λ (b : Bool). cond b (behind (record { at = at; code = code }) next) (refused (wrongCurve at))) t
+      ∙ ap (λ (c : Coded). cond (rule (c .code)) (behind c next) (refused (wrongCurve (c .at)))) (sym q)
+      ∙ go y (rule (y .code)) ∙ sym (ap (keeping coded) p)
+    where
+      go : (y : Found) (b : Bool) →
+          cond b (behind (coded y) next) (refused (wrongCurve (y .at))) ≡ keeping coded (parse s (refuse wrongCurve (y .at) if not b >> ends y) (next .at))
+      go y true = refl
+      go y false = refl
+
+-- A code that was taken is one that the rule takes.
+pub ruled-taken : (s : Stream) (row : Row) (rule : ℕ → Bool) (at : ℕ) {x : CodeStep} {code : ℕ} {next : Cursor} → codeSaid at x ≡ keeping coded (parse s (ruledOf row rule) at) →
+    x ≡ Code code next → rule code ≡ true
+unfolding ruledOf
+ruled-taken s row rule at {x} {code} {next} e h =
+    let (y, q, p) = kept coded (parse s (ruledOf row rule) at) (told (codeSaid at) h e) in
+    let (z, i, f, g) = parse-split s (fieldOf row) (λ (y : Found). refuse wrongCurve (y .at) if not (rule (y .code)) >> ends y) at p in
+    sym (go y z i (rule (z .code)) refl g ∙ ap (λ (c : Coded). rule (c .code)) q)
+  where
+    go : (y z : Found) (i : ℕ) (b : Bool) → rule (z .code) ≡ b → good (parsed y (next .at)) ≡ parse s (refuse wrongCurve (z .at) if not b >> ends z) i → true ≡ rule (y .code)
+    go y z i true f g = sym (ap (λ u. rule (u .found .code)) (good-same g) ∙ f)
+    go y z i false f g = no-value (sym g)
+
+-- ---- formats one after the other
+
+-- What stands before the next, where so many are left.
+abbrev pub passedLeft : {A B : Type 0} → Stream → (B → Format A) → (B → A → B) → B → ℕ → ℕ → Outcome (Parsed B)
+passedLeft s one behind before left at = keeping (passedBy behind before) (parse s (repeated one behind left before) at)
+
+module _ {A B : Type 0} (s : Stream) (one : B → Format A) (behind : B → A → B) (before : B) (left at : ℕ) where
+  pub passed-done : left ≤ 0 → passedLeft s one behind before left at ≡ good (parsed before at)
+  unfolding repeated
+  passed-done h = let z : left ≡ 0 = omega arith in ap (λ (k : ℕ). passedLeft s one behind before k at) z
+
+  module _ (more : 0 < left) where
+    abbrev others : A → Format (List A)
+    others x = repeated one behind (left - 1) (behind before x) >>= λ rest. ends (x ∷ rest)
+
+    at-one : passedLeft s one behind before left at ≡ keeping (passedBy behind before) (parse s (one before >>= others) at)
+    unfolding repeated
+    at-one = let m : left ≡ suc (left - 1) = omega arith in ap (λ (k : ℕ). passedLeft s one behind before k at) m
+
+    pub passed-halts : {r : Refusal} → refused r ≡ keeping (behind before) (parse s (one before) at) → passedLeft s one behind before left at ≡ refused r
+    passed-halts e = at-one ∙ ap (keeping (passedBy behind before)) (keep-refused (behind before) s (one before) others at e)
+
+    pub passed-next : {after : B} {n : ℕ} → good (parsed after n) ≡ keeping (behind before) (parse s (one before) at) →
+        passedLeft s one behind before left at ≡ passedLeft s one behind after (left - 1) n
+    passed-next {after} {n} e =
+        let (x, q, p) = keep-next (behind before) s (one before) others at e in
+        at-one ∙ ap (keeping (passedBy behind before)) p
+        ∙ keep-made (passedBy behind before) (λ rest. x ∷ rest) s (repeated one behind (left - 1) (behind before x)) n
+        ∙ ap (λ b. passedLeft s one behind b (left - 1) n) q
+
+-- ---- a term
+
+module _ (s : Stream) (before : Option ℕ) (at : ℕ) (x : CodeStep) (e : codeSaid at x ≡ keeping coded (parse s (ruledOf exponent (rises before)) at)) where
+  abbrev ended : Found → Found → Format FoundTerm
+  ended y c = ends (record { exponent = y; coefficient = c })
+
+  abbrev withCoefficient : Found → Format FoundTerm
+  withCoefficient y = fieldOf coefficient >>= ended y
+
+  pub exponent-halts : {r : Refusal} → x ≡ NoCode r → refused r ≡ keeping (behindTerm before) (parse s (termOf before) at)
+  unfolding termOf
+  exponent-halts h = sym (ap (keeping (behindTerm before)) (keep-refused coded s (ruledOf exponent (rises before)) withCoefficient at (told (codeSaid at) h e)))
+
+  module _ {code : ℕ} {middle : Cursor} (h : x ≡ Code code middle) (y : CodeStep) (f : codeSaid (middle .at) y ≡ keeping coded (parse s (fieldOf coefficient) (middle .at))) where
+    at-coefficient : (p : Found) × (coded p ≡ record { at = at; code = code }) × (parse s (termOf before) at ≡ parse s (withCoefficient p) (middle .at))
+    unfolding termOf
+    at-coefficient = keep-next coded s (ruledOf exponent (rises before)) withCoefficient at (told (codeSaid at) h e)
+
+    pub coefficient-halts : {r : Refusal} → y ≡ NoCode r → refused r ≡ keeping (behindTerm before) (parse s (termOf before) at)
+    coefficient-halts g =
+        let (p, q, w) = at-coefficient in
+        sym (ap (keeping (behindTerm before)) (w ∙ keep-refused coded s (fieldOf coefficient) (ended p) (middle .at) (told (codeSaid (middle .at)) g f)))
+
+    pub term-stands : {code′ : ℕ} {next : Cursor} → y ≡ Code code′ next → behind (some code) next ≡ keeping (behindTerm before) (parse s (termOf before) at)
+    term-stands {code′} {next} g =
+        let (p, q, w) = at-coefficient in
+        let (c, q′, w′) = keep-next coded s (fieldOf coefficient) (ended p) (middle .at) (told (codeSaid (middle .at)) g f) in
+        ap (λ (u : Coded). behind (some (u .code)) next) (sym q) ∙ sym (ap (keeping (behindTerm before)) (w ∙ w′))
+
+-- ---- a segment
+
+module _ (s : Stream) (before : Passed) (at : ℕ) (x : CodeStep) (e : codeSaid at x ≡ keeping coded (parse s (ruledOf segmentStart (startFollows (before .start))) at)) where
+  abbrev made : Found → Found → List FoundTerm → FoundSegment
+  made start count terms = record { start = start; count = count; terms = terms }
+
+  abbrev limited : Bool → ℕ → Format FoundSegment → Format FoundSegment
+  limited many total next = refuse tooManyTerms total if many >> next
+
+  abbrev withTerms : Found → Found → Format FoundSegment
+  withTerms start count =
+      let total = before .terms + count .code in
+      limited (ltb mostTerms total) total (termsOf (count .code) >>= λ terms. ends (made start count terms))
+
+  abbrev withCount : Found → Format FoundSegment
+  withCount start = ruledOf termCount isTermCount >>= withTerms start
+
+  abbrev kept-of : Format FoundSegment → ℕ → Outcome (Parsed Passed)
+  kept-of f n = keeping (behindSegment before) (parse s f n)
+
+  pub start-halts : {r : Refusal} → x ≡ NoCode r → refused r ≡ kept-of (segmentOf before) at
+  unfolding segmentOf
+  start-halts h = sym (ap (keeping (behindSegment before)) (keep-refused coded s (ruledOf segmentStart (startFollows (before .start))) withCount at (told (codeSaid at) h e)))
+
+  module _ {start : ℕ} {second : Cursor} (h : x ≡ Code start second) (y : CodeStep) (f : codeSaid (second .at) y ≡ keeping coded (parse s (ruledOf termCount isTermCount) (second .at))) where
+    at-terms : (p : Found) × (coded p ≡ record { at = at; code = start }) × (parse s (segmentOf before) at ≡ parse s (withCount p) (second .at))
+    unfolding segmentOf
+    at-terms = keep-next coded s (ruledOf segmentStart (startFollows (before .start))) withCount at (told (codeSaid at) h e)
+
+    pub terms-halt : {r : Refusal} → y ≡ NoCode r → refused r ≡ kept-of (segmentOf before) at
+    terms-halt g =
+        let (p, q, w) = at-terms in
+        sym (ap (keeping (behindSegment before)) (w ∙ keep-refused coded s (ruledOf termCount isTermCount) (withTerms p) (second .at) (told (codeSaid (second .at)) g f)))
+
+    module _ {n : ℕ} {third : Cursor} (g : y ≡ Code n third) {many : Bool} (m : many ≡ ltb mostTerms (before .terms + n)) where
+      -- The terms of a segment that starts so, and so many of them.
+      at-limit : (p c : Found) × (p .code ≡ start) × (c .code ≡ n) ×
+          (kept-of (segmentOf before) at ≡ kept-of (limited many (before .terms + n) (termsOf n >>= λ terms. ends (made p c terms))) (third .at))
+      at-limit =
+          let (p, q, w) = at-terms in
+          let (c, q′, w′) = keep-next coded s (ruledOf termCount isTermCount) (withTerms p) (second .at) (told (codeSaid (second .at)) g f) in
+          let n-is : c .code ≡ n = ap (λ (u : Coded). u .code) q′ in (
+            p,
+            c,
+            ap (λ (u : Coded). u .code) q,
+            n-is,
+            ap (keeping (behindSegment before)) (w ∙ w′)
+                ∙ ap (λ (k : ℕ). kept-of (limited (ltb mostTerms (before .terms + k)) (before .terms + k) (termsOf k >>= λ terms. ends (made p c terms))) (third .at)) n-is
+                ∙ ap (λ (b : Bool). kept-of (limited b (before .terms + n) (termsOf n >>= λ terms. ends (made p c terms))) (third .at)) (sym m),
+          )
+
+      pub too-many : many ≡ true → refused (tooManyTerms (before .terms + n)) ≡ kept-of (segmentOf before) at
+      too-many t =
+          let (p, c, ps, cs, w) = at-limit in
+          sym (w ∙ ap (λ (b : Bool). kept-of (limited b (before .terms + n) (termsOf n >>= λ terms. ends (made p c terms))) (third .at)) t)
+
+      module _ (t : many ≡ false) (v : EarlierStep) (k : earlierStepSaid v ≡ keeping (passedBy behindTerm none) (parse s (termsOf n) (third .at))) where
+        pub own-halt : {r : Refusal} → v ≡ NoTerm r → refused r ≡ kept-of (segmentOf before) at
+        own-halt j =
+            let (p, c, ps, cs, w) = at-limit in
+            sym (w ∙ ap (λ (b : Bool). kept-of (limited b (before .terms + n) (termsOf n >>= λ terms. ends (made p c terms))) (third .at)) t
+            ∙ ap (keeping (behindSegment before)) (keep-refused (passedBy behindTerm none) s (termsOf n) (λ terms. ends (made p c terms)) (third .at) (told earlierStepSaid j k)))
+
+        pub segment-stands : {last : Earlier} {end : Cursor} → v ≡ Before last end →
+            behind (record { start = some start; terms = before .terms + n }) end ≡ kept-of (segmentOf before) at
+        segment-stands {last} {end} j =
+            let (p, c, ps, cs, w) = at-limit in
+            let (terms, q, l) = keep-next (passedBy behindTerm none) s (termsOf n) (λ terms. ends (made p c terms)) (third .at) (told earlierStepSaid j k) in
+            ap₂ (λ (a b : ℕ). behind (record { start = some a; terms = before .terms + b }) end) (sym ps) (sym cs)
+            ∙ sym (w ∙ ap (λ (b : Bool). kept-of (limited b (before .terms + n) (termsOf n >>= λ terms. ends (made p c terms))) (third .at)) t ∙ ap (keeping (behindSegment before)) l)
+
+-- ---- the curve
+
+-- n of a format are n.
+repeated-length : {A B : Type 0} (s : Stream) (one : B → Format A) (behind : B → A → B) (n : ℕ) (before : B) (at : ℕ) {xs : List A} {m : ℕ} →
+    good (parsed xs m) ≡ parse s (repeated one behind n before) at → length xs ≡ n
+unfolding repeated
+repeated-length s one behind zero before at e = ap (λ y. length (y .found)) (good-same e)
+repeated-length s one behind (suc n) before at e =
+    let (x, i, f, g) = parse-split s (one before) _ at e in
+    let (rest, j, k, l) = parse-split s (repeated one behind n (behind before x)) (λ rest. ends (x ∷ rest)) i g in
+    ap (λ y. length (y .found)) (good-same l) ∙ ap suc (repeated-length s one behind n (behind before x) i k)
+
+-- A segment has so many terms as it says, and not too many.
+pub record Limits (before : Passed) (x : FoundSegment) : Type 0 where
+  pub counted : length (x .terms) ≡ x .count .code
+  pub few : before .terms + x .count .code ≤ mostTerms
+
+segment-limits : (s : Stream) (before : Passed) (at : ℕ) {x : FoundSegment} {m : ℕ} → good (parsed x m) ≡ parse s (segmentOf before) at → Limits before x
+unfolding segmentOf termsOf
+segment-limits s before at {x} {m} e =
+    let (start, i, f, g) = parse-split s (ruledOf segmentStart (startFollows (before .start))) _ at e in
+    let (count, j, k, l) = parse-split s (ruledOf termCount isTermCount) _ i g in
+    go start count j (ltb mostTerms (before .terms + count .code)) refl l
+  where
+    go : (start count : Found) (j : ℕ) (many : Bool) → ltb mostTerms (before .terms + count .code) ≡ many →
+        good (parsed x m) ≡ parse s (refuse tooManyTerms (before .terms + count .code) if many >> (termsOf (count .code) >>= λ terms. ends (record { start = start; count = count; terms = terms }))) j →
+        Limits before x
+    go start count j true t l = no-value (sym l)
+    go start count j false t l =
+        let (terms, i, f, g) = parse-split s (termsOf (count .code)) _ j l in
+        let y = good-same g in
+        let n : x .count .code ≡ count .code = ap (λ z. z .found .count .code) y in
+        record {
+          counted = ap (λ z. length (z .found .terms)) y ∙ repeated-length s termOf behindTerm (count .code) none j f ∙ sym n;
+          few = omega (arith, n, ltb-false mostTerms (before .terms + count .code) t);
+        }
+
+pub total-few : (s : Stream) (before : Passed) (at : ℕ) {v : SegmentStep} {start : Earlier} {total : ℕ} {end : Cursor} →
+    segmentStepSaid v ≡ keeping (behindSegment before) (parse s (segmentOf before) at) → v ≡ BeforeSegment start total end → total ≤ mostTerms
+total-few s before at {v} {start} {total} {end} e h =
+    let (x, q, p) = kept (behindSegment before) (parse s (segmentOf before) at) (told segmentStepSaid h e) in
+    omega (arith, ap (λ (b : Passed). b .terms) q, segment-limits s before at p .few)
+
+-- So the terms that were passed are those of the segments.
+segments-total : (s : Stream) (n : ℕ) (before : Passed) (at : ℕ) {xs : List FoundSegment} {m : ℕ} → good (parsed xs m) ≡ parse s (repeated segmentOf behindSegment n before) at →
+    passedBy behindSegment before xs .terms ≡ before .terms + length (allTerms xs)
+unfolding repeated
+segments-total s zero before at e = ap (λ y. passedBy behindSegment before (y .found) .terms) (good-same e) ∙ omega arith ∙ sym (ap (λ y. before .terms + length (allTerms (y .found))) (good-same e))
+segments-total s (suc n) before at e =
+    let (x, i, f, g) = parse-split s (segmentOf before) _ at e in
+    let (rest, j, k, l) = parse-split s (repeated segmentOf behindSegment n (behindSegment before x)) (λ rest. ends (x ∷ rest)) i g in
+    let y = good-same l in
+    let total = segments-total s n (behindSegment before x) i k in
+    let all : passedBy behindSegment (behindSegment before x) rest .terms ≡ before .terms + length (x .terms ++ allTerms rest) =
+    omega (arith, total, segment-limits s before at f .counted, length-append (x .terms) (allTerms rest)) in
+    ap (λ z. passedBy behindSegment before (z .found) .terms) y ∙ all ∙ sym (ap (λ z. before .terms + length (allTerms (z .found))) y)
+
+module _ (s : Stream) (at : ℕ) (x : CodeStep) (e : codeSaid at x ≡ keeping coded (parse s (fieldOf curveDomain) at)) where
+  abbrev drawn : Found → Format Calibration
+  drawn count = segmentsOf (count .code) >>= λ segments. ends (curve segments)
+
+  abbrev counted : Format Calibration
+  counted = ruledOf segmentCount isSegmentCount >>= drawn
+
+  pub domain-halts : {r : Refusal} → x ≡ NoCode r → refused r ≡ keeping countsOf (parse s curveOf at)
+  unfolding curveOf
+  domain-halts h = sym (ap (keeping countsOf) (keep-refused coded s (fieldOf curveDomain) (λ d. counted) at (told (codeSaid at) h e)))
+
+  module _ {code : ℕ} {second : Cursor} (h : x ≡ Code code second) (y : CodeStep)
+      (f : codeSaid (second .at) y ≡ keeping coded (parse s (ruledOf segmentCount isSegmentCount) (second .at))) where
+    at-count : parse s curveOf at ≡ parse s counted (second .at)
+    unfolding curveOf
+    at-count = let (d, q, p) = keep-next coded s (fieldOf curveDomain) (λ d. counted) at (told (codeSaid at) h e) in p
+
+    pub count-halts : {r : Refusal} → y ≡ NoCode r → refused r ≡ keeping countsOf (parse s curveOf at)
+    count-halts g = sym (ap (keeping countsOf) (at-count ∙ keep-refused coded s (ruledOf segmentCount isSegmentCount) drawn (second .at) (told (codeSaid (second .at)) g f)))
+
+    module _ {n : ℕ} {third : Cursor} (g : y ≡ Code n third) (v : SegmentStep)
+        (k : segmentStepSaid v ≡ keeping (passedBy behindSegment nothingPassed) (parse s (segmentsOf n) (third .at))) where
+      at-segments : parse s curveOf at ≡ parse s (segmentsOf n >>= λ segments. ends (curve segments)) (third .at)
+      at-segments =
+          let (c, q, p) = keep-next coded s (ruledOf segmentCount isSegmentCount) drawn (second .at) (told (codeSaid (second .at)) g f) in
+          at-count ∙ p ∙ ap (λ (u : Coded). parse s (segmentsOf (u .code) >>= λ segments. ends (curve segments)) (third .at)) q
+
+      pub segments-halt : {r : Refusal} → v ≡ NoSegment r → refused r ≡ keeping countsOf (parse s curveOf at)
+      segments-halt j =
+          sym (ap (keeping countsOf) (at-segments ∙ keep-refused (passedBy behindSegment nothingPassed) s (segmentsOf n) (λ segments. ends (curve segments)) (third .at) (told segmentStepSaid j k)))
+
+      pub curve-stands : {last : Earlier} {terms : ℕ} {end : Cursor} → v ≡ BeforeSegment last terms end →
+          behind (record { domain = NotThere; points = 0; segments = n; terms = terms }) end ≡ keeping countsOf (parse s curveOf at)
+      unfolding segmentsOf
+      curve-stands {last} {terms} {end} j =
+          let (xs, q, p) = kept (passedBy behindSegment nothingPassed) (parse s (segmentsOf n) (third .at)) (told segmentStepSaid j k) in
+          let some : length xs ≡ n = repeated-length s segmentOf behindSegment n nothingPassed (third .at) p in
+          let all : length (allTerms xs) ≡ terms = omega (arith, segments-total s n nothingPassed (third .at) p, ap (λ (b : Passed). b .terms) q) in
+          ap₂ (λ (a b : ℕ). behind (record { domain = NotThere; points = 0; segments = a; terms = b }) end) (sym some) (sym all)
+          ∙ sym (ap (keeping countsOf) at-segments ∙ keep-made countsOf curve s (segmentsOf n) (third .at) ∙ ap (keeping (λ xs. countsOf (curve xs))) (sym p))

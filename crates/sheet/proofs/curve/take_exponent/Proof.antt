@@ -1,0 +1,36 @@
+use borrow.Author.Needs.{needs}
+use mathlib.Core.Path.{_∙_}
+use Rattle.fields.specs.Answers.{earlierSaid}
+use Rattle.sheet.specs.Walk.{rises}
+use Rattle.fields.specs.Curves.{exponent}
+use Rattle.fields.proofs.RowLaws.{exponent-sound}
+use Rattle.layout.specs.Image.{streamIn}
+use Rattle.sheet.proofs.CurveSteps.{ruled-halts, ruled-steps}
+use Rattle.sheet.proofs.curve.take_exponent.Statement.{statement}
+use Rattle.sheet.proofs.curve.take_exponent.Tie as tie
+
+returns : tie.Need-returns
+returns c =
+    let t = c .before .before .before in
+    let a = t .before .before .before .args in
+    ruled-halts (streamIn (a .sizes) (a .image .now)) exponent (rises (earlierSaid (a .before))) (a .cursor .at) _ (rw (t .before .term-exponent .ensures) at (t .take-code .ensures)) (c .before .r .given .1)
+
+returns-2 : tie.Need-returns-2
+returns-2 c =
+    let t = c .before .before .before .before .before in
+    let a = t .before .before .before .args in
+    c .ruled .ensures
+    ∙ ruled-steps (streamIn (a .sizes) (a .image .now)) exponent (rises (earlierSaid (a .before))) (a .cursor .at) _ (rw (t .before .term-exponent .ensures) at (t .take-code .ensures)) (c .before .before .before .code .given .1) (c .before .exponent-follows .ensures)
+
+pub take-exponent-spec : {M : Type 1} → statement M
+take-exponent-spec =
+    tie.close
+    (tie.spec
+    (λ c κs. search needs)
+    (λ c κs. (c .before .before .pre, rw (c .term-exponent .ensures) exponent-sound))
+    (λ c. search needs)
+    (λ c. search needs)
+    (λ c κs. search needs)
+    (λ c κs. search needs)
+    returns
+    returns-2)

@@ -1,0 +1,32 @@
+use borrow.Author.Needs.{needs}
+use mathlib.Core.Path.{ap, ap₂, _∙_}
+use Prim.Native.Nat.{ℕ}
+use lib.IntN.{ℤ}
+use mir.Facts.{toZ-ofZ}
+use Rattle.fields.specs.declared.Row.{Row}
+use Rattle.fields.proofs.RowLaws.{start-sound}
+use Rattle.layout.specs.Format.{parse}
+use Rattle.layout.specs.Contents.{fieldOf}
+use Rattle.layout.specs.Image.{streamIn, figure}
+use Rattle.sheet.specs.Walk.{valueIn}
+use Rattle.sheet.proofs.segments.segment_at.Statement.{statement}
+use Rattle.sheet.proofs.segments.segment_at.Tie as tie
+
+returns : tie.Need-returns
+returns c =
+    let v = c .before .before in
+    let a = v .before .before .before .args in
+    ap₂ (λ (z : ℤ) (n : ℕ). record { start = z; terms = n })
+    (toZ-ofZ (record { sfits = c .before .figure .ok }) ∙ c .before .figure .ensures ∙ ap figure (v .value-at .ensures)
+    ∙ ap (λ (r : Row). figure (valueIn (parse (streamIn (a .sizes) (a .image .now)) (fieldOf r) (a .at)))) (v .before .segment-start .ensures))
+    (c .terms-at .ensures .0)
+
+pub segment-at-spec : {M : Type 1} → statement M
+segment-at-spec =
+    tie.close
+    (tie.spec
+    (λ c κs. search needs)
+    (λ c κs. (c .before .before .pre .0, rw (c .segment-start .ensures) start-sound))
+    (λ c κs. search needs)
+    (λ c κs. search needs)
+    returns)

@@ -1,0 +1,46 @@
+use borrow.Author.Needs.{needs}
+use mathlib.Core.Path.{ap, ap₂, _∙_}
+use Prim.Native.Nat.{ℕ, _+_, _/_}
+use native.Mathlib.Omega.{arith}
+use lib.IntN.{ℤ, pos, natAbs}
+use lib.Ieee.{Float}
+use mir.Facts.{toZ-ofZ}
+use Rattle.fields.specs.declared.Row.{Row}
+use Rattle.fields.proofs.RowLaws.{exponent-sound, coefficient-sound}
+use Rattle.layout.specs.Format.{parse}
+use Rattle.layout.specs.Contents.{fieldOf}
+use Rattle.layout.specs.Image.{streamIn, figure, float}
+use Rattle.sheet.specs.Walk.{valueIn}
+use Rattle.sheet.proofs.segments.term_at.Statement.{statement}
+use Rattle.sheet.proofs.segments.term_at.Tie as tie
+
+add-value-at : tie.Need-add-value-at
+add-value-at c =
+    omega (arith, c .before .before .before .pre .1, ap (λ (r : Row). r .width) (c .before .term-exponent .ensures))
+
+returns : tie.Need-returns
+returns c =
+    let v = c .before .before .before .before .before in
+    let a = v .before .before .before .args in
+    ap₂ (λ (z : ℤ) (x : Float). record { exponent = z; coefficient = x })
+    (toZ-ofZ (record { sfits = c .before .exponent-of .ok }) ∙ c .before .exponent-of .ensures
+    ∙ ap (λ (z : ℤ). pos (natAbs z / 10))
+    (toZ-ofZ (record { sfits = c .before .before .figure .ok }) ∙ c .before .before .figure .ensures ∙ ap figure (v .value-at .ensures)
+    ∙ ap (λ (r : Row). figure (valueIn (parse (streamIn (a .sizes) (a .image .now)) (fieldOf r) (a .at)))) (v .before .term-exponent .ensures)))
+    (c .float .ensures ∙ ap float (c .before .before .before .value-at2 .ensures)
+    ∙ ap₂ (λ (r : Row) (n : ℕ). float (valueIn (parse (streamIn (a .sizes) (a .image .now)) (fieldOf r) n))) (c .before .before .before .before .term-coefficient .ensures)
+    (ap (λ (r : Row). a .at + r .width) (v .before .term-exponent .ensures)))
+
+pub term-at-spec : {M : Type 1} → statement M
+term-at-spec =
+    tie.close
+    (tie.spec
+    (λ c κs. search needs)
+    (λ c κs. (c .before .before .pre .0, rw (c .term-exponent .ensures) exponent-sound))
+    add-value-at
+    (λ c κs. search needs)
+    (λ c κs. (c .before .before .before .before .pre .0, rw (c .term-coefficient .ensures) coefficient-sound))
+    (λ c κs. search needs)
+    (λ c κs. search needs)
+    (λ c κs. search needs)
+    returns)
