@@ -1,0 +1,58 @@
+-- A tray with an image more.
+use mathlib.Core.Path.{_≡_}
+use mathlib.Core.Bool.{Bool, true, false, _&&_, cond, false≢true}
+use mathlib.Core.List.{List}
+use Prim.Native.Nat.{ℕ, _+_, _-_, _^_, _<_}
+use native.Mathlib.Omega.{arith}
+use borrow.Author.Tests.{ltb-true}
+use lib.Dec.{ltb}
+use lib.ListN.{length}
+use Rattle.refusal.proofs.Outcomes.{both}
+use Rattle.memory.specs.Image.{imageSizes}
+use Rattle.sheet.specs.declared.Checked.{Checked}
+use Rattle.sheet.specs.Check.{check, checkSaid}
+use Rattle.report.specs.declared.Line.{Line}
+use Rattle.report.specs.declared.SoFar.{SoFar}
+use Rattle.report.specs.declared.Judged.{Judged}
+use Rattle.report.specs.Tray.{bitsOf, line}
+use Rattle.report.specs.Judging.{isWhole, begun, closed, with, left, Reads, Sound, JudgedAs}
+use Rattle.report.proofs.BitLaws.{bits-of-few}
+
+pub begun-sound : Sound begun
+begun-sound = record { few = omega arith; small = omega arith; last = λ _. omega arith }
+
+module _ (s : SoFar) (kind : ℕ) (image : List ℕ) (h : Sound s) (m : s .more ≡ true) where
+  pub with-sound : Sound (with s kind image)
+  with-sound =
+      record {
+        few = omega (arith, h .last m);
+        small = omega (arith, h .small, bits-of-few kind image);
+        last = λ e. ltb-true (s .images + 1) 1_000 (both (isWhole (imageSizes kind (length image))) (ltb (s .images + 1) 1_000) e .1);
+      }
+
+  module _ (checked : Checked) (e : checkSaid checked ≡ check kind image) where
+    pub bits-fit : s .bits + bitsOf (checkSaid checked) < 2 ^ 64
+    bits-fit = rw e (omega (arith, h .few, h .small, bits-of-few kind image))
+
+    pub judged-as : (l : Line) (bits : ℕ) (whole more : Bool) → Reads l (line (s .images + 1) (checkSaid checked)) →
+        bits ≡ s .bits + bitsOf (checkSaid checked) → whole ≡ isWhole (imageSizes kind (length image)) → more ≡ (whole && ltb (s .images + 1) 1_000) →
+        JudgedAs s kind image (record { line = l; tray = record { images = s .images + 1; bits = bits; more = more } })
+    judged-as l bits whole more r b w n =
+        let same : record { images = s .images + 1; bits = bits; more = more } ≡ with s kind image = rw (n, w, b, e) in
+        record { line = rw e at r; tray = same; sound = rw same with-sound }
+
+-- ---- how many images may still come
+
+module _ {s : SoFar} (h : Sound s) (m : s .more ≡ true) where
+  pub closed-sound : Sound (closed s)
+  closed-sound = record { few = h .few; small = h .small; last = λ e. absurd (false≢true e) }
+
+  pub closed-left : left (closed s) < left s
+  closed-left = rw m (omega (arith, h .last m))
+
+  pub judged-left : {kind : ℕ} {image : List ℕ} {j : Judged} → JudgedAs s kind image j → left (j .tray) < left s
+  judged-left {kind} {image} {j} e = rw (e .tray, m) (go (with s kind image .more))
+    where
+      go : (b : Bool) → cond b (1_000 - (s .images + 1)) 0 < 1_000 - s .images
+      go true = omega (arith, h .last m)
+      go false = omega (arith, h .last m)

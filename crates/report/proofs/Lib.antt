@@ -1,0 +1,6 @@
+pub mod DecimalLaws
+pub mod LineLaws
+pub mod BitLaws
+pub mod JudgeLaws
+pub mod TrayLaws
+pub mod TellLaws

@@ -1,0 +1,89 @@
+-- A tray judged image by image, as its bytes are read.
+use mathlib.Core.Path.{_≡_}
+use mathlib.Core.Bool.{Bool, true, false, _&&_, cond}
+use mathlib.Core.List.{List, _++_}
+use Prim.Native.Nat.{ℕ, _+_, _-_, _*_, _≤_, _<_}
+use lib.Dec.{ltb}
+use lib.ListN.{length, take}
+use Rattle.refusal.specs.Outcome.{Outcome, good, refused}
+use Rattle.memory.specs.declared.Sizes.{Sizes}
+use Rattle.memory.specs.Image.{imageBytes, imageSizes}
+use Rattle.sheet.specs.Check.{check}
+use Rattle.report.specs.declared.Line.{Line}
+use Rattle.report.specs.declared.SoFar.{SoFar}
+use Rattle.report.specs.declared.Judged.{Judged}
+use Rattle.report.specs.declared.Report.{Report}
+use Rattle.report.specs.Tray.{checks, mostImages, bitsOf, line, linesFrom, total, totalLine}
+
+-- ---- the images
+
+-- The bytes to be read behind a kind: none behind one above 2.
+abbrev pub bytesOf : Outcome Sizes → ℕ
+bytesOf (good z) = imageBytes z
+bytesOf (refused r) = 0
+
+-- Neither a kind above 2 nor an image cut short.
+abbrev pub isWhole : Outcome Sizes → Bool
+isWhole (good z) = true
+isWhole (refused r) = false
+
+abbrev pub begun : SoFar
+begun = record { images = 0; bits = 0; more = true }
+
+abbrev pub closed : SoFar → SoFar
+closed s = record { images = s .images; bits = s .bits; more = false }
+
+-- With an image more. It ends the tray where it is not whole, and so does the last of 1,000.
+abbrev pub with : SoFar → ℕ → List ℕ → SoFar
+with s kind image =
+    record {
+      images = s .images + 1;
+      bits = s .bits + bitsOf (check kind image);
+      more = isWhole (imageSizes kind (length image)) && ltb (s .images + 1) mostImages;
+    }
+
+-- What is still to be told of a tray whose further bytes are these: none of its images where it has ended.
+abbrev pub left : SoFar → ℕ
+left s = cond (s .more) (mostImages - s .images) 0
+
+unfoldable pub reportFrom : SoFar → List ℕ → List ℕ
+reportFrom s bytes =
+    let outcomes = checks (left s) bytes in
+    linesFrom (s .images + 1) outcomes ++ totalLine (s .bits + total outcomes)
+
+-- ---- the lines
+
+-- What a line reads.
+abbrev pub bytesIn : Line → List ℕ
+bytesIn l = take (l .length) (l .bytes)
+
+-- A text at the start of a buffer of so many bytes.
+pub record Starts (size : ℕ) (buffer : List ℕ) (count : ℕ) (text : List ℕ) : Type 0 where
+  pub room : length buffer ≡ size
+  pub short : count ≤ size
+  pub is : take count buffer ≡ text
+
+-- A line has room for two numbers of 20 digits, a space, a minus sign and a newline; a report for 1,001 lines.
+abbrev pub Reads : Line → List ℕ → Type 0
+Reads l text = Starts 43 (l .bytes) (l .length) text
+
+abbrev pub Tells : Report → List ℕ → Type 0
+Tells r text = Starts 43_043 (r .bytes) (r .length) text
+
+-- ---- what holds
+
+-- No image has more bits than the largest chip's stream.
+abbrev pub mostBits : ℕ
+mostBits = 3_968
+
+-- What comes of `begun` by images: at most 1,000 of them, and no more bits than they can have.
+pub record Sound (s : SoFar) : Type 0 where
+  pub few : s .images ≤ mostImages
+  pub small : s .bits ≤ mostBits * s .images
+  pub last : s .more ≡ true → s .images < mostImages
+
+-- The line of an image is that of its check, at the next position.
+pub record JudgedAs (s : SoFar) (kind : ℕ) (image : List ℕ) (j : Judged) : Type 0 where
+  pub line : Reads (j .line) (line (s .images + 1) (check kind image))
+  pub tray : j .tray ≡ with s kind image
+  pub sound : Sound (j .tray)

@@ -1,0 +1,4 @@
+pub mod Tray
+pub mod Judging
+pub mod Lines
+pub mod Trays
