@@ -18,7 +18,7 @@ use Rattle.layout.specs.Image.{contents}
 use Rattle.reading.specs.declared.Reading.{Reading}
 use Rattle.reading.specs.declared.Dash.the-variants.{Large}
 use Rattle.reading.specs.Reading.{takeReading}
-use Rattle.recordings.specs.Recordings.{Refresh, refresh, refreshes, same, never, showsBy, shows, pairs, Compared, agree, tickFails, comparedFrom, unlike, compare}
+use Rattle.recordings.specs.Recordings.{Refresh, refresh, refreshes, same, never, showsBy, shows, pairs, right, Compared, agree, tickFails, comparedFrom, unlike, compare}
 use Rattle.recordings.specs.Agreement.{Shown, Agrees, Right, FirstFailing, AgreesExactly, FailsFirst, EmptyAgree}
 use Rattle.recordings.proofs.Ticks.{refreshes-length, six-times, compare-like}
 
@@ -64,20 +64,19 @@ module _ (kind : ℕ) (image : List ℕ) where
         let g = f (k / 6) (omega (arith, eqb-true (k % 6) 0 e)) in
         rw (e, is-same (y .input) (x .input) (ap (λ (r : Refresh). r .input) g), is-same (y .shown) (x .shown) (ap (λ (r : Refresh). r .shown) g))
 
-    abbrev right : ℕ → Refresh → Bool
-    right k x = pairs slow k x && shows kind image x
-
     -- The same tick, counted otherwise.
-    recount : (m n : ℕ) (x : Refresh) {t : Bool} → m ≡ n → right m x ≡ t → right n x ≡ t
-    recount m n x {t} e r = subst (λ (k : ℕ). right k x ≡ t) e r
+    recount : (m n : ℕ) (x : Refresh) {t : Bool} → m ≡ n → right kind image slow m x ≡ t → right kind image slow n x ≡ t
+    recount m n x {t} e r = subst (λ (k : ℕ). right kind image slow k x ≡ t) e r
 
-    right-is : (fast : List Refresh) (k : ℕ) → right k (getD fast k never) ≡ true → Right kind image slow fast k
+    right-is : (fast : List Refresh) (k : ℕ) → right kind image slow k (getD fast k never) ≡ true → Right kind image slow fast k
+    unfolding right
     right-is fast k e =
         let x = getD fast k never in
         let (p, s) = both (pairs slow k x) (shows kind image x) e in
         record { paired = paired k x p; shown = shown x s }
 
-    is-right : (fast : List Refresh) (k : ℕ) → Right kind image slow fast k → right k (getD fast k never) ≡ true
+    is-right : (fast : List Refresh) (k : ℕ) → Right kind image slow fast k → right kind image slow k (getD fast k never) ≡ true
+    unfolding right
     is-right fast k r =
         let x = getD fast k never in
         rw (is-paired k x (r .paired) (eqb (k % 6) 0) refl, is-shown x (r .shown))
@@ -89,14 +88,14 @@ module _ (kind : ℕ) (image : List ℕ) where
     agreed true rest n e = (refl, e)
     agreed false rest n e = absurd (let z : _≡_ {A = ℕ} 0 1 = cc in omega arith)
 
-    all-right : (n : ℕ) (l : List Refresh) → comparedFrom kind image slow n l ≡ agree → (j : ℕ) → j < length l → right (n + j) (getD l j never) ≡ true
+    all-right : (n : ℕ) (l : List Refresh) → comparedFrom kind image slow n l ≡ agree → (j : ℕ) → j < length l → right kind image slow (n + j) (getD l j never) ≡ true
     unfolding comparedFrom
     all-right n [] e j h = absurd (omega arith)
-    all-right n (x ∷ l) e zero h = recount n (n + 0) x (omega arith) (agreed (right n x) (comparedFrom kind image slow (suc n) l) n e .0)
+    all-right n (x ∷ l) e zero h = recount n (n + 0) x (omega arith) (agreed (right kind image slow n x) (comparedFrom kind image slow (suc n) l) n e .0)
     all-right n (x ∷ l) e (suc j) h =
-        recount (suc n + j) (n + suc j) (getD l j never) (omega arith) (all-right (suc n) l (agreed (right n x) (comparedFrom kind image slow (suc n) l) n e .1) j (omega arith))
+        recount (suc n + j) (n + suc j) (getD l j never) (omega arith) (all-right (suc n) l (agreed (right kind image slow n x) (comparedFrom kind image slow (suc n) l) n e .1) j (omega arith))
 
-    right-all : (n : ℕ) (l : List Refresh) → ((j : ℕ) → j < length l → right (n + j) (getD l j never) ≡ true) → comparedFrom kind image slow n l ≡ agree
+    right-all : (n : ℕ) (l : List Refresh) → ((j : ℕ) → j < length l → right kind image slow (n + j) (getD l j never) ≡ true) → comparedFrom kind image slow n l ≡ agree
     unfolding comparedFrom
     right-all n [] f = refl
     right-all n (x ∷ l) f =
@@ -109,16 +108,16 @@ module _ (kind : ℕ) (image : List ℕ) where
       at : ℕ
       is : k ≡ n + at
       inside : at < length l
-      before : (j : ℕ) → j < at → right (n + j) (getD l j never) ≡ true
-      fails : right k (getD l at never) ≡ false
+      before : (j : ℕ) → j < at → right kind image slow (n + j) (getD l j never) ≡ true
+      fails : right kind image slow k (getD l at never) ≡ false
 
-    one-more : (n at : ℕ) (x : Refresh) (l : List Refresh) → right n x ≡ true → ((j : ℕ) → j < at → right (suc n + j) (getD l j never) ≡ true) →
-        (j : ℕ) → j < suc at → right (n + j) (getD (x ∷ l) j never) ≡ true
+    one-more : (n at : ℕ) (x : Refresh) (l : List Refresh) → right kind image slow n x ≡ true → ((j : ℕ) → j < at → right kind image slow (suc n + j) (getD l j never) ≡ true) →
+        (j : ℕ) → j < suc at → right kind image slow (n + j) (getD (x ∷ l) j never) ≡ true
     one-more n at x l e f zero h = recount n (n + 0) x (omega arith) e
     one-more n at x l e f (suc j) h = recount (suc n + j) (n + suc j) (getD l j never) (omega arith) (f j (omega arith))
 
     first-by : (n : ℕ) (x : Refresh) (l : List Refresh) (k : ℕ) → (comparedFrom kind image slow (suc n) l ≡ tickFails k → First (suc n) l k) →
-        (t : Bool) → right n x ≡ t → cond t (comparedFrom kind image slow (suc n) l) (tickFails n) ≡ tickFails k → First n (x ∷ l) k
+        (t : Bool) → right kind image slow n x ≡ t → cond t (comparedFrom kind image slow (suc n) l) (tickFails n) ≡ tickFails k → First n (x ∷ l) k
     first-by n x l k later true e f =
         let r = later f in
         record { at = suc (r .at); is = omega (arith, r .is); inside = omega (arith, r .inside); before = one-more n (r .at) x l e (r .before); fails = r .fails }
@@ -129,9 +128,9 @@ module _ (kind : ℕ) (image : List ℕ) where
     first : (n : ℕ) (l : List Refresh) (k : ℕ) → comparedFrom kind image slow n l ≡ tickFails k → First n l k
     unfolding comparedFrom
     first n [] k e = absurd (let z : _≡_ {A = ℕ} 0 1 = cc in omega arith)
-    first n (x ∷ l) k e = first-by n x l k (first (suc n) l k) (right n x) refl e
+    first n (x ∷ l) k e = first-by n x l k (first (suc n) l k) (right kind image slow n x) refl e
 
-    is-first : (n : ℕ) (l : List Refresh) (at : ℕ) → at < length l → ((j : ℕ) → j < at → right (n + j) (getD l j never) ≡ true) → right (n + at) (getD l at never) ≡ false →
+    is-first : (n : ℕ) (l : List Refresh) (at : ℕ) → at < length l → ((j : ℕ) → j < at → right kind image slow (n + j) (getD l j never) ≡ true) → right kind image slow (n + at) (getD l at never) ≡ false →
         comparedFrom kind image slow n l ≡ tickFails (n + at)
     unfolding comparedFrom
     is-first n [] at h f e = absurd (omega arith)
@@ -173,18 +172,18 @@ module _ (kind : ℕ) (image : List ℕ) where
             inside = omega (arith, r .inside);
             before = λ j h. right-is fast j (recount (0 + j) j (getD fast j never) (omega arith) (r .before j (omega arith)));
             fails = λ s.
-                let w : _≡_ {A = Bool} true false = sym (is-right fast k s) ∙ subst (λ (m : ℕ). right k (getD fast m never) ≡ false) z (r .fails) in
+                let w : _≡_ {A = Bool} true false = sym (is-right fast k s) ∙ subst (λ (m : ℕ). right kind image slow k (getD fast m never) ≡ false) z (r .fails) in
                 true≢false w;
           }
 
-      not-right : (k : ℕ) → (Right kind image slow fast k → ⊥) → (t : Bool) → right k (getD fast k never) ≡ t → t ≡ false
+      not-right : (k : ℕ) → (Right kind image slow fast k → ⊥) → (t : Bool) → right kind image slow k (getD fast k never) ≡ t → t ≡ false
       not-right k f true e = absurd (f (right-is fast k e))
       not-right k f false e = refl
 
       is-fails : (k : ℕ) → FirstFailing kind image slow fast k → comparedFrom kind image slow 0 fast ≡ tickFails k
       is-fails k r =
           let z : 0 + k ≡ k = omega arith in
-          is-first 0 fast k (r .inside) (λ j h. recount j (0 + j) (getD fast j never) (omega arith) (is-right fast j (r .before j h))) (recount k (0 + k) (getD fast k never) (omega arith) (not-right k (r .fails) (right k (getD fast k never)) refl))
+          is-first 0 fast k (r .inside) (λ j h. recount j (0 + j) (getD fast j never) (omega arith) (is-right fast j (r .before j h))) (recount k (0 + k) (getD fast k never) (omega arith) (not-right k (r .fails) (right kind image slow k (getD fast k never)) refl))
           ∙ ap tickFails z
 
 -- ---- Note 13

@@ -22,7 +22,7 @@ use Rattle.layout.specs.Image.{contents}
 use Rattle.reading.specs.declared.Reading.{Reading}
 use Rattle.reading.specs.declared.Dash.the-variants.{Large}
 use Rattle.reading.specs.Reading.{takeReading}
-use Rattle.recordings.specs.Recordings.{Refresh, refresh, refreshes, same, never, shows, pairs, agree, tickFails, comparedFrom, unlike, compare}
+use Rattle.recordings.specs.Recordings.{Refresh, refresh, refreshes, same, never, shows, pairs, right, agree, tickFails, comparedFrom, unlike, compare}
 use Rattle.recordings.specs.Ticks.{refreshAt}
 
 -- ---- by tick
@@ -114,21 +114,16 @@ module _ (kind : ℕ) (image : List ℕ) (slow : List Refresh) (fast : List ℤ)
   turn-end h = ap (comparedFrom kind image slow tick) (refreshes-end fast tick h)
 
   module _ (h : tick < length fast / 2) where
-    pub turn-unpaired : pairs slow tick (refreshAt fast tick) ≡ false → comparedFrom kind image slow tick (refreshesFrom fast tick) ≡ tickFails tick
+    pub turn-fails : right kind image slow tick (refreshAt fast tick) ≡ false → comparedFrom kind image slow tick (refreshesFrom fast tick) ≡ tickFails tick
     unfolding comparedFrom
-    turn-unpaired e = ap (comparedFrom kind image slow tick) (refreshes-left fast tick h) ∙ rw e
+    turn-fails e = ap (comparedFrom kind image slow tick) (refreshes-left fast tick h) ∙ rw e
 
-    module _ (p : pairs slow tick (refreshAt fast tick) ≡ true) where
-      pub turn-unshown : shows kind image (refreshAt fast tick) ≡ false → comparedFrom kind image slow tick (refreshesFrom fast tick) ≡ tickFails tick
-      unfolding comparedFrom
-      turn-unshown e = ap (comparedFrom kind image slow tick) (refreshes-left fast tick h) ∙ rw (p, e)
-
-      pub turn-next : shows kind image (refreshAt fast tick) ≡ true →
-          comparedFrom kind image slow tick (refreshesFrom fast tick) ≡ comparedFrom kind image slow (tick + 1) (refreshesFrom fast (tick + 1))
-      unfolding comparedFrom
-      turn-next e =
-          ap (comparedFrom kind image slow tick) (refreshes-left fast tick h) ∙ (rw (p, e))
-          ∙ ap (λ (n : ℕ). comparedFrom kind image slow n (refreshesFrom fast (tick + 1))) (sym (add-one tick))
+    pub turn-next : right kind image slow tick (refreshAt fast tick) ≡ true →
+        comparedFrom kind image slow tick (refreshesFrom fast tick) ≡ comparedFrom kind image slow (tick + 1) (refreshesFrom fast (tick + 1))
+    unfolding comparedFrom
+    turn-next e =
+        ap (comparedFrom kind image slow tick) (refreshes-left fast tick h) ∙ (rw e)
+        ∙ ap (λ (n : ℕ). comparedFrom kind image slow n (refreshesFrom fast (tick + 1))) (sym (add-one tick))
 
 -- ---- in the order of its rows: check, 26
 

@@ -51,6 +51,10 @@ pairs slow tick x =
     let y = getD slow (tick / 6) never in
     not (eqb (tick % 6) 0) || (same (y .input) (x .input) && same (y .shown) (x .shown))
 
+-- A fast tick is as it should be.
+unfoldable pub right : ℕ → List ℕ → List Refresh → ℕ → Refresh → Bool
+right kind image slow tick x = pairs slow tick x && shows kind image x
+
 -- Agreement, or the first failing fast tick.
 pub data Compared : Type 0 where
   agree : Compared
@@ -59,7 +63,7 @@ pub data Compared : Type 0 where
 -- From a fast tick on.
 unfoldable pub comparedFrom : ℕ → List ℕ → List Refresh → ℕ → List Refresh → Compared
 comparedFrom kind image slow tick [] = agree
-comparedFrom kind image slow tick (x ∷ fast) = cond (pairs slow tick x && shows kind image x) (comparedFrom kind image slow (suc tick) fast) (tickFails tick)
+comparedFrom kind image slow tick (x ∷ fast) = cond (right kind image slow tick x) (comparedFrom kind image slow (suc tick) fast) (tickFails tick)
 
 -- Row 26: a list has an odd length, or the fast ticks aren't six times the slow ones.
 abbrev pub unlike : ℕ → ℕ → Bool

@@ -11,7 +11,7 @@ ghost use lib.ListN.{length};
 ghost use Rattle.refusal.specs.Outcome.{good};
 ghost use Rattle.layout.specs.Contents.{Contents};
 ghost use Rattle.sheet.specs.Opened.{Opens, Held};
-ghost use Rattle.recordings.specs.Recordings.{refreshes, same, shows, pairs, comparedFrom, unlike, compare as compareOf, comparedSaid};
+ghost use Rattle.recordings.specs.Recordings.{refreshes, same, shows, pairs, right, comparedFrom, unlike, compare as compareOf, comparedSaid};
 ghost use Rattle.recordings.specs.Ticks.{refreshAt};
 
 // How many fast ticks a slow one lasts.
@@ -72,6 +72,18 @@ fn is_shown(sheet: Opened, image: &[u8], fast: &[i64], tick: usize) -> bool
     }
 }
 
+// Whether a fast tick is as it should be.
+fn is_right(sheet: Opened, image: &[u8], slow: &[i64], fast: &[i64], tick: usize) -> bool
+    requires { ⌜ Held sheet (now image) × (tick / 6 < length (now slow) / 2) × (tick < length (now fast) / 2) ⌝ }
+    ensures { λ r. ⌜ ((kind : ℕ) (c : Contents) → Opens kind (now (image .entry)) sheet c →
+        r ≡ right kind (now (image .entry)) (refreshes (now (slow .entry))) tick (refreshAt (now (fast .entry)) tick)) ⌝ }
+{
+    if is_paired(slow, fast, tick) {
+        return is_shown(sheet, image, fast, tick);
+    }
+    false
+}
+
 // The fast ticks one after the other, each with the slow one that it pairs with.
 fn compare_ticks(sheet: Opened, image: &[u8], slow: &[i64], fast: &[i64]) -> ComparedAnswer
     requires { ⌜ Held sheet (now image) × (unlike (length (now slow)) (length (now fast)) ≡ false) ⌝ }
@@ -81,10 +93,7 @@ fn compare_ticks(sheet: Opened, image: &[u8], slow: &[i64], fast: &[i64]) -> Com
     let ticks = fast.len() / 2;
     let mut tick: usize = 0;
     while tick < ticks {
-        if !is_paired(slow, fast, tick) {
-            return ComparedAnswer::Tick(tick as u64);
-        }
-        if !is_shown(sheet, image, fast, tick) {
+        if !is_right(sheet, image, slow, fast, tick) {
             return ComparedAnswer::Tick(tick as u64);
         }
         tick += 1;
