@@ -15,7 +15,7 @@ use lib.ListN.{length, drop, getD, length-drop}
 use lib.Seq.{drop-cons}
 use Rattle.refusal.specs.declared.Refusal.{Refusal}
 use Rattle.refusal.specs.Outcome.{good, refused}
-use Rattle.refusal.specs.Rows.{tooManyPoints}
+use Rattle.refusal.specs.Rows.{wrongTicks}
 use Rattle.refusal.proofs.Outcomes.{neither}
 use Rattle.layout.specs.Contents.{Contents}
 use Rattle.layout.specs.Image.{contents}
@@ -133,7 +133,7 @@ module _ (kind : ℕ) (image : List ℕ) (slow fast : List ℤ) where
   compare-refused e = rw e
 
   module _ {c : Contents} (e : contents kind image ≡ good c) where
-    pub compare-unlike : unlike (length slow) (length fast) ≡ true → refused (tooManyPoints (length fast / 2)) ≡ compare kind image slow fast
+    pub compare-unlike : unlike (length slow) (length fast) ≡ true → refused (wrongTicks (length fast / 2)) ≡ compare kind image slow fast
     unfolding compare
     compare-unlike t = rw (e, t)
 

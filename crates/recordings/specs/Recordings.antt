@@ -7,7 +7,7 @@ use lib.IntN.{ℤ, pos}
 use lib.ListN.{length, getD}
 use lib.Signed.{leZ}
 use Rattle.refusal.specs.Outcome.{Outcome, good, refused, _>>_, _>>=_, refuse_if_}
-use Rattle.refusal.specs.Rows.{tooManyPoints}
+use Rattle.refusal.specs.Rows.{wrongTicks}
 use Rattle.layout.specs.Image.{contents}
 use Rattle.reading.specs.declared.Reading.{Reading}
 use Rattle.reading.specs.declared.Dash.the-variants.{Large}
@@ -73,7 +73,7 @@ unlike slow fast = eqb (slow % 2) 1 || eqb (fast % 2) 1 || not (eqb (fast / 2) (
 unfoldable pub compare : ℕ → List ℕ → List ℤ → List ℤ → Outcome Compared
 compare kind image slow fast = do
   c ← contents kind image
-  refuse tooManyPoints (length fast / 2) if unlike (length slow) (length fast)
+  refuse wrongTicks (length fast / 2) if unlike (length slow) (length fast)
   good (comparedFrom kind image (refreshes slow) 0 (refreshes fast))
 
 -- ---- the answer

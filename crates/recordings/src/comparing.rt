@@ -107,7 +107,7 @@ fn compare_in(sheet: Opened, image: &[u8], slow: &[i64], fast: &[i64]) -> Compar
     ensures { λ r. ⌜ ((kind : ℕ) (c : Contents) → Opens kind (now (image .entry)) sheet c → comparedSaid r ≡ compareOf kind (now (image .entry)) (now (slow .entry)) (now (fast .entry))) ⌝ }
 {
     if is_unlike(slow.len(), fast.len()) {
-        return ComparedAnswer::Refused(refusal::too_many_points((fast.len() / 2) as u64));
+        return ComparedAnswer::Refused(refusal::wrong_ticks((fast.len() / 2) as u64));
     }
     compare_ticks(sheet, image, slow, fast)
 }

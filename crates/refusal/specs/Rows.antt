@@ -92,3 +92,7 @@ sumsNotRising place = returned 22 place
 -- 23 (Note 10): reading: more points than the small dash takes. The place is the point count.
 abbrev pub tooManyPoints : ℕ → Refusal
 tooManyPoints points = returned 23 points
+
+-- 26 (Note 13): recordings: a list has an odd length, or the fast ticks aren't six times the slow ones. The place is the fast list's whole ticks.
+abbrev pub wrongTicks : ℕ → Refusal
+wrongTicks ticks = returned 26 ticks

@@ -25,6 +25,7 @@ pub use rows::wrong_image;
 pub use rows::wrong_list;
 pub use rows::wrong_sort;
 pub use rows::wrong_sum;
+pub use rows::wrong_ticks;
 
 // A refusal gives only these two.
 pub struct Refusal {
@@ -82,3 +83,5 @@ pub const END_OUTSIDE: u8 = 21;
 pub const SUMS_NOT_RISING: u8 = 22;
 
 pub const TOO_MANY_POINTS: u8 = 23;
+
+pub const WRONG_TICKS: u8 = 26;

@@ -23,6 +23,7 @@ ghost use Rattle.refusal.specs.Rows.{
   endOutside,
   sumsNotRising,
   tooManyPoints,
+  wrongTicks,
 };
 use crate::Refusal;
 
@@ -228,5 +229,14 @@ pub fn too_many_points(points: u64) -> Refusal
     Refusal {
         number: crate::TOO_MANY_POINTS,
         place: points,
+    }
+}
+
+pub fn wrong_ticks(ticks: u64) -> Refusal
+    ensures { λ r. ⌜ r ≡ wrongTicks ticks ⌝ }
+{
+    Refusal {
+        number: crate::WRONG_TICKS,
+        place: ticks,
     }
 }

@@ -11,7 +11,7 @@ returns c =
     let u = c .before .before in
     let a = u .before .before .args in
     λ kind x h.
-    ap refused (c .too-many-points .ensures) ∙ compare-unlike kind (a .image .now) (a .slow .now) (a .fast .now) (h .accepted) (sym (u .is-unlike .ensures) ∙ c .before .if1 .taken)
+    ap refused (c .wrong-ticks .ensures) ∙ compare-unlike kind (a .image .now) (a .slow .now) (a .fast .now) (h .accepted) (sym (u .is-unlike .ensures) ∙ c .before .if1 .taken)
 
 returns-2 : tie.Need-returns-2
 returns-2 c =
