@@ -1,7 +1,6 @@
 -- `comparing::compare_in` meets its contract.
-use mathlib.Core.Path.{sym, ap, _∙_}
+use mathlib.Core.Path.{sym, _∙_}
 use borrow.Author.Needs.{needs}
-use Rattle.refusal.specs.Outcome.{refused}
 use Rattle.recordings.proofs.Ticks.{compare-unlike, compare-like}
 use Rattle.recordings.proofs.comparing.compare_in.Statement.{statement}
 use Rattle.recordings.proofs.comparing.compare_in.Tie as tie
@@ -11,7 +10,7 @@ returns c =
     let u = c .before .before in
     let a = u .before .before .args in
     λ kind x h.
-    ap refused (c .wrong-ticks .ensures) ∙ compare-unlike kind (a .image .now) (a .slow .now) (a .fast .now) (h .accepted) (sym (u .is-unlike .ensures) ∙ c .before .if1 .taken)
+    cc (c .wrong-ticks .ensures, compare-unlike kind (a .image .now) (a .slow .now) (a .fast .now) (h .accepted) (sym (u .is-unlike .ensures) ∙ c .before .if1 .taken))
 
 returns-2 : tie.Need-returns-2
 returns-2 c =
