@@ -16,7 +16,9 @@ pub mod ReadingLaws
 pub mod StoredPoints
 pub mod KeptLent
 pub mod Distance
+pub mod Beforehand
 pub mod Crossed
+pub mod Needles
 pub mod Lending
 pub mod Calling
 pub mod EdgesHold

@@ -9,7 +9,9 @@ pub mod Levels
 pub mod Index
 pub mod Readings
 pub mod Certificate
+pub mod Beforehand
 pub mod Crossing
+pub mod Needle
 pub mod Calls
 pub mod Edges
 pub mod Attained
