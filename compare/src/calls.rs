@@ -1,11 +1,13 @@
 //! The calls of `include/dartelm.h`: once for the product (`ffi::Product`), once for the plain implementation, so that both are
 //! handed the same and are compared in the same.
 
-use crate::plain::{self, Dash, Domain, Level, Proposal, Reading, Refusal, Sheet, Summary, Text, Value};
+use crate::plain::{
+    self, Calibration, Curve, Dash, Level, Proposal, Reading, Refusal, Segment, Sheet, Summary, Term, Text, Value,
+};
 use crate::structs::{
     ByFlags, CharacterAnswer, CheckAnswer, CodeAnswer, FieldAnswer, Fields, NO_DOMAIN, PageAnswer, PairAnswer,
-    ProposalAnswer, ReadingAnswer, SheetAnswer, TextAnswer, WriteAnswer, dash_of, domain_byte, domain_of, level_of,
-    template_of,
+    ProposalAnswer, ReadingAnswer, SegmentAnswer, SheetAnswer, TermAnswer, TextAnswer, WriteAnswer, dash_of,
+    domain_byte, domain_of, level_of, template_of,
 };
 
 /// The calls of the header; the provided ones give the plain implementation's types.
@@ -15,9 +17,12 @@ pub trait Calls {
     fn field(&self, kind: u8, image: &[u8], field: u64) -> FieldAnswer;
     fn sheet(&self, kind: u8, image: &[u8]) -> SheetAnswer;
     fn pair(&self, kind: u8, image: &[u8], index: u64) -> PairAnswer;
+    fn segment(&self, kind: u8, image: &[u8], index: u64) -> SegmentAnswer;
+    fn term(&self, kind: u8, image: &[u8], index: u64) -> TermAnswer;
     fn character(&self, kind: u8, image: &[u8], index: u64) -> CharacterAnswer;
     fn build(&self, kind: u8, image: &mut [u8], fields: Fields, text: &[u8], domain: u8, points: &[i64])
     -> WriteAnswer;
+    fn build_curve(&self, kind: u8, image: &mut [u8], fields: Fields, text: &[u8], curve: Curve) -> WriteAnswer;
     fn change(&self, kind: u8, image: &mut [u8], level: u8, field: u64, value: ByFlags) -> WriteAnswer;
     fn propose(&self, kind: u8, image: &[u8], level: u8, field: u64, value: ByFlags) -> ProposalAnswer;
     fn commit(&self, kind: u8, image: &mut [u8], level: u8, field: u64, present: u64, new: u64) -> WriteAnswer;
@@ -29,7 +34,7 @@ pub trait Calls {
     fn fetch(&self, kind: u8, image: &[u8], index: &[u8], field: u64) -> FieldAnswer;
 
     fn checked(&self, kind: u8, image: &[u8]) -> Result<Summary, Refusal> {
-        let CheckAnswer { number, place, bits, points, characters, end_bit, template, domain } =
+        let CheckAnswer { number, place, bits, points, characters, end_bit, template, domain, segments, terms } =
             self.check(kind, image);
         accepted(number, place)?;
         Ok(Summary {
@@ -39,6 +44,8 @@ pub trait Calls {
             characters,
             template: template_of(template),
             domain: (domain != NO_DOMAIN).then(|| domain_of(domain)),
+            segments,
+            terms,
         })
     }
 
@@ -65,6 +72,18 @@ pub trait Calls {
         Ok((point, deviation))
     }
 
+    fn segment_read(&self, kind: u8, image: &[u8], index: u64) -> Result<Segment, Refusal> {
+        let SegmentAnswer { number, place, start, terms } = self.segment(kind, image, index);
+        accepted(number, place)?;
+        Ok(Segment { start, terms })
+    }
+
+    fn term_read(&self, kind: u8, image: &[u8], index: u64) -> Result<Term, Refusal> {
+        let TermAnswer { number, place, exponent, coefficient } = self.term(kind, image, index);
+        accepted(number, place)?;
+        Ok(Term { exponent, coefficient })
+    }
+
     fn character_read(&self, kind: u8, image: &[u8], index: u64) -> Result<u8, Refusal> {
         let CharacterAnswer { number, place, character } = self.character(kind, image, index);
         accepted(number, place)?;
@@ -77,10 +96,14 @@ pub trait Calls {
         image: &mut [u8],
         fields: Fields,
         text: &[u8],
-        domain: Domain,
-        points: &[i64],
+        calibration: Calibration,
     ) -> Result<(), Refusal> {
-        let WriteAnswer { number, place } = self.build(kind, image, fields, text, domain_byte(Some(domain)), points);
+        let WriteAnswer { number, place } = match calibration {
+            Calibration::Points(domain, points) => {
+                self.build(kind, image, fields, text, domain_byte(Some(domain)), points)
+            }
+            Calibration::Curve(curve) => self.build_curve(kind, image, fields, text, *curve),
+        };
         accepted(number, place)
     }
 
@@ -152,13 +175,15 @@ impl Calls for Plain {
 
     fn check(&self, kind: u8, image: &[u8]) -> CheckAnswer {
         match plain::check(kind, image) {
-            Ok(Summary { bits, points, end_bit, characters, template, domain }) => CheckAnswer {
+            Ok(Summary { bits, points, end_bit, characters, template, domain, segments, terms }) => CheckAnswer {
                 bits,
                 points,
                 characters,
                 end_bit: end_bit as u8,
                 template: template.number(),
                 domain: domain_byte(domain),
+                segments,
+                terms,
                 ..CheckAnswer::default()
             },
             Err(Refusal { number, place }) => CheckAnswer { number, place, ..CheckAnswer::default() },
@@ -172,7 +197,7 @@ impl Calls for Plain {
     /// A check, and then the fields one by one.
     fn sheet(&self, kind: u8, image: &[u8]) -> SheetAnswer {
         let check = self.check(kind, image);
-        let CheckAnswer { number, place, bits, points, characters, end_bit, template, domain } = check;
+        let CheckAnswer { number, place, bits, points, characters, end_bit, template, domain, segments, terms } = check;
         if number != 0 {
             return SheetAnswer { number, place, ..SheetAnswer::default() };
         }
@@ -181,13 +206,27 @@ impl Calls for Plain {
         for (value, field) in fields.values.iter_mut().zip(1..=field_count) {
             *value = self.field(kind, image, field).value;
         }
-        SheetAnswer { number, place, bits, points, characters, field_count, fields, domain }
+        SheetAnswer { number, place, bits, points, characters, field_count, fields, domain, segments, terms }
     }
 
     fn pair(&self, kind: u8, image: &[u8], index: u64) -> PairAnswer {
         match plain::pair(kind, image, index) {
             Ok((point, deviation)) => PairAnswer { point, deviation, ..PairAnswer::default() },
             Err(Refusal { number, place }) => PairAnswer { number, place, ..PairAnswer::default() },
+        }
+    }
+
+    fn segment(&self, kind: u8, image: &[u8], index: u64) -> SegmentAnswer {
+        match plain::segment(kind, image, index) {
+            Ok(Segment { start, terms }) => SegmentAnswer { start, terms, ..SegmentAnswer::default() },
+            Err(Refusal { number, place }) => SegmentAnswer { number, place, ..SegmentAnswer::default() },
+        }
+    }
+
+    fn term(&self, kind: u8, image: &[u8], index: u64) -> TermAnswer {
+        match plain::term(kind, image, index) {
+            Ok(Term { exponent, coefficient }) => TermAnswer { exponent, coefficient, ..TermAnswer::default() },
+            Err(Refusal { number, place }) => TermAnswer { number, place, ..TermAnswer::default() },
         }
     }
 
@@ -207,15 +246,11 @@ impl Calls for Plain {
         domain: u8,
         points: &[i64],
     ) -> WriteAnswer {
-        let sheet = Sheet {
-            template: template_of(fields.template),
-            values: fields.values.map(ByFlags::value),
-            end_bit: fields.end_bit != 0,
-            text,
-            domain: domain_of(domain),
-            points,
-        };
-        wrote(plain::build(kind, image, &sheet))
+        wrote(plain::build(kind, image, &sheet(fields, text, Calibration::Points(domain_of(domain), points))))
+    }
+
+    fn build_curve(&self, kind: u8, image: &mut [u8], fields: Fields, text: &[u8], curve: Curve) -> WriteAnswer {
+        wrote(plain::build(kind, image, &sheet(fields, text, Calibration::Curve(&curve))))
     }
 
     fn change(&self, kind: u8, image: &mut [u8], level: u8, field: u64, value: ByFlags) -> WriteAnswer {
@@ -276,6 +311,16 @@ impl Calls for Plain {
 
     fn fetch(&self, kind: u8, image: &[u8], index: &[u8], field: u64) -> FieldAnswer {
         held(plain::fetch(kind, image, index, field))
+    }
+}
+
+fn sheet<'a>(fields: Fields, text: &'a [u8], calibration: Calibration<'a>) -> Sheet<'a> {
+    Sheet {
+        template: template_of(fields.template),
+        values: fields.values.map(ByFlags::value),
+        end_bit: fields.end_bit != 0,
+        text,
+        calibration,
     }
 }
 

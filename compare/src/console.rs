@@ -3,7 +3,7 @@
 use std::fmt::{self, Display, Formatter};
 
 use crate::calls::Calls;
-use crate::plain::{Dash, Domain, Level, Refusal, Summary, Template, Value};
+use crate::plain::{Calibration, Curve, Dash, Domain, Level, Refusal, Segment, Summary, Template, Term, Value};
 use crate::structs::{ByFlags, Fields};
 
 /// A line's command with what it is handed.
@@ -13,6 +13,8 @@ pub enum Command {
     Page(u8, Vec<u8>, u64),
     Field(u8, Vec<u8>, u64),
     Pair(u8, Vec<u8>, u64),
+    Segment(u8, Vec<u8>, u64),
+    Term(u8, Vec<u8>, u64),
     Char(u8, Vec<u8>, u64),
     Build {
         kind: u8,
@@ -23,8 +25,7 @@ pub enum Command {
         values: Vec<Value>,
         end_bit: bool,
         text: Vec<u8>,
-        domain: Domain,
-        points: Vec<i64>,
+        given: Given,
     },
     Change(u8, Vec<u8>, u64, Value, Level),
     Propose(u8, Vec<u8>, u64, Value, Level),
@@ -34,6 +35,22 @@ pub enum Command {
     Code(u64, Vec<u8>),
     Index(u8, Vec<u8>, Vec<u8>),
     Fetch(u8, Vec<u8>, Vec<u8>, u64),
+}
+
+/// What a build is handed beside the sheet.
+#[derive(Clone, Debug, PartialEq)]
+pub enum Given {
+    Points(Domain, Vec<i64>),
+    Curve(Box<Curve>),
+}
+
+impl Given {
+    fn calibration(&self) -> Calibration<'_> {
+        match self {
+            Given::Points(domain, points) => Calibration::Points(*domain, points),
+            Given::Curve(curve) => Calibration::Curve(curve),
+        }
+    }
 }
 
 /// Answers a line; `?` if it is no command.
@@ -53,6 +70,8 @@ pub fn parse(line: &str) -> Option<Command> {
         ["page", kind, image, page] => Command::Page(unsigned(kind)?, bytes(image)?, unsigned(page)?),
         ["field", kind, image, field] => Command::Field(unsigned(kind)?, bytes(image)?, unsigned(field)?),
         ["pair", kind, image, index] => Command::Pair(unsigned(kind)?, bytes(image)?, unsigned(index)?),
+        ["segment", kind, image, index] => Command::Segment(unsigned(kind)?, bytes(image)?, unsigned(index)?),
+        ["term", kind, image, index] => Command::Term(unsigned(kind)?, bytes(image)?, unsigned(index)?),
         ["char", kind, image, index] => Command::Char(unsigned(kind)?, bytes(image)?, unsigned(index)?),
         ["change", kind, image, field, given, by] => {
             Command::Change(unsigned(kind)?, bytes(image)?, unsigned(field)?, value(given)?, level(by)?)
@@ -73,11 +92,18 @@ pub fn parse(line: &str) -> Option<Command> {
         ["fetch", kind, image, index, field] => {
             Command::Fetch(unsigned(kind)?, bytes(image)?, bytes(index)?, unsigned(field)?)
         }
-        ["build", kind, length, by, block, ref values @ .., end_bit, text, against, points] => {
+        ["build", kind, length, by, block, ref rest @ ..] => {
             let template = template(block)?;
-            if values.len() != template.last() {
-                return None;
-            }
+            let (values, rest) = rest.split_at_checked(template.last())?;
+            let (end_bit, text, given) = match *rest {
+                [end_bit, text, against, points] => {
+                    (end_bit, text, Given::Points(domain(against)?, list(points, signed)?))
+                }
+                [end_bit, text, "curve", count, segments, terms] => {
+                    (end_bit, text, Given::Curve(Box::new(curve(count, segments, terms)?)))
+                }
+                _ => return None,
+            };
             Command::Build {
                 kind: unsigned(kind)?,
                 length: unsigned(length)?,
@@ -90,11 +116,7 @@ pub fn parse(line: &str) -> Option<Command> {
                     _ => return None,
                 },
                 text: bytes(text)?,
-                domain: domain(against)?,
-                points: match points {
-                    "-" => Vec::new(),
-                    list => list.split(',').map(signed).collect::<Option<_>>()?,
-                },
+                given,
             }
         }
         _ => return None,
@@ -108,6 +130,30 @@ fn unsigned<T: std::str::FromStr>(word: &str) -> Option<T> {
 
 fn signed(word: &str) -> Option<i64> {
     if word.starts_with('+') { None } else { word.parse().ok() }
+}
+
+/// A list with a comma between its items, `-` for none.
+fn list<T>(word: &str, item: impl Fn(&str) -> Option<T>) -> Option<Vec<T>> {
+    match word {
+        "-" => Some(Vec::new()),
+        list => list.split(',').map(item).collect(),
+    }
+}
+
+fn curve(count: &str, segments: &str, terms: &str) -> Option<Curve> {
+    let mut curve = Curve { count: unsigned(count)?, ..Curve::default() };
+    let segments = list(segments, |word| Some(word.to_string()))?;
+    let terms = list(terms, |word| Some(word.to_string()))?;
+    if segments.len() % 2 == 1 || segments.len() > 40 || terms.len() % 2 == 1 || terms.len() > 60 {
+        return None;
+    }
+    for (place, pair) in curve.segments.iter_mut().zip(segments.chunks_exact(2)) {
+        *place = Segment { start: signed(&pair[0])?, terms: unsigned(&pair[1])? };
+    }
+    for (place, pair) in curve.terms.iter_mut().zip(terms.chunks_exact(2)) {
+        *place = Term { exponent: signed(&pair[0])?, coefficient: single(&pair[1])? };
+    }
+    Some(curve)
 }
 
 fn digit(digit: u8) -> Option<u8> {
@@ -134,12 +180,14 @@ fn value(word: &str) -> Option<Value> {
     if let Some(figure) = word.strip_prefix('w') {
         return Some(Value::Whole(signed(figure)?));
     }
-    let digits = word.strip_prefix('s')?;
+    Some(Value::Single(single(word.strip_prefix('s')?)?))
+}
+
+fn single(digits: &str) -> Option<f32> {
     if digits.len() != 8 || !digits.bytes().all(|each| digit(each).is_some()) {
         return None;
     }
-    let bits = u32::from_str_radix(digits, 16).ok()?;
-    Some(Value::Single(f32::from_bits(bits)))
+    Some(f32::from_bits(u32::from_str_radix(digits, 16).ok()?))
 }
 
 fn level(word: &str) -> Option<Level> {
@@ -226,6 +274,30 @@ impl Display for Dash {
     }
 }
 
+/// Items with a comma between them, `-` for none.
+fn listed(to: &mut Formatter, items: impl Iterator<Item = String>) -> fmt::Result {
+    let items: Vec<String> = items.collect();
+    to.write_str(if items.is_empty() { "-".to_string() } else { items.join(",") }.as_str())
+}
+
+impl Display for Given {
+    fn fmt(&self, to: &mut Formatter) -> fmt::Result {
+        match self {
+            Given::Points(domain, points) => {
+                write!(to, "{domain} ")?;
+                listed(to, points.iter().map(i64::to_string))
+            }
+            Given::Curve(curve) => {
+                write!(to, "curve {} ", curve.count)?;
+                listed(to, curve.segments.iter().map(|Segment { start, terms }| format!("{start},{terms}")))?;
+                to.write_str(" ")?;
+                let term = |Term { exponent, coefficient }: &Term| format!("{exponent},{:08x}", coefficient.to_bits());
+                listed(to, curve.terms.iter().map(term))
+            }
+        }
+    }
+}
+
 impl Display for Refusal {
     fn fmt(&self, to: &mut Formatter) -> fmt::Result {
         write!(to, "no {} {}", self.number, self.place)
@@ -241,20 +313,15 @@ impl Display for Command {
                 write!(to, "field {kind} {} {field}", Hex(image))
             }
             Command::Pair(kind, image, index) => write!(to, "pair {kind} {} {index}", Hex(image)),
+            Command::Segment(kind, image, index) => write!(to, "segment {kind} {} {index}", Hex(image)),
+            Command::Term(kind, image, index) => write!(to, "term {kind} {} {index}", Hex(image)),
             Command::Char(kind, image, index) => write!(to, "char {kind} {} {index}", Hex(image)),
-            Command::Build { kind, length, level, template, values, end_bit, text, domain, points } => {
+            Command::Build { kind, length, level, template, values, end_bit, text, given } => {
                 write!(to, "build {kind} {length} {level} {}", template.number())?;
                 for value in values {
                     write!(to, " {value}")?;
                 }
-                write!(to, " {} {} {domain} ", u8::from(*end_bit), Hex(text))?;
-                if points.is_empty() {
-                    return to.write_str("-");
-                }
-                for (i, figure) in points.iter().enumerate() {
-                    write!(to, "{}{figure}", if i > 0 { "," } else { "" })?;
-                }
-                Ok(())
+                write!(to, " {} {} {given}", u8::from(*end_bit), Hex(text))
             }
             Command::Change(kind, image, field, value, level) => {
                 write!(to, "change {kind} {} {field} {value} {level}", Hex(image))
@@ -291,9 +358,11 @@ impl Command {
     fn accepted(&self, calls: &dyn Calls) -> Result<String, Refusal> {
         Ok(match self {
             Command::Check(kind, image) => {
-                let Summary { bits, points, end_bit, characters, template, domain } = calls.checked(*kind, image)?;
+                let Summary { bits, points, end_bit, characters, template, domain, segments, terms } =
+                    calls.checked(*kind, image)?;
                 let domain = domain.map_or("-".to_string(), |domain| domain.to_string());
-                format!("ok {bits} {points} {end_bit} {characters} {} {domain}", template.number())
+                let template = template.number();
+                format!("ok {bits} {points} {end_bit} {characters} {template} {domain} {segments} {terms}")
             }
             Command::Page(kind, image, page) => {
                 let page = calls.page(*kind, image, *page);
@@ -304,8 +373,16 @@ impl Command {
                 let (point, deviation) = calls.pair_read(*kind, image, *index)?;
                 format!("{point} {deviation}")
             }
+            Command::Segment(kind, image, index) => {
+                let Segment { start, terms } = calls.segment_read(*kind, image, *index)?;
+                format!("{start} {terms}")
+            }
+            Command::Term(kind, image, index) => {
+                let Term { exponent, coefficient } = calls.term_read(*kind, image, *index)?;
+                format!("{exponent} {:08x}", coefficient.to_bits())
+            }
             Command::Char(kind, image, index) => calls.character_read(*kind, image, *index)?.to_string(),
-            Command::Build { kind, length, level, template, values, end_bit, text, domain, points } => {
+            Command::Build { kind, length, level, template, values, end_bit, text, given } => {
                 // A buffer longer than any image is as wrong as one of 513 bytes.
                 let mut image = vec![0; (*length).min(513)];
                 let mut fields = Fields {
@@ -317,7 +394,7 @@ impl Command {
                 for (place, value) in fields.values.iter_mut().zip(values) {
                     *place = ByFlags::from(*value);
                 }
-                calls.built(*kind, &mut image, fields, text, *domain, points)?;
+                calls.built(*kind, &mut image, fields, text, given.calibration())?;
                 format!("ok {}", Hex(&image))
             }
             Command::Change(kind, image, field, value, level) => {
@@ -380,6 +457,8 @@ mod tests {
             "reading 0 - 5",
             "reading 0 - 5 Large",
             "reading 0 - 5 0",
+            "segment 0 -",
+            "term 0 - w1",
             "text 18 18446744073709551616",
             "text 18 ",
             "change 0 - 1 s0000000 maker",
@@ -404,6 +483,16 @@ mod tests {
             &format!("build 0 40 maker 33 {fields}1 6162 2 -"),
             &format!("build 0 40 maker 33 {fields}1 6162 - -"),
             &format!("build 0 40 maker 33 {}w1 m 1 6162 0 -", "w1 m s7fc00000 ".repeat(6)),
+            &format!("build 0 40 maker 33 {fields}1 6162 curve 1 0,1"),
+            &format!("build 0 40 maker 33 {fields}1 6162 curve 1 0 0,00000000"),
+            &format!("build 0 40 maker 33 {fields}1 6162 curve 1 0,-1 0,00000000"),
+            &format!("build 0 40 maker 33 {fields}1 6162 curve 1 0,1 0,0000000"),
+            &format!("build 0 40 maker 33 {fields}1 6162 curve 1 0,1 0,s00000000"),
+            &format!("build 0 40 maker 33 {fields}1 6162 curve 1 0,1 0"),
+            &format!("build 0 40 maker 33 {fields}1 6162 curve -1 - -"),
+            &format!("build 0 40 maker 33 {fields}1 6162 Curve 1 - -"),
+            &format!("build 0 40 maker 33 {fields}1 6162 curve 1 {}0,1 -", "0,1,".repeat(20)),
+            &format!("build 0 40 maker 33 {fields}1 6162 curve 1 - {}0,00000000", "0,00000000,".repeat(30)),
             "index 0 -",
             "index 0 - 0",
             "fetch 0 - -",
@@ -411,6 +500,12 @@ mod tests {
         ] {
             assert_eq!(answer(line, &Plain), "?", "{line}");
         }
+    }
+
+    /// A list filled up to so many pairs.
+    fn with_zeros(list: &str, pair: &str, pairs: usize) -> String {
+        let given = list.split(',').count() / 2;
+        [list.to_string(), vec![pair; pairs - given].join(",")].join(",")
     }
 
     #[test]
@@ -434,6 +529,11 @@ mod tests {
             "fetch 2 - 0a0b 21",
             &format!("build 0 40 owner 33 {fields}1 6162 0 -"),
             &format!("build 0 40 maker 33 {fields}0 - 1 5,-6"),
+            &format!(
+                "build 0 40 maker 33 {fields}0 - curve 2 {} {}",
+                with_zeros("-5,7,6,1", "0,0", 20),
+                with_zeros("-1,ffffffff", "0,00000000", 30)
+            ),
             &format!("build 0 40 calibration 32 {}m 0 - 1 -", "w1 m s7fc00000 ".repeat(6)),
         ] {
             assert_eq!(parse(line).unwrap().to_string(), line);

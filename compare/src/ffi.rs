@@ -1,9 +1,10 @@
 //! The product's calls, as `include/dartelm.h` declares them.
 
 use crate::calls::Calls;
+use crate::plain::Curve;
 use crate::structs::{
     ByFlags, CharacterAnswer, CheckAnswer, CodeAnswer, FieldAnswer, Fields, PageAnswer, PairAnswer, ProposalAnswer,
-    ReadingAnswer, SheetAnswer, TextAnswer, WriteAnswer,
+    ReadingAnswer, SegmentAnswer, SheetAnswer, TermAnswer, TextAnswer, WriteAnswer,
 };
 
 mod dartelm {
@@ -15,6 +16,8 @@ mod dartelm {
         pub fn dartelm_field(kind: u8, image: *const u8, image_length: usize, field: u64) -> FieldAnswer;
         pub fn dartelm_sheet(kind: u8, image: *const u8, image_length: usize) -> SheetAnswer;
         pub fn dartelm_pair(kind: u8, image: *const u8, image_length: usize, index: u64) -> PairAnswer;
+        pub fn dartelm_segment(kind: u8, image: *const u8, image_length: usize, index: u64) -> SegmentAnswer;
+        pub fn dartelm_term(kind: u8, image: *const u8, image_length: usize, index: u64) -> TermAnswer;
         pub fn dartelm_character(kind: u8, image: *const u8, image_length: usize, index: u64) -> CharacterAnswer;
         pub fn dartelm_build(
             kind: u8,
@@ -26,6 +29,15 @@ mod dartelm {
             domain: u8,
             points: *const i64,
             points_length: usize,
+        ) -> WriteAnswer;
+        pub fn dartelm_build_curve(
+            kind: u8,
+            image: *mut u8,
+            image_length: usize,
+            fields: Fields,
+            text: *const u8,
+            text_length: usize,
+            curve: Curve,
         ) -> WriteAnswer;
         pub fn dartelm_change(
             kind: u8,
@@ -99,6 +111,14 @@ impl Calls for Product {
         unsafe { dartelm::dartelm_pair(kind, image.as_ptr(), image.len(), index) }
     }
 
+    fn segment(&self, kind: u8, image: &[u8], index: u64) -> SegmentAnswer {
+        unsafe { dartelm::dartelm_segment(kind, image.as_ptr(), image.len(), index) }
+    }
+
+    fn term(&self, kind: u8, image: &[u8], index: u64) -> TermAnswer {
+        unsafe { dartelm::dartelm_term(kind, image.as_ptr(), image.len(), index) }
+    }
+
     fn character(&self, kind: u8, image: &[u8], index: u64) -> CharacterAnswer {
         unsafe { dartelm::dartelm_character(kind, image.as_ptr(), image.len(), index) }
     }
@@ -118,6 +138,11 @@ impl Calls for Product {
         unsafe {
             dartelm::dartelm_build(kind, image, image_length, fields, text, text_length, domain, points, points_length)
         }
+    }
+
+    fn build_curve(&self, kind: u8, image: &mut [u8], fields: Fields, text: &[u8], curve: Curve) -> WriteAnswer {
+        let (image, image_length) = (image.as_mut_ptr(), image.len());
+        unsafe { dartelm::dartelm_build_curve(kind, image, image_length, fields, text.as_ptr(), text.len(), curve) }
     }
 
     fn change(&self, kind: u8, image: &mut [u8], level: u8, field: u64, value: ByFlags) -> WriteAnswer {

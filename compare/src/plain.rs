@@ -100,6 +100,40 @@ pub struct Summary {
     pub template: Template,
     /// Of the points, if there are any.
     pub domain: Option<Domain>,
+    pub segments: u64,
+    /// Of all segments.
+    pub terms: u64,
+}
+
+/// A segment of a curve: its start, in billionths of the span, and how many terms it has.
+#[derive(Clone, Copy, Debug, Default, PartialEq, Eq)]
+#[repr(C)]
+pub struct Segment {
+    pub start: i64,
+    pub terms: u64,
+}
+
+#[derive(Clone, Copy, Debug, Default)]
+#[repr(C)]
+pub struct Term {
+    pub exponent: i64,
+    pub coefficient: f32,
+}
+
+/// Coefficients are compared by their bits.
+impl PartialEq for Term {
+    fn eq(&self, other: &Term) -> bool {
+        (self.exponent, self.coefficient.to_bits()) == (other.exponent, other.coefficient.to_bits())
+    }
+}
+
+/// A curve that a build is handed, also by the header: so many segments, and the terms of one after the other.
+#[derive(Clone, Copy, Debug, Default, PartialEq)]
+#[repr(C)]
+pub struct Curve {
+    pub count: u64,
+    pub segments: [Segment; 20],
+    pub terms: [Term; 30],
 }
 
 #[derive(Clone, Copy, Debug)]
@@ -136,6 +170,12 @@ const BILLION: i64 = 1_000_000_000;
 const POINT: Rule = Rule::Stepped { width: 16, start: 0, step: 15_300 };
 const DEVIATION: Rule = Rule::Stepped { width: 21, start: -BILLION, step: 1_000 };
 const PAIR_BITS: u64 = 37;
+
+// Block 41: starts in billionths of the span.
+const START: Rule = Rule::Stepped { width: 13, start: 0, step: 123_000 };
+const SEGMENT_BITS: u64 = 20;
+const TERM_BITS: u64 = 39;
+const MOST_TERMS: u64 = 30;
 
 /// Response times, in 10 ns: 100 x 1.292^c to the nearest.
 #[rustfmt::skip]
@@ -539,7 +579,7 @@ struct Open {
     chip: Chip,
     layout: Layout,
     summary: Summary,
-    /// First bit of the first point, if there is one.
+    /// First bit of the first point or segment, if there is one.
     pairs: u64,
     /// First bit of the text, if there is one.
     text: u64,
@@ -596,43 +636,15 @@ fn open(kind: u8, image: &[u8]) -> Answer<Open> {
             layout.precision = code as usize;
         }
     }
-    let mut domain = None;
-    let mut points = 0;
-    let mut pairs = 0;
+    let mut block = Block::default();
     let mut selector = walk.at;
     let mut which = walk.take(2)?;
     if which == 0 {
-        if walk.take(8)? != 40 {
-            return refuse(4, selector);
-        }
-        let physical = walk.take(1)? == 1;
-        domain = Some(if physical { Domain::Physical } else { Domain::Electrical });
-        let bit = walk.at;
-        points = walk.take(7)?;
-        if points == 0 {
-            return refuse(5, bit);
-        }
-        pairs = walk.at;
-        let mut last = (0, 0);
-        for index in 0..points {
-            let bit = walk.at;
-            let point = walk.take(16)?;
-            if point == 0xffff {
-                return refuse(5, bit);
-            }
-            let after = walk.at;
-            let deviation = walk.take(21)?;
-            if deviation == 0x1f_ffff {
-                return refuse(5, after);
-            }
-            if index > 0 && point <= last.0 {
-                return refuse(7, bit);
-            }
-            if index > 0 && physical && sum(point, deviation) <= sum(last.0, last.1) {
-                return refuse(22, bit);
-            }
-            last = (point, deviation);
-        }
+        block = match walk.take(8)? {
+            40 => table(&mut walk)?,
+            41 => curve(&mut walk)?,
+            _ => return refuse(4, selector),
+        };
         selector = walk.at;
         which = walk.take(2)?;
     }
@@ -652,16 +664,120 @@ fn open(kind: u8, image: &[u8]) -> Answer<Open> {
         layout,
         summary: Summary {
             bits: walk.at,
-            points: u64::from(points),
+            points: block.points,
             end_bit: u64::from(end_bit),
             characters,
             template,
-            domain,
+            domain: block.domain,
+            segments: block.segments,
+            terms: block.terms,
         },
-        pairs,
+        pairs: block.first,
         text,
     })
 }
+
+/// What stands behind the fields.
+#[derive(Default)]
+struct Block {
+    domain: Option<Domain>,
+    points: u64,
+    segments: u64,
+    terms: u64,
+    /// First bit of the first point or segment.
+    first: u64,
+}
+
+/// Block 40 behind its number.
+fn table(walk: &mut Walk) -> Answer<Block> {
+    let physical = walk.take(1)? == 1;
+    let domain = Some(if physical { Domain::Physical } else { Domain::Electrical });
+    let bit = walk.at;
+    let points = walk.take(7)?;
+    if points == 0 {
+        return refuse(5, bit);
+    }
+    let first = walk.at;
+    let mut last = (0, 0);
+    for index in 0..points {
+        let bit = walk.at;
+        let point = walk.take(16)?;
+        if point == 0xffff {
+            return refuse(5, bit);
+        }
+        let after = walk.at;
+        let deviation = walk.take(21)?;
+        if deviation == 0x1f_ffff {
+            return refuse(5, after);
+        }
+        if index > 0 && point <= last.0 {
+            return refuse(7, bit);
+        }
+        if index > 0 && physical && sum(point, deviation) <= sum(last.0, last.1) {
+            return refuse(22, bit);
+        }
+        last = (point, deviation);
+    }
+    Ok(Block { domain, points: u64::from(points), first, ..Block::default() })
+}
+
+/// Block 41 behind its number.
+fn curve(walk: &mut Walk) -> Answer<Block> {
+    let bit = walk.at;
+    if walk.take(1)? == 1 {
+        return refuse(5, bit);
+    }
+    let bit = walk.at;
+    let segments = u64::from(walk.take(8)?);
+    if !(1..=20).contains(&segments) {
+        return refuse(24, bit);
+    }
+    let first = walk.at;
+    let mut terms = 0;
+    let mut before = None;
+    for _ in 0..segments {
+        let bit = walk.at;
+        let start = walk.take(13)?;
+        if start == 0x1fff {
+            return refuse(5, bit);
+        }
+        if before.map_or(start != 0, |before| start <= before) {
+            return refuse(24, bit);
+        }
+        before = Some(start);
+        let bit = walk.at;
+        let count = u64::from(walk.take(7)?);
+        if !(1..=6).contains(&count) {
+            return refuse(24, bit);
+        }
+        terms += count;
+        if terms > MOST_TERMS {
+            return refuse(25, terms);
+        }
+        let mut least = ZEROTH_POWER;
+        for _ in 0..count {
+            let bit = walk.at;
+            let power = walk.take(7)?;
+            if power == 0x7f {
+                return refuse(5, bit);
+            }
+            if power < least || power > ZEROTH_POWER + 10 || power % 2 == 1 {
+                return refuse(24, bit);
+            }
+            least = power + 1;
+            let bit = walk.at;
+            let coefficient = walk.take(32)?;
+            if coefficient == u32::MAX {
+                return refuse(5, bit);
+            }
+            Rule::Single.judge(coefficient, bit)?;
+        }
+    }
+    Ok(Block { segments, terms, first, ..Block::default() })
+}
+
+/// The code of exponent 0: they count from -32 by halves.
+const ZEROTH_POWER: u32 = 64;
 
 /// A field that the template has.
 fn known(template: Template, field: u64) -> Answer<usize> {
@@ -690,6 +806,53 @@ impl Open {
 
     fn deviation(&self, image: &[u8], index: u64) -> i64 {
         self.stepped(image, self.pairs + PAIR_BITS * index + 16, DEVIATION)
+    }
+
+    /// The first bit of a segment, and the index of its first term.
+    fn segment_at(&self, image: &[u8], index: u64) -> (u64, u64) {
+        let (mut bit, mut terms) = (self.pairs, 0);
+        for _ in 0..index {
+            let count = self.segment(image, bit).terms;
+            bit += SEGMENT_BITS + TERM_BITS * count;
+            terms += count;
+        }
+        (bit, terms)
+    }
+
+    /// The segment at a bit.
+    fn segment(&self, image: &[u8], bit: u64) -> Segment {
+        Segment { start: self.stepped(image, bit, START), terms: u64::from(self.chip.get(image, bit + 13, 7)) }
+    }
+
+    /// A term of the segment at a bit.
+    fn term(&self, image: &[u8], segment: u64, index: u64) -> Term {
+        let bit = segment + SEGMENT_BITS + TERM_BITS * index;
+        Term {
+            exponent: i64::from(self.chip.get(image, bit, 7) - ZEROTH_POWER) / 2,
+            coefficient: f32::from_bits(self.chip.get(image, bit + 7, 32)),
+        }
+    }
+
+    /// The float fraction of a curve: the argument is in per cent of the span.
+    fn drawn(&self, image: &[u8], p: i64) -> f64 {
+        let mut bit = self.pairs;
+        for index in 1..self.summary.segments {
+            let next = self.segment_at(image, index).0;
+            if self.segment(image, next).start > p {
+                break;
+            }
+            bit = next;
+        }
+        let mut powers = [0.0; 6];
+        let mut highest = 0;
+        for index in 0..self.segment(image, bit).terms {
+            let Term { exponent, coefficient } = self.term(image, bit, index);
+            highest = exponent as usize;
+            powers[highest] = f64::from(coefficient);
+        }
+        let argument = p as f64 / 1e7;
+        let correction = powers[..highest].iter().rev().fold(powers[highest], |sum, power| sum * argument + power);
+        (argument + correction) / 100.0
     }
 
     /// The deviation at p: on the line between its neighbours, to the nearest, halves upward.
@@ -780,6 +943,26 @@ pub fn pair(kind: u8, image: &[u8], index: u64) -> Answer<(i64, i64)> {
     Ok((open.point(image, index), open.deviation(image, index)))
 }
 
+pub fn segment(kind: u8, image: &[u8], index: u64) -> Answer<Segment> {
+    let open = open(kind, image)?;
+    if index >= open.summary.segments {
+        return refuse(8, index);
+    }
+    Ok(open.segment(image, open.segment_at(image, index).0))
+}
+
+/// By index over the whole curve.
+pub fn term(kind: u8, image: &[u8], index: u64) -> Answer<Term> {
+    let open = open(kind, image)?;
+    for segment in 0..open.summary.segments {
+        let (bit, before) = open.segment_at(image, segment);
+        if index < before + open.segment(image, bit).terms {
+            return Ok(open.term(image, bit, index - before));
+        }
+    }
+    refuse(8, index)
+}
+
 pub fn character(kind: u8, image: &[u8], index: u64) -> Answer<u8> {
     let open = open(kind, image)?;
     if index >= open.summary.characters {
@@ -840,18 +1023,25 @@ pub struct Sheet<'a> {
     pub values: [Value; 21],
     pub end_bit: bool,
     pub text: &'a [u8],
-    pub domain: Domain,
-    /// Point and deviation by turns.
-    pub points: &'a [i64],
+    pub calibration: Calibration<'a>,
+}
+
+#[derive(Clone, Copy)]
+pub enum Calibration<'a> {
+    /// Point and deviation by turns, in a domain.
+    Points(Domain, &'a [i64]),
+    Curve(&'a Curve),
 }
 
 pub fn build(kind: u8, image: &mut [u8], sheet: &Sheet) -> Answer<()> {
-    let Sheet { template, ref values, end_bit, text, domain, points } = *sheet;
+    let Sheet { template, ref values, end_bit, text, calibration } = *sheet;
     let Some(chip) = chip(kind, image.len()) else {
         return refuse(1, 0);
     };
-    if points.len() % 2 == 1 || points.len() > 254 {
-        return refuse(16, points.len() as u64);
+    if let Calibration::Points(_, points) = calibration {
+        if points.len() % 2 == 1 || points.len() > 254 {
+            return refuse(16, points.len() as u64);
+        }
     }
     let mut codes = [0u32; 21];
     let mut layout = Layout { template, precision: 0 };
@@ -871,26 +1061,10 @@ pub fn build(kind: u8, image: &mut [u8], sheet: &Sheet) -> Answer<()> {
     if text.iter().any(|character| !(1..=127).contains(character)) {
         return refuse(10, ending as u64);
     }
-    let physical = domain == Domain::Physical;
-    let mut last = (0, 0);
-    for (index, pair) in points.chunks_exact(2).enumerate() {
-        let index = index as u64;
-        let Ok(point) = POINT.code(Value::Whole(pair[0])) else {
-            return refuse(10, index);
-        };
-        let Ok(deviation) = DEVIATION.code(Value::Whole(pair[1])) else {
-            return refuse(10, index);
-        };
-        if index > 0 && point <= last.0 {
-            return refuse(7, index);
-        }
-        if index > 0 && physical && sum(point, deviation) <= sum(last.0, last.1) {
-            return refuse(22, index);
-        }
-        last = (point, deviation);
-    }
-    let count = points.len() as u64 / 2;
-    let block = if count > 0 { 18 + PAIR_BITS * count } else { 0 };
+    let block = match calibration {
+        Calibration::Points(domain, points) => table_bits(domain, points)?,
+        Calibration::Curve(curve) => curve_bits(curve)?,
+    };
     let text_bits = 7 * text.len().min(0xffff) as u64;
     let needed = layout.end() + block + 3 + text_bits;
     if needed > chip.stream_bits() {
@@ -904,12 +1078,28 @@ pub fn build(kind: u8, image: &mut [u8], sheet: &Sheet) -> Answer<()> {
         }
         pen.put(codes[field - 1], layout.rule(field).width());
     }
-    if count > 0 {
-        pen.put(40 << 2, 10);
-        pen.put(u32::from(physical) | (count as u32) << 1, 8);
-        for pair in points.chunks_exact(2) {
-            pen.put(POINT.code(Value::Whole(pair[0])).unwrap_or(0), 16);
-            pen.put(DEVIATION.code(Value::Whole(pair[1])).unwrap_or(0), 21);
+    match calibration {
+        Calibration::Points(_, []) => (),
+        Calibration::Points(domain, points) => {
+            pen.put(40 << 2, 10);
+            pen.put(u32::from(domain == Domain::Physical) | (points.len() as u32 / 2) << 1, 8);
+            for pair in points.chunks_exact(2) {
+                pen.put(POINT.code(Value::Whole(pair[0])).unwrap_or(0), 16);
+                pen.put(DEVIATION.code(Value::Whole(pair[1])).unwrap_or(0), 21);
+            }
+        }
+        Calibration::Curve(curve) => {
+            pen.put(41 << 2, 10);
+            pen.put((curve.count as u32) << 1, 9);
+            let mut terms = curve.terms.iter();
+            for segment in &curve.segments[..curve.count as usize] {
+                pen.put(START.code(Value::Whole(segment.start)).unwrap_or(0), 13);
+                pen.put(segment.terms as u32, 7);
+                for term in terms.by_ref().take(segment.terms as usize) {
+                    pen.put(ZEROTH_POWER + 2 * term.exponent as u32, 7);
+                    pen.put(term.coefficient.to_bits(), 32);
+                }
+            }
         }
     }
     pen.put(3 | u32::from(end_bit) << 2, 3);
@@ -921,6 +1111,67 @@ pub fn build(kind: u8, image: &mut [u8], sheet: &Sheet) -> Answer<()> {
         chip.seal(image, page);
     }
     Ok(())
+}
+
+/// The bits of block 40 from a list of points, none where it is empty.
+fn table_bits(domain: Domain, points: &[i64]) -> Answer<u64> {
+    let mut last = (0, 0);
+    for (index, pair) in points.chunks_exact(2).enumerate() {
+        let index = index as u64;
+        let Ok(point) = POINT.code(Value::Whole(pair[0])) else {
+            return refuse(10, index);
+        };
+        let Ok(deviation) = DEVIATION.code(Value::Whole(pair[1])) else {
+            return refuse(10, index);
+        };
+        if index > 0 && point <= last.0 {
+            return refuse(7, index);
+        }
+        if index > 0 && domain == Domain::Physical && sum(point, deviation) <= sum(last.0, last.1) {
+            return refuse(22, index);
+        }
+        last = (point, deviation);
+    }
+    match points.len() as u64 / 2 {
+        0 => Ok(0),
+        count => Ok(18 + PAIR_BITS * count),
+    }
+}
+
+/// The bits of block 41 from a curve.
+fn curve_bits(curve: &Curve) -> Answer<u64> {
+    if !(1..=20).contains(&curve.count) {
+        return refuse(24, curve.count);
+    }
+    let mut before = None;
+    let mut total = 0;
+    for (index, segment) in curve.segments[..curve.count as usize].iter().enumerate() {
+        let index = index as u64;
+        let Ok(start) = START.code(Value::Whole(segment.start)) else {
+            return refuse(10, index);
+        };
+        if before.map_or(start != 0, |before| start <= before) || !(1..=6).contains(&segment.terms) {
+            return refuse(24, index);
+        }
+        before = Some(start);
+        let first = total;
+        total += segment.terms;
+        if total > MOST_TERMS {
+            return refuse(25, total);
+        }
+        let mut least = 0;
+        for index in first..total {
+            let Term { exponent, coefficient } = curve.terms[index as usize];
+            if !(least..=5).contains(&exponent) {
+                return refuse(24, index);
+            }
+            if !coefficient.is_finite() {
+                return refuse(10, index);
+            }
+            least = exponent + 1;
+        }
+    }
+    Ok(19 + SEGMENT_BITS * curve.count + TERM_BITS * total)
 }
 
 impl Open {
@@ -1037,12 +1288,16 @@ pub fn reading(kind: u8, image: &[u8], input: i64, dash: Dash) -> Answer<Reading
         return refuse(14, 0);
     }
     let p = nearest(above * BILLION, span);
-    let fraction = match open.summary.domain {
-        Some(Domain::Physical) => open.crossing(image, p),
-        _ => p + open.deviation_at(image, p),
+    let (fraction, share) = if open.summary.segments > 0 {
+        (p, open.drawn(image, p))
+    } else {
+        let fraction = match open.summary.domain {
+            Some(Domain::Physical) => open.crossing(image, p),
+            _ => p + open.deviation_at(image, p),
+        };
+        (fraction, fraction as f64 / 1e9)
     };
-    let figure = least + (greatest - least) * (fraction as f64 / 1e9);
-    Ok(Reading { fraction, figure })
+    Ok(Reading { fraction, figure: least + (greatest - least) * share })
 }
 
 // ---- letters and dates ----
@@ -1295,7 +1550,8 @@ mod tests {
 
     /// Template 33, without points and text.
     fn bridge(values: [Value; 21]) -> Sheet<'static> {
-        Sheet { template: Template::Bridge, values, end_bit: false, text: &[], domain: Domain::Electrical, points: &[] }
+        let calibration = Calibration::Points(Domain::Electrical, &[]);
+        Sheet { template: Template::Bridge, values, end_bit: false, text: &[], calibration }
     }
 
     fn sheet() -> [Value; 21] {
@@ -1412,8 +1668,12 @@ mod tests {
             Whole(7),
         ]);
         let mut image = [0; 128];
-        let mut sheet =
-            Sheet { template: Template::Resistance, domain: Domain::Physical, text: b"a", ..bridge(values) };
+        let mut sheet = Sheet {
+            template: Template::Resistance,
+            text: b"a",
+            calibration: Calibration::Points(Domain::Physical, &[]),
+            ..bridge(values)
+        };
         let refusal = |number, place| Err(Refusal { number, place });
         assert_eq!(build(1, &mut image, &sheet), refusal(9, 20));
         sheet.text = b"";
@@ -1494,7 +1754,7 @@ mod tests {
         values[8] = Value::Whole(0);
         values[10] = Value::Whole(BILLION);
         let mut image = [0; 512];
-        build(2, &mut image, &Sheet { domain, points, ..bridge(values) })?;
+        build(2, &mut image, &Sheet { calibration: Calibration::Points(domain, points), ..bridge(values) })?;
         Ok(image)
     }
 
@@ -1560,6 +1820,96 @@ mod tests {
         // Before 14.
         assert_eq!(reads(33, Dash::Large, BILLION << 2), Err(Refusal { number: 14, place: 0 }));
         assert_eq!(reads(33, Dash::Small, BILLION << 2), Err(Refusal { number: 23, place: 33 }));
+    }
+
+    fn curve_of(segments: &[(i64, u64)], terms: &[(i64, f32)]) -> Curve {
+        let mut curve = Curve { count: segments.len() as u64, ..Curve::default() };
+        for (place, (start, terms)) in curve.segments.iter_mut().zip(segments) {
+            *place = Segment { start: *start, terms: *terms };
+        }
+        for (place, (exponent, coefficient)) in curve.terms.iter_mut().zip(terms) {
+            *place = Term { exponent: *exponent, coefficient: *coefficient };
+        }
+        curve
+    }
+
+    /// A sheet whose p is the input, with a curve.
+    fn drawn(curve: &Curve) -> Answer<[u8; 512]> {
+        let mut values = sheet();
+        values[8] = Value::Whole(0);
+        values[10] = Value::Whole(BILLION);
+        let mut image = [0; 512];
+        build(2, &mut image, &Sheet { calibration: Calibration::Curve(curve), ..bridge(values) })?;
+        Ok(image)
+    }
+
+    #[test]
+    fn curves_go_there_and_back() {
+        let segments = [(61_499, 2), (61_500, 1), (500_000_000, 3)];
+        let terms = [(0, 0.5), (3, -1e-5), (5, f32::MAX), (1, -0.0), (2, 1e-3), (4, f32::MIN_POSITIVE)];
+        let image = drawn(&curve_of(&segments, &terms)).unwrap();
+        let summary = check(2, &image).unwrap();
+        assert_eq!((summary.points, summary.domain, summary.segments, summary.terms), (0, None, 3, 6));
+        assert_eq!(summary.bits, 278 + 19 + 3 * 20 + 6 * 39);
+        // Starts at their nearest steps.
+        let starts = [0, 123_000, 4_065 * 123_000];
+        for (index, (start, (_, terms))) in starts.into_iter().zip(segments).enumerate() {
+            assert_eq!(segment(2, &image, index as u64), Ok(Segment { start, terms }));
+        }
+        for (index, (exponent, coefficient)) in terms.into_iter().enumerate() {
+            assert_eq!(term(2, &image, index as u64), Ok(Term { exponent, coefficient }));
+        }
+        let refusal = Refusal { number: 8, place: 3 };
+        assert_eq!(segment(2, &image, 3).err(), Some(refusal));
+        assert_eq!(term(2, &image, 6).err(), Some(Refusal { number: 8, place: 6 }));
+        assert_eq!(pair(2, &image, 3).err(), Some(refusal));
+    }
+
+    #[test]
+    fn curves_that_break_the_rules() {
+        let refused = |curve: &Curve| drawn(curve).err().map(|refusal| (refusal.number, refusal.place));
+        let one = |segment, terms: &[(i64, f32)]| refused(&curve_of(&[segment], terms));
+        assert_eq!(one((0, 1), &[(0, 0.0)]), None);
+        assert_eq!(one((61_500, 1), &[(0, 0.0)]), Some((24, 0)));
+        assert_eq!(one((-1, 1), &[(0, 0.0)]), Some((10, 0)));
+        assert_eq!(one((0, 0), &[(0, 0.0)]), Some((24, 0)));
+        assert_eq!(one((0, 7), &[(0, 0.0)]), Some((24, 0)));
+        assert_eq!(one((0, 2), &[(1, 0.0), (1, 0.0)]), Some((24, 1)));
+        assert_eq!(one((0, 1), &[(6, f32::NAN)]), Some((24, 0)));
+        assert_eq!(one((0, 1), &[(5, f32::INFINITY)]), Some((10, 0)));
+        for count in [0, 21, 1 << 32, u64::MAX] {
+            assert_eq!(refused(&Curve { count, ..Curve::default() }), Some((24, count)));
+        }
+        // Five segments of six terms are 30; a sixth takes the total past it.
+        let six: Vec<(i64, f32)> = (0..30).map(|i| (i % 6, 1.0)).collect();
+        let five: Vec<(i64, u64)> = (0..5).map(|i| (i * 123_000, 6)).collect();
+        assert_eq!(refused(&curve_of(&five, &six)), None);
+        for terms in 1..=6 {
+            let more = [&five[..], &[(5 * 123_000, terms)]].concat();
+            assert_eq!(refused(&curve_of(&more, &six)), Some((25, 30 + terms)));
+        }
+        let last = [&five[..4], &[(3 * 123_000, 6)]].concat();
+        assert_eq!(refused(&curve_of(&last, &six)), Some((24, 4)));
+    }
+
+    #[test]
+    fn a_curve_is_read_by_the_nested_rule() {
+        // 1 % up to 25 % of the span, then x - x^3 / 10,000 in per cent.
+        let curve = curve_of(&[(0, 1), (250_000_000, 2)], &[(0, 1.0), (1, 1.0), (3, -1e-4)]);
+        let image = drawn(&curve).unwrap();
+        let start = segment(2, &image, 1).unwrap().start;
+        let reads = |input| reading(2, &image, input, Dash::Small).unwrap();
+        for p in [-100_000_000, -1, 0, 1, start - 1] {
+            let (x, shown) = (p as f64 / 1e7, reads(p));
+            assert_eq!(shown.fraction, p);
+            assert_eq!(shown.figure, 16.0 * ((x + 1.0) / 100.0));
+        }
+        for p in [start, start + 1, 777_777_777, 1_100_000_000] {
+            let (x, shown) = (p as f64 / 1e7, reads(p));
+            let correction = ((f64::from(-1e-4f32) * x + 0.0) * x + 1.0) * x + 0.0;
+            assert_eq!(shown.fraction, p);
+            assert_eq!(shown.figure, 16.0 * ((x + correction) / 100.0));
+        }
     }
 
     #[test]

@@ -126,6 +126,8 @@ pub struct CheckAnswer {
     pub end_bit: u8,
     pub template: u8,
     pub domain: u8,
+    pub segments: u64,
+    pub terms: u64,
 }
 
 #[derive(Clone, Copy, Debug, Default, PartialEq)]
@@ -147,6 +149,8 @@ pub struct SheetAnswer {
     pub field_count: u64,
     pub fields: Fields,
     pub domain: u8,
+    pub segments: u64,
+    pub terms: u64,
 }
 
 #[derive(Clone, Copy, Debug, Default, PartialEq)]
@@ -156,6 +160,31 @@ pub struct PairAnswer {
     pub place: u64,
     pub point: i64,
     pub deviation: i64,
+}
+
+#[derive(Clone, Copy, Debug, Default, PartialEq)]
+#[repr(C)]
+pub struct SegmentAnswer {
+    pub number: u8,
+    pub place: u64,
+    pub start: i64,
+    pub terms: u64,
+}
+
+#[derive(Clone, Copy, Debug, Default)]
+#[repr(C)]
+pub struct TermAnswer {
+    pub number: u8,
+    pub place: u64,
+    pub exponent: i64,
+    pub coefficient: f32,
+}
+
+impl PartialEq for TermAnswer {
+    fn eq(&self, other: &TermAnswer) -> bool {
+        let members = |of: &TermAnswer| (of.number, of.place, of.exponent, of.coefficient.to_bits());
+        members(self) == members(other)
+    }
 }
 
 #[derive(Clone, Copy, Debug, Default, PartialEq)]

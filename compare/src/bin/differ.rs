@@ -7,15 +7,17 @@ use std::fmt::Debug;
 use std::process::ExitCode;
 
 use compare::calls::{Calls, Plain};
-use compare::console::Command;
+use compare::console::{Command, Given};
 use compare::ffi::Product;
 use compare::plain::{self, Level, Template, Value};
 use compare::random::Random;
 use compare::structs::{
     ByFlags, CharacterAnswer, CheckAnswer, CodeAnswer, FieldAnswer, Fields, PageAnswer, PairAnswer, ProposalAnswer,
-    ReadingAnswer, SheetAnswer, TextAnswer, WriteAnswer, dash_of, domain_of, level_of,
+    ReadingAnswer, SegmentAnswer, SheetAnswer, TermAnswer, TextAnswer, WriteAnswer, dash_of, domain_of, level_of,
 };
 
+#[path = "differ/curves.rs"]
+mod curves;
 #[path = "differ/images.rs"]
 mod images;
 #[path = "differ/layout.rs"]
@@ -25,9 +27,9 @@ mod values;
 
 use layout::{Layout, get, image_length, pages, stream_bits};
 
-const CALLS: [&str; 16] = [
+const CALLS: [&str; 19] = [
     "check", "page", "field", "pair", "char", "build", "change", "reading", "text", "code", "sheet", "kind", "index",
-    "fetch", "propose", "commit",
+    "fetch", "propose", "commit", "segment", "term", "curve",
 ];
 const CHECK: usize = 0;
 const PAGE: usize = 1;
@@ -45,9 +47,12 @@ const INDEX: usize = 12;
 const FETCH: usize = 13;
 const PROPOSE: usize = 14;
 const COMMIT: usize = 15;
+const SEGMENT: usize = 16;
+const TERM: usize = 17;
+const CURVE: usize = 18;
 
 /// Refusal numbers, and 0.
-const NUMBERS: usize = 24;
+const NUMBERS: usize = 26;
 
 const MOST_SHOWN: u64 = 10;
 
@@ -111,6 +116,8 @@ numbered!(
     FieldAnswer,
     SheetAnswer,
     PairAnswer,
+    SegmentAnswer,
+    TermAnswer,
     CharacterAnswer,
     WriteAnswer,
     ProposalAnswer,
@@ -292,6 +299,30 @@ impl Differ {
             kind,
             |image| Command::Pair(kind, image.to_vec(), index),
             |calls, lent| calls.pair(kind, lent.image(), index),
+        );
+    }
+
+    fn segment(&mut self) {
+        let count = plain::check(self.kind, self.image()).map_or(0, |summary| summary.segments);
+        let index = self.index(count);
+        let kind = self.chip();
+        self.both(
+            SEGMENT,
+            kind,
+            |image| Command::Segment(kind, image.to_vec(), index),
+            |calls, lent| calls.segment(kind, lent.image(), index),
+        );
+    }
+
+    fn term(&mut self) {
+        let count = plain::check(self.kind, self.image()).map_or(0, |summary| summary.terms);
+        let index = self.index(count);
+        let kind = self.chip();
+        self.both(
+            TERM,
+            kind,
+            |image| Command::Term(kind, image.to_vec(), index),
+            |calls, lent| calls.term(kind, lent.image(), index),
         );
     }
 
@@ -564,13 +595,16 @@ impl Differ {
                 fields.values[field - 1] = self.bad(field, layout);
             }
         }
-        let domain = self.domain();
-        let points = self.point_list(layout, domain_of(domain));
-        let text = self.closing_text(layout, points.len() / 2);
-        let ended = !text.is_empty() || self.random.percent(30);
-        fields.end_bit = if ended && !self.random.percent(3) { self.yes() } else { 0 };
         fields.level = self.level();
         fields.template = self.template(layout.template);
+        // Kind 0 has no room for a curve.
+        if self.random.percent(if self.kind == 0 { 5 } else { 25 }) {
+            return self.build_curve(layout, fields);
+        }
+        let domain = self.domain();
+        let points = self.point_list(layout, domain_of(domain));
+        let text = self.closing_text(layout.bits_without_text(points.len() / 2));
+        fields.end_bit = self.end_bit(&text);
         let before = (text.clone(), points.clone());
         let kind = self.chip();
         let answer = self.both(
@@ -584,12 +618,43 @@ impl Differ {
                 values: fields.values[..last].iter().map(|value| value.value()).collect(),
                 end_bit: fields.end_bit != 0,
                 text: text.clone(),
-                domain: domain_of(domain),
-                points: points.clone(),
+                given: Given::Points(domain_of(domain), points.clone()),
             },
             |calls, lent| calls.build(kind, lent.image_mut(), fields, &text, domain, &points),
         );
         self.untouched(BUILD, before == (text, points));
+        answer.number
+    }
+
+    fn end_bit(&mut self, text: &[u8]) -> u8 {
+        let ended = !text.is_empty() || self.random.percent(30);
+        if ended && !self.random.percent(3) { self.yes() } else { 0 }
+    }
+
+    fn build_curve(&mut self, layout: Layout, mut fields: Fields) -> u8 {
+        let curve = self.curve(layout);
+        let count = curve.count.min(20) as usize;
+        let terms: u64 = curve.segments[..count].iter().map(|segment| segment.terms.min(30)).sum();
+        let text = self.closing_text(layout.bits_without_text(0) + 19 + 20 * count + 39 * terms as usize);
+        fields.end_bit = self.end_bit(&text);
+        let before = text.clone();
+        let kind = self.chip();
+        let answer = self.both(
+            CURVE,
+            kind,
+            |image| Command::Build {
+                kind,
+                length: image.len(),
+                level: level_of(fields.level),
+                template: layout.template,
+                values: fields.values[..layout.last()].iter().map(|value| value.value()).collect(),
+                end_bit: fields.end_bit != 0,
+                text: text.clone(),
+                given: Given::Curve(Box::new(curve)),
+            },
+            |calls, lent| calls.build_curve(kind, lent.image_mut(), fields, &text, curve),
+        );
+        self.untouched(CURVE, before == text);
         answer.number
     }
 
@@ -601,8 +666,10 @@ impl Differ {
             14..=17 => self.page(),
             18 => self.kind_of(),
             19..=36 => self.field(),
-            37..=46 => self.pair(),
-            47..=56 => self.character(),
+            37..=42 => self.pair(),
+            43..=46 => self.segment(),
+            47..=50 => self.term(),
+            51..=56 => self.character(),
             57..=62 => self.change(),
             63..=67 => self.propose(),
             68..=74 => self.commit(),

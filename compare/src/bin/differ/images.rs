@@ -80,9 +80,15 @@ impl Differ {
             }
             lay(&mut image, width, code);
         }
-        let mut points = 0;
+        let mut block = 0;
         // Kind 0 has no room for a point.
-        if self.random.percent(if kind == 0 { 12 } else { 60 }) {
+        if self.random.percent(if kind == 0 { 3 } else { 20 }) {
+            lay(&mut image, 2, 0);
+            for (width, code) in self.curve_pieces(layout) {
+                lay(&mut image, width, code);
+                block += width;
+            }
+        } else if self.random.percent(if kind == 0 { 12 } else { 60 }) {
             let selector = if self.random.percent(2) { self.random.pick(&[1, 2]) } else { 0 };
             lay(&mut image, 2, selector);
             let template = if self.random.percent(2) { self.random.pick(&[33, 41, 168, 0, 255]) } else { 40 };
@@ -90,7 +96,7 @@ impl Differ {
             let physical = self.random.percent(40);
             lay(&mut image, 1, u64::from(physical));
             let most = layout.capacity(kind) as u64;
-            points = match self.random.below(20) {
+            let points = match self.random.below(20) {
                 0 => 0,
                 1 => self.random.below(128),
                 2 => 127,
@@ -102,6 +108,7 @@ impl Differ {
                 _ => 1 + self.random.below(most.max(1)),
             };
             lay(&mut image, 7, points);
+            block = 16 + 37 * points as usize;
             let gap = 65_534 / points.max(1);
             let mut code = self.random.below(gap / 2);
             let mut last = 0;
@@ -141,7 +148,7 @@ impl Differ {
         let selector = if self.random.percent(6) { self.random.below(4) } else { 3 };
         lay(&mut image, 2, selector);
         lay(&mut image, 1, u64::from(self.random.percent(60)));
-        let rest = stream_bits(kind) - layout.bits_without_text(points as usize).min(stream_bits(kind));
+        let rest = stream_bits(kind).saturating_sub(layout.bits_without_text(0) + 2 + block);
         let length = match self.random.below(4) {
             0 => 0,
             1 => rest / 7,
@@ -184,7 +191,8 @@ impl Differ {
         let kind = self.kind;
         let bits = stream_bits(kind) as u64;
         let layout = self.layout();
-        let points = plain::check(kind, self.image()).map_or(0, |summary| summary.points);
+        let (points, segments) =
+            plain::check(kind, self.image()).map_or((0, 0), |summary| (summary.points, summary.segments));
         let mut image = self.image().to_vec();
         let length = image.len() as u64;
         let mut mended = true;
@@ -212,6 +220,7 @@ impl Differ {
                 put(kind, &mut image, 144, 2, precision);
             }
             6 => put(kind, &mut image, after, 2, self.random.below(4)),
+            7..=10 if segments > 0 => self.damage_curve(&mut image, after),
             7 if points > 0 => put(kind, &mut image, after + 11, 7, self.random.below(128)),
             8 if points > 0 => {
                 let near = points + self.random.below(3);

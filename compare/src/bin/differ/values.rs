@@ -207,8 +207,8 @@ impl Differ {
             Ok(Value::Single(figure)) => plain::nanovolts(figure),
             _ => None,
         };
-        let (points, domain) =
-            plain::check(kind, self.image()).map_or((0, None), |summary| (summary.points, summary.domain));
+        let (points, domain, segments) = plain::check(kind, self.image())
+            .map_or((0, None, 0), |summary| (summary.points, summary.domain, summary.segments));
         let (e, f) = match (end(10), end(11)) {
             (Some(e), Some(f)) if e < f => (e, f),
             _ => (0, 3_000_000),
@@ -241,6 +241,11 @@ impl Differ {
                 let g = gcd(2 * BILLION, span);
                 let odd = 2 * self.random.within(-g / 20 - 1, g / 2 + g / 20 + 1) + 1;
                 e + span / g * odd
+            }
+            11..=16 if segments > 0 => {
+                let index = self.random.below(segments);
+                let start = plain::segment(kind, self.image(), index).map_or(0, |segment| segment.start);
+                at(start + self.random.within(-2, 2))
             }
             11..=16 if points > 0 => {
                 let index = self.random.below(points);
@@ -372,8 +377,9 @@ impl Differ {
         }
     }
 
-    pub fn closing_text(&mut self, layout: Layout, points: usize) -> Vec<u8> {
-        let left = stream_bits(self.kind).saturating_sub(layout.bits_without_text(points));
+    /// A text behind so many bits.
+    pub fn closing_text(&mut self, before: usize) -> Vec<u8> {
+        let left = stream_bits(self.kind).saturating_sub(before);
         let length = match self.random.below(20) {
             0..=4 => 0,
             5..=10 => self.random.within(0, left as i64 / 7),
@@ -382,7 +388,7 @@ impl Differ {
             16 => left as i64 / 7 - 1,
             17 => self.random.within(0, 600),
             18 if self.random.percent(10) => {
-                let edge = (65_535 - layout.bits_without_text(points) as i64) / 7;
+                let edge = (65_535 - before as i64) / 7;
                 edge + self.random.within(-2, 2)
             }
             18 if self.random.percent(5) => self.random.within(9_000, 20_000),
