@@ -1,0 +1,43 @@
+"""A refusal in the words of docs/REFUSALS.md."""
+import os
+import re
+
+from .console import HOME
+
+PLACES = {2: "page", 3: "bit", 4: "bit", 5: "bit", 6: "bit", 8: "number", 11: "bits", 12: "field", 13: "field", 16: "length", 18: "bytes",
+          19: "field", 20: "field", 21: "field", 23: "points"}
+
+
+def rows(home=HOME):
+    """Number to meaning and what to do, as the table has them; none where the file is not there."""
+    found = {}
+    try:
+        with open(os.path.join(home, "docs", "REFUSALS.md"), encoding="utf-8") as file:
+            for line in file:
+                cells = [cell.strip().replace("`", "") for cell in line.strip().strip("|").split("|")]
+                if len(cells) == 4 and cells[0].isdigit():
+                    found[int(cells[0])] = (cells[2], cells[3])
+    except OSError:
+        pass
+    return found
+
+
+ROWS = rows()
+
+
+def meaning(refusal):
+    return ROWS.get(refusal.number, ("", ""))[0]
+
+
+def advice(refusal):
+    """What to do, for the person at the bench: a programmer's part is left out."""
+    said = re.split(r"(?i)\bprogrammer:\s*", ROWS.get(refusal.number, ("", ""))[1])[0]
+    said = re.sub(r"^(bench|restorer):\s*", "", said.strip()).rstrip(". ")
+    return said[:1].upper() + said[1:]
+
+
+def headline(refusal):
+    """Number, place and meaning on a line."""
+    place = PLACES.get(refusal.number, "place")
+    said = meaning(refusal)
+    return f"refused: {refusal.number} at {place} {refusal.place}" + (f": {said}" if said else "")
