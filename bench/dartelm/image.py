@@ -1,7 +1,8 @@
 """A chip's image, and the whole sheet that stands in it, as the proved calls read it."""
 from .console import hexadecimal, listed, parsed
 from .files import read_bytes
-from .trouble import Refusal
+from .refusals import headline
+from .trouble import Refusal, refused
 
 BYTES = {0: 40, 1: 128, 2: 512}
 STREAM_BITS = {0: 312, 1: 992, 2: 3968}
@@ -57,6 +58,11 @@ class Sheet:
         sheet.kind, sheet.template, sheet.values = self.kind, self.template, dict(self.values)
         return sheet
 
+    def bare_with_text(self):
+        sheet = self.bare()
+        sheet.text = self.text
+        return sheet
+
 
 def build(console, sheet, kind=None):
     answer = parsed(console.ask_all([sheet.build_line(kind)])[0])
@@ -83,6 +89,15 @@ def read_sheet(console, image):
 
 def each(console, command, image, indices):
     return [parsed(answer) for answer in console.ask_all(f"{command} {image} {index}" for index in indices)]
+
+
+def open_image(console, path):
+    """An image and its sheet; where it is refused the command ends."""
+    image = read_image(path)
+    refusal = refusal_of(console, image)
+    if refusal:
+        raise refused(f"{path}: {headline(refusal)}; 'dartelm why {path}' tells more")
+    return image, read_sheet(console, image)
 
 
 def refusal_of(console, image):

@@ -7,6 +7,9 @@ from .console import HOME
 PLACES = {2: "page", 3: "bit", 4: "bit", 5: "bit", 6: "bit", 8: "number", 11: "bits", 12: "field", 13: "field", 16: "length", 18: "bytes",
           19: "field", 20: "field", 21: "field", 23: "points"}
 
+# A line is read at a glance up to so many characters.
+LONG = 110
+
 
 def rows(home=HOME):
     """Number to meaning and what to do, as the table has them; none where the file is not there."""
@@ -32,12 +35,23 @@ def meaning(refusal):
 def advice(refusal):
     """What to do, for the person at the bench: a programmer's part is left out."""
     said = re.split(r"(?i)\bprogrammer:\s*", ROWS.get(refusal.number, ("", ""))[1])[0]
-    said = re.sub(r"^(bench|restorer):\s*", "", said.strip()).rstrip(". ")
-    return said[:1].upper() + said[1:]
+    return re.sub(r"^(bench|restorer):\s*", "", said.strip()).rstrip(". ")
 
 
 def headline(refusal):
-    """Number, place and meaning on a line."""
+    """Number, place and meaning on a line, the meaning's first sentence."""
     place = PLACES.get(refusal.number, "place")
-    said = meaning(refusal)
+    said = shortened(meaning(refusal))
     return f"refused: {refusal.number} at {place} {refusal.place}" + (f": {said}" if said else "")
+
+
+def shortened(text):
+    """Up to the first sentence's end; where that is long, up to a colon. What stands in brackets is not cut."""
+    ends = [len(text)] + [found.start() for found in re.finditer(r"\. |; ", text) if outside(text, found.start())]
+    first = text[:min(ends)]
+    colons = [found.start() for found in re.finditer(": ", first) if outside(first, found.start())]
+    return first[:colons[0]] if len(first) > LONG and colons else first
+
+
+def outside(text, at):
+    return text.count("(", 0, at) == text.count(")", 0, at)

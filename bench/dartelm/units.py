@@ -90,7 +90,7 @@ def figure_of(text, unit, what):
         raise misused(f"{what}: '{text}' is no number in {unit.takes()}")
     number, word = parts
     if not word:
-        raise misused(f"{what}: '{text.strip()}' has no unit; write it in {unit.takes()}, as {plain(number)}{unit.name}")
+        raise misused(f"{what}: '{text.strip()}' has no unit; write it in {unit.takes()}, as {plain(number)}{unit.named(unit.shown[0])}")
     exponent = unit.exponent(word)
     if exponent is None:
         raise misused(f"{what}: '{word}' is not understood here; write it in {unit.takes()}")
