@@ -16,13 +16,18 @@ NAMES = {"point": ("point", "figure"), "deviation": ("deviation", "correction")}
 
 def run(console, given):
     image, sheet = open_image(console, given.file)
-    points = read_certificate(console, sheet, given.certificate)
-    against = Against(console, image, sheet, points, distance_of(console, sheet, points, given.certificate))
-    print(f"{given.file} against {given.certificate}, {len(points)} points")
-    for line in against.lines():
+    beside = against(console, image, sheet, given.certificate)
+    print(f"{given.file} against {given.certificate}, {len(beside.points)} points")
+    for line in beside.lines():
         print(line)
-    print(against.verdict())
-    return ACCEPTED if against.agrees() else REFUSED
+    print(beside.verdict())
+    return ACCEPTED if beside.agrees() else REFUSED
+
+
+def against(console, image, sheet, path):
+    """The chip beside the certificate in a file."""
+    points = read_certificate(console, sheet, path)
+    return Against(console, image, sheet, points, distance_of(console, sheet, points, path))
 
 
 def distance_of(console, sheet, points, path):
@@ -213,14 +218,17 @@ class Against:
             yield f"proved distance: {percent(self.distance())} of the span, {self.physical(self.distance())}"
         else:
             yield "a table against the physical figure has no proved distance: the chip is held against one built from the certificate"
-        rows = [("input", "of the span", "certificate", "chip", "difference", "")]
-        for one in self.at:
-            rows.append((in_unit(uncounted(one.input, -9), RATIO), percent(one.place), self.figure(round(one.wanted)),
-                         readings.figure_text(one.figure, self.unit, self.prefix), percent(round(one.difference), True),
-                         "" if self.within(one) else "beyond"))
-        widths = [max(len(row[n]) for row in rows) for n in range(6)]
+        rows = [("input", "of the span", "certificate", "chip", "difference"), *self.rows()]
+        widths = [max(len(row[n]) for row in rows) for n in range(5)]
         for row in rows:
-            yield "  " + "  ".join(text.rjust(width) for text, width in zip(row, widths)).rstrip()
+            yield "  " + "  ".join(text.rjust(width) for text, width in zip(row, widths))
+
+    def rows(self):
+        """A row for each of the certificate's points."""
+        for one in self.at:
+            yield (in_unit(uncounted(one.input, -9), RATIO), percent(one.place), self.figure(round(one.wanted)),
+                   readings.figure_text(one.figure, self.unit, self.prefix),
+                   percent(round(one.difference), True) + ("" if self.within(one) else " !"))
 
     def verdict(self):
         one = self.worst()
@@ -229,7 +237,8 @@ class Against:
         if self.agrees():
             return f"AGREES: within the proved distance at every point; {worst}" if self.bound is not None else (
                 "AGREES: it shows what a chip built from the certificate shows at every point")
-        return f"DIFFERS: {sum(not self.within(one) for one in self.all())} of {len(self.all())} points of either; {worst}"
+        beyond = sum(not self.within(one) for one in self.all())
+        return f"DIFFERS: at {beyond} of {len(self.all())} points, the certificate's and the chip's; {worst}"
 
 
 def twin_of(console, sheet, points):

@@ -212,3 +212,6 @@ def order(value):
 def shown(sheet, by, number):
     return FIELDS[sheet.template][number - 1].shown(sheet.values[number], by)
 
+
+def shown_field(console, sheet, number):
+    return shown(sheet, fields.around(console, sheet), number)
