@@ -9,9 +9,7 @@ from .units import percent
 
 def run(console, given):
     files.must_be_new(given.output, given.force)
-    draft = sheets.parsed(console, given.sheet, files.read_text(given.sheet))
-    if given.kind is not None:
-        draft.sheet.kind = given.kind
+    draft = sheets.parsed(console, given.sheet, files.read_text(given.sheet), given.kind)
     image = made(console, draft)
     files.write_new(given.output, image.data, given.force)
     there = read_image(given.output)

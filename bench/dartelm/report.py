@@ -28,7 +28,7 @@ td.n, th.n { text-align: right; white-space: nowrap; }
 .points { columns: 2; column-gap: 2em; }
 .points p { break-inside: avoid; margin: 0; border-bottom: 1px solid #ddd; font-variant-numeric: tabular-nums; }
 pre { white-space: pre-wrap; }
-svg { width: 100%; height: auto; }
+svg { display: block; width: 100%; height: auto; }
 svg text { font: 13px "DejaVu Sans", Verdana, Arial, sans-serif; fill: #000; }
 svg .grid { stroke: #ccc; stroke-width: 1; }
 svg .zero { stroke: #000; stroke-width: 1; stroke-dasharray: 2 3; }
@@ -38,16 +38,16 @@ svg .dot { fill: #fff; stroke: #000; stroke-width: 1.6; }
 svg .stick { stroke: #000; stroke-width: 1.2; }
 svg .band { fill: #e4e4e4; stroke: #000; stroke-width: 1; stroke-dasharray: 7 4; }
 figure { margin: .4em 0 0; break-inside: avoid; }
-figcaption { font-size: .9em; }
+figcaption { font-size: .9em; margin-top: -.4em; }
 footer { margin-top: 1.6em; border-top: 1px solid #000; font-size: .85em; overflow-wrap: anywhere; }
 @media (max-width: 40em) {
   .fields, .points { columns: 1; } body { margin-top: .5em; } svg text { font-size: 19px; }
   td.n, th.n { white-space: normal; font-size: .8em; }
 }
-@page { size: A4; margin: 12mm; }
+@page { size: A4; margin: 10mm; }
 @media print {
   body { margin: 0; padding: 0; max-width: none; font-size: 10px; line-height: 1.25; } h2 { break-after: avoid; margin-top: .9em; }
-  .points { columns: 3; } .fields { columns: 2; } td.n, th.n { white-space: nowrap; font-size: 1em; }
+  .points { columns: 3; } svg { max-height: 52mm; } svg text { font-size: 10.5px; } footer { margin-top: .8em; } .fields { columns: 2; } td.n, th.n { white-space: nowrap; font-size: 1em; }
 }
 """
 

@@ -20,8 +20,11 @@ def run(console, given):
             by.measurand = fields.whole(field.parsed(text, by))
     wanted = [(field, field.parsed(text, by)) for field, text in asked]
     lines = []
-    for field, value in wanted:
-        image, line = changed(console, sheet, image, field, value, given.level, by)
+    for (field, value), (_, text) in zip(wanted, asked):
+        try:
+            image, line = changed(console, sheet, image, field, value, given.level, by)
+        except Refusal as refusal:
+            raise refused(reason(console, image, field, value, text, given.level, refusal)) from None
         lines.append(line)
     files.write_new(given.output, image.data, given.force)
     read_again(console, given.output, image, sheet, wanted)
@@ -51,11 +54,8 @@ def once(asked):
 
 def changed(console, sheet, image, field, value, level, by):
     """The image with one field changed, and what to tell of it."""
-    try:
-        present, new, stored = console.ask("propose", image, field.number, value, level)
-        written = console.ask("commit", image, field.number, present, new, level)[1]
-    except Refusal as refusal:
-        raise refused(reason(console, image, field, value, level, refusal, by)) from None
+    present, new, stored = console.ask("propose", image, field.number, value, level)
+    written = console.ask("commit", image, field.number, present, new, level)[1]
     old = field.shown(sheet.values[field.number], fields.around(console, sheet))
     line = f"{field.name}: {old} -> {field.shown(value, by)}"
     if stored != value:
@@ -64,8 +64,8 @@ def changed(console, sheet, image, field, value, level, by):
     return Image(bytes.fromhex(written), image.kind), line
 
 
-def reason(console, image, field, value, level, refusal, by):
-    said = f"nothing is written: {field.name} = {field.shown(value, by)}: {refusals.headline(refusal)}"
+def reason(console, image, field, value, text, level, refusal):
+    said = f"nothing is written: {field.name} = {text.strip()}: {refusals.headline(refusal)}"
     if refusal.number == 12:
         return said + REBUILD
     if refusal.number == 20:

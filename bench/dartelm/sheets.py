@@ -52,14 +52,14 @@ class Draft:
         return f"{self.name}:{self.lines[key]}" if key in self.lines else self.name
 
 
-def parsed(console, name, text):
-    """The draft that lines give. Errors name the line."""
+def parsed(console, name, text, kind=None):
+    """The draft that lines give, for the kind that is asked for or the one that they name. Errors name the line."""
     draft = Draft(name)
     for number, line in enumerate(text.splitlines(), 1):
         if line.strip() and not line.lstrip().startswith("#"):
             put(draft, number, line)
     sheet = draft.sheet
-    sheet.kind = numbered(draft, "kind", BYTES)
+    sheet.kind = numbered(draft, "kind", BYTES) if kind is None else kind
     sheet.template = numbered(draft, "template", LAST_FIELD)
     values(console, draft)
     table(draft)

@@ -57,7 +57,9 @@ def shifted(figure, places):
 
 
 def plain(figure):
-    """A decimal's digits, without noughts behind the last."""
+    """A decimal's digits, without noughts behind the last; a very small or large one with a power of ten."""
+    if figure and not -9 <= figure.adjusted() <= 15:
+        return format(figure.normalize(EXACT), "e")
     text = format(figure, "f")
     if "." in text:
         text = text.rstrip("0").rstrip(".")
