@@ -9,7 +9,7 @@ from . import fields, files, readings, refusals
 from .image import Sheet, build, open_image
 from .readings import WHOLE_SPAN
 from .trouble import ACCEPTED, REFUSED, Refusal, Trouble, misused, refused
-from .units import PERCENT, RATIO, counted, figure_of, float_text, in_unit, percent, uncounted
+from .units import PERCENT, RATIO, counted, figure_of, float_text, in_unit, percent, split, uncounted
 
 NAMES = {"point": ("point", "figure"), "deviation": ("deviation", "correction")}
 
@@ -111,10 +111,10 @@ class Scale:
         return self.place(figure, text), figure
 
     def deviation(self, text, at, figure):
-        if is_percent(text) and self.unit.name != "%":
-            return counted(figure_of(text, PERCENT, "deviation"), -7, PERCENT, "deviation")
-        if figure is None:
+        if figure is None and self.unit.exponent((split(text) or (0, ""))[1]) is not None:
             raise misused("a deviation in the sender's unit needs a point in it")
+        if figure is None or is_percent(text) and self.unit.name != "%":
+            return counted(figure_of(text, PERCENT, "deviation"), -7, PERCENT, "deviation")
         return self.place(figure + Fraction(figure_of(text, self.unit, "deviation")), text) - at
 
     def place(self, figure, text):

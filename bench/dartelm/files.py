@@ -1,7 +1,6 @@
 """Files: read whole, and written whole or not at all."""
 import os
 import sys
-import tempfile
 
 from .trouble import unread
 
@@ -38,44 +37,54 @@ def must_be_new(path, force):
 
 
 def write_new(path, data, force):
-    """Writes a file of its own beside the one asked for, and gives it the name when all is in it."""
-    folder = os.path.dirname(path) or "."
+    """Writes a file that has no name yet, in the same folder, and gives it the name when all is in it."""
     try:
-        handle, beside = tempfile.mkstemp(prefix=".dartelm-", dir=folder)
+        write_and_name(path, data, force)
+    except FileExistsError:
+        raise unread(f"{path} is there already; --force replaces it") from None
     except OSError as error:
         raise unread(f"cannot write {path}: {reason(error)}") from None
+
+
+def write_and_name(path, data, force):
+    folder = os.path.dirname(path) or "."
+    spare = os.path.join(folder, f".dartelm-{os.urandom(6).hex()}")
+    handle, named = nameless(folder, spare)
     try:
         with os.fdopen(handle, "wb") as file:
             file.write(data)
             file.flush()
             os.fsync(file.fileno())
-        os.chmod(beside, 0o666 & ~mask())
-        give_name(beside, path, force)
-    except FileExistsError:
-        raise unread(f"{path} is there already; --force replaces it") from None
-    except OSError as error:
-        raise unread(f"cannot write {path}: {reason(error)}") from None
+            give_name(file.fileno(), named, spare, path, force)
     finally:
-        if os.path.lexists(beside):
-            os.unlink(beside)
+        if os.path.lexists(spare):
+            os.unlink(spare)
 
 
-def give_name(beside, path, force):
-    """A link fails where the name is taken, a rename replaces. Where there are no links the name is looked at first."""
-    if force:
-        os.replace(beside, path)
-        return
+def nameless(folder, spare):
+    """A file without a name, so that nothing is left of it if this process is killed, and whether it has the spare name all the
+    same, where the folder cannot have one without."""
     try:
-        os.link(beside, path)
-    except FileExistsError:
-        raise
-    except OSError:
-        if os.path.lexists(path):
-            raise FileExistsError(path) from None
-        os.rename(beside, path)
+        return os.open(folder, os.O_WRONLY | os.O_TMPFILE, 0o666), False
+    except (OSError, AttributeError):
+        return os.open(spare, os.O_WRONLY | os.O_CREAT | os.O_EXCL, 0o666), True
 
 
-def mask():
-    found = os.umask(0o077)
-    os.umask(found)
-    return found
+def give_name(handle, named, spare, path, force):
+    """A link fails where the name is taken. To replace what is there the file needs a name first."""
+    if not force and not named:
+        link(handle, path)
+        return
+    if not force and os.path.lexists(path):
+        raise FileExistsError(path)
+    if not named:
+        link(handle, spare)
+    os.replace(spare, path)
+
+
+def link(handle, path):
+    there = os.open("/proc/self/fd", os.O_RDONLY)
+    try:
+        os.link(str(handle), path, src_dir_fd=there, follow_symlinks=True)
+    finally:
+        os.close(there)

@@ -104,6 +104,10 @@ def answer(words):
 
 def main(words):
     """The status of a command. What goes wrong is said on standard error, on a line."""
+    if sys.stderr is None:
+        sys.stderr = open(os.devnull, "w", encoding="utf-8")
+    if sys.stdout is None:
+        return said("the answer cannot be written", UNREAD)
     for stream in (sys.stdout, sys.stderr):
         if hasattr(stream, "reconfigure"):
             stream.reconfigure(errors="backslashreplace")
@@ -120,15 +124,17 @@ def main(words):
         os.dup2(os.open(os.devnull, os.O_WRONLY), 1)
         return said("the answer cannot be written", UNREAD)
     except OSError as error:
-        return said(f"{error.filename or 'the answer'}: {error.strerror}", UNREAD)
+        return said(f"{error.filename or 'the answer cannot be written'}: {error.strerror}", UNREAD)
     except KeyboardInterrupt:
         return said("stopped", 128 + signal.SIGINT)
+    except Exception as error:  # pylint: disable=broad-except
+        return said(f"this should not happen, please report it: {type(error).__name__}: {error}", UNREAD)
 
 
 def said(text, status):
     try:
         sys.stdout.flush()
-    except (OSError, ValueError):
+    except (OSError, ValueError, AttributeError):
         pass
     try:
         print(f"dartelm: {text}", file=sys.stderr)

@@ -1,4 +1,5 @@
 """What the tests share: commands run in this process with one console, or as a program; samples; a folder of one's own."""
+import atexit
 import contextlib
 import io
 import os
@@ -34,6 +35,7 @@ def console():
     global _console
     if _console is None:
         _console = consoles.Console()
+        atexit.register(_console.close)
     return _console
 
 
@@ -82,6 +84,7 @@ class Case(unittest.TestCase):
                 status = main.main([str(word) for word in words])
             except SystemExit as ended:
                 status = ended.code
+        self.assertNotIn("should not happen", err.getvalue())
         return status, out.getvalue(), err.getvalue()
 
     def gives(self, status, *words, out=None, err=None):
@@ -98,6 +101,8 @@ class Case(unittest.TestCase):
 
 def run_program(*words, program=PROGRAM, data=b"", env=None, stdout=subprocess.PIPE):
     done = subprocess.run([program, *map(str, words)], input=data, stdout=stdout, stderr=subprocess.PIPE, check=False, env=env)
+    if b"should not happen" in done.stderr:
+        raise AssertionError(done.stderr)
     return done.returncode, (done.stdout or b"").decode("utf-8", "replace"), done.stderr.decode("utf-8", "replace")
 
 
