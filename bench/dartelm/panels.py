@@ -3,7 +3,7 @@ import html
 import math
 
 WIDTH, HEIGHT = 720, 215
-LEFT, RIGHT, TOP, BOTTOM = 96, 14, 14, 52
+LEFT, RIGHT, TOP, BOTTOM = 112, 14, 14, 52
 
 
 def ticks(low, high):

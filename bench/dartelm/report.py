@@ -18,7 +18,7 @@ h2 { font-size: 1.1em; margin: 1.4em 0 .4em; border-bottom: 2px solid #000; }
 p { margin: .3em 0; }
 .verdict { border: 2px solid #000; padding: .4em .7em; margin: .8em 0; font-weight: bold; }
 .look { border-left: 6px double #000; padding-left: .6em; }
-table { border-collapse: collapse; width: 100%; }
+table { border-collapse: collapse; width: 100%; margin-top: .6em; }
 td, th { text-align: left; vertical-align: top; padding: .12em .6em .12em 0; border-bottom: 1px solid #bbb; }
 td.n, th.n { text-align: right; white-space: nowrap; }
 .fields { columns: 2; column-gap: 2em; }
@@ -41,7 +41,7 @@ figure { margin: .4em 0 0; break-inside: avoid; }
 figcaption { font-size: .9em; margin-top: -.4em; }
 footer { margin-top: 1.6em; border-top: 1px solid #000; font-size: .85em; overflow-wrap: anywhere; }
 @media (max-width: 40em) {
-  .fields, .points { columns: 1; } body { margin-top: .5em; } svg text { font-size: 19px; }
+  .fields, .points { columns: 1; } body { margin-top: .5em; } svg text { font-size: 18px; } figcaption { margin-top: .2em; }
   td.n, th.n { white-space: normal; font-size: .8em; }
 }
 @page { size: A4; margin: 10mm; }
@@ -80,7 +80,8 @@ def document(title, body):
 
 
 def text(words):
-    return html.escape(words)
+    """For a page; a figure and its per cent sign stay on one line."""
+    return html.escape(words).replace(" %", "\u00a0%")
 
 
 def footer(given, data):

@@ -59,6 +59,9 @@ print("total", total)
 sys.exit(worst)
 '''
 
+SAME = "#!/bin/sh\nexec '{program}' \"$@\"\n"
+SAME_TRAY = "#!/bin/sh\nexec '{tray}' \"$@\"\n"
+
 SLOW = '''#!/usr/bin/env python3
 import subprocess, sys, time
 inner = subprocess.Popen([{program!r}], stdin=subprocess.PIPE, stdout=subprocess.PIPE)
@@ -87,5 +90,5 @@ def room(path, console=CONSOLE, tray=TRAY):
         shutil.copy2(os.path.join(HOME, name), os.path.join(path, name))
     executable(os.path.join(path, "bin", "console"), console.format(program=PROGRAM))
     if tray:
-        executable(os.path.join(path, "bin", "tray"), tray.format(program=PROGRAM))
+        executable(os.path.join(path, "bin", "tray"), tray.format(program=PROGRAM, tray=os.path.join(HOME, "bin", "tray")))
     return os.path.join(path, "bin", "dartelm")
