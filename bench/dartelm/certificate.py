@@ -11,6 +11,7 @@ from .readings import WHOLE_SPAN
 from .trouble import ACCEPTED, REFUSED, Refusal, Trouble, misused, refused
 from .units import PERCENT, RATIO, counted, figure_of, float_text, in_unit, percent, split, uncounted
 
+HEADS = ("input", "of the span", "certificate", "chip", "difference")
 NAMES = {"point": ("point", "figure"), "deviation": ("deviation", "correction")}
 
 
@@ -217,8 +218,8 @@ class Against:
         if self.bound is not None:
             yield f"proved distance: {percent(self.distance())} of the span, {self.physical(self.distance())}"
         else:
-            yield "a table against the physical figure has no proved distance: the chip is held against one built from the certificate"
-        rows = [("input", "of the span", "certificate", "chip", "difference"), *self.rows()]
+            yield "a table against the physical figure has no proved distance: the chip is held against one made from the certificate"
+        rows = [HEADS, *self.rows()]
         widths = [max(len(row[n]) for row in rows) for n in range(5)]
         for row in rows:
             yield "  " + "  ".join(text.rjust(width) for text, width in zip(row, widths))
@@ -236,7 +237,7 @@ class Against:
         worst = f"the worst is at {percent(one.place)}: {percent(difference, True)}, {self.physical(difference)}"
         if self.agrees():
             return f"AGREES: within the proved distance at every point; {worst}" if self.bound is not None else (
-                "AGREES: it shows what a chip built from the certificate shows at every point")
+                "AGREES: it shows what a chip made from the certificate shows at every point")
         beyond = sum(not self.within(one) for one in self.all())
         return f"DIFFERS: at {beyond} of {len(self.all())} points, the certificate's and the chip's; {worst}"
 

@@ -39,6 +39,8 @@ class Around:
         self.precision = precision
 
     def unit(self):
+        if self.measurand is None or self.measurand >= len(measurands.CASES):
+            raise misused(f"physical measurand: {self.measurand} has no unit; they are 0 to {len(measurands.CASES) - 1}")
         return measurands.unit_of(self.measurand)
 
 
@@ -103,8 +105,8 @@ class Choice:
     def parsed(self, text, by, what):
         names = self.cases(by)
         word = re.fullmatch(r"(.*?)\s*\(([0-9]{1,3})\)", text)
-        if word and self.code(word.group(1), by) in (None, int(word.group(2))):
-            return "w" + word.group(2)
+        if word and self.code(word.group(1), by) == int(word.group(2)):
+            return f"w{self.code(word.group(1), by)}"
         if re.fullmatch(r"[0-9]{1,3}", text):
             return "w" + str(int(text))
         code = self.code(text, by)

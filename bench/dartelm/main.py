@@ -32,7 +32,7 @@ def parser():
     change = command(commands, "set", "a copy of an image with some fields changed, all of them or none")
     change.add_argument("file", metavar="FILE")
     change.add_argument("changes", metavar="NAME=VALUE", nargs="+",
-                        help="a field's name, or words that fit no other, or its number; a value with its unit, as impedance=350.5ohm")
+                        help="a field's name, words that fit no other, or its number; a value with its unit, as impedance=350.5ohm")
     change.add_argument("--level", choices=("owner", "calibration", "maker"), default="owner", help="who writes (owner)")
     add_output(change)
 
@@ -56,7 +56,7 @@ def parser():
 
     make = command(commands, "make", "an image from the lines of a sheet")
     make.add_argument("sheet", metavar="SHEET")
-    make.add_argument("--kind", type=int, choices=(0, 1, 2), help="another chip than the sheet's: 0 of 40 bytes, 1 of 128, 2 of 512")
+    make.add_argument("--kind", type=int, choices=(0, 1, 2), help="for another chip: 0 of 40 bytes, 1 of 128, 2 of 512")
     add_output(make)
 
     report = command(commands, "report", "one page in HTML, to be printed or kept")

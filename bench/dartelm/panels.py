@@ -38,22 +38,28 @@ class Panel:
     def axes(self, feet):
         """The frame, round figures on the left, and below the span in per cent with a figure under each."""
         for figure in ticks(self.low, self.high):
-            y = self.y(figure)
-            self.parts.append(f'<line class="{"zero" if figure == 0 else "grid"}" x1="{LEFT}" x2="{WIDTH - RIGHT}" y1="{y:.1f}" y2="{y:.1f}"/>')
-            self.text(LEFT - 8, y + 4, self.label(figure), "end")
+            self.straight("zero" if figure == 0 else "grid", LEFT, WIDTH - RIGHT, self.y(figure), self.y(figure))
+            self.text(LEFT - 8, self.y(figure) + 4, self.label(figure), "end")
         for place, foot in feet:
             x = self.x(place)
-            self.parts.append(f'<line class="grid" x1="{x:.1f}" x2="{x:.1f}" y1="{TOP}" y2="{HEIGHT - BOTTOM}"/>')
+            self.straight("grid", x, x, TOP, HEIGHT - BOTTOM)
             self.text(x, HEIGHT - BOTTOM + 18, f"{place * 100:g} %", "end" if place == 1 else "middle")
             self.text(x, HEIGHT - BOTTOM + 36, foot, "end" if place == 1 else "middle")
-        self.parts.append(f'<rect class="frame" x="{LEFT}" y="{TOP}" width="{WIDTH - LEFT - RIGHT}" height="{HEIGHT - TOP - BOTTOM}"/>')
+        self.box("frame", TOP, HEIGHT - BOTTOM)
+
+    def straight(self, kind, x1, x2, y1, y2):
+        self.parts.append(f'<line class="{kind}" x1="{x1:.1f}" x2="{x2:.1f}" y1="{y1:.1f}" y2="{y2:.1f}"/>')
+
+    def box(self, kind, top, bottom):
+        size = f'width="{WIDTH - LEFT - RIGHT}" height="{bottom - top:.1f}"'
+        self.parts.append(f'<rect class="{kind}" x="{LEFT}" y="{top:.1f}" {size}/>')
 
     def band(self, distance):
-        top, bottom = self.y(distance), self.y(-distance)
-        self.parts.append(f'<rect class="band" x="{LEFT}" width="{WIDTH - LEFT - RIGHT}" y="{top:.1f}" height="{bottom - top:.1f}"/>')
+        self.box("band", self.y(distance), self.y(-distance))
 
     def line(self, places):
-        self.parts.append('<polyline class="line" points="' + " ".join(f"{self.x(x):.1f},{self.y(y):.1f}" for x, y in places) + '"/>')
+        points = " ".join(f"{self.x(x):.1f},{self.y(y):.1f}" for x, y in places)
+        self.parts.append(f'<polyline class="line" points="{points}"/>')
 
     def dots(self, places):
         for x, y in places:
@@ -62,8 +68,9 @@ class Panel:
     def sticks(self, places):
         """From nought to each figure, so that points are told apart without a line between them."""
         for x, y in places:
-            self.parts.append(f'<line class="stick" x1="{self.x(x):.1f}" x2="{self.x(x):.1f}" y1="{self.y(0):.1f}" y2="{self.y(y):.1f}"/>')
+            self.straight("stick", self.x(x), self.x(x), self.y(0), self.y(y))
 
     def svg(self):
-        return (f'<svg viewBox="0 0 {WIDTH} {HEIGHT}" preserveAspectRatio="xMinYMid meet" role="img" aria-label="{html.escape(self.title, quote=True)}">'
-                f'<title>{html.escape(self.title)}</title>{"".join(self.parts)}</svg>')
+        title = html.escape(self.title, quote=True)
+        return (f'<svg viewBox="0 0 {WIDTH} {HEIGHT}" preserveAspectRatio="xMinYMid meet" role="img" aria-label="{title}">'
+                f'<title>{title}</title>{"".join(self.parts)}</svg>')

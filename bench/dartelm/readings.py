@@ -17,7 +17,8 @@ class Ruler:
 
     def __init__(self, console, low, high):
         sheet = Sheet()
-        values = [f"w{n}" for n in (17, 0, 1, 0, 0, 0)] + [low, high, "w0", "w0", f"w{WHOLE_SPAN}", "w0"] + [MISSING] * 6 + ["w0"] * 3
+        values = [f"w{n}" for n in (17, 0, 1, 0, 0, 0)] + [low, high, "w0", "w0", f"w{WHOLE_SPAN}", "w0"]
+        values += [MISSING] * 6 + ["w0"] * 3
         sheet.values = dict(enumerate(values, 1))
         self.console = console
         self.image = build(console, sheet)
@@ -93,6 +94,12 @@ def take(console, sheet, image, inputs, dash="large"):
     return [reading if isinstance(reading, Refusal) else Taken(given, reading, straight)
             for given, reading, straight in
             zip(inputs, console.readings(image, inputs, dash), console.readings(bare, inputs, dash))]
+
+
+def curve_corrections(taken):
+    """Places on the span and what a curve adds there, in the sender's unit, as far as it is finite."""
+    places = [(one.position / WHOLE_SPAN, one.figure - one.straight) for one in taken]
+    return [place for place in places if math.isfinite(place[1])]
 
 
 def why_no_reading(console, sheet, image, dash="large"):

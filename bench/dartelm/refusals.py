@@ -4,8 +4,9 @@ import re
 
 from .console import HOME
 
-PLACES = {2: "page", 3: "bit", 4: "bit", 5: "bit", 6: "bit", 8: "number", 11: "bits", 12: "field", 13: "field", 16: "length", 18: "bytes",
-          19: "field", 20: "field", 21: "field", 23: "points"}
+# What a place is, where a number has one sort of place alone.
+PLACES = {2: "page", 3: "bit", 4: "bit", 5: "bit", 6: "bit", 8: "number", 11: "bits", 12: "field", 13: "field", 16: "length",
+          18: "bytes", 19: "field", 20: "field", 21: "field", 23: "points"}
 
 # A line is read at a glance up to so many characters.
 LONG = 110

@@ -12,7 +12,8 @@ from .units import float_text, in_unit, percent, plain, signed
 SAMPLES = 241
 STYLE = """
 :root { color-scheme: light; }
-body { font: 15px/1.4 "DejaVu Sans", Verdana, Arial, sans-serif; color: #000; background: #fff; max-width: 62em; margin: 1.5em auto; padding: 0 1em; }
+body { font: 15px/1.4 "DejaVu Sans", Verdana, Arial, sans-serif; color: #000; background: #fff; }
+body { max-width: 62em; margin: 1.5em auto; padding: 0 1em; }
 h1 { font-size: 1.45em; margin: 0 0 .2em; }
 h2 { font-size: 1.1em; margin: 1.4em 0 .4em; border-bottom: 2px solid #000; }
 p { margin: .3em 0; }
@@ -22,7 +23,8 @@ table { border-collapse: collapse; width: 100%; margin-top: .6em; }
 td, th { text-align: left; vertical-align: top; padding: .12em .6em .12em 0; border-bottom: 1px solid #bbb; }
 td.n, th.n { text-align: right; white-space: nowrap; }
 .fields { columns: 2; column-gap: 2em; }
-.fields p { break-inside: avoid; display: flex; justify-content: space-between; gap: 1em; border-bottom: 1px solid #bbb; margin: 0; padding: .12em 0; }
+.fields p { break-inside: avoid; display: flex; justify-content: space-between; gap: 1em; }
+.fields p { border-bottom: 1px solid #bbb; margin: 0; padding: .12em 0; }
 .fields b { font-weight: normal; color: #333; }
 .fields span { text-align: right; overflow-wrap: anywhere; }
 .points { columns: 2; column-gap: 2em; }
@@ -47,7 +49,8 @@ footer { margin-top: 1.6em; border-top: 1px solid #000; font-size: .85em; overfl
 @page { size: A4; margin: 10mm; }
 @media print {
   body { margin: 0; padding: 0; max-width: none; font-size: 10px; line-height: 1.25; } h2 { break-after: avoid; margin-top: .9em; }
-  .points { columns: 3; } svg { max-height: 52mm; } svg text { font-size: 10.5px; } footer { margin-top: .8em; } .fields { columns: 2; } td.n, th.n { white-space: nowrap; font-size: 1em; }
+  .points { columns: 3; } .fields { columns: 2; } svg { max-height: 52mm; } svg text { font-size: 10.5px; }
+  footer { margin-top: .8em; } td.n, th.n { white-space: nowrap; font-size: 1em; }
 }
 """
 
@@ -86,8 +89,10 @@ def text(words):
 
 def footer(given, data):
     certified = f", certificate {text(given.certificate)}" if given.certificate else ""
-    return (f"<footer><p>{text(version.line())}. File {text(given.file)}{certified}, {len(data)} bytes, SHA-256 {hashlib.sha256(data).hexdigest()}. "
-            f"Written {text(given.today)}.</p><p>Figures are those of the proved programs; this page, its units and its drawing are not proved.</p></footer>")
+    digest = hashlib.sha256(data).hexdigest()
+    return (f"<footer><p>{text(version.line())}. File {text(given.file)}{certified}, {len(data)} bytes, SHA-256 {digest}. "
+            f"Written {text(given.today)}.</p><p>Figures are those of the proved programs; this page, its units and its drawing are "
+            "not proved.</p></footer>")
 
 
 def refused_body(console, path, data, refusal):
@@ -108,8 +113,8 @@ def sheet_body(console, given, image, sheet, against):
     for line in show.odd(console, sheet, image, by, show.today(console, given.today)):
         yield f'<p class="look">Look at: {text(line)}</p>'
     yield "<h2>Sheet</h2>"
-    yield '<div class="fields">' + "".join(
-        f"<p><b>{text((number + ' ') if number else '')}{text(name)}</b><span>{text(value)}</span></p>" for number, name, value in show.rows(sheet, by)) + "</div>"
+    yield '<div class="fields">' + "".join(f"<p><b>{text((number + ' ' + name).strip())}</b><span>{text(value)}</span></p>"
+                                           for number, name, value in show.rows(sheet, by)) + "</div>"
     yield f"<p>{text('; '.join(show.dash_lines(console, sheet, image)))}</p>"
     yield "<h2>Correction over the span</h2>"
     yield from correction_figure(console, sheet, image, by)
@@ -148,10 +153,17 @@ def correction_figure(console, sheet, image, by):
         return
     taken = readings.take(console, sheet, image, readings.evenly(readings.ends_of(sheet), SAMPLES))
     if sheet.curve():
-        line = [(one.position / WHOLE_SPAN, one.figure - one.straight) for one in taken]
+        line = readings.curve_corrections(taken)
+        if not line:
+            yield "<p>The curve's figures are not finite.</p>"
+            return
         unit = by.unit()
         caption = f"Correction in {unit.name}, by {SAMPLES} readings over the span."
-        yield figure(drawn("Correction", line, line, [], lambda y: in_unit(float_text(y, 4), unit, "", True), feet(console, sheet, by)), caption)
+
+        def label(y):
+            return in_unit(float_text(y, 4), unit, "", True)
+
+        yield figure(drawn("Correction", line, line, [], label, feet(console, sheet, by)), caption)
         return
     line = [(one.position / WHOLE_SPAN, one.correction) for one in taken]
     if sheet.domain == 1:
@@ -174,9 +186,10 @@ def certificate_figure(console, sheet, by, against):
     panel.dots(dots)
     caption = "Circles: the chip's fraction minus the certificate's line at each of its points (1 ppm of the span is 0.0001 %)."
     if distance:
-        caption += f" Grey band between broken lines: the proved distance, {percent(distance)} of the span ({against.physical(distance)}) either way."
+        caption += (f" Grey band between broken lines: the proved distance, {percent(distance)} of the span "
+                    f"({against.physical(distance)}) either way.")
     yield figure(panel.svg(), caption)
-    yield "<table><tr>" + "".join(f'<th class="n">{text(name)}</th>' for name in ("input", "of the span", "certificate", "chip", "difference")) + "</tr>"
+    yield "<table><tr>" + "".join(f'<th class="n">{text(name)}</th>' for name in certificate.HEADS) + "</tr>"
     for cells in against.rows():
         yield "<tr>" + "".join(f'<td class="n">{text(cell)}</td>' for cell in cells) + "</tr>"
     yield "</table>"

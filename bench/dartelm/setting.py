@@ -16,7 +16,7 @@ def run(console, given):
     asked = [assignment(sheet.template, word) for word in given.changes]
     once(asked)
     for field, text in asked:
-        if field.number == 6:
+        if field.number == 6 and field.parsed(text, by) != fields.MISSING:
             by.measurand = fields.whole(field.parsed(text, by))
     wanted = [(field, field.parsed(text, by)) for field, text in asked]
     lines = []

@@ -144,16 +144,17 @@ def table(draft):
     if draft.points:
         domain = draft.given.get("domain")
         if domain not in DOMAINS:
-            raise draft.wrong(draft.lines.get("domain", draft.points[0][0]), "points need a line 'domain = electrical' or 'domain = physical'")
+            line = draft.lines.get("domain", draft.points[0][0])
+            raise draft.wrong(line, "points need a line 'domain = electrical' or 'domain = physical'")
         sheet.domain = DOMAINS.index(domain)
     elif "domain" in draft.given:
         raise draft.wrong(draft.lines["domain"], "a domain without points")
-    sheet.points = [tuple(billionths(draft, line, part, what) for part, what in zip(two(draft, line, value, "point"), ("point", "deviation")))
-                    for line, value in draft.points]
+    sheet.points = [point(draft, line, *two(draft, line, value, "point")) for line, value in draft.points]
     owners = [max((n for n, (start, _) in enumerate(draft.segments) if start < line), default=None) for line, _ in draft.terms]
     if None in owners:
         raise draft.wrong(draft.terms[owners.index(None)][0], "a term before the first segment")
-    sheet.segments = [(billionths(draft, line, value, "segment"), owners.count(n)) for n, (line, value) in enumerate(draft.segments)]
+    starts = [billionths(draft, line, value, "segment") for line, value in draft.segments]
+    sheet.segments = [(start, owners.count(n)) for n, start in enumerate(starts)]
     sheet.terms = [term(draft, line, *two(draft, line, value, "term")) for line, value in draft.terms]
 
 
@@ -162,6 +163,10 @@ def two(draft, line, text, what):
     if len(parts) != 2:
         raise draft.wrong(line, f"a {what} has two parts with a comma between them")
     return parts
+
+
+def point(draft, line, place, deviation):
+    return billionths(draft, line, place, "point"), billionths(draft, line, deviation, "deviation")
 
 
 def billionths(draft, line, text, what):

@@ -12,10 +12,10 @@ SENDERS = {33: "a bridge sender", 32: "a resistance sender"}
 
 def run(console, given):
     status = ACCEPTED
-    for number, path in enumerate(given.files):
+    images = [read_image(path) for path in given.files]
+    for number, (path, image) in enumerate(zip(given.files, images)):
         if number:
             print()
-        image = read_image(path)
         try:
             sheet = read_sheet(console, image)
         except Refusal as refusal:
@@ -153,9 +153,10 @@ def curve_lines(console, sheet, image, by):
     taken = readings.take(console, sheet, image, readings.evenly(readings.ends_of(sheet), 61))
     if sheet.curve():
         unit = by.unit()
-        yield f"correction over the span, in {unit.name}:"
-        yield from text_curve([(one.position / readings.WHOLE_SPAN, one.figure - one.straight) for one in taken],
-                              lambda y: in_unit(float_text(y, 4), unit, "", True))
+        drawn = readings.curve_corrections(taken)
+        if drawn:
+            yield f"correction over the span, in {unit.name}:"
+            yield from text_curve(drawn, lambda y: in_unit(float_text(y, 4), unit, "", True))
         return
     yield "correction over the span:"
     yield from text_curve([(one.position / readings.WHOLE_SPAN, one.correction) for one in taken], tenths)
@@ -193,7 +194,8 @@ def odd(console, sheet, image, by, now):
     if sheet.template == 33 and MISSING not in (values[15], values[16], values[17]):
         low, nominal, high = (whole(values[n]) for n in (16, 15, 17))
         if low <= high and not low <= nominal <= high:
-            yield f"the nominal excitation, {shown(sheet, by, 15)}, is not between {shown(sheet, by, 16)} and {shown(sheet, by, 17)}"
+            nominal, low, high = (shown(sheet, by, number) for number in (15, 16, 17))
+            yield f"the nominal excitation, {nominal}, is not between {low} and {high}"
 
 
 def falling_pairs(sheet):

@@ -92,7 +92,8 @@ def figure_of(text, unit, what):
         raise misused(f"{what}: '{text}' is no number in {unit.takes()}")
     number, word = parts
     if not word:
-        raise misused(f"{what}: '{text.strip()}' has no unit; write it in {unit.takes()}, as {plain(number)}{unit.named(unit.shown[0])}")
+        example = plain(number) + unit.named(unit.shown[0])
+        raise misused(f"{what}: '{text.strip()}' has no unit; write it in {unit.takes()}, as {example}")
     exponent = unit.exponent(word)
     if exponent is None:
         raise misused(f"{what}: '{word}' is not understood here; write it in {unit.takes()}")

@@ -32,7 +32,8 @@ def told(console, path, data):
         return False, [f"{path}: {refusals.headline(refusal)}", *wrong_length(console, path, data)]
     found = verdicts(console, image)
     if refusal is None:
-        return True, [f"{path}: accepted, {summary(read_sheet(console, image))}", *page_lines(image, found), "nothing is wrong with it"]
+        accepted = f"{path}: accepted, {summary(read_sheet(console, image))}"
+        return True, [accepted, *page_lines(image, found), "nothing is wrong with it"]
     return False, [f"{path}: {refusals.headline(refusal)}", *page_lines(image, found), *place_lines(console, image, found, refusal),
                    *still_lines(console, image, found), *cause_lines(console, path, image, found, refusal)]
 
@@ -67,7 +68,8 @@ def mended(image, found):
     """The image with noughts for the pages that are not whole: their bytes add up, and say nothing."""
     if image.kind == 0:
         return image
-    return Image(b"".join(page_bytes(image, page) if verdict == GOOD else bytes(PAGE) for page, verdict in enumerate(found)), image.kind)
+    pages = (page_bytes(image, page) if verdict == GOOD else bytes(PAGE) for page, verdict in enumerate(found))
+    return Image(b"".join(pages), image.kind)
 
 
 class Places:
@@ -179,7 +181,7 @@ def cause_lines(console, path, image, found, refusal):
     elif len(found) > 1 and found.count(GOOD):
         yield f"likely: some pages are damaged or were never written: pages {', '.join(map(str, bad(found)))}"
     else:
-        yield "likely: no page adds up: a bad contact while it was read, a dump that does not begin at the first byte, or no such chip"
+        yield "likely: no page adds up: a bad contact, a dump that does not begin at the first byte, or no such chip"
     said = refusals.advice(refusal)
     if said and any(image.data):
         yield f"to do: {said}"

@@ -36,6 +36,7 @@ for line in sys.stdin:
 
 TRAY = '''#!/usr/bin/env python3
 import subprocess, sys
+inner = subprocess.Popen([{program!r}], stdin=subprocess.PIPE, stdout=subprocess.PIPE)
 data, at, position, total, worst = sys.stdin.buffer.read(), 0, 0, 0, 0
 while at < len(data) and position < 1000:
     kind = data[at]
@@ -44,8 +45,9 @@ while at < len(data) and position < 1000:
     answer = "no 1 0"
     if kind < 3:
         at += 1 + len(image)
-        line = f"check {{kind}} {{image.hex() or '-'}}\\n"
-        answer = subprocess.run([{program!r}], input=line, capture_output=True, text=True).stdout.strip()
+        inner.stdin.write(f"check {{kind}} {{image.hex() or '-'}}\\n".encode())
+        inner.stdin.flush()
+        answer = inner.stdout.readline().decode().strip()
     words = answer.split(" ")
     if words[0] == "ok":
         total += int(words[1])

@@ -36,6 +36,13 @@ class Set(support.Case):
     def test_the_measurand_gives_the_unit(self):
         self.set(0, "maximum physical value=7kPa", "measurand=Pa", "--level", "maker", out=("5000 N -> 7000 Pa", "force/weight, N (4) -> pressure, Pa (12)", "look at:"))
 
+    def test_measurands_that_are_none(self):
+        self.unwritten(1, "measurand=46", "--level", "maker", err="refused: 10")
+        self.unwritten(1, "measurand=missing", "--level", "maker", err="refused: 9")
+        self.unwritten(2, "measurand=46", "max phys=5N", "--level", "maker", err="0 to 45")
+        self.unwritten(2, "bridge type=banana (2)", "--level", "maker", err="none of")
+        self.unwritten(2, "bridge type=half (2)", "--level", "maker", err="none of")
+
     def test_levels(self):
         self.unwritten(1, "date=2026-11-16", err=("refused: 20 at field 18", "--level calibration may"))
         self.unwritten(1, "impedance=351ohm", err="--level maker may")
