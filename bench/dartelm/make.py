@@ -26,7 +26,9 @@ def made(console, draft):
     try:
         return build(console, draft.sheet)
     except Unknown:
-        raise misused(f"{draft.name}: more than any chip holds, or a figure that no field has") from None
+        if draft.sheet.curve() and not console.knows("segment", 1, "-", 0):
+            raise
+        raise misused(f"{draft.name}: more than any chip holds") from None
     except Refusal as refusal:
         raise refused(f"nothing is written: {where(console, draft, refusal)}: {refusals.headline(refusal)}") from None
 

@@ -1,4 +1,5 @@
-"""Stand-ins for what a console or a repository has not yet: the call `distance`, the tray program. They are for tests alone."""
+"""Stand-ins for what a console or a repository has not yet: the call `distance`, curves, the tray program. They are for tests
+alone."""
 import os
 import shutil
 import stat
@@ -32,6 +33,73 @@ def distance(words):
 for line in sys.stdin:
     words = line.rstrip("\\n").split(" ")
     print(distance(words[1]) if words[0] == "distance" and len(words) == 2 else inner_says(line.rstrip("\\n")), flush=True)
+'''
+
+# Curves: an image is one without, and its curve is kept in a file beside the console.
+CURVES = '''#!/usr/bin/env python3
+import json, os, struct, subprocess, sys
+inner = subprocess.Popen([{program!r}], stdin=subprocess.PIPE, stdout=subprocess.PIPE)
+STORE = os.path.join(os.path.dirname(os.path.realpath(__file__)), "curves.json")
+store = json.load(open(STORE)) if os.path.exists(STORE) else {{}}
+
+
+def inner_says(*words):
+    inner.stdin.write(" ".join(words).encode() + b"\\n")
+    inner.stdin.flush()
+    return inner.stdout.readline().decode().rstrip("\\n")
+
+
+def single(word):
+    return struct.unpack(">f", bytes.fromhex(word))[0]
+
+
+def build(words):
+    at = words.index("curve")
+    segments, terms = ([] if word == "-" else word.split(",") for word in words[at + 2:at + 4])
+    for index, exponent in enumerate(terms[::2]):
+        if int(exponent) > 5:
+            return f"no 24 {{index}}"
+    answer = inner_says(*words[:at], "0", "-")
+    if answer.startswith("ok "):
+        starts = [round(int(start) / 123000) * 123000 for start in segments[::2]]
+        store[answer[3:]] = [list(zip(starts, map(int, segments[1::2]))), list(zip(map(int, terms[::2]), terms[1::2]))]
+        json.dump(store, open(STORE, "w"))
+    return answer
+
+
+def reading(words):
+    answer = inner_says(*words)
+    if answer.startswith("no ") or words[2] not in store:
+        return answer
+    position = int(answer.split(" ")[0])
+    segments, terms = store[words[2]]
+    serving = max([n for n, (start, _) in enumerate(segments) if start <= position], default=0)
+    first = sum(count for _, count in segments[:serving])
+    powers = {{exponent: single(word) for exponent, word in terms[first:first + segments[serving][1]]}}
+    argument, correction = position / 10000000, 0.0
+    for exponent in range(5, -1, -1):
+        correction = correction * argument + powers.get(exponent, 0.0)
+    least, greatest = (single(inner_says("field", words[1], words[2], field)[1:]) for field in ("7", "8"))
+    return f"{{position}} " + struct.pack(">d", least + (greatest - least) * ((argument + correction) / 100)).hex()
+
+
+def answer(words):
+    curve = store.get(words[2], [[], []]) if len(words) > 2 else [[], []]
+    if words[0] == "check":
+        said = inner_says(*words)
+        return said + f" {{len(curve[0])}} {{len(curve[1])}}" if said.startswith("ok ") else said
+    if words[0] in ("segment", "term"):
+        of = curve[words[0] == "term"]
+        return " ".join(map(str, of[int(words[3])])) if int(words[3]) < len(of) else "no 8 " + words[3]
+    if words[0] == "reading":
+        return reading(words)
+    if words[0] == "build" and "curve" in words:
+        return build(words)
+    return inner_says(*words)
+
+
+for line in sys.stdin:
+    print(answer(line.rstrip("\\n").split(" ")), flush=True)
 '''
 
 TRAY = '''#!/usr/bin/env python3
