@@ -23,10 +23,10 @@ def from_hexadecimal(word):
     return b"" if word == "-" else bytes.fromhex(word)
 
 
-def parsed(answer):
+def parsed(answer, command=""):
     """The words of an accepted answer."""
     if answer == "?":
-        raise Unknown
+        raise Unknown(command)
     words = answer.split(" ")
     if words[0] == "no":
         raise Refusal(int(words[1]), int(words[2]))
@@ -81,7 +81,7 @@ class Console:
         return [answer[:-1] for answer in answers]
 
     def ask(self, *words):
-        return parsed(self.ask_all([" ".join(str(word) for word in words)])[0])
+        return parsed(self.ask_all([" ".join(str(word) for word in words)])[0], words[0])
 
     def knows(self, *words):
         """Whether a line is a command of this console, whatever the answer."""

@@ -134,12 +134,25 @@ class Measurand(Choice):
         return super().code(text, by) if code is None else code
 
 
-class Quantity:
+class Figure:
+    """A value with a unit. What was given is shown to its last digit, which a Single may not have."""
+
+    def unit_by(self, by):
+        raise NotImplementedError
+
+    def given(self, text, by, what):
+        return in_unit(figure_of(text, self.unit_by(by), what), self.unit_by(by))
+
+
+class Quantity(Figure):
     """A whole number of 10^exponent units."""
 
     def __init__(self, unit, exponent):
         self.unit = unit
         self.exponent = exponent
+
+    def unit_by(self, _):
+        return self.unit
 
     def shown(self, value, _):
         return in_unit(uncounted(whole(value), self.exponent), self.unit)
@@ -166,8 +179,11 @@ class Electrical(Quantity):
         return super().parsed(text, by, what)
 
 
-class Physical:
+class Physical(Figure):
     """A Single in the measurand's unit."""
+
+    def unit_by(self, by):
+        return by.unit()
 
     def shown(self, value, by):
         return in_unit(singles.digits(bits(value)), by.unit())
@@ -188,6 +204,12 @@ class Field:
     def parsed(self, text, by, what=None):
         text = text.strip()
         return MISSING if text == "missing" else self.form.parsed(text, by, what or self.name)
+
+    def given(self, text, by):
+        """A text that is understood, as `shown` would have it."""
+        if isinstance(self.form, Figure) and text.strip() != "missing":
+            return self.form.given(text.strip(), by, self.name)
+        return self.shown(self.parsed(text, by), by)
 
 
 PRECISION = Choice({

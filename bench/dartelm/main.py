@@ -118,8 +118,8 @@ def main(words):
         return said(str(trouble), trouble.status)
     except Refusal as refusal:
         return said(headline(refusal), REFUSED)
-    except Unknown:
-        return said("the console that is built here does not know a command that this needs", UNREAD)
+    except Unknown as unknown:
+        return said(f"the console that is built here does not know what this asks for: {unknown}".rstrip(": "), UNREAD)
     except BrokenPipeError:
         os.dup2(os.open(os.devnull, os.O_WRONLY), 1)
         return said("the answer cannot be written", UNREAD)

@@ -16,7 +16,7 @@ def run(console, given):
     stored = read_sheet(console, there)
     if there.data != image.data:
         raise unread(f"{given.output}: what stands in the file is not what was written")
-    for line in nearest(console, draft.sheet, stored):
+    for line in nearest(console, draft, stored):
         print(line)
     print(f"{given.output}: written and read again, accepted: kind {stored.kind} ({BYTES[stored.kind]} bytes), {stored.bits} bits")
     return ACCEPTED
@@ -50,13 +50,14 @@ def where(console, draft, refusal):
     return draft.name
 
 
-def nearest(console, wanted, stored):
+def nearest(console, draft, stored):
     """What is stored otherwise than it was written: at the nearest step."""
     by = fields.around(console, stored)
+    wanted = draft.sheet
     for field in FIELDS[stored.template]:
-        was, now = wanted.values[field.number], stored.values[field.number]
+        was, now = field.given(draft.texts[field.number], by), field.shown(stored.values[field.number], by)
         if was != now:
-            yield f"{field.name}: {field.shown(was, by)}, stored as {field.shown(now, by)} (nearest step)"
+            yield f"{field.name}: {was}, stored as {now} (nearest step)"
     for index, (was, now) in enumerate(zip(wanted.points, stored.points)):
         if was != now:
             yield f"point {index}: {pair(was)}, stored as {pair(now)} (nearest step)"

@@ -22,7 +22,7 @@ def run(console, given):
     lines = []
     for (field, value), (_, text) in zip(wanted, asked):
         try:
-            image, line = changed(console, sheet, image, field, value, given.level, by)
+            image, line = changed(console, sheet, image, field, value, field.given(text, by), given.level, by)
         except Refusal as refusal:
             raise refused(reason(console, image, field, value, text, given.level, refusal)) from None
         lines.append(line)
@@ -52,13 +52,13 @@ def once(asked):
             raise misused(f"'{field.name}' is given twice")
 
 
-def changed(console, sheet, image, field, value, level, by):
+def changed(console, sheet, image, field, value, shown, level, by):
     """The image with one field changed, and what to tell of it."""
     present, new, stored = console.ask("propose", image, field.number, value, level)
     written = console.ask("commit", image, field.number, present, new, level)[1]
     old = field.shown(sheet.values[field.number], fields.around(console, sheet))
-    line = f"{field.name}: {old} -> {field.shown(value, by)}"
-    if stored != value:
+    line = f"{field.name}: {old} -> {shown}"
+    if shown != field.shown(stored, by):
         line += f", stored as {field.shown(stored, by)} (nearest step)"
     sheet.values[field.number] = stored if field.number != 6 else sheet.values[6]
     return Image(bytes.fromhex(written), image.kind), line

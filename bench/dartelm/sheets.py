@@ -40,6 +40,7 @@ class Draft:
         self.sheet = Sheet()
         self.given = {}
         self.lines = {}
+        self.texts = {}
         self.points = []
         self.segments = []
         self.terms = []
@@ -112,7 +113,7 @@ def values(console, draft):
     for field in FIELDS[template]:
         if field.number not in found:
             raise misused(f"{draft.name}: there is no line '{field.name} = ..'")
-        draft.lines[field.number] = found[field.number][0]
+        draft.lines[field.number], draft.texts[field.number] = found[field.number]
     by = Around(console, template)
     for number in (6, 9, *(n for n in found if n not in (6, 9))):
         draft.sheet.values[number] = value_of(draft, by, FIELDS[template][number - 1], *found[number])

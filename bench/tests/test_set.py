@@ -33,6 +33,9 @@ class Set(support.Case):
         self.gives(0, "set", sample("brake-pressure.kind1"), "greatest electrical=2.1mV/V", "--level", "calibration", "-o", self.path("p2"), out="1.9876 mV/V -> 2.1 mV/V")
         self.gives(0, "set", sample("oil-pressure.kind0"), "location=9", "-o", self.path("k0"), out="3 -> 9")
 
+    def test_digits_that_a_single_has_not(self):
+        self.set(0, "max phys=5000.123456789N", "--level", "calibration", out="5000 N -> 5000.123456789 N, stored as 5000.1235 N (nearest step)")
+
     def test_the_measurand_gives_the_unit(self):
         self.set(0, "maximum physical value=7kPa", "measurand=Pa", "--level", "maker", out=("5000 N -> 7000 Pa", "force/weight, N (4) -> pressure, Pa (12)", "look at:"))
 

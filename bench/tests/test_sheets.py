@@ -2,7 +2,7 @@
 import os
 
 import support
-from dartelm import export, sheets
+from dartelm import export, make, sheets
 from dartelm.image import build, read_sheet
 from support import ACCEPTED, REFUSED, sample, sample_bytes
 
@@ -20,8 +20,10 @@ class Again(support.Case):
         for image in support.built_images(300, 7):
             text, same = export.exported(support.console(), image, read_sheet(support.console(), image))
             self.assertTrue(same)
-            again = build(support.console(), sheets.parsed(support.console(), "again", text).sheet)
+            draft = sheets.parsed(support.console(), "again", text)
+            again = build(support.console(), draft.sheet)
             self.assertEqual(again.data, image.data, text)
+            self.assertEqual(list(make.nearest(support.console(), draft, read_sheet(support.console(), again))), [])
 
     def test_stored_images(self):
         """Bits behind the end are not the sheet's: where they are not 0 that is said, and the rest is the same."""
@@ -71,6 +73,7 @@ class Make(support.Case):
         self.make(0, self.edited("manufacturer ID", "maker"))
         self.make(0, self.edited("bridge element impedance", "13"))
         self.make(0, self.edited("= 1 us", "= 1.14us"), out="response time: 1.14 us, stored as 1.29 us (nearest step)")
+        self.make(0, self.edited("= 5000 N", "= 5.000123456789 kN"), out="maximum physical value: 5000.123456789 N, stored as 5000.1235 N (nearest step)")
         self.make(0, self.edited("20.00016 %", "20%"), out="point 1: 20 % +0.015 %, stored as 20.00016 % +0.015 % (nearest step)")
         self.make(0, "\n".join(reversed(self.text.splitlines()[:23])), out="kind 1")
         self.make(0, self.text, "--kind", "2", out="kind 2 (512 bytes)")
