@@ -164,7 +164,7 @@ class Against:
     def __init__(self, console, image, sheet, points, bound):
         refusal = readings.why_no_reading(console, sheet, image)
         if refusal:
-            raise refused(refusals.headline(refusal))
+            raise refused(readings.no_reading_text(sheet, refusal))
         if sheet.curve():
             raise refused("the chip has a calibration curve: the proved distance is for tables of points")
         self.sheet, self.points, self.bound = sheet, points, bound

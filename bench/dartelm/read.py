@@ -16,7 +16,7 @@ def run(console, given):
     image, sheet = open_image(console, given.file)
     refusal = readings.why_no_reading(console, sheet, image, given.dash)
     if refusal:
-        raise refused(f"{given.file}: {refusals.headline(refusal)}")
+        raise refused(f"{given.file}: {readings.no_reading_text(sheet, refusal)}")
     if given.table is not None:
         asked += readings.evenly(readings.ends_of(sheet), given.table)
     taken = readings.take(console, sheet, image, asked, given.dash)

@@ -5,6 +5,7 @@ from fractions import Fraction
 from . import singles
 from .fields import MISSING, bits, from_bits, is_single, whole
 from .image import Sheet, build
+from .refusals import headline
 from .trouble import Refusal
 from .units import float_text, in_unit, uncounted
 
@@ -107,6 +108,13 @@ def why_no_reading(console, sheet, image, dash="large"):
     ends = ends_of(sheet)
     got = console.readings(image, [ends[0] if ends and abs(ends[0]) < 1 << 62 else 0], dash)[0]
     return got if isinstance(got, Refusal) else None
+
+
+def no_reading_text(sheet, refusal):
+    """Why no reading is taken. 4 is a block that is not built here, or, of a reading, a resistance sender's."""
+    if sheet.template == 32 and refusal.number == 4:
+        return f"refused: 4 at bit {refusal.place}: no reading is taken from a resistance sender"
+    return headline(refusal)
 
 
 def figure_text(figure, unit, prefix):

@@ -148,7 +148,7 @@ def correction_figure(console, sheet, image, by):
     refusal = readings.why_no_reading(console, sheet, image)
     dots = [(point / WHOLE_SPAN, deviation) for point, deviation in sheet.points]
     if refusal:
-        caption = f"Deviation at each stored point, in per cent of the span. No reading is taken: {refusals.headline(refusal)}."
+        caption = f"Deviation at each stored point, in per cent of the span. A reading is {readings.no_reading_text(sheet, refusal)}."
         yield figure(drawn("Deviations", dots, [], dots, percent_label, feet(console, sheet, by)), caption)
         return
     taken = readings.take(console, sheet, image, readings.evenly(readings.ends_of(sheet), SAMPLES))

@@ -85,7 +85,7 @@ class Read(support.Case):
         self.gives(0, "read", sample("brake-pressure.kind1"), "--table", "3", out=("-0.0075 mV/V", "1.9876 mV/V", "0 %"))
 
     def test_refused(self):
-        self.gives(1, "read", sample("temperature.kind1"), "1mV/V", err="refused: 4 at bit 64")
+        self.gives(1, "read", sample("temperature.kind1"), "1mV/V", err="refused: 4 at bit 64: no reading is taken from a resistance sender")
         self.gives(1, "read", sample("many-points.kind2"), "1mV/V", "--dash", "small", err="refused: 23 at points 96")
         self.gives(1, "read", sample("load-cell.kind1"), "1mV/V", "3mV/V", out=("2502.000005 N", "refused: 14"))
         self.gives(1, "read", sample("load-cell.kind1"), "9e9V/V", out="refused: 14")
