@@ -9,6 +9,7 @@ mod span; // span.rt: the ends of the span
 mod taking; // taking.rt: a reading in the order of its refusals
 
 use refusal::Refusal;
+pub use taking::reading_in;
 pub use taking::take_reading;
 
 // The dash that a reading is taken on: the large one takes every table, the small one 32 points at most.

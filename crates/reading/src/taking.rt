@@ -76,7 +76,7 @@ fn dash_reading(sheet: Opened, image: &[u8], input: i64, dash: Dash) -> ReadingA
 }
 
 // A reading of an opened sheet: 4 at the first selector for template 32, else as of template 33.
-fn reading_in(sheet: Opened, image: &[u8], input: i64, dash: Dash) -> ReadingAnswer
+pub fn reading_in(sheet: Opened, image: &[u8], input: i64, dash: Dash) -> ReadingAnswer
     requires { ⌜ Held sheet (now image) ⌝ }
     ensures { λ r. ⌜ ((kind : ℕ) (c : Contents) → Opens kind (now (image .entry)) sheet c → readingSaid r ≡ takeReading kind (now (image .entry)) input dash) ⌝ }
 {

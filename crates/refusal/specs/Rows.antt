@@ -101,3 +101,7 @@ wrongCurve place = returned 24 place
 -- 25 (Note 11): more terms than a curve has. The place is the total so far.
 abbrev pub tooManyTerms : ℕ → Refusal
 tooManyTerms total = returned 25 total
+
+-- 26 (Note 13): recordings: a list has an odd length, or the fast ticks aren't six times the slow ones. The place is the fast list's whole ticks.
+abbrev pub wrongTicks : ℕ → Refusal
+wrongTicks ticks = returned 26 ticks

@@ -27,6 +27,7 @@ pub use rows::wrong_image;
 pub use rows::wrong_list;
 pub use rows::wrong_sort;
 pub use rows::wrong_sum;
+pub use rows::wrong_ticks;
 
 // A refusal gives only these two.
 pub struct Refusal {
@@ -88,3 +89,5 @@ pub const TOO_MANY_POINTS: u8 = 23;
 pub const WRONG_CURVE: u8 = 24;
 
 pub const TOO_MANY_TERMS: u8 = 25;
+
+pub const WRONG_TICKS: u8 = 26;

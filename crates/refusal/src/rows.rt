@@ -25,6 +25,7 @@ ghost use Rattle.refusal.specs.Rows.{
   tooManyPoints,
   wrongCurve,
   tooManyTerms,
+  wrongTicks,
 };
 use crate::Refusal;
 
@@ -248,5 +249,14 @@ pub fn too_many_terms(total: u64) -> Refusal
     Refusal {
         number: crate::TOO_MANY_TERMS,
         place: total,
+    }
+}
+
+pub fn wrong_ticks(ticks: u64) -> Refusal
+    ensures { λ r. ⌜ r ≡ wrongTicks ticks ⌝ }
+{
+    Refusal {
+        number: crate::WRONG_TICKS,
+        place: ticks,
     }
 }

@@ -1,0 +1,3 @@
+pub mod Recordings
+pub mod Ticks
+pub mod Agreement

@@ -1,0 +1,14 @@
+// Document 02, Note 13: ten against sixty. Two dashes record the same run, one at ten refreshes a second and one at sixty; `compare`
+// holds the recordings against each other and against the image. The image is checked once, whatever the lists' length, and a
+// tick costs one reading of the opened sheet. It asks nothing of its caller.
+mod comparing; // comparing.rt: tick by tick
+
+pub use comparing::compare;
+use refusal::Refusal;
+
+// The recordings agree, or the first fast tick that fails; else the check's refusal, or 26.
+pub enum ComparedAnswer {
+    Agree,
+    Tick(u64),
+    Refused(Refusal),
+}
