@@ -4,6 +4,7 @@ pub mod Weights
 pub mod Bends
 pub mod Climb
 pub mod Crossings
+pub mod Needle
 pub mod Steepness
 pub mod Shadow
 pub mod Bound

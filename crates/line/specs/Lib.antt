@@ -1,5 +1,6 @@
 pub mod Line
 pub mod Certificate
 pub mod Crossing
+pub mod Needle
 pub mod Ranges
 pub mod Before

@@ -26,7 +26,7 @@ edges = (refl, (refl, (refl, (refl, (refl, (date-789, (date-7306, (date-37314, (
 
 pub examples : Examples
 unfolding encode decode nearest geometricValue goesUp storedAt linePieces fieldPieces basic template33 template32 linesOf follows position deviation correction correctionAfter between crossing crossingAfter crossingBetween buildWith builtIn plan endingPieces pairCodes pairPieces codesFor tablePieces imageSizes imageOf changeable codeFor rewritten change mayStand mayCommit commit contents pageTest blankFrom sumsFrom streamOf fieldOf fieldsOf selectorOf firstBlock pairOf pairsOf tableOf blockAt calibrationOf charactersOf endingOf sheetOf outsideTwo nanovolts spanOf readingAt takeReading ofInt toBits ofBits nanBits ofFields round units odd span climb size neg
-examples = (refl, (refl, (refl, (refl, (refl, (refl, (refl, (refl, (refl, (refl, (refl, (refl, (refl, (refl, (refl, (refl, (refl, (refl, (refl, (refl, tt))))))))))))))))))))
+examples = (refl, (refl, (refl, (refl, (refl, (refl, (refl, (refl, (refl, (refl, (refl, (refl, (refl, (refl, (refl, (refl, (refl, (refl, (refl, (refl, (refl, (refl, tt))))))))))))))))))))))
 
 pub nearly-attained : NearlyAttained
 unfolding certificateLine correction correctionAfter between

@@ -17,6 +17,7 @@ pub mod StoredPoints
 pub mod KeptLent
 pub mod Distance
 pub mod Crossed
+pub mod Needles
 pub mod Lending
 pub mod Calling
 pub mod EdgesHold

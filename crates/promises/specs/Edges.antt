@@ -177,6 +177,16 @@ met =
     reads 1 128 (sheetAt 0 (pos 0) (pos 2_000_000)) Physical halved (twoChanges 1 (pos 3_000_000)) (pos 300) (pos 200_000) ∷
     []
 
+-- Document 02, Note 14: where points plus deviations fall, the needle drops back.
+abbrev pub falling : List ℤ
+falling = pos 0 ∷ pos 100_000 ∷ pos 15_300 ∷ negℤ (pos 100_000) ∷ []
+
+abbrev pub dropped : List Case
+dropped =
+    reads 1 128 (sheetAt 0 (pos 0) (pos 2_000_000)) Electrical falling [] (pos 0) (pos 100_000) ∷
+    reads 1 128 (sheetAt 0 (pos 0) (pos 2_000_000)) Electrical falling [] (pos 31) (negℤ (pos 84_500)) ∷
+    []
+
 -- Document 02, Note 7: a sheet of template 32 is built, at each precision but the Singles', and no reading is taken from it.
 abbrev pub resisted : List Case
 resisted =
@@ -193,6 +203,6 @@ AllHold (c ∷ cases) = Holds c × AllHold cases
 abbrev pub Edges : Type 0
 Edges = AllHold starred
 
--- Document 000's examples, demand 3 met, and readings that are turned down.
+-- Document 000's examples, demand 3 met, a needle that drops back, and readings that are turned down.
 abbrev pub Examples : Type 0
-Examples = AllHold (printed ++ (met ++ resisted))
+Examples = AllHold (printed ++ (met ++ (dropped ++ resisted)))

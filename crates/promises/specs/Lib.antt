@@ -10,6 +10,7 @@ pub mod Index
 pub mod Readings
 pub mod Certificate
 pub mod Crossing
+pub mod Needle
 pub mod Calls
 pub mod Edges
 pub mod Attained

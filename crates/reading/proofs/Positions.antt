@@ -2,19 +2,22 @@
 use mathlib.Core.Path.{_≡_, refl, ap, ap₂}
 use mathlib.Core.Bool.{Bool, true, false, _||_}
 use Prim.Native.Nat.{ℕ, _+_, _*_, _^_, _≤_, _<_}
+use native.Mathlib.Nat.{mul-le-mul-right}
 use native.Mathlib.Omega.{arith}
 use borrow.Author.Tests.{lt-ltb, le-ltb, ltb-true, ltb-false}
 use lib.Dec.{ltb}
 use lib.IntN.{ℤ, pos, negsuc, negℤ, natAbs, subℕ, _-ℤ_, _*ℤ_}
-use lib.Signed.{ltZ}
+use lib.Signed.{ltZ, _≤ℤ_, _<ℤ_}
 use Rattle.integers.specs.Parts.{up, dn}
 use Rattle.integers.specs.Nearest.{_over_, nearest}
-use Rattle.integers.proofs.PartLaws.{sub-is, sub-parts-ℤ, up-neg, dn-neg, abs-parts, mul-parts, ltZ-parts, nltZ-parts, lt-ltZ, le-ltZ, is-false}
+use Rattle.integers.proofs.PartLaws.{sub-is, sub-parts-ℤ, up-neg, dn-neg, abs-parts, mul-parts, leZ-parts, ltZ-parts, nltZ-parts, lt-ltZ, le-ltZ, is-false}
 use Rattle.refusal.proofs.Outcomes.{neither}
 use Rattle.fields.specs.Figure.{billion}
 use Rattle.line.proofs.Distances.{less, above-parts, scaled}
 use Rattle.line.proofs.Sizes.{nearest-small}
 use Rattle.line.proofs.Told.{gap-parts}
+use Rattle.line.proofs.Order.{at-most}
+use Rattle.line.proofs.Needle.{nearest-at-most}
 use Rattle.reading.specs.declared.position.Offset.{Offset}
 use Rattle.reading.specs.declared.span.Span.{Span}
 use Rattle.reading.specs.Reading.{tooFar, position}
@@ -117,3 +120,16 @@ position-small v {s} r h =
       nltZ-parts (pos 10 *ℤ (v -ℤ e)) (negℤ (f -ℤ e)) (is-false (n .1)),
       nltZ-parts (pos 11 *ℤ (f -ℤ e)) (pos 10 *ℤ (v -ℤ e)) (is-false (n .2)),
     ))
+
+-- A greater input never has a smaller position.
+pub position-rises : (e f : ℤ) → e <ℤ f → (v w : ℤ) → v ≤ℤ w → position v e f ≤ℤ position w e f
+unfolding position
+position-rises e f ends v w h =
+    nearest-at-most ((v -ℤ e) *ℤ pos billion over natAbs (f -ℤ e)) ((w -ℤ e) *ℤ pos billion over natAbs (f -ℤ e)) some some
+    (at-most ((v -ℤ e) *ℤ pos billion over natAbs (f -ℤ e)) ((w -ℤ e) *ℤ pos billion over natAbs (f -ℤ e)) (omega (arith, mul-le-mul-right (natAbs (f -ℤ e)) higher)))
+  where
+    some : 0 < natAbs (f -ℤ e)
+    some = omega (arith, above-parts e f (less e f ends), ltZ-parts e f (ends .lt))
+
+    higher : up ((v -ℤ e) *ℤ pos billion) + dn ((w -ℤ e) *ℤ pos billion) ≤ up ((w -ℤ e) *ℤ pos billion) + dn ((v -ℤ e) *ℤ pos billion)
+    higher = omega (arith, scaled (v -ℤ e) billion, scaled (w -ℤ e) billion, sub-parts-ℤ v e, sub-parts-ℤ w e, leZ-parts v w (h .le))

@@ -1,0 +1,56 @@
+-- Note 14: the position never falls, and the fraction goes by it.
+use mathlib.Core.Path.{_≡_, refl, sym, ap, _∙_, subst₂}
+use mathlib.Core.List.{List, map}
+use Prim.Native.Nat.{ℕ}
+use native.Mathlib.Omega.{arith}
+use lib.IntN.{ℤ}
+use lib.Signed.{_≤ℤ_}
+use Rattle.refusal.specs.Outcome.{good}
+use Rattle.refusal.proofs.Outcomes.{good-same}
+use Rattle.fields.specs.declared.Domain.the-variants.{Electrical, Physical}
+use Rattle.layout.specs.Contents.{Calibration, bare, table, curve, Contents}
+use Rattle.layout.specs.Image.{contents, pairIn}
+use Rattle.layout.proofs.Calibrations.{CalibrationAt}
+use Rattle.layout.proofs.Accepted.{contents-accepted}
+use Rattle.sheet.specs.declared.TableDomain.the-variants.{Is}
+use Rattle.sheet.specs.Check.{domainIn}
+use Rattle.line.proofs.Needle.{deviated-never-falls, crossing-never-falls}
+use Rattle.reading.specs.Reading.{least, greatest, position, fraction}
+use Rattle.reading.proofs.Opening.{calibration-table, calibration-rises}
+use Rattle.reading.proofs.Orders.{shown}
+use Rattle.reading.proofs.Positions.{position-rises}
+use Rattle.promises.specs.Needle.{NeverFalls, NeverDrops, Needle, NeedleByPhysicalPoint}
+
+-- A greater position never has a smaller fraction.
+abbrev Follows : Calibration → Type 0
+Follows k = (p r : ℤ) → p ≤ℤ r → fraction k p ≤ℤ fraction k r
+
+in-domain-0 : (at : ℕ) (k : Calibration) → CalibrationAt at k → NeverFalls k → Follows k
+in-domain-0 at bare h falls p r le = le
+in-domain-0 at (table Electrical pairs) h falls p r le = deviated-never-falls (map pairIn pairs) (calibration-table at (table Electrical pairs) h .rises) falls p r le
+in-domain-0 at (table Physical pairs) h falls p r le = absurd falls
+in-domain-0 at (curve segments) h falls p r le = absurd falls
+
+in-domain-1 : (at : ℕ) (k : Calibration) → CalibrationAt at k → domainIn k ≡ Is Physical → Follows k
+in-domain-1 at bare h e p r le = le
+in-domain-1 at (table Electrical pairs) h e p r le = absurd (let z : _≡_ {A = ℕ} 0 1 = cc in omega arith)
+in-domain-1 at (table Physical pairs) h e p r le =
+    crossing-never-falls (map pairIn pairs) (calibration-table at (table Physical pairs) h .rises) (calibration-rises at (table Physical pairs) Physical h refl) p r le
+in-domain-1 at (curve segments) h e p r le = le
+
+-- So readings follow their inputs.
+never-drops : (kind : ℕ) (image : List ℕ) (c : Contents) → contents kind image ≡ good c → Follows (c .calibration) → NeverDrops kind image
+never-drops kind image c e follows v w one other r s taken later le =
+    let x = shown kind image v one r taken in
+    let y = shown kind image w other s later in
+    let same : x .holds ≡ c = good-same (sym (x .accepted) ∙ e) in
+    let same′ : y .holds ≡ c = good-same (sym (y .accepted) ∙ e) in
+    let at : (u : ℤ) → Contents → ℤ = λ u d. fraction (d .calibration) (position u (least d) (greatest d)) in
+    subst₂ _≤ℤ_ (sym (x .shows ∙ ap (at v) same)) (sym (y .shows ∙ ap (at w) same′))
+    (follows (position v (least c) (greatest c)) (position w (least c) (greatest c)) (position-rises (least c) (greatest c) (rw same at (x .rises)) v w le))
+
+pub needle : Needle
+needle kind image c e falls = never-drops kind image c e (in-domain-0 _ (c .calibration) (contents-accepted kind image c e .holding .formed .calibrated) falls)
+
+pub needle-by-physical-point : NeedleByPhysicalPoint
+needle-by-physical-point kind image c e domain = never-drops kind image c e (in-domain-1 _ (c .calibration) (contents-accepted kind image c e .holding .formed .calibrated) domain)
