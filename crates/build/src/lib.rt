@@ -10,6 +10,8 @@ pub use building::build_curve;
 use fields::Level;
 use fields::Template;
 use fields::Value;
+pub use plan::check_points;
+pub use plan::is_wrong_list;
 
 // A field's value in the sheet record: a struct's array holds no enum, but it holds structs that do.
 pub struct Slot {

@@ -16,6 +16,7 @@ pub mod ReadingLaws
 pub mod StoredPoints
 pub mod KeptLent
 pub mod Distance
+pub mod Beforehand
 pub mod Crossed
 pub mod Needles
 pub mod Lending

@@ -9,6 +9,7 @@ pub mod Levels
 pub mod Index
 pub mod Readings
 pub mod Certificate
+pub mod Beforehand
 pub mod Crossing
 pub mod Needle
 pub mod Calls

@@ -1,0 +1,43 @@
+-- How far whole numbers are apart, and quotients rounded up.
+use mathlib.Core.Path.{_≡_, ap₂}
+use Prim.Native.Nat.{ℕ, suc, _+_, _*_, _-_, _/_, _≤_, _<_}
+use native.Mathlib.Nat.{div-lt-iff-lt-mul, div-le-self, div-add-mod', mod-lt}
+use native.Mathlib.Omega.{arith}
+use mir.Syntax.{w64}
+use mir.Val.{SFits, toZ, ofZ}
+use mir.Facts.{toZ-ofZ}
+use lib.IntN.{ℤ, pos, negsuc, natAbs, _-ℤ_}
+use Rattle.integers.specs.Parts.{up, dn}
+use Rattle.integers.proofs.PartLaws.{sub-parts-ℤ}
+use Rattle.distance.specs.Distance.{ceiling}
+
+-- u − d in parts.
+parted : (x : ℤ) (u d : ℕ) → up x + d ≡ dn x + u → (d ≤ u → u - d ≡ natAbs x) × (u < d → d - u ≡ natAbs x)
+parted (pos n) u d e = (λ h. omega arith, λ h. absurd (omega arith))
+parted (negsuc n) u d e = (λ h. absurd (omega arith), λ h. omega arith)
+
+module _ (a b : ℤ) {pa mb ma pb : ℕ} (e : pa ≡ up a) (f : mb ≡ dn b) (g : ma ≡ dn a) (h : pb ≡ up b) where
+  parts : up (a -ℤ b) + (ma + pb) ≡ dn (a -ℤ b) + (pa + mb)
+  parts = omega (arith, sub-parts-ℤ a b)
+
+  pub above : ma + pb ≤ pa + mb → (pa + mb) - (ma + pb) ≡ natAbs (a -ℤ b)
+  above = parted (a -ℤ b) (pa + mb) (ma + pb) parts .0
+
+  pub below : pa + mb < ma + pb → (ma + pb) - (pa + mb) ≡ natAbs (a -ℤ b)
+  below = parted (a -ℤ b) (pa + mb) (ma + pb) parts .1
+
+-- Two figures that are handed to a callee.
+pub seen : {a b : ℤ} → SFits w64 a → SFits w64 b → natAbs (toZ w64 (ofZ w64 a) -ℤ toZ w64 (ofZ w64 b)) ≡ natAbs (a -ℤ b)
+seen f g = ap₂ (λ (x y : ℤ). natAbs (x -ℤ y)) (toZ-ofZ f) (toZ-ofZ g)
+
+-- ---- rounded up
+
+module _ (num den : ℕ) (some : 0 < den) where
+  pub ceiling-meets : num ≤ ceiling num den * den
+  ceiling-meets = omega (arith, div-add-mod' (num + (den - 1)) den, mod-lt (num + (den - 1)) some)
+
+  pub ceiling-least : (k : ℕ) → num ≤ k * den → ceiling num den ≤ k
+  ceiling-least k h = omega (arith, div-lt-iff-lt-mul {k = den} {x = num + (den - 1)} {y = suc k} some .1 (omega arith))
+
+  pub ceiling-small : ceiling num den ≤ num + (den - 1)
+  ceiling-small = div-le-self (num + (den - 1)) den
