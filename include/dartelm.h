@@ -1,7 +1,7 @@
 /* Dartelm: the IEEE 1451.4 data sheet (TEDS) in a sender's memory chip, from its image to a reading. For C99 and C++.
  *
  * Every call returns one struct by value. Its number is 0 where the call is accepted; else it is a refusal's, DARTELM_WRONG_IMAGE
- * to DARTELM_TOO_MANY_TERMS, with the refusal's place beside it, and every other member is 0. (0 as a float is +0.0. A Single that
+ * to DARTELM_WRONG_TICKS, with the refusal's place beside it, and every other member is 0. (0 as a float is +0.0. A Single that
  * is returned is finite.) A refused call writes nothing; no call writes anything but the image of a build, a change or a commit,
  * and the buffer of an index.
  *
@@ -29,7 +29,7 @@ extern "C" {
 #endif
 
 /* This header's number, which rises when a call or a struct changes; dartelm_version() is the archive's. */
-#define DARTELM_VERSION 6
+#define DARTELM_VERSION 7
 
 /* ---- numbers ---- */
 
@@ -64,7 +64,9 @@ enum {
     DARTELM_TOO_MANY_POINTS = 23, /* A reading on the small dash: more than 32 calibration points. Place: how many. */
     DARTELM_WRONG_CURVE = 24,     /* A segment count, a start, a term count or an exponent that breaks the rules of a curve.
                                    * Place: its bit; in a build the segment count, or the segment's or the term's index. */
-    DARTELM_TOO_MANY_TERMS = 25   /* A curve of more than 30 terms. Place: how many up to the segment that passes them. */
+    DARTELM_TOO_MANY_TERMS = 25,  /* A curve of more than 30 terms. Place: how many up to the segment that passes them. */
+    DARTELM_WRONG_TICKS = 26      /* Two recordings: a list of odd length, or fast ticks that are not six times the slow ones.
+                                   * Place: the whole ticks of the fast list. */
 };
 
 /* The template of a sheet's first block, which says what its fields are. A byte that is handed in and is neither is taken as
@@ -144,6 +146,9 @@ enum {
     DARTELM_SEGMENT_TERMS = 6,  /* of one; one at least */
     DARTELM_GREATEST_EXPONENT = 5
 };
+
+/* How many ticks a fast recording has for one of a slow one. */
+#define DARTELM_FAST_TICKS 6
 
 /* What dartelm_kind_of gives for a length that no kind of chip has: a kind that every call refuses, with 1. */
 #define DARTELM_NO_KIND 255
@@ -282,6 +287,22 @@ typedef struct dartelm_reading_answer {
     double figure;    /* in the measurand's unit */
 } dartelm_reading_answer;
 
+/* What two recordings come to. */
+typedef struct dartelm_compared_answer {
+    uint8_t number;
+    uint64_t place;
+    uint8_t agrees; /* a flag: they agree */
+    uint64_t tick;  /* else the first fast tick that fails, from 0; 0 where they agree */
+} dartelm_compared_answer;
+
+/* The certificate distance of a list of points. */
+typedef struct dartelm_distance_answer {
+    uint8_t number;
+    uint64_t place;
+    uint64_t slope; /* K, the least whole number with 1000 times each rise or fall at most K times its run */
+    uint64_t bound; /* B, in 2000ths of a billionth of the span */
+} dartelm_distance_answer;
+
 /* A text. */
 typedef struct dartelm_text_answer {
     uint8_t number;
@@ -379,6 +400,19 @@ dartelm_write_answer dartelm_commit(uint8_t kind, uint8_t *image, size_t image_l
 dartelm_reading_answer dartelm_reading(uint8_t kind, const uint8_t *image, size_t image_length, int64_t input,
                                        uint8_t dash);
 
+/* Holds a recording of ten refreshes a second against one of sixty, and both against the image. A recording has the input in
+ * nV/V and the shown fraction by turns; tick t of the slow one pairs with tick 6t of the fast one. They agree if paired inputs and
+ * fractions are equal and every fraction is what dartelm_reading gives for its input on the large dash; a fast tick whose reading
+ * is refused fails. Two empty lists agree. Refused as a check is, and with 26. The image is checked once, whatever the lists'
+ * lengths. */
+dartelm_compared_answer dartelm_compare(uint8_t kind, const uint8_t *image, size_t image_length, const int64_t *slow,
+                                        size_t slow_length, const int64_t *fast, size_t fast_length);
+
+/* Tells how far a reading can stray from a certificate, before a chip is written: with these calibration points in domain 0 no
+ * fraction that dartelm_reading gives is more than bound / 2000 billionths of the span from the exact line through them, at any
+ * input and after any changes and commits. Refused as a build would refuse the list, with 7, 10 and 16. */
+dartelm_distance_answer dartelm_distance(const int64_t *points, size_t points_length);
+
 /* The text of a code of field 3, 18 or 19, as template 33 has them: a letter, a date as 2018-01-02, three letters. Refused with 8
  * and 10. */
 dartelm_text_answer dartelm_text(uint64_t field, uint64_t code);
@@ -466,6 +500,12 @@ DARTELM_AT(dartelm_proposal_answer, value, 32);
 DARTELM_ANSWER(dartelm_reading_answer, 32);
 DARTELM_AT(dartelm_reading_answer, fraction, 16);
 DARTELM_AT(dartelm_reading_answer, figure, 24);
+DARTELM_ANSWER(dartelm_compared_answer, 32);
+DARTELM_AT(dartelm_compared_answer, agrees, 16);
+DARTELM_AT(dartelm_compared_answer, tick, 24);
+DARTELM_ANSWER(dartelm_distance_answer, 32);
+DARTELM_AT(dartelm_distance_answer, slope, 16);
+DARTELM_AT(dartelm_distance_answer, bound, 24);
 DARTELM_ANSWER(dartelm_text_answer, 40);
 DARTELM_AT(dartelm_text_answer, length, 16);
 DARTELM_AT(dartelm_text_answer, characters, 24);

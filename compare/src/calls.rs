@@ -2,12 +2,13 @@
 //! handed the same and are compared in the same.
 
 use crate::plain::{
-    self, Calibration, Curve, Dash, Level, Proposal, Reading, Refusal, Segment, Sheet, Summary, Term, Text, Value,
+    self, Calibration, Comparison, Curve, Dash, Distance, Level, Proposal, Reading, Refusal, Segment, Sheet, Summary,
+    Term, Text, Value,
 };
 use crate::structs::{
-    ByFlags, CharacterAnswer, CheckAnswer, CodeAnswer, FieldAnswer, Fields, NO_DOMAIN, PageAnswer, PairAnswer,
-    ProposalAnswer, ReadingAnswer, SegmentAnswer, SheetAnswer, TermAnswer, TextAnswer, WriteAnswer, dash_of,
-    domain_byte, domain_of, level_of, template_of,
+    ByFlags, CharacterAnswer, CheckAnswer, CodeAnswer, ComparedAnswer, DistanceAnswer, FieldAnswer, Fields, NO_DOMAIN,
+    PageAnswer, PairAnswer, ProposalAnswer, ReadingAnswer, SegmentAnswer, SheetAnswer, TermAnswer, TextAnswer,
+    WriteAnswer, dash_of, domain_byte, domain_of, level_of, template_of,
 };
 
 /// The calls of the header; the provided ones give the plain implementation's types.
@@ -27,6 +28,8 @@ pub trait Calls {
     fn propose(&self, kind: u8, image: &[u8], level: u8, field: u64, value: ByFlags) -> ProposalAnswer;
     fn commit(&self, kind: u8, image: &mut [u8], level: u8, field: u64, present: u64, new: u64) -> WriteAnswer;
     fn reading(&self, kind: u8, image: &[u8], input: i64, dash: u8) -> ReadingAnswer;
+    fn compare(&self, kind: u8, image: &[u8], slow: &[i64], fast: &[i64]) -> ComparedAnswer;
+    fn distance(&self, points: &[i64]) -> DistanceAnswer;
     fn text(&self, field: u64, code: u64) -> TextAnswer;
     fn code(&self, field: u64, text: &[u8]) -> CodeAnswer;
     fn page(&self, kind: u8, image: &[u8], page: u64) -> PageAnswer;
@@ -136,6 +139,18 @@ pub trait Calls {
         let ReadingAnswer { number, place, fraction, figure } = self.reading(kind, image, input, dash.into());
         accepted(number, place)?;
         Ok(Reading { fraction, figure })
+    }
+
+    fn compared(&self, kind: u8, image: &[u8], slow: &[i64], fast: &[i64]) -> Result<Comparison, Refusal> {
+        let ComparedAnswer { number, place, agrees, tick } = self.compare(kind, image, slow, fast);
+        accepted(number, place)?;
+        Ok(if agrees != 0 { Comparison::Agree } else { Comparison::Tick(tick) })
+    }
+
+    fn distance_told(&self, points: &[i64]) -> Result<Distance, Refusal> {
+        let DistanceAnswer { number, place, slope, bound } = self.distance(points);
+        accepted(number, place)?;
+        Ok(Distance { slope, bound })
     }
 
     fn text_of(&self, field: u64, code: u64) -> Result<Text, Refusal> {
@@ -277,6 +292,21 @@ impl Calls for Plain {
         match plain::reading(kind, image, input, dash_of(dash)) {
             Ok(Reading { fraction, figure }) => ReadingAnswer { fraction, figure, ..ReadingAnswer::default() },
             Err(Refusal { number, place }) => ReadingAnswer { number, place, ..ReadingAnswer::default() },
+        }
+    }
+
+    fn compare(&self, kind: u8, image: &[u8], slow: &[i64], fast: &[i64]) -> ComparedAnswer {
+        match plain::compare(kind, image, slow, fast) {
+            Ok(Comparison::Agree) => ComparedAnswer { agrees: 1, ..ComparedAnswer::default() },
+            Ok(Comparison::Tick(tick)) => ComparedAnswer { tick, ..ComparedAnswer::default() },
+            Err(Refusal { number, place }) => ComparedAnswer { number, place, ..ComparedAnswer::default() },
+        }
+    }
+
+    fn distance(&self, points: &[i64]) -> DistanceAnswer {
+        match plain::distance(points) {
+            Ok(Distance { slope, bound }) => DistanceAnswer { slope, bound, ..DistanceAnswer::default() },
+            Err(Refusal { number, place }) => DistanceAnswer { number, place, ..DistanceAnswer::default() },
         }
     }
 

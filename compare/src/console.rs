@@ -3,7 +3,9 @@
 use std::fmt::{self, Display, Formatter};
 
 use crate::calls::Calls;
-use crate::plain::{Calibration, Curve, Dash, Domain, Level, Refusal, Segment, Summary, Template, Term, Value};
+use crate::plain::{
+    Calibration, Comparison, Curve, Dash, Distance, Domain, Level, Refusal, Segment, Summary, Template, Term, Value,
+};
 use crate::structs::{ByFlags, Fields};
 
 /// A line's command with what it is handed.
@@ -31,6 +33,9 @@ pub enum Command {
     Propose(u8, Vec<u8>, u64, Value, Level),
     Commit(u8, Vec<u8>, u64, u64, u64, Level),
     Reading(u8, Vec<u8>, i64, Dash),
+    /// The slow recording, and the fast one.
+    Compare(u8, Vec<u8>, Vec<i64>, Vec<i64>),
+    Distance(Vec<i64>),
     Text(u64, u64),
     Code(u64, Vec<u8>),
     Index(u8, Vec<u8>, Vec<u8>),
@@ -86,6 +91,10 @@ pub fn parse(line: &str) -> Option<Command> {
         ["reading", kind, image, input, on] => {
             Command::Reading(unsigned(kind)?, bytes(image)?, signed(input)?, dash(on)?)
         }
+        ["compare", kind, image, slow, fast] => {
+            Command::Compare(unsigned(kind)?, bytes(image)?, list(slow, signed)?, list(fast, signed)?)
+        }
+        ["distance", points] => Command::Distance(list(points, signed)?),
         ["text", field, code] => Command::Text(unsigned(field)?, unsigned(code)?),
         ["code", field, text] => Command::Code(unsigned(field)?, bytes(text)?),
         ["index", kind, image, buffer] => Command::Index(unsigned(kind)?, bytes(image)?, bytes(buffer)?),
@@ -280,13 +289,19 @@ fn listed(to: &mut Formatter, items: impl Iterator<Item = String>) -> fmt::Resul
     to.write_str(if items.is_empty() { "-".to_string() } else { items.join(",") }.as_str())
 }
 
+/// Figures with a comma between them, `-` for none.
+struct Figures<'a>(&'a [i64]);
+
+impl Display for Figures<'_> {
+    fn fmt(&self, to: &mut Formatter) -> fmt::Result {
+        listed(to, self.0.iter().map(i64::to_string))
+    }
+}
+
 impl Display for Given {
     fn fmt(&self, to: &mut Formatter) -> fmt::Result {
         match self {
-            Given::Points(domain, points) => {
-                write!(to, "{domain} ")?;
-                listed(to, points.iter().map(i64::to_string))
-            }
+            Given::Points(domain, points) => write!(to, "{domain} {}", Figures(points)),
             Given::Curve(curve) => {
                 write!(to, "curve {} ", curve.count)?;
                 listed(to, curve.segments.iter().map(|Segment { start, terms }| format!("{start},{terms}")))?;
@@ -335,6 +350,10 @@ impl Display for Command {
             Command::Reading(kind, image, input, dash) => {
                 write!(to, "reading {kind} {} {input} {dash}", Hex(image))
             }
+            Command::Compare(kind, image, slow, fast) => {
+                write!(to, "compare {kind} {} {} {}", Hex(image), Figures(slow), Figures(fast))
+            }
+            Command::Distance(points) => write!(to, "distance {}", Figures(points)),
             Command::Text(field, code) => write!(to, "text {field} {code}"),
             Command::Code(field, text) => write!(to, "code {field} {}", Hex(text)),
             Command::Index(kind, image, buffer) => write!(to, "index {kind} {} {}", Hex(image), Hex(buffer)),
@@ -415,6 +434,14 @@ impl Command {
                 let reading = calls.reading_taken(*kind, image, *input, *dash)?;
                 format!("{} {:016x}", reading.fraction, reading.figure.to_bits())
             }
+            Command::Compare(kind, image, slow, fast) => match calls.compared(*kind, image, slow, fast)? {
+                Comparison::Agree => "agree".to_string(),
+                Comparison::Tick(tick) => format!("tick {tick}"),
+            },
+            Command::Distance(points) => {
+                let Distance { slope, bound } = calls.distance_told(points)?;
+                format!("{slope} {bound}")
+            }
             Command::Text(field, code) => {
                 let text = calls.text_of(*field, *code)?;
                 Hex(&text.characters[..text.length]).to_string()
@@ -459,6 +486,17 @@ mod tests {
             "reading 0 - 5 0",
             "segment 0 -",
             "term 0 - w1",
+            "compare 0 - -",
+            "compare 0 - - - large",
+            "compare 0 - 1,2 3,,4",
+            "compare 0 - 1,+2 -",
+            "compare 0 - 1, -",
+            "compare 0 - -, -",
+            "compare 0 - 9223372036854775808 -",
+            "distance",
+            "distance - -",
+            "distance 0,1,",
+            "distance w1",
             "text 18 18446744073709551616",
             "text 18 ",
             "change 0 - 1 s0000000 maker",
@@ -523,6 +561,10 @@ mod tests {
             "commit 0 - 1 18446744073709551615 0 owner",
             "reading 0 - -9223372036854775808 large",
             "reading 1 00 5 small",
+            "compare 1 00 - -",
+            "compare 2 - 5,-6,7 -9223372036854775808",
+            "distance -",
+            "distance 0,-5,15300,9223372036854775807,3",
             "text 18 0",
             "code 18 -",
             "index 1 00ff -",

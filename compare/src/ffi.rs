@@ -3,8 +3,8 @@
 use crate::calls::Calls;
 use crate::plain::Curve;
 use crate::structs::{
-    ByFlags, CharacterAnswer, CheckAnswer, CodeAnswer, FieldAnswer, Fields, PageAnswer, PairAnswer, ProposalAnswer,
-    ReadingAnswer, SegmentAnswer, SheetAnswer, TermAnswer, TextAnswer, WriteAnswer,
+    ByFlags, CharacterAnswer, CheckAnswer, CodeAnswer, ComparedAnswer, DistanceAnswer, FieldAnswer, Fields, PageAnswer,
+    PairAnswer, ProposalAnswer, ReadingAnswer, SegmentAnswer, SheetAnswer, TermAnswer, TextAnswer, WriteAnswer,
 };
 
 mod dartelm {
@@ -65,6 +65,16 @@ mod dartelm {
             new_code: u64,
         ) -> WriteAnswer;
         pub fn dartelm_reading(kind: u8, image: *const u8, image_length: usize, input: i64, dash: u8) -> ReadingAnswer;
+        pub fn dartelm_compare(
+            kind: u8,
+            image: *const u8,
+            image_length: usize,
+            slow: *const i64,
+            slow_length: usize,
+            fast: *const i64,
+            fast_length: usize,
+        ) -> ComparedAnswer;
+        pub fn dartelm_distance(points: *const i64, points_length: usize) -> DistanceAnswer;
         pub safe fn dartelm_text(field: u64, code: u64) -> TextAnswer;
         pub fn dartelm_code(field: u64, text: *const u8, text_length: usize) -> CodeAnswer;
         pub fn dartelm_page(kind: u8, image: *const u8, image_length: usize, page: u64) -> PageAnswer;
@@ -159,6 +169,16 @@ impl Calls for Product {
 
     fn reading(&self, kind: u8, image: &[u8], input: i64, dash: u8) -> ReadingAnswer {
         unsafe { dartelm::dartelm_reading(kind, image.as_ptr(), image.len(), input, dash) }
+    }
+
+    fn compare(&self, kind: u8, image: &[u8], slow: &[i64], fast: &[i64]) -> ComparedAnswer {
+        let (slow, slow_length) = (slow.as_ptr(), slow.len());
+        let (fast, fast_length) = (fast.as_ptr(), fast.len());
+        unsafe { dartelm::dartelm_compare(kind, image.as_ptr(), image.len(), slow, slow_length, fast, fast_length) }
+    }
+
+    fn distance(&self, points: &[i64]) -> DistanceAnswer {
+        unsafe { dartelm::dartelm_distance(points.as_ptr(), points.len()) }
     }
 
     fn text(&self, field: u64, code: u64) -> TextAnswer {

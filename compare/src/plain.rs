@@ -150,6 +150,21 @@ pub struct Proposal {
     pub value: Value,
 }
 
+/// What two recordings come to: they agree, or the first fast tick that fails.
+#[derive(Clone, Copy, Debug, PartialEq, Eq)]
+pub enum Comparison {
+    Agree,
+    Tick(u64),
+}
+
+/// The certificate distance of a list of points: no reading strays by more than `bound` / 2000 billionths of the span.
+#[derive(Clone, Copy, Debug, PartialEq, Eq)]
+pub struct Distance {
+    /// The least whole K with 1000 x each rise or fall at most K x its run.
+    pub slope: u64,
+    pub bound: u64,
+}
+
 /// A text of field 3, 18 or 19, with zeros behind it.
 #[derive(Clone, Copy, Debug, PartialEq, Eq)]
 pub struct Text {
@@ -1039,9 +1054,7 @@ pub fn build(kind: u8, image: &mut [u8], sheet: &Sheet) -> Answer<()> {
         return refuse(1, 0);
     };
     if let Calibration::Points(_, points) = calibration {
-        if points.len() % 2 == 1 || points.len() > 254 {
-            return refuse(16, points.len() as u64);
-        }
+        listed(points)?;
     }
     let mut codes = [0u32; 21];
     let mut layout = Layout { template, precision: 0 };
@@ -1109,6 +1122,14 @@ pub fn build(kind: u8, image: &mut [u8], sheet: &Sheet) -> Answer<()> {
     pen.finish();
     for page in 0..chip.pages {
         chip.seal(image, page);
+    }
+    Ok(())
+}
+
+/// Refuses a list that is not point and deviation by turns, or has more than 127 of them.
+fn listed(points: &[i64]) -> Answer<()> {
+    if points.len() % 2 == 1 || points.len() > 254 {
+        return refuse(16, points.len() as u64);
     }
     Ok(())
 }
@@ -1251,7 +1272,11 @@ pub fn nanovolts(single: f32) -> Option<i64> {
 }
 
 pub fn reading(kind: u8, image: &[u8], input: i64, dash: Dash) -> Answer<Reading> {
-    let open = open(kind, image)?;
+    taken(&open(kind, image)?, image, input, dash)
+}
+
+/// A reading of a sheet that was checked.
+fn taken(open: &Open, image: &[u8], input: i64, dash: Dash) -> Answer<Reading> {
     if open.layout.template == Template::Resistance {
         return refuse(4, 64);
     }
@@ -1298,6 +1323,42 @@ pub fn reading(kind: u8, image: &[u8], input: i64, dash: Dash) -> Answer<Reading
         (fraction, fraction as f64 / 1e9)
     };
     Ok(Reading { fraction, figure: least + (greatest - least) * share })
+}
+
+// ---- ten against sixty ----
+
+const FAST_TICKS: usize = 6;
+
+/// A recording at ten a second and one at sixty, input and shown fraction by turns: slow tick t pairs with fast tick 6t.
+pub fn compare(kind: u8, image: &[u8], slow: &[i64], fast: &[i64]) -> Answer<Comparison> {
+    let open = open(kind, image)?;
+    let ticks = fast.len() / 2;
+    if slow.len() % 2 == 1 || fast.len() % 2 == 1 || ticks != FAST_TICKS * (slow.len() / 2) {
+        return refuse(26, ticks as u64);
+    }
+    for (tick, refresh) in fast.chunks_exact(2).enumerate() {
+        let paired = slow.chunks_exact(2).nth(tick / FAST_TICKS).filter(|_| tick % FAST_TICKS == 0);
+        let shown = taken(&open, image, refresh[0], Dash::Large).map(|reading| reading.fraction);
+        if shown != Ok(refresh[1]) || paired.is_some_and(|paired| paired != refresh) {
+            return Ok(Comparison::Tick(tick as u64));
+        }
+    }
+    Ok(Comparison::Agree)
+}
+
+// ---- the certificate distance ----
+
+/// How far a reading can stray from the line through these points, in domain 0.
+pub fn distance(points: &[i64]) -> Answer<Distance> {
+    listed(points)?;
+    table_bits(Domain::Electrical, points)?;
+    let mut slope = 0;
+    for (from, to) in points.chunks_exact(2).zip(points.chunks_exact(2).skip(1)) {
+        let (run, rise) = ((to[0] - from[0]) as u64, (to[1] - from[1]).unsigned_abs());
+        slope = slope.max((1_000 * rise).div_ceil(run));
+    }
+    // D is 15,300 and R 1,000.
+    Ok(Distance { slope, bound: 2_000 + 1_000 * 1_000 + slope * (15_300 + 1) })
 }
 
 // ---- letters and dates ----
@@ -1820,6 +1881,113 @@ mod tests {
         // Before 14.
         assert_eq!(reads(33, Dash::Large, BILLION << 2), Err(Refusal { number: 14, place: 0 }));
         assert_eq!(reads(33, Dash::Small, BILLION << 2), Err(Refusal { number: 23, place: 33 }));
+    }
+
+    /// A recording of so many ticks, with its readings on the large dash.
+    fn recorded(image: &[u8; 512], ticks: usize, input: impl Fn(usize) -> i64) -> Vec<i64> {
+        let shown = |input| reading(2, image, input, Dash::Large).unwrap().fraction;
+        (0..ticks).map(input).flat_map(|input| [input, shown(input)]).collect()
+    }
+
+    #[test]
+    fn ten_against_sixty() {
+        let points = [0, -40_000, 306_000_000, 250_000, 918_000_000, -100_000];
+        let image = tabled(Domain::Electrical, &points).unwrap();
+        let slow = recorded(&image, 3, |tick| 300_000_000 * tick as i64 + 7);
+        let fast = recorded(&image, 18, |tick| 50_000_000 * tick as i64 + 7);
+        let compared = |slow: &[i64], fast: &[i64]| compare(2, &image, slow, fast);
+        let fails = |tick| Ok(Comparison::Tick(tick));
+        assert_eq!(compared(&slow, &fast), Ok(Comparison::Agree));
+        assert_eq!(compared(&[], &[]), Ok(Comparison::Agree));
+
+        // Each figure of the fast list, paired or not; of the slow one at its pair.
+        for place in 0..36 {
+            let mut other = fast.clone();
+            other[place] += 1;
+            assert_eq!(compared(&slow, &other), fails(place as u64 / 2));
+        }
+        for place in 0..6 {
+            let mut other = slow.clone();
+            other[place] -= 1;
+            assert_eq!(compared(&other, &fast), fails(6 * (place as u64 / 2)));
+        }
+        // Both alike, and no reading: another fraction, or an input that is refused.
+        for (place, figure) in [(1, 0), (0, -100_000_001), (0, i64::MIN), (0, i64::MAX)] {
+            let (mut other_slow, mut other_fast) = (slow.clone(), fast.clone());
+            other_slow[2 + place] = figure;
+            other_fast[12 + place] = figure;
+            assert_eq!(compared(&other_slow, &other_fast), fails(6));
+        }
+        // The first of two.
+        let mut other = fast.clone();
+        other[35] += 1;
+        other[9] += 1;
+        assert_eq!(compared(&slow, &other), fails(4));
+
+        // 26, after the check and before any tick.
+        let refusal = |place| Err(Refusal { number: 26, place });
+        assert_eq!(compared(&slow[..5], &fast), refusal(18));
+        assert_eq!(compared(&slow, &fast[..35]), refusal(17));
+        assert_eq!(compared(&slow, &fast[..34]), refusal(17));
+        assert_eq!(compared(&slow[..4], &fast), refusal(18));
+        assert_eq!(compared(&slow, &[]), refusal(0));
+        assert_eq!(compared(&[5], &[]), refusal(0));
+        assert_eq!(compared(&[], &[5]), refusal(0));
+        assert_eq!(compared(&[], &[5, 5]), refusal(1));
+        assert_eq!(compare(1, &image, &[5], &[]), Err(Refusal { number: 1, place: 0 }));
+
+        // More points than the small dash takes.
+        let many: Vec<i64> = (0..40).flat_map(|i| [i * 15_300_000, i * 1_000]).collect();
+        let image = tabled(Domain::Electrical, &many).unwrap();
+        let slow = recorded(&image, 1, |_| 77_777_777);
+        let fast = recorded(&image, 6, |tick| 77_777_777 * (1 + tick as i64));
+        assert_eq!(compare(2, &image, &slow, &fast), Ok(Comparison::Agree));
+    }
+
+    #[test]
+    fn distances() {
+        let told = |points: &[i64]| distance(points).map(|distance| (distance.slope, distance.bound));
+        let refusal = |number, place| Err(Refusal { number, place });
+        assert_eq!(told(&[]), Ok((0, 1_002_000)));
+        assert_eq!(told(&[15_300, -77_000]), Ok((0, 1_002_000)));
+        assert_eq!(told(&[0, 0, BILLION, 0]), Ok((0, 1_002_000)));
+        assert_eq!(told(&[0, 0, BILLION, 1]), Ok((1, 1_002_000 + 15_301)));
+        assert_eq!(told(&[0, 0, BILLION, -1_000_000]), Ok((1, 1_002_000 + 15_301)));
+        assert_eq!(told(&[0, 0, BILLION, 1_000_001]), Ok((2, 1_002_000 + 2 * 15_301)));
+        // The steepest of several, a fall.
+        assert_eq!(told(&[0, 0, 100_000, 300, 200_000, -100, 300_000, 200]), Ok((4, 1_002_000 + 4 * 15_301)));
+        // Codes 0 and 1 from figures that are 1 apart.
+        let steepest = 2_097_150_000_000;
+        assert_eq!(told(&[7_649, -BILLION, 7_650, 1_097_150_000]), Ok((steepest, 1_002_000 + steepest * 15_301)));
+        assert_eq!(told(&[0, 0, 5]), refusal(16, 3));
+        assert_eq!(told(&[0; 255]), refusal(16, 255));
+        assert_eq!(told(&[0; 256]), refusal(16, 256));
+        assert_eq!(told(&[0, 0, 7_649, 0]), refusal(7, 1));
+        assert_eq!(told(&[-1, i64::MAX]), refusal(10, 0));
+        assert_eq!(told(&[0, 0, 0, i64::MIN]), refusal(10, 1));
+        // As a build in domain 0: sums may fall.
+        assert!(told(&[0, 0, 153_000, -200_000]).is_ok());
+    }
+
+    /// No reading strays by more than B / 2000 from the line through the points as they were lent.
+    #[test]
+    fn readings_keep_the_distance() {
+        let points = [0, -40_000, 22_950, 37_000, 61_212, -5_500, 765_000, 306_499, 994_500, -200_500];
+        let image = tabled(Domain::Electrical, &points).unwrap();
+        let bound = distance(&points).unwrap().bound as i128;
+        for x in (-50_000..1_100_000).step_by(13) {
+            let q = reading(2, &image, x, Dash::Large).unwrap().fraction;
+            let i = points.chunks_exact(2).filter(|pair| pair[0] <= x).count();
+            let (num, den) = match i {
+                0 => (x + points[1], 1),
+                5 => (x + points[9], 1),
+                _ => {
+                    let (a, s, b, t) = (points[2 * i - 2], points[2 * i - 1], points[2 * i], points[2 * i + 1]);
+                    ((x + s) * (b - a) + (t - s) * (x - a), b - a)
+                }
+            };
+            assert!(2_000 * i128::from(q * den - num).abs() <= bound * i128::from(den), "{x}");
+        }
     }
 
     fn curve_of(segments: &[(i64, u64)], terms: &[(i64, f32)]) -> Curve {

@@ -230,6 +230,24 @@ impl PartialEq for ReadingAnswer {
 
 #[derive(Clone, Copy, Debug, Default, PartialEq)]
 #[repr(C)]
+pub struct ComparedAnswer {
+    pub number: u8,
+    pub place: u64,
+    pub agrees: u8,
+    pub tick: u64,
+}
+
+#[derive(Clone, Copy, Debug, Default, PartialEq)]
+#[repr(C)]
+pub struct DistanceAnswer {
+    pub number: u8,
+    pub place: u64,
+    pub slope: u64,
+    pub bound: u64,
+}
+
+#[derive(Clone, Copy, Debug, Default, PartialEq)]
+#[repr(C)]
 pub struct TextAnswer {
     pub number: u8,
     pub place: u64,

@@ -22,6 +22,8 @@ struct Case {
     points: Vec<i64>,
     curve: Curve,
     index: [u8; 480],
+    slow: Vec<i64>,
+    fast: Vec<i64>,
 }
 
 fn values() -> [Value; 21] {
@@ -70,6 +72,8 @@ impl Case {
                 .collect(),
             curve: Curve::default(),
             index: [0; 480],
+            slow: Vec::new(),
+            fast: Vec::new(),
         };
         let number = build(&Plain, &mut case, 0).max(index(&Plain, &mut case, 0));
         assert_eq!(number, 0, "kind {kind}, {count} points");
@@ -87,6 +91,20 @@ impl Case {
         }
         assert_eq!(build_curve(&Plain, &mut case, 0), 0, "kind {kind}, {segments} segments");
         case
+    }
+}
+
+impl Case {
+    /// With two recordings of a run, of so many fast ticks.
+    fn recorded(mut self, ticks: usize) -> Case {
+        for tick in 0..ticks {
+            let input = -250_000 + (tick * 7_919 % 3_500_000) as i64;
+            let shown = Plain.reading(self.kind, &self.image, input, Dash::Large.into()).fraction;
+            self.fast.extend([input, shown]);
+        }
+        self.slow = self.fast.chunks_exact(12).flat_map(|ticks| [ticks[0], ticks[1]]).collect();
+        assert_eq!(Plain.compare(self.kind, &self.image, &self.slow, &self.fast).agrees, 1, "{ticks} ticks");
+        self
     }
 }
 
@@ -169,6 +187,17 @@ fn build_curve<C: Calls>(calls: &C, case: &mut Case, _: usize) -> u8 {
     black_box(&calls.build_curve(kind, image, fields, text, curve)).number
 }
 
+#[inline(never)]
+fn compare<C: Calls>(calls: &C, case: &mut Case, _: usize) -> u8 {
+    let (slow, fast) = (black_box(&case.slow), black_box(&case.fast));
+    black_box(&calls.compare(black_box(case.kind), black_box(&case.image), slow, fast)).number
+}
+
+#[inline(never)]
+fn distance<C: Calls>(calls: &C, case: &mut Case, _: usize) -> u8 {
+    black_box(&calls.distance(black_box(&case.points))).number
+}
+
 type Run<'a> = &'a dyn Fn(&mut Case, usize);
 
 /// Nanoseconds a call over so many calls.
@@ -181,8 +210,12 @@ fn timed(run: Run, case: &mut Case, turns: usize) -> f64 {
 /// Both sides by turns, in many short rounds; the least of each, so that what else the machine does is left out.
 fn measure(product: Run, plain: Run, case: &mut Case) -> (f64, f64) {
     let turns = (ROUND_NANOSECONDS / timed(product, case, 1_000)).max(10.0) as usize;
+    rounds(product, plain, case, ROUNDS, turns)
+}
+
+fn rounds(product: Run, plain: Run, case: &mut Case, count: usize, turns: usize) -> (f64, f64) {
     let (mut ours, mut theirs) = (f64::MAX, f64::MAX);
-    for _ in 0..ROUNDS {
+    for _ in 0..count {
         ours = ours.min(timed(product, case, turns));
         theirs = theirs.min(timed(plain, case, turns));
     }
@@ -209,7 +242,7 @@ fn main() {
     println!("|---|---|---|---|---|---|");
     for (kind, points, text) in CASES {
         let mut case = Case::new(kind, values(), points, text);
-        let rows: [(&str, Run, Run); 9] = [
+        let rows: [(&str, Run, Run); 10] = [
             ("check", &over(Product, check), &over(Plain, check)),
             ("field 1", &over(Product, first_field), &over(Plain, first_field)),
             ("field 21", &over(Product, last_field), &over(Plain, last_field)),
@@ -219,6 +252,7 @@ fn main() {
             ("reading", &over(Product, reading), &over(Plain, reading)),
             ("change field 18", &over(Product, change), &over(Plain, change)),
             ("build", &over(Product, build), &over(Plain, build)),
+            ("distance", &over(Product, distance), &over(Plain, distance)),
         ];
         for (name, product, plain) in rows {
             let (ours, theirs) = measure(product, plain, &mut case);
@@ -243,6 +277,19 @@ fn main() {
         for (name, product, plain) in rows {
             let (ours, theirs) = measure(product, plain, &mut case);
             println!("| {kind} | {segments} | {name} | {ours:.0} | {theirs:.0} | {:.2} |", ours / theirs);
+        }
+    }
+    println!();
+    println!("| Kind | Points | Fast ticks compared | Product, ns a tick | Plain, ns a tick | Product / plain |");
+    println!("|---|---|---|---|---|---|");
+    for (kind, points, text) in CASES {
+        for ticks in [6, 60_000] {
+            let mut case = Case::new(kind, values(), points, text).recorded(ticks);
+            let (product, plain) = (over(Product, compare), over(Plain, compare));
+            // As many ticks in a round.
+            let (ours, theirs) = rounds(&product, &plain, &mut case, 30, 60_000 / ticks);
+            let (ours, theirs) = (ours / ticks as f64, theirs / ticks as f64);
+            println!("| {kind} | {points} | {ticks} | {ours:.0} | {theirs:.0} | {:.2} |", ours / theirs);
         }
     }
     println!();

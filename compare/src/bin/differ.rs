@@ -12,8 +12,9 @@ use compare::ffi::Product;
 use compare::plain::{self, Level, Template, Value};
 use compare::random::Random;
 use compare::structs::{
-    ByFlags, CharacterAnswer, CheckAnswer, CodeAnswer, FieldAnswer, Fields, PageAnswer, PairAnswer, ProposalAnswer,
-    ReadingAnswer, SegmentAnswer, SheetAnswer, TermAnswer, TextAnswer, WriteAnswer, dash_of, domain_of, level_of,
+    ByFlags, CharacterAnswer, CheckAnswer, CodeAnswer, ComparedAnswer, DistanceAnswer, FieldAnswer, Fields, PageAnswer,
+    PairAnswer, ProposalAnswer, ReadingAnswer, SegmentAnswer, SheetAnswer, TermAnswer, TextAnswer, WriteAnswer,
+    dash_of, domain_of, level_of,
 };
 
 #[path = "differ/curves.rs"]
@@ -22,14 +23,16 @@ mod curves;
 mod images;
 #[path = "differ/layout.rs"]
 mod layout;
+#[path = "differ/recordings.rs"]
+mod recordings;
 #[path = "differ/values.rs"]
 mod values;
 
 use layout::{Layout, get, image_length, pages, stream_bits};
 
-const CALLS: [&str; 19] = [
+const CALLS: [&str; 21] = [
     "check", "page", "field", "pair", "char", "build", "change", "reading", "text", "code", "sheet", "kind", "index",
-    "fetch", "propose", "commit", "segment", "term", "curve",
+    "fetch", "propose", "commit", "segment", "term", "curve", "compare", "distance",
 ];
 const CHECK: usize = 0;
 const PAGE: usize = 1;
@@ -50,9 +53,11 @@ const COMMIT: usize = 15;
 const SEGMENT: usize = 16;
 const TERM: usize = 17;
 const CURVE: usize = 18;
+const COMPARE: usize = 19;
+const DISTANCE: usize = 20;
 
 /// Refusal numbers, and 0.
-const NUMBERS: usize = 26;
+const NUMBERS: usize = 27;
 
 const MOST_SHOWN: u64 = 10;
 
@@ -122,6 +127,8 @@ numbered!(
     WriteAnswer,
     ProposalAnswer,
     ReadingAnswer,
+    ComparedAnswer,
+    DistanceAnswer,
     TextAnswer,
     CodeAnswer
 );
@@ -142,6 +149,8 @@ struct Differ {
     numbers: [[u64; NUMBERS]; CALLS.len()],
     /// Accepted, by call and kind.
     kinds: [[u64; 3]; CALLS.len()],
+    /// Recordings that agree.
+    agreed: u64,
 }
 
 impl Differ {
@@ -154,6 +163,7 @@ impl Differ {
             differ: 0,
             numbers: [[0; NUMBERS]; CALLS.len()],
             kinds: [[0; 3]; CALLS.len()],
+            agreed: 0,
         }
     }
 
@@ -660,7 +670,7 @@ impl Differ {
 
     /// A call on the image.
     fn act(&mut self) {
-        match self.random.below(100) {
+        match self.random.below(106) {
             0..=9 => self.check(),
             10..=13 => self.sheet(),
             14..=17 => self.page(),
@@ -677,7 +687,9 @@ impl Differ {
             83..=85 => self.make_index(),
             86..=91 => self.fetch(),
             92..=95 => self.text(),
-            _ => self.code(),
+            96..=99 => self.code(),
+            100..=103 => self.compare(),
+            _ => self.distance(),
         }
     }
 
@@ -728,7 +740,8 @@ impl Differ {
             println!("| {name} | {} | {zero} | {one} | {two} | {} |", numbers.iter().sum::<u64>(), times(numbers));
         }
         println!(
-            "seed {seed}; accepted {}; refused {}; calls {} differ {}",
+            "seed {seed}; recordings that agree {}; accepted {}; refused {}; calls {} differ {}",
+            self.agreed,
             totals[0],
             times(&totals),
             self.calls,

@@ -3,11 +3,13 @@ use crate::asked;
 use crate::asked::Asked;
 use crate::asked::ROOM;
 use crate::builds;
+use crate::distances;
 use crate::edits;
 use crate::indexes;
 use crate::printing;
 use crate::readings;
 use crate::reads;
+use crate::runs;
 use crate::turned;
 use shown::put;
 use texts::equal;
@@ -15,7 +17,7 @@ use words::Number;
 use words::front;
 use words::word;
 
-const HELP: [u8; 902] = *b"check KIND IMAGE\n\
+const HELP: [u8; 985] = *b"check KIND IMAGE\n\
     page KIND IMAGE PAGE\n\
     field KIND IMAGE FIELD\n\
     pair KIND IMAGE INDEX\n\
@@ -23,9 +25,11 @@ const HELP: [u8; 902] = *b"check KIND IMAGE\n\
     term KIND IMAGE INDEX\n\
     char KIND IMAGE INDEX\n\
     reading KIND IMAGE INPUT DASH\n\
+    compare KIND IMAGE SLOW FAST\n\
     show KIND IMAGE\n\
     build KIND LENGTH LEVEL TEMPLATE V1 .. Vn ENDBIT TEXT DOMAIN POINTS\n\
     build KIND LENGTH LEVEL TEMPLATE V1 .. Vn ENDBIT TEXT curve COUNT SEGMENTS TERMS\n\
+    distance POINTS\n\
     change KIND IMAGE FIELD VALUE LEVEL\n\
     index KIND IMAGE BUFFER\n\
     fetch KIND IMAGE BUFFER FIELD\n\
@@ -37,13 +41,14 @@ const HELP: [u8; 902] = *b"check KIND IMAGE\n\
     KIND 0, 1 or 2; IMAGE, TEXT and BUFFER in hexadecimal, - for none; VALUE w7, s3f800000 or m;\n\
     LEVEL owner, calibration or maker; DASH large or small; TEMPLATE 33, of 21 values, or 32, of 19;\n\
     DOMAIN 0 or 1; POINTS point,deviation,.. or -; COUNT of segments; SEGMENTS start,terms,.. or -;\n\
-    TERMS exponent,3f800000,.. or -; a refusal is: no NUMBER PLACE\n";
+    TERMS exponent,3f800000,.. or -; SLOW and FAST input,fraction,.. or -; a refusal is: no NUMBER PLACE\n";
 
 // Answers a line.
 pub fn answer(line: &[u8]) {
     let name = word(line, 0);
     match words::word_count(line) {
         1 => of_nothing(name),
+        2 => of_one(line, name),
         3 => of_two(line, name),
         4 => of_three(line, name),
         5 => of_four(line, name),
@@ -57,6 +62,14 @@ pub fn answer(line: &[u8]) {
 fn of_nothing(name: &[u8]) {
     if equal(name, b"help") {
         return put(&HELP);
+    }
+    printing::unknown();
+}
+
+// The command of points.
+fn of_one(line: &[u8], name: &[u8]) {
+    if equal(name, b"distance") {
+        return distances::distance(line);
     }
     printing::unknown();
 }
@@ -101,13 +114,16 @@ fn of_three(line: &[u8], name: &[u8]) {
     of_number(name, chip.kind, front(&room, chip.length), number);
 }
 
-// The commands of an image, an index and a field, or an input and a dash.
+// The commands of an image, an index and a field, or an input and a dash, or two recordings.
 fn of_four(line: &[u8], name: &[u8]) {
     if equal(name, b"fetch") {
         return indexes::fetch(line);
     }
     if equal(name, b"reading") {
         return readings::reading(line);
+    }
+    if equal(name, b"compare") {
+        return runs::compare(line);
     }
     printing::unknown();
 }

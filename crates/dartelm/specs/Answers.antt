@@ -18,6 +18,8 @@ use Rattle.fields.specs.declared.Term.{Term}
 use Rattle.layout.specs.Pieces.{endCode}
 use Rattle.change.specs.declared.Proposal.{Proposal}
 use Rattle.reading.specs.declared.Reading.{Reading}
+use Rattle.recordings.specs.Recordings.{Compared, agree, tickFails}
+use Rattle.distance.specs.declared.ToldDistance.{ToldDistance}
 use Rattle.dartelm.specs.declared.answers.DartelmCheckAnswer.{DartelmCheckAnswer}
 use Rattle.dartelm.specs.declared.answers.DartelmFieldAnswer.{DartelmFieldAnswer}
 use Rattle.dartelm.specs.declared.answers.DartelmSheetAnswer.{DartelmSheetAnswer}
@@ -28,6 +30,8 @@ use Rattle.dartelm.specs.declared.answers.DartelmCharacterAnswer.{Dartel
 use Rattle.dartelm.specs.declared.answers.DartelmWriteAnswer.{DartelmWriteAnswer}
 use Rattle.dartelm.specs.declared.answers.DartelmProposalAnswer.{DartelmProposalAnswer}
 use Rattle.dartelm.specs.declared.answers.DartelmReadingAnswer.{DartelmReadingAnswer}
+use Rattle.dartelm.specs.declared.answers.DartelmComparedAnswer.{DartelmComparedAnswer}
+use Rattle.dartelm.specs.declared.answers.DartelmDistanceAnswer.{DartelmDistanceAnswer}
 use Rattle.dartelm.specs.declared.answers.DartelmTextAnswer.{DartelmTextAnswer}
 use Rattle.dartelm.specs.declared.answers.DartelmCodeAnswer.{DartelmCodeAnswer}
 use Rattle.dartelm.specs.declared.answers.DartelmPageAnswer.{DartelmPageAnswer}
@@ -132,6 +136,27 @@ readingAnswer n p r = record { number = n; place = p; fraction = r .fraction; fi
 
 abbrev pub noReading : Reading
 noReading = record { fraction = pos 0; figure = plusZero binary64 }
+
+-- Agreement is a flag; the tick beside it is 0 where there is none.
+abbrev pub agreement : Compared → ℕ
+agreement agree = 1
+agreement (tickFails t) = 0
+
+abbrev pub failing : Compared → ℕ
+failing agree = 0
+failing (tickFails t) = t
+
+abbrev pub comparedAnswer : ℕ → ℕ → Compared → DartelmComparedAnswer
+comparedAnswer n p c = record { number = n; place = p; agrees = agreement c; tick = failing c }
+
+abbrev pub noComparison : Compared
+noComparison = tickFails 0
+
+abbrev pub distanceAnswer : ℕ → ℕ → ToldDistance → DartelmDistanceAnswer
+distanceAnswer n p d = record { number = n; place = p; slope = d .slope; bound = d .bound }
+
+abbrev pub noDistance : ToldDistance
+noDistance = record { slope = 0; bound = 0 }
 
 -- A text ends with a zero, as C's strings do: it has ten characters at most.
 abbrev pub textAnswer : ℕ → ℕ → List ℕ → DartelmTextAnswer

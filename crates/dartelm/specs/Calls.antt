@@ -14,6 +14,8 @@ use Rattle.index.specs.Index.{index, fetch}
 use Rattle.build.specs.Build.{build, buildCurve}
 use Rattle.change.specs.Change.{change, propose, commit}
 use Rattle.reading.specs.Reading.{takeReading}
+use Rattle.recordings.specs.Recordings.{compare}
+use Rattle.distance.specs.Distance.{distance}
 use Rattle.dartelm.specs.declared.values.DartelmValue.{DartelmValue}
 use Rattle.dartelm.specs.declared.values.DartelmFields.{DartelmFields}
 use Rattle.dartelm.specs.declared.values.DartelmCurve.{DartelmCurve}
@@ -25,15 +27,17 @@ use Rattle.dartelm.specs.declared.answers.DartelmTermAnswer.{DartelmTerm
 use Rattle.dartelm.specs.declared.answers.DartelmCharacterAnswer.{DartelmCharacterAnswer}
 use Rattle.dartelm.specs.declared.answers.DartelmProposalAnswer.{DartelmProposalAnswer}
 use Rattle.dartelm.specs.declared.answers.DartelmReadingAnswer.{DartelmReadingAnswer}
+use Rattle.dartelm.specs.declared.answers.DartelmComparedAnswer.{DartelmComparedAnswer}
+use Rattle.dartelm.specs.declared.answers.DartelmDistanceAnswer.{DartelmDistanceAnswer}
 use Rattle.dartelm.specs.declared.answers.DartelmTextAnswer.{DartelmTextAnswer}
 use Rattle.dartelm.specs.declared.answers.DartelmCodeAnswer.{DartelmCodeAnswer}
 use Rattle.dartelm.specs.declared.answers.DartelmPageAnswer.{DartelmPageAnswer}
 use Rattle.dartelm.specs.Values.{levelOf, dashBy, valueOf, sheetOf, curveOf}
-use Rattle.dartelm.specs.Answers.{toldAs, told, numbers, noNumbers, checkAnswer, fieldAnswer, pairAnswer, noPair, segmentAnswer, noSegment, termAnswer, noTerm, characterAnswer, proposalAnswer, noProposal, readingAnswer, noReading, textAnswer, codeAnswer, pageAnswer}
+use Rattle.dartelm.specs.Answers.{toldAs, told, numbers, noNumbers, checkAnswer, fieldAnswer, pairAnswer, noPair, segmentAnswer, noSegment, termAnswer, noTerm, characterAnswer, proposalAnswer, noProposal, readingAnswer, noReading, comparedAnswer, noComparison, distanceAnswer, noDistance, textAnswer, codeAnswer, pageAnswer}
 
 -- The number of this archive and its header.
 abbrev pub version : ℕ
-version = 6
+version = 7
 
 -- ---- kinds
 
@@ -96,10 +100,16 @@ commitCall kind image level field present new = commit kind image (levelOf level
 abbrev pub proposeCall : ℕ → List ℕ → ℕ → ℕ → DartelmValue → DartelmProposalAnswer
 proposeCall kind image level field value = told proposalAnswer noProposal (propose kind image (levelOf level) field (valueOf value))
 
--- ---- a reading, texts, a page
+-- ---- a reading, recordings, a distance, texts, a page
 
 abbrev pub readingCall : ℕ → List ℕ → ℤ → ℕ → DartelmReadingAnswer
 readingCall kind image input dash = told readingAnswer noReading (takeReading kind image input (dashBy dash))
+
+abbrev pub compareCall : ℕ → List ℕ → List ℤ → List ℤ → DartelmComparedAnswer
+compareCall kind image slow fast = told comparedAnswer noComparison (compare kind image slow fast)
+
+abbrev pub distanceCall : List ℤ → DartelmDistanceAnswer
+distanceCall points = told distanceAnswer noDistance (distance points)
 
 abbrev pub textCall : ℕ → ℕ → DartelmTextAnswer
 textCall field code = told textAnswer [] (textOf field code)

@@ -108,6 +108,24 @@ pub struct DartelmReadingAnswer {
     pub figure: f64,
 }
 
+// Two recordings: whether they agree, else the first fast tick that fails.
+#[repr(C)]
+pub struct DartelmComparedAnswer {
+    pub number: u8,
+    pub place: u64,
+    pub agrees: u8,
+    pub tick: u64,
+}
+
+// The certificate distance of points: K, and the bound in 2000ths of a billionth of the span.
+#[repr(C)]
+pub struct DartelmDistanceAnswer {
+    pub number: u8,
+    pub place: u64,
+    pub slope: u64,
+    pub bound: u64,
+}
+
 // The text of a code: how many characters, and them, with zeros behind.
 #[repr(C)]
 pub struct DartelmTextAnswer {

@@ -1,6 +1,6 @@
 // Dartelm for firmware: the calls of `include/dartelm.h`. Every function is proved, nothing is assumed, and no call asks
 // anything of its caller. A call answers one struct by value; the only slices are what is lent: an image, a text, points,
-// an index.
+// recordings, an index.
 ghost use mathlib.Core.Path.{_≡_};
 ghost use mathlib.Core.List.{List, []};
 ghost use Prim.Native.Nat.{ℕ};
@@ -26,6 +26,8 @@ ghost use Rattle.dartelm.specs.Calls.{
   proposeCall,
   commitCall,
   readingCall,
+  compareCall,
+  distanceCall,
   textCall,
   codeCall,
   pageCall,
@@ -39,6 +41,8 @@ mod values; // values.rt: a field's value by flags, the values of a sheet, and a
 use answers::DartelmCharacterAnswer;
 use answers::DartelmCheckAnswer;
 use answers::DartelmCodeAnswer;
+use answers::DartelmComparedAnswer;
+use answers::DartelmDistanceAnswer;
 use answers::DartelmFieldAnswer;
 use answers::DartelmPageAnswer;
 use answers::DartelmPairAnswer;
@@ -50,7 +54,9 @@ use answers::DartelmTermAnswer;
 use answers::DartelmTextAnswer;
 use answers::DartelmWriteAnswer;
 use change::ProposalAnswer;
+use distance::DistanceAnswer;
 use reading::ReadingAnswer;
+use recordings::ComparedAnswer;
 use refusal::Written;
 use sheet::CharacterAnswer;
 use sheet::Checked;
@@ -70,7 +76,7 @@ use values::DartelmValue;
 pub extern "C" fn dartelm_version() -> u32
     ensures { λ r. ⌜ r ≡ version ⌝ }
 {
-    6
+    7
 }
 
 // The kind of the images that have so many bytes: 0, 1 or 2; 255 where no kind has.
@@ -408,6 +414,59 @@ pub extern "C" fn dartelm_reading(
             place: 0,
             fraction: shown.fraction,
             figure: shown.figure,
+        },
+    }
+}
+
+// Holds a recording at ten a second against one at sixty, and both against the image.
+#[no_mangle]
+pub extern "C" fn dartelm_compare(
+    kind: u8,
+    image: &[u8],
+    slow: &[i64],
+    fast: &[i64],
+) -> DartelmComparedAnswer
+    ensures { λ r. ⌜ r ≡ compareCall kind (now (image .entry)) (now (slow .entry)) (now (fast .entry)) ⌝ }
+{
+    match recordings::compare(kind, image, slow, fast) {
+        ComparedAnswer::Refused(r) => DartelmComparedAnswer {
+            number: r.number,
+            place: r.place,
+            agrees: 0,
+            tick: 0,
+        },
+        ComparedAnswer::Tick(tick) => DartelmComparedAnswer {
+            number: 0,
+            place: 0,
+            agrees: 0,
+            tick,
+        },
+        ComparedAnswer::Agree => DartelmComparedAnswer {
+            number: 0,
+            place: 0,
+            agrees: 1,
+            tick: 0,
+        },
+    }
+}
+
+// Tells how far a reading can stray from the line through these points, before anything is built.
+#[no_mangle]
+pub extern "C" fn dartelm_distance(points: &[i64]) -> DartelmDistanceAnswer
+    ensures { λ r. ⌜ r ≡ distanceCall (now (points .entry)) ⌝ }
+{
+    match distance::distance(points) {
+        DistanceAnswer::Refused(r) => DartelmDistanceAnswer {
+            number: r.number,
+            place: r.place,
+            slope: 0,
+            bound: 0,
+        },
+        DistanceAnswer::Is(found) => DartelmDistanceAnswer {
+            number: 0,
+            place: 0,
+            slope: found.slope,
+            bound: found.bound,
         },
     }
 }

@@ -72,6 +72,7 @@ fn print_rows() {
     shown::refused(refusal::level_too_low(13));
     shown::refused(refusal::end_outside(10));
     shown::refused(refusal::too_many_points(33));
+    shown::refused(refusal::wrong_ticks(29));
 }
 
 fn main() {

@@ -6,7 +6,7 @@ use refusal::Refusal;
 
 // A line a row, from 0, which is none, nor is 15 any more: what its place is, with no word for it where a row has more than one
 // sort of place, and what it means.
-const ROWS: [u8; 1264] = *b"place;no row of the table\n\
+const ROWS: [u8; 1337] = *b"place;no row of the table\n\
     place;no such kind of chip, or an image of another length\n\
     page;the bytes of this page do not add up\n\
     bit;what begins here would pass the end of the chip\n\
@@ -31,7 +31,8 @@ const ROWS: [u8; 1264] = *b"place;no row of the table\n\
     place;the calibration points plus their deviations do not rise\n\
     points;no reading: the small dash takes 32 at most\n\
     place;a count, exponent or segment start that breaks the rules of a curve\n\
-    terms;a curve has 30 at most";
+    terms;a curve has 30 at most\n\
+    ticks;the fast recording has not six for each slow one, or a list is odd";
 
 // Prints a refusal's number, place and meaning, on a line.
 pub fn refused(r: Refusal) {
