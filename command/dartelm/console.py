@@ -1,0 +1,122 @@
+"""The proved console as a process: one line asked, one line answered (docs/CONSOLE.md)."""
+import os
+import struct
+import subprocess
+
+from .trouble import Refusal, unread
+
+HOME = os.path.dirname(os.path.dirname(os.path.dirname(os.path.realpath(__file__))))
+
+# What is asked ahead of its answers stays below the room of a pipe, so that neither side waits for the other.
+AHEAD = 40000
+
+
+class Unknown(Exception):
+    """A line that this console takes for no command."""
+
+
+def hexadecimal(data):
+    return bytes(data).hex() or "-"
+
+
+def from_hexadecimal(word):
+    return b"" if word == "-" else bytes.fromhex(word)
+
+
+def parsed(answer, command=""):
+    """The words of an accepted answer."""
+    if answer == "?":
+        raise Unknown(command)
+    words = answer.split(" ")
+    if words[0] == "no":
+        raise Refusal(int(words[1]), int(words[2]))
+    return words
+
+
+class Console:
+    def __init__(self, home=HOME):
+        program = os.path.join(home, "bin", "console")
+        try:
+            self.process = subprocess.Popen([program], stdin=subprocess.PIPE, stdout=subprocess.PIPE, bufsize=-1)
+        except OSError as error:
+            raise unread(f"cannot run {program}: {error.strerror}") from None
+
+    def __enter__(self):
+        return self
+
+    def __exit__(self, *_):
+        self.close()
+
+    def close(self):
+        for pipe in (self.process.stdin, self.process.stdout):
+            try:
+                pipe.close()
+            except OSError:
+                pass
+        self.process.wait()
+
+    def ask_all(self, lines):
+        """The answers to lines, in their order."""
+        answers = []
+        lines = list(lines)
+        while lines:
+            size = len(lines[0])
+            count = 1
+            while count < len(lines) and size + len(lines[count]) + 1 < AHEAD:
+                size += len(lines[count]) + 1
+                count += 1
+            answers += self.exchange(lines[:count])
+            lines = lines[count:]
+        return answers
+
+    def exchange(self, lines):
+        try:
+            self.process.stdin.write("".join(line + "\n" for line in lines).encode("ascii"))
+            self.process.stdin.flush()
+        except OSError:
+            raise unread("the console ended without an answer") from None
+        answers = [self.process.stdout.readline().decode("ascii") for _ in lines]
+        if not all(answer.endswith("\n") for answer in answers):
+            raise unread("the console ended without an answer")
+        return [answer[:-1] for answer in answers]
+
+    def ask(self, *words):
+        return parsed(self.ask_all([" ".join(str(word) for word in words)])[0], words[0])
+
+    def knows(self, *words):
+        """Whether a line is a command of this console, whatever the answer."""
+        try:
+            self.ask(*words)
+        except Unknown:
+            return False
+        except Refusal:
+            pass
+        return True
+
+    def text(self, field, code):
+        return from_hexadecimal(self.ask("text", field, code)[0]).decode("ascii")
+
+    def code(self, field, text):
+        return int(self.ask("code", field, hexadecimal(text.encode("latin-1", "replace")))[0])
+
+    def readings(self, image, inputs, dash="large"):
+        """For each input its fraction in billionths and its figure, or its refusal."""
+        return [reading_of(answer) for answer in self.ask_all(f"reading {image} {v} {dash}" for v in inputs)]
+
+    def distance(self, points):
+        """K and B: no reading of a chip built from these points strays from them by more than B / 2000 billionths."""
+        slope, bound = self.ask("distance", listed(points))
+        return int(slope), int(bound)
+
+
+def reading_of(answer):
+    try:
+        fraction, figure = parsed(answer)
+    except Refusal as refusal:
+        return refusal
+    return int(fraction), struct.unpack(">d", bytes.fromhex(figure))[0]
+
+
+def listed(points):
+    """Pairs by turns, with commas between them."""
+    return ",".join(f"{first},{second}" for first, second in points) or "-"

@@ -1,0 +1,90 @@
+"""Files: read whole, and written whole or not at all."""
+import os
+import sys
+
+from .trouble import unread
+
+# More than any chip's image, dump, sheet or certificate has.
+LONGEST = 1 << 20
+
+
+def read_bytes(path):
+    try:
+        if path == "-":
+            return sys.stdin.buffer.read(LONGEST)
+        with open(path, "rb") as file:
+            return file.read(LONGEST)
+    except (OSError, ValueError, AttributeError) as error:
+        raise unread(f"cannot read {path}: {reason(error)}") from None
+
+
+def read_text(path):
+    data = read_bytes(path)
+    try:
+        return data.decode("utf-8-sig")
+    except UnicodeDecodeError as error:
+        raise unread(f"cannot read {path}: it is no text (byte {error.start})") from None
+
+
+def reason(error):
+    return getattr(error, "strerror", None) or str(error)
+
+
+def must_be_new(path, force):
+    """Said before anything is worked out, so that no work is lost; `write_new` holds to it again."""
+    if not force and os.path.lexists(path):
+        raise unread(f"{path} is there already; --force replaces it")
+
+
+def write_new(path, data, force):
+    """Writes a file that has no name yet, in the same folder, and gives it the name when all is in it."""
+    try:
+        write_and_name(path, data, force)
+    except FileExistsError:
+        raise unread(f"{path} is there already; --force replaces it") from None
+    except OSError as error:
+        raise unread(f"cannot write {path}: {reason(error)}") from None
+
+
+def write_and_name(path, data, force):
+    folder = os.path.dirname(path) or "."
+    spare = os.path.join(folder, f".dartelm-{os.urandom(6).hex()}")
+    handle, named = nameless(folder, spare)
+    try:
+        with os.fdopen(handle, "wb") as file:
+            file.write(data)
+            file.flush()
+            os.fsync(file.fileno())
+            give_name(file.fileno(), named, spare, path, force)
+    finally:
+        if os.path.lexists(spare):
+            os.unlink(spare)
+
+
+def nameless(folder, spare):
+    """A file without a name, so that nothing is left of it if this process is killed, and whether it has the spare name all the
+    same, where the folder cannot have one without."""
+    try:
+        return os.open(folder, os.O_WRONLY | os.O_TMPFILE, 0o666), False
+    except (OSError, AttributeError):
+        return os.open(spare, os.O_WRONLY | os.O_CREAT | os.O_EXCL, 0o666), True
+
+
+def give_name(handle, named, spare, path, force):
+    """A link fails where the name is taken. To replace what is there the file needs a name first."""
+    if not force and not named:
+        link(handle, path)
+        return
+    if not force and os.path.lexists(path):
+        raise FileExistsError(path)
+    if not named:
+        link(handle, spare)
+    os.replace(spare, path)
+
+
+def link(handle, path):
+    there = os.open("/proc/self/fd", os.O_RDONLY)
+    try:
+        os.link(str(handle), path, src_dir_fd=there, follow_symlinks=True)
+    finally:
+        os.close(there)

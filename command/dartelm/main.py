@@ -1,0 +1,143 @@
+"""The command line: what each command takes, and the status that it ends with."""
+import argparse
+import datetime
+import importlib
+import os
+import re
+import signal
+import sys
+
+from . import version
+from .console import Console, Unknown
+from .refusals import headline
+from .trouble import REFUSED, UNREAD, Refusal, Trouble, misused
+
+STATUS = "Ends with 0 if accepted, 1 if refused or different, 2 if it is not understood, 3 if a file cannot be read or written."
+
+
+def parser():
+    top = argparse.ArgumentParser(prog="dartelm", description="A sender's chip at the bench, in plain words and units. " + STATUS)
+    top.add_argument("--version", action="version", version=version.line())
+    commands = top.add_subparsers(dest="command", metavar="COMMAND", required=True)
+
+    show = command(commands, "show", "the sheet in plain words and units")
+    show.add_argument("files", metavar="FILE", nargs="+", help="an image of 40, 128 or 512 bytes")
+    show.add_argument("--curve", action="store_true", help="draw the correction over the span")
+    show.add_argument("--points", action="store_true", help="show every calibration point, however many")
+    add_today(show)
+
+    why = command(commands, "why", "why an image is refused, what is still whole, and what to do")
+    why.add_argument("file", metavar="FILE")
+
+    change = command(commands, "set", "a copy of an image with some fields changed, all of them or none")
+    change.add_argument("file", metavar="FILE")
+    change.add_argument("changes", metavar="NAME=VALUE", nargs="+",
+                        help="a field's name, words that fit no other, or its number; a value with its unit, as impedance=350.5ohm")
+    change.add_argument("--level", choices=("owner", "calibration", "maker"), default="owner", help="who writes (owner)")
+    add_output(change)
+
+    read = command(commands, "read", "readings of a chip")
+    read.add_argument("file", metavar="FILE")
+    read.add_argument("inputs", metavar="INPUT", nargs="*", help="with its unit, as 1.0mV/V")
+    read.add_argument("--table", metavar="N", type=int, help="N inputs from end to end of the span")
+    read.add_argument("--dash", choices=("large", "small"), default="large", help="where it is shown (large)")
+
+    tray = command(commands, "tray", "a line for each of many chips")
+    tray.add_argument("files", metavar="FILE", nargs="+", help="an image, or a folder of them")
+    tray.add_argument("--csv", action="store_true", help="as comma-separated values")
+
+    certificate = command(commands, "certificate", "a chip against its certificate's points")
+    certificate.add_argument("file", metavar="FILE")
+    certificate.add_argument("certificate", metavar="CERT.csv", help="columns point and deviation, in %% or in the sender's unit")
+
+    export = command(commands, "export", "the sheet as lines 'name = value unit', which make takes")
+    export.add_argument("file", metavar="FILE")
+    add_output(export, required=False)
+
+    make = command(commands, "make", "an image from the lines of a sheet")
+    make.add_argument("sheet", metavar="SHEET")
+    make.add_argument("--kind", type=int, choices=(0, 1, 2), help="for another chip: 0 of 40 bytes, 1 of 128, 2 of 512")
+    add_output(make)
+
+    report = command(commands, "report", "one page in HTML, to be printed or kept")
+    report.add_argument("file", metavar="FILE")
+    report.add_argument("certificate", metavar="CERT.csv", nargs="?")
+    add_output(report)
+    add_today(report)
+    return top
+
+
+def command(commands, name, about):
+    return commands.add_parser(name, help=about, description=about[:1].upper() + about[1:] + ". " + STATUS)
+
+
+def add_output(to, required=True):
+    to.add_argument("-o", dest="output", metavar="NEW", required=required, help="the file to write")
+    to.add_argument("--force", action="store_true", help="replace NEW if it is there")
+
+
+def add_today(to):
+    to.add_argument("--today", metavar="DATE", default=datetime.date.today().isoformat(), help="the day to judge dates by (today)")
+
+
+def signs_kept(words):
+    """An input like -0.5mV/V is no option: a blank before it says so."""
+    return [" " + word if re.match(r"-[0-9.]", word) else word for word in words]
+
+
+MODULES = {"set": "setting"}
+
+
+def answer(words):
+    given = parser().parse_args(signs_kept(words))
+    module = importlib.import_module("." + MODULES.get(given.command, given.command), __package__)
+    with Console() as console:
+        if getattr(given, "today", None):
+            try:
+                console.code(18, given.today)
+            except Refusal:
+                raise misused(f"--today: '{given.today}' is no date like 2018-01-02") from None
+        status = module.run(console, given)
+    sys.stdout.flush()
+    return status
+
+
+def main(words):
+    """The status of a command. What goes wrong is said on standard error, on a line."""
+    if sys.stderr is None:
+        sys.stderr = open(os.devnull, "w", encoding="utf-8")
+    if sys.stdout is None:
+        return said("the answer cannot be written", UNREAD)
+    for stream in (sys.stdout, sys.stderr):
+        if hasattr(stream, "reconfigure"):
+            stream.reconfigure(errors="backslashreplace")
+    signal.signal(signal.SIGTERM, lambda *_: sys.exit(128 + signal.SIGTERM))
+    try:
+        return answer(words)
+    except Trouble as trouble:
+        return said(str(trouble), trouble.status)
+    except Refusal as refusal:
+        return said(headline(refusal), REFUSED)
+    except Unknown as unknown:
+        return said(f"the console that is built here does not know what this asks for: {unknown}".rstrip(": "), UNREAD)
+    except BrokenPipeError:
+        os.dup2(os.open(os.devnull, os.O_WRONLY), 1)
+        return said("the answer cannot be written", UNREAD)
+    except OSError as error:
+        return said(f"{error.filename or 'the answer cannot be written'}: {error.strerror}", UNREAD)
+    except KeyboardInterrupt:
+        return said("stopped", 128 + signal.SIGINT)
+    except Exception as error:  # pylint: disable=broad-except
+        return said(f"this should not happen, please report it: {type(error).__name__}: {error}", UNREAD)
+
+
+def said(text, status):
+    try:
+        sys.stdout.flush()
+    except (OSError, ValueError, AttributeError):
+        pass
+    try:
+        print(f"dartelm: {text}", file=sys.stderr)
+    except OSError:
+        pass
+    return status

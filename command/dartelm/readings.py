@@ -1,0 +1,127 @@
+"""Readings of a chip, and what stands beside them: the same reading without a correction, and figures at places of the span."""
+import math
+from fractions import Fraction
+
+from . import singles
+from .fields import MISSING, bits, from_bits, is_single, whole
+from .image import Sheet, build
+from .refusals import headline
+from .trouble import Refusal
+from .units import float_text, in_unit, uncounted
+
+WHOLE_SPAN = 1_000_000_000
+
+
+class Ruler:
+    """The straight line between two Singles, by proved readings. It is built with a span of 1 V/V, where an input of n nV/V is
+    n billionths of the span."""
+
+    def __init__(self, console, low, high):
+        sheet = Sheet()
+        values = [f"w{n}" for n in (17, 0, 1, 0, 0, 0)] + [low, high, "w0", "w0", f"w{WHOLE_SPAN}", "w0"]
+        values += [MISSING] * 6 + ["w0"] * 3
+        sheet.values = dict(enumerate(values, 1))
+        self.console = console
+        self.image = build(console, sheet)
+
+    def figures(self, places):
+        """The figure at each place, None where it is more than a tenth outside the span."""
+        return [None if isinstance(got, Refusal) else got[1] for got in self.console.readings(self.image, places)]
+
+    def place(self, figure):
+        """The place whose figure is nearest to one that is given, found by halving; None where it is outside."""
+        ends = self.figures((0, WHOLE_SPAN))
+        rising = ends[0] <= ends[1]
+        low, high = -WHOLE_SPAN // 10, WHOLE_SPAN + WHOLE_SPAN // 10
+        first, last = self.figures((low, high))
+        if not min(first, last) <= figure <= max(first, last):
+            return None
+        while low + 1 < high:
+            middle = (low + high) // 2
+            found = self.figures((middle,))[0]
+            if (found <= figure) == rising:
+                low = middle
+            else:
+                high = middle
+        below, above = (Fraction(found) for found in self.figures((low, high)))
+        return low if abs(figure - below) <= abs(above - figure) else high
+
+
+def physical_ruler(console, sheet):
+    """None where an end is missing."""
+    low, high = sheet.values[7], sheet.values[8]
+    return None if MISSING in (low, high) else Ruler(console, low, high)
+
+
+def electrical_ruler(console, sheet):
+    """In ohms or nV/V, at full precision ohms or V/V."""
+    ends = [sheet.values[10], sheet.values[11]]
+    if MISSING in ends:
+        return None
+    return Ruler(console, *(end if is_single(end) else from_bits(singles.nearest(uncounted(whole(end), 0))) for end in ends))
+
+
+def ends_of(sheet):
+    """The electrical ends in nV/V, between which inputs are asked for. A reading says whether it can be taken there."""
+    ends = [sheet.values[10], sheet.values[11]]
+    if MISSING in ends:
+        return None
+    return tuple(math.floor(Fraction(singles.as_float(bits(end))) * WHOLE_SPAN + Fraction(1, 2)) if is_single(end) else whole(end)
+                 for end in ends)
+
+
+def evenly(ends, count):
+    """So many inputs from end to end."""
+    low, high = ends
+    if count == 1:
+        return [low]
+    return [low + (high - low) * n // (count - 1) for n in range(count)]
+
+
+class Taken:
+    """A reading beside its input: the fraction and the figure, and what they are without a correction."""
+
+    def __init__(self, given, reading, bare):
+        self.input = given
+        self.fraction, self.figure = reading
+        self.position, self.straight = bare
+        self.correction = self.fraction - self.position
+
+
+def take(console, sheet, image, inputs, dash="large"):
+    """A Taken for each input, or its refusal."""
+    inputs = list(inputs)
+    bare = build(console, sheet.bare())
+    return [reading if isinstance(reading, Refusal) else Taken(given, reading, straight)
+            for given, reading, straight in
+            zip(inputs, console.readings(image, inputs, dash), console.readings(bare, inputs, dash))]
+
+
+def curve_corrections(taken):
+    """Places on the span and what a curve adds there, in the sender's unit, as far as it is finite."""
+    places = [(one.position / WHOLE_SPAN, one.figure - one.straight) for one in taken]
+    return [place for place in places if math.isfinite(place[1])]
+
+
+def why_no_reading(console, sheet, image, dash="large"):
+    """The refusal of a reading at the least electrical value; None where one is taken."""
+    ends = ends_of(sheet)
+    got = console.readings(image, [ends[0] if ends and abs(ends[0]) < 1 << 62 else 0], dash)[0]
+    return got if isinstance(got, Refusal) else None
+
+
+def no_reading_text(sheet, refusal):
+    """Why no reading is taken. 4 is a block that is not built here, or, of a reading, a resistance sender's."""
+    if sheet.template == 32 and refusal.number == 4:
+        return f"refused: 4 at bit {refusal.place}: no reading is taken from a resistance sender"
+    return headline(refusal)
+
+
+def figure_text(figure, unit, prefix):
+    return in_unit(float_text(figure), unit, prefix)
+
+
+def sheet_prefix(sheet, unit):
+    """One prefix for all physical figures of a sheet, which suits its greater end."""
+    ends = [abs(singles.digits(bits(value))) for value in (sheet.values[7], sheet.values[8]) if value != MISSING]
+    return unit.prefix_for(max(ends)) if ends else ""

@@ -1,0 +1,58 @@
+"""A refusal in the words of docs/REFUSALS.md."""
+import os
+import re
+
+from .console import HOME
+
+# What a place is, where a number has one sort of place alone.
+PLACES = {2: "page", 3: "bit", 4: "bit", 5: "bit", 6: "bit", 8: "number", 11: "bits", 12: "field", 13: "field", 16: "length",
+          18: "bytes", 19: "field", 20: "field", 21: "field", 23: "points"}
+
+# A line is read at a glance up to so many characters.
+LONG = 110
+
+
+def rows(home=HOME):
+    """Number to meaning and what to do, as the table has them; none where the file is not there."""
+    found = {}
+    try:
+        with open(os.path.join(home, "docs", "REFUSALS.md"), encoding="utf-8") as file:
+            for line in file:
+                cells = [cell.strip().replace("`", "") for cell in line.strip().strip("|").split("|")]
+                if len(cells) == 4 and cells[0].isdigit():
+                    found[int(cells[0])] = (cells[2], cells[3])
+    except OSError:
+        pass
+    return found
+
+
+ROWS = rows()
+
+
+def meaning(refusal):
+    return ROWS.get(refusal.number, ("", ""))[0]
+
+
+def advice(refusal):
+    """What to do, for the person at the bench: a programmer's part is left out."""
+    said = re.split(r"(?i)\bprogrammer:\s*", ROWS.get(refusal.number, ("", ""))[1])[0]
+    return re.sub(r"^(bench|restorer):\s*", "", said.strip()).rstrip(". ")
+
+
+def headline(refusal):
+    """Number, place and meaning on a line, the meaning's first sentence."""
+    place = PLACES.get(refusal.number, "place")
+    said = shortened(meaning(refusal))
+    return f"refused: {refusal.number} at {place} {refusal.place}" + (f": {said}" if said else "")
+
+
+def shortened(text):
+    """Up to the first sentence's end; where that is long, up to a colon. What stands in brackets is not cut."""
+    ends = [len(text)] + [found.start() for found in re.finditer(r"\. |; ", text) if outside(text, found.start())]
+    first = text[:min(ends)]
+    colons = [found.start() for found in re.finditer(": ", first) if outside(first, found.start())]
+    return first[:colons[0]] if len(first) > LONG and colons else first
+
+
+def outside(text, at):
+    return text.count("(", 0, at) == text.count(")", 0, at)

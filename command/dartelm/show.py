@@ -1,0 +1,219 @@
+"""show: the sheet in plain words and units."""
+from . import fields, readings, refusals, singles
+from .drawing import text_curve
+from .fields import MISSING, FIELDS, DATE, PERIOD, whole
+from .image import BYTES, STREAM_BITS, read_image, read_sheet
+from .trouble import ACCEPTED, REFUSED, Refusal
+from .units import OHM, float_text, in_unit, percent, plain
+
+FEW = 12
+SENDERS = {33: "a bridge sender", 32: "a resistance sender"}
+
+
+def run(console, given):
+    status = ACCEPTED
+    images = [read_image(path) for path in given.files]
+    for number, (path, image) in enumerate(zip(given.files, images)):
+        if number:
+            print()
+        try:
+            sheet = read_sheet(console, image)
+        except Refusal as refusal:
+            print(f"{path}: {refusals.headline(refusal)}")
+            print(f"  'dartelm why {path}' tells more")
+            status = REFUSED
+            continue
+        print("\n".join(lines_of(console, path, image, sheet, given)))
+    return status
+
+
+def lines_of(console, path, image, sheet, given):
+    by = fields.around(console, sheet)
+    yield f"{path}: accepted, {summary(sheet)}"
+    for number, name, value in rows(sheet, by):
+        yield f"{number:>4}  {name:<39}{value}"
+    yield from correction_lines(console, sheet, by, given.points)
+    if given.curve:
+        yield from curve_lines(console, sheet, image, by)
+    yield from dash_lines(console, sheet, image)
+    for line in odd(console, sheet, image, by, today(console, given.today)):
+        yield f"look at: {line}"
+
+
+def summary(sheet):
+    return (f"kind {sheet.kind} ({BYTES[sheet.kind]} bytes), {sheet.bits} of {STREAM_BITS[sheet.kind]} bits; "
+            f"template {sheet.template}, {SENDERS[sheet.template]}")
+
+
+def rows(sheet, by):
+    """Number, name and value of each field, and of what stands behind them."""
+    for field in FIELDS[sheet.template]:
+        value = field.shown(sheet.values[field.number], by)
+        if field.number == PERIOD[sheet.template]:
+            due = due_date(sheet, by)
+            value += f", due {due}" if due else ""
+        yield str(field.number), field.name, value
+    yield "", "closing text", "none" if sheet.text is None else quoted(sheet.text)
+
+
+def quoted(text):
+    """A closing text, with what does not print as \\x and two digits."""
+    return '"' + "".join(chr(c) if 32 <= c < 127 and chr(c) not in '"\\' else f"\\x{c:02x}" for c in text) + '"'
+
+
+def due_code(sheet):
+    date = sheet.values[DATE[sheet.template]]
+    return None if date == MISSING else whole(date) + whole(sheet.values[PERIOD[sheet.template]])
+
+
+def due_date(sheet, by):
+    """The day by which it is to be calibrated again, as text."""
+    code = due_code(sheet)
+    if code is None:
+        return None
+    try:
+        return by.console.text(18, code)
+    except Refusal:
+        return "after 2177-06-05"
+
+
+def today(console, date):
+    return console.code(18, date)
+
+
+def correction_lines(console, sheet, by, every):
+    if sheet.curve():
+        yield from segment_lines(sheet)
+        return
+    if not sheet.points:
+        yield "no calibration points"
+        return
+    table = point_table(console, sheet, by)
+    against = "physical" if sheet.domain else "electrical"
+    yield f"{len(sheet.points)} calibration points against the {against} figure (domain {sheet.domain}), deviations of the span"
+    shown = range(len(sheet.points))
+    if len(sheet.points) > FEW and not every:
+        shown = (0, 1, 2, None, len(sheet.points) - 3, len(sheet.points) - 2, len(sheet.points) - 1)
+    widths = [max(len(row[n]) for row in table) for n in range(4)]
+    for index in shown:
+        if index is None:
+            yield f"      .. {len(sheet.points) - 6} more: --points shows them"
+            continue
+        place, figure, deviation, then = (cell.rjust(width) for cell, width in zip(table[index], widths))
+        yield f"{index:>4}  {place}  {figure}  deviation {deviation}  {then}".rstrip()
+
+
+def point_table(console, sheet, by):
+    """For each point: per cent of the span, the figure there, the deviation, and what it comes to. In domain 0 the point is the
+    input's and the chip shows another figure; in domain 1 it is the figure's, and shown at another input."""
+    ohms = sheet.template == 32 and sheet.domain == 0
+    unit = OHM if ohms else by.unit()
+    ruler = readings.electrical_ruler(console, sheet) if ohms else readings.physical_ruler(console, sheet)
+    prefix = "" if ohms else readings.sheet_prefix(sheet, unit)
+
+    def figures(places):
+        found = ruler.figures(places) if ruler else [None] * len(sheet.points)
+        return ["" if figure is None else readings.figure_text(figure, unit, prefix) for figure in found]
+
+    moved = [point + deviation for point, deviation in sheet.points]
+    if sheet.domain == 1:
+        then = [f"shown at {percent(place)}" for place in moved]
+    elif ohms:
+        then = [""] * len(moved)
+    else:
+        then = [f"shows {figure}" if figure else "" for figure in figures(moved)]
+    return [(percent(point), figure, percent(deviation, True), last)
+            for (point, deviation), figure, last in zip(sheet.points, figures(point for point, _ in sheet.points), then)]
+
+
+def segment_lines(sheet):
+    yield f"a calibration curve of {len(sheet.segments)} segments and {len(sheet.terms)} terms, in per cent of the span"
+    at = 0
+    for index, (start, count) in enumerate(sheet.segments):
+        yield f"{index:>4}  from {percent(start)}: " + ", ".join(term_text(*term) for term in sheet.terms[at:at + count])
+        at += count
+
+
+def term_text(exponent, coefficient):
+    return f"{plain(singles.digits(int(coefficient, 16)))} x^{exponent}"
+
+
+def curve_lines(console, sheet, image, by):
+    """The correction over the span, by readings; of a resistance sender the points alone."""
+    if not sheet.points and not sheet.curve():
+        return
+    if sheet.template == 32:
+        yield "deviation at each point, of the span (no reading is taken from a resistance sender):"
+        yield from text_curve([(point / readings.WHOLE_SPAN, deviation) for point, deviation in sheet.points], tenths)
+        return
+    refusal = readings.why_no_reading(console, sheet, image)
+    if refusal:
+        yield f"no curve: {refusals.headline(refusal)}"
+        return
+    taken = readings.take(console, sheet, image, readings.evenly(readings.ends_of(sheet), 61))
+    if sheet.curve():
+        unit = by.unit()
+        drawn = readings.curve_corrections(taken)
+        if drawn:
+            yield f"correction over the span, in {unit.name}:"
+            yield from text_curve(drawn, lambda y: in_unit(float_text(y, 4), unit, "", True))
+        return
+    yield "correction over the span:"
+    yield from text_curve([(one.position / readings.WHOLE_SPAN, one.correction) for one in taken], tenths)
+
+
+def tenths(billionths):
+    return percent(billionths, True)
+
+
+def dash_lines(console, sheet, image):
+    if sheet.template == 32:
+        yield "dashes: no reading is taken from a resistance sender"
+        return
+    refusal = readings.why_no_reading(console, sheet, image, "small")
+    if refusal and refusal.number == 23:
+        yield "dashes: large only (the small one takes 32 points)"
+    elif refusal:
+        yield f"dashes: no reading: {refusals.headline(refusal)}"
+    else:
+        yield "dashes: large and small"
+
+
+def odd(console, sheet, image, by, now):
+    """What is accepted and yet worth a look. None of it is a refusal."""
+    values = sheet.values
+    date = values[DATE[sheet.template]]
+    if date != MISSING and whole(date) > now:
+        yield f"the calibration date is still to come: {by.console.text(18, whole(date))}"
+    due = due_code(sheet)
+    if due is not None and due < now and whole(date) <= now:
+        yield f"calibration is overdue since {due_date(sheet, by)}"
+    for low, high, what in falling_pairs(sheet):
+        if MISSING not in (values[low], values[high]) and order(values[low]) > order(values[high]):
+            yield f"{what}: {shown(sheet, by, low)} is above {shown(sheet, by, high)} (fields {low} and {high})"
+    if sheet.template == 33 and MISSING not in (values[15], values[16], values[17]):
+        low, nominal, high = (whole(values[n]) for n in (16, 15, 17))
+        if low <= high and not low <= nominal <= high:
+            nominal, low, high = (shown(sheet, by, number) for number in (15, 16, 17))
+            yield f"the nominal excitation, {nominal}, is not between {low} and {high}"
+
+
+def falling_pairs(sheet):
+    yield 7, 8, "least above greatest physical value"
+    yield 10, 11, "least above greatest electrical value"
+    if sheet.template == 33:
+        yield 16, 17, "least above greatest excitation"
+    else:
+        yield 14, 15, "nominal above greatest excitation current"
+
+
+def order(value):
+    return singles.as_float(fields.bits(value)) if fields.is_single(value) else whole(value)
+
+
+def shown(sheet, by, number):
+    return FIELDS[sheet.template][number - 1].shown(sheet.values[number], by)
+
+
+def shown_field(console, sheet, number):
+    return shown(sheet, fields.around(console, sheet), number)

@@ -1,0 +1,272 @@
+"""why: each page's verdict, what the whole pages still say, the likely cause, and what to do."""
+import re
+
+from . import refusals
+from .fields import FIELDS, MISSING, Around, whole
+from .files import read_bytes
+from .image import BYTES, KINDS, Image, Sheet, build, read_sheet, refusal_of
+from .show import summary
+from .trouble import ACCEPTED, REFUSED, Refusal
+
+PAGE = 32
+REGISTER = 8
+GOOD, WRONG, BLANK = "adds up", "does not add up", "blank (every byte FF)"
+CUT = "is not there whole"
+FULL = {33: 2, 32: 3}
+# The first bit behind the first template's number: a sheet that is refused before it has no template that is known.
+BEHIND_TEMPLATE = 74
+
+
+def run(console, given):
+    data = read_bytes(given.file)
+    accepted, lines = told(console, given.file, data)
+    print("\n".join(lines))
+    return ACCEPTED if accepted else REFUSED
+
+
+def told(console, path, data):
+    """Whether the check accepts a file's bytes, and what there is to say of them."""
+    image = Image(data)
+    refusal = refusal_of(console, image)
+    if len(data) not in KINDS:
+        return False, [f"{path}: {refusals.headline(refusal)}", *wrong_length(console, path, data)]
+    found = verdicts(console, image)
+    if refusal is None:
+        accepted = f"{path}: accepted, {summary(read_sheet(console, image))}"
+        return True, [accepted, *page_lines(image, found), "nothing is wrong with it"]
+    return False, [f"{path}: {refusals.headline(refusal)}", *page_lines(image, found), *place_lines(console, image, found, refusal),
+                   *still_lines(console, image, found), *cause_lines(console, path, image, found, refusal)]
+
+
+def page_lines(image, found):
+    for page, verdict in enumerate(found):
+        yield f"  page {page}: {verdict}" + (", every byte 0" if verdict == GOOD and not any(page_bytes(image, page)) else "")
+
+
+def page_bytes(image, page):
+    """A page as it stands in the image, with the register that kind 0 has before it."""
+    if image.kind == 0:
+        return image.data
+    return image.data[PAGE * page:PAGE * (page + 1)]
+
+
+def verdicts(console, image):
+    """What the check's page test says of each page: an image of nothing but that page is asked for."""
+    if image.kind == 0:
+        return [verdict(refusal_of(console, image))]
+    count = BYTES[image.kind] // PAGE
+    return [verdict(refusal_of(console, Image(page_bytes(image, page) * count, image.kind))) for page in range(count)]
+
+
+def verdict(refusal):
+    if refusal is None or refusal.number not in (2, 17):
+        return GOOD
+    return WRONG if refusal.number == 2 else BLANK
+
+
+def mended(image, found):
+    """The image with noughts for the pages that are not whole: their bytes add up, and say nothing."""
+    if image.kind == 0:
+        return image
+    pages = (page_bytes(image, page) if verdict == GOOD else bytes(PAGE) for page, verdict in enumerate(found))
+    return Image(b"".join(pages), image.kind)
+
+
+class Places:
+    """Where the fields of a template stand, by the index of a sheet that is built for it."""
+
+    def __init__(self, console, template, precision):
+        sheet = Sheet()
+        sheet.template = template
+        full = precision == FULL[template]
+        ends = ["s00000000", "s3f800000"] if full else ["w0", "w1000"]
+        values = [f"w{n}" for n in (17, 0, 1, 0, 0, 0)] + ["s00000000", "s3f800000", f"w{precision}"] + ends + ["w0"]
+        values += [MISSING] * (len(FIELDS[template]) - len(values) - 3) + ["w0"] * 3
+        sheet.values = dict(enumerate(values, 1))
+        size = 4 * len(values)
+        self.index = console.ask("index", build(console, sheet), "00" * size)[1]
+        data = bytes.fromhex(self.index)
+        pairs = [(int.from_bytes(data[n:n + 2], "little"), int.from_bytes(data[n + 2:n + 4], "little")) for n in range(0, size, 4)]
+        self.pairs = dict(enumerate(pairs, 1))
+
+    def field_at(self, bit):
+        return next((number for number, (offset, _) in self.pairs.items() if offset == bit), None)
+
+
+def pages_of(image, offset, length):
+    """The pages that bits of the stream stand in. Of kind 0 there is one, with the register."""
+    if image.kind == 0:
+        return {0}
+    return set(range(offset // 8 // (PAGE - 1), (offset + length - 1) // 8 // (PAGE - 1) + 1))
+
+
+def layout(console, image, found):
+    """The template and the places of its fields, as far as whole pages tell; else None. A fetch tells the templates apart by the
+    index that it asks for, a check whether the first block is one of them."""
+    whole_image = mended(image, found)
+    try:
+        console.ask("fetch", whole_image, "00" * 76, 1)
+        template = 32
+    except Refusal as refusal:
+        template = 33 if refusal.number == 18 else 32
+    refusal = refusal_of(console, whole_image)
+    if refusal and (refusal.number in (1, 2, 17) or refusal.place < BEHIND_TEMPLATE):
+        return None
+    first = Places(console, template, 0)
+    try:
+        precision = whole(console.ask("fetch", whole_image, first.index, 9)[0])
+    except Refusal:
+        return None
+    return template, Places(console, template, precision), precision
+
+
+def still_lines(console, image, found):
+    """The fields that stand in whole pages. The check refuses the chip all the same: they are for finding out whose it is."""
+    if found[0] != GOOD or not any(image.data):
+        return
+    known = layout(console, image, found)
+    template, places, precision = known or (33, Places(console, 33, 0), 0)
+    fields = FIELDS[template] if known else FIELDS[template][:5]
+    whole_image = mended(image, found)
+    by = Around(console, template, None, precision)
+    lines = []
+    for field in fields:
+        offset, length = places.pairs[field.number]
+        if any(found[page] != GOOD for page in pages_of(image, offset, length)):
+            continue
+        try:
+            value = console.ask("fetch", whole_image, places.index, field.number)[0]
+        except Refusal as refusal:
+            lines.append(f"    {field.name}: bits that it cannot have ({refusal.number} at bit {refusal.place})")
+            continue
+        if field.number == 6:
+            by.measurand = whole(value)
+        if field.number in (7, 8) and by.measurand is None:
+            continue
+        lines.append(f"    {field.name}: {field.shown(value, by)}")
+    if lines:
+        yield "  whole pages still say (not to be measured by):"
+        yield from lines
+
+
+def place_lines(console, image, found, refusal):
+    """A bit of the stream as page, byte and field."""
+    if refusal.number not in (3, 4, 5, 6, 7, 22, 24):
+        return
+    byte = refusal.place // 8
+    if image.kind == 0:
+        stands = f"register byte {byte}" if byte < REGISTER else f"page 0, byte {byte - REGISTER + 1}"
+    else:
+        stands = f"page {byte // (PAGE - 1)}, byte {byte % (PAGE - 1) + 1}"
+    known = layout(console, image, found)
+    number = (known[1] if known else Places(console, 33, 0)).field_at(refusal.place)
+    name = f": {FIELDS[known[0] if known else 33][number - 1].name}" if number and (known or number <= 5) else ""
+    yield f"  bit {refusal.place} is bit {refusal.place % 8} of {stands}{name}"
+
+
+def cause_lines(console, path, image, found, refusal):
+    """The likely cause and what to do, then what docs/REFUSALS.md says of the number."""
+    other = other_kind(console, path, image.data)
+    if refusal.number == 17:
+        yield "likely: a new chip, to which nothing has been written (or a reader that had no contact: read it again)"
+    elif not any(image.data):
+        yield "likely: every byte is 0: the reader had no contact, or the chip was wiped"
+        yield "to do: read the chip again; if it stays, it holds no sheet: 'dartelm make' one"
+    elif other:
+        yield f"likely: another kind's image: {other}"
+    elif found.count(GOOD) == len(found):
+        yield "likely: a whole chip whose sheet was written wrongly, or for another device: the pages add up"
+    elif len(found) > 1 and found.count(GOOD) == len(found) - 1:
+        yield f"likely: one page is damaged, or changed by a writer that did not mend its check byte: page {bad(found)[0]}"
+    elif len(found) > 1 and found.count(GOOD):
+        yield f"likely: some pages are damaged or were never written: pages {', '.join(map(str, bad(found)))}"
+    else:
+        yield "likely: no page adds up: a bad contact, a dump that does not begin at the first byte, or no such chip"
+    said = refusals.advice(refusal)
+    if said and any(image.data):
+        yield f"to do: {said}"
+    if refusals.shortened(refusals.meaning(refusal)) != refusals.meaning(refusal):
+        yield f"{refusal.number} is: {refusals.meaning(refusal)}"
+
+
+def bad(found):
+    return [page for page, verdict in enumerate(found) if verdict != GOOD]
+
+
+def other_kind(console, path, data):
+    """Another kind whose image stands at the beginning and is accepted."""
+    for kind, size in BYTES.items():
+        if size < len(data):
+            image = Image(data[:size], kind)
+            if refusal_of(console, image) is None:
+                return f"the first {size} bytes are an accepted one of kind {kind}: head -c {size} {path} > NEW.kind{kind}"
+    return None
+
+
+def wrong_length(console, path, data):
+    """Why a file is no image: text, cut short, too long, a dump without check bytes."""
+    size = len(data)
+    text = dumped(data)
+    if text is not None and len(text) in KINDS:
+        kind = KINDS[len(text)]
+        said = refusal_of(console, Image(text, kind))
+        yield f"likely: a dump in hexadecimal text, of {len(text)} bytes, which is kind {kind}; as an image it is " + (
+            refusals.headline(said) if said else "accepted")
+        yield f"to do: turn it into bytes: xxd -r {'' if offsets(data) else '-p '}{path} NEW.kind{kind}"
+        return
+    if text is not None and len(text) > 8:
+        yield f"likely: a dump in hexadecimal text, of {len(text)} bytes, which no chip has; {wanted(len(text))}"
+        return
+    other = other_kind(console, path, data)
+    if other:
+        yield f"likely: another kind's image: {other}"
+        return
+    if size == 0:
+        yield "likely: nothing was read: the file is empty"
+    elif size in (39, 124, 496):
+        yield f"likely: {size} bytes are a chip's stream, without the check bytes: a dump of the sheet alone"
+    elif size == PAGE:
+        yield "likely: one page: a chip of kind 0 without its register of 8 bytes, or a part of a larger chip"
+    elif size < BYTES[2]:
+        yield from cut_lines(console, data)
+        yield f"likely: cut short, or with bytes too many: {wanted(size)}"
+    else:
+        yield f"likely: no chip's image: {wanted(size)}"
+    yield "to do: read the chip again, whole: 40 bytes (register first) are kind 0, 128 kind 1, 512 kind 2"
+
+
+def cut_lines(console, data):
+    """The pages that are there of a larger chip, with noughts for the others."""
+    if len(data) <= BYTES[0]:
+        return
+    size = min(chip for chip in KINDS if chip > len(data))
+    image = Image(data + bytes(size - len(data)), KINDS[size])
+    found = [verdict if PAGE * (page + 1) <= len(data) else CUT for page, verdict in enumerate(verdicts(console, image))]
+    yield f"  taken as the beginning of kind {image.kind}:"
+    yield from page_lines(image, found)
+    yield from still_lines(console, image, found)
+
+
+def wanted(size):
+    above = next((chip for chip in sorted(KINDS) if chip > size), None)
+    return f"{size} bytes are {above - size} fewer than {above}" if above else f"{size} bytes are more than the largest chip's 512"
+
+
+HEX_LINE = re.compile(rb"\s*(?:[0-9a-fA-F]{1,8}:\s)?\s*((?:(?:0x)?[0-9a-fA-F]{2}[\s,;:]*)+)(?:\s\s.*)?")
+
+
+def offsets(data):
+    return re.match(rb"\s*[0-9a-fA-F]{1,8}:\s", data) is not None
+
+
+def dumped(data):
+    """The bytes of a dump in text: hexadecimal digits, with or without offsets before and letters behind; None if it is none."""
+    found = bytearray()
+    for line in data.splitlines():
+        if not line.strip():
+            continue
+        part = HEX_LINE.fullmatch(line)
+        if not part:
+            return None
+        found += bytes.fromhex(re.sub(rb"0x|[^0-9a-fA-F]", b"", part.group(1)).decode("ascii"))
+    return bytes(found) if found else None

@@ -1,0 +1,172 @@
+"""What the tests share: commands run in this process with one console, or as a program; samples; a folder of one's own."""
+import atexit
+import contextlib
+import io
+import os
+import random
+import shutil
+import subprocess
+import sys
+import tempfile
+import unittest
+from unittest import mock
+
+HERE = os.path.dirname(os.path.realpath(__file__))
+HOME = os.path.dirname(os.path.dirname(HERE))
+sys.dont_write_bytecode = True
+for folder in (os.path.join(HOME, "command"), HERE):
+    if folder not in sys.path:
+        sys.path.insert(0, folder)
+
+from dartelm import console as consoles  # noqa: E402
+from dartelm import image as images  # noqa: E402
+from dartelm import main  # noqa: E402
+
+SAMPLES = os.path.join(HOME, "samples")
+ACCEPTED = ("brake-pressure.kind1", "load-cell.kind1", "many-points.kind2", "oil-pressure.kind0", "temperature.kind1", "torque.kind1")
+REFUSED = ("blank.kind1", "damaged.kind1")
+TODAY = ("--today", "2026-03-01")
+PROGRAM = os.path.join(HOME, "bin", "dartelm")
+
+_console = None
+
+
+def console():
+    global _console
+    if _console is None:
+        _console = consoles.Console()
+        atexit.register(_console.close)
+    return _console
+
+
+class Shared:
+    """The console of all tests, which a command does not close."""
+
+    def __enter__(self):
+        return console()
+
+    def __exit__(self, *_):
+        return False
+
+
+def sample(name):
+    return os.path.join(SAMPLES, name)
+
+
+def sample_bytes(name):
+    with open(sample(name), "rb") as file:
+        return file.read()
+
+
+class Case(unittest.TestCase):
+    def setUp(self):
+        self.room = tempfile.mkdtemp()
+        self.addCleanup(shutil.rmtree, self.room)
+
+    def path(self, name):
+        return os.path.join(self.room, name)
+
+    def file(self, name, data):
+        path = self.path(name)
+        with open(path, "wb") as file:
+            file.write(data if isinstance(data, bytes) else data.encode("utf-8"))
+        return path
+
+    def bytes(self, name):
+        with open(self.path(name), "rb") as file:
+            return file.read()
+
+    def run_here(self, *words):
+        """Status, standard output and standard error of a command, in this process."""
+        out, err = io.StringIO(), io.StringIO()
+        with mock.patch.object(main, "Console", Shared), contextlib.redirect_stdout(out), contextlib.redirect_stderr(err):
+            try:
+                status = main.main([str(word) for word in words])
+            except SystemExit as ended:
+                status = ended.code
+        self.assertNotIn("should not happen", err.getvalue())
+        return status, out.getvalue(), err.getvalue()
+
+    def gives(self, status, *words, out=None, err=None):
+        """Runs a command, holds its status and parts of what it writes, and gives both outputs. Nothing is a traceback."""
+        found, said, wrong = self.run_here(*words)
+        self.assertEqual(found, status, f"{words}: {said}{wrong}")
+        self.assertNotIn("Traceback", said + wrong)
+        for part in [out] if isinstance(out, str) else out or []:
+            self.assertIn(part, said)
+        for part in [err] if isinstance(err, str) else err or []:
+            self.assertIn(part, wrong)
+        return said, wrong
+
+
+def run_program(*words, program=PROGRAM, data=b"", env=None, stdout=subprocess.PIPE):
+    done = subprocess.run([program, *map(str, words)], input=data, stdout=stdout, stderr=subprocess.PIPE, check=False, env=env)
+    if b"should not happen" in done.stderr:
+        raise AssertionError(done.stderr)
+    return done.returncode, (done.stdout or b"").decode("utf-8", "replace"), done.stderr.decode("utf-8", "replace")
+
+
+def stored_images():
+    """The images of the console's stored run, each once."""
+    found = {}
+    with open(os.path.join(HOME, "crates", "console", "stdin"), encoding="ascii") as file:
+        for line in file:
+            words = line.rstrip("\n").split(" ")
+            if words[0] in ("check", "field", "reading", "pair", "char") and len(words) > 2 and words[1] in "012" and words[2] != "-":
+                data = bytes.fromhex(words[2])
+                if len(data) == images.BYTES[int(words[1])]:
+                    found[words[2]] = images.Image(data, int(words[1]))
+    return list(found.values())
+
+
+def built_images(count, seed):
+    """Random accepted images: every template, precision and kind, values missing, points of both domains, texts."""
+    chance = random.Random(seed)
+    found = []
+    while len(found) < count:
+        sheet = random_sheet(chance)
+        answer = console().ask_all([sheet.build_line()])[0]
+        if answer.startswith("ok "):
+            found.append(images.Image(bytes.fromhex(answer[3:]), sheet.kind))
+    return found
+
+
+def random_single(chance):
+    if chance.random() < 0.5:
+        return f"s{chance.choice((0, 0x80000000, 1, 0x007FFFFF, 0x7F7FFFFF, 0xFF7FFFFF, 0x3F800000)):08x}"
+    return f"s{chance.randrange(0x7F800000) | chance.choice((0, 0x80000000)):08x}"
+
+
+def random_sheet(chance):
+    sheet = images.Sheet()
+    sheet.kind = chance.choice((0, 1, 1, 2, 2))
+    sheet.template = chance.choice((33, 32))
+    precision = chance.randrange(3 if sheet.template == 33 else 4)
+
+    def maybe(value, share=0.2):
+        return "m" if chance.random() < share else value
+
+    def end():
+        if precision == (2 if sheet.template == 33 else 3):
+            return maybe(random_single(chance))
+        if sheet.template == 33:
+            return maybe(f"w{chance.choice((-10**9 + 10**6 * chance.randrange(2047), -6550000 + 25 * chance.randrange(524287))[precision:precision + 1])}")
+        return maybe(f"w{(10, 1000, 1)[precision] * chance.randrange((127, 1023, 65535)[precision])}")
+
+    values = [f"w{chance.randrange(17, 16382)}", f"w{chance.randrange(1 << 15)}", f"w{chance.randrange(1, 27)}", f"w{chance.randrange(64)}",
+              f"w{chance.randrange(1 << 24)}", f"w{chance.randrange(46)}", maybe(random_single(chance)), maybe(random_single(chance)), f"w{precision}", end(), end()]
+    if sheet.template == 33:
+        values += [f"w{chance.randrange(3)}", maybe(f"w{chance.randrange(10, 262153)}"), maybe(f"w{chance.randrange(100, 791180997)}")]
+        values += [maybe(f"w{chance.randrange(1, 512)}") for _ in range(3)]
+    else:
+        values += [f"w{chance.randrange(4)}", maybe(f"w{chance.randrange(100, 791180997)}")]
+        values += [maybe(f"w{chance.randrange(10000, 1000000000)}") for _ in range(2)]
+    values += [maybe(f"w{chance.randrange(65535)}"), f"w{chance.randrange(1 << 15)}", f"w{chance.randrange(1 << 12)}", f"w{chance.randrange(1 << 11)}"]
+    sheet.values = dict(enumerate(values, 1))
+    if chance.random() < 0.6:
+        sheet.text = bytes(chance.randrange(1, 128) for _ in range(chance.randrange(12)))
+    if chance.random() < 0.6:
+        sheet.domain = chance.randrange(2)
+        codes = sorted(chance.sample(range(65535), chance.choice((1, 2, 5, 20))))
+        sheet.points = [(15300 * code, chance.randrange(-2000, 2000) * 1000) for code in codes]
+    return sheet

@@ -1,0 +1,82 @@
+"""A file is written whole or not at all, and none is replaced unless it is asked for."""
+import os
+import signal
+import subprocess
+import sys
+import time
+from unittest import mock
+
+import doubles
+import support
+from dartelm import files
+from dartelm.trouble import Trouble
+from support import sample
+
+KILLED = """
+import os, signal, sys
+sys.path.insert(0, {bench!r})
+sys.dont_write_bytecode = True
+from dartelm import main
+os.{call} = lambda *_, **__: os.kill(os.getpid(), signal.{signal})
+sys.exit(main.main(sys.argv[1:]))
+"""
+
+
+class Write(support.Case):
+    def both(self):
+        """With files that have no name, and where there are none such."""
+        yield mock.patch.object(files.os, "O_TMPFILE", files.os.O_TMPFILE)
+        yield mock.patch.object(files.os, "O_TMPFILE", 1 << 30, create=True)
+
+    def test_new_and_replaced(self):
+        self.addCleanup(os.umask, os.umask(0o022))
+        for number, way in enumerate(self.both()):
+            with way:
+                path = self.path(f"new{number}")
+                files.write_new(path, b"one", False)
+                self.assertRaises(Trouble, files.write_new, path, b"two", False)
+                self.assertEqual(self.bytes(f"new{number}"), b"one")
+                files.write_new(path, b"three", True)
+                self.assertEqual(self.bytes(f"new{number}"), b"three")
+                self.assertEqual(os.stat(path).st_mode & 0o777, 0o644)
+                self.assertRaises(Trouble, files.write_new, self.path("no/folder"), b"", False)
+                self.assertRaises(Trouble, files.write_new, self.room, b"", True)
+        self.assertEqual(sorted(os.listdir(self.room)), ["new0", "new1"])
+
+    def test_a_disk_that_is_full(self):
+        for way in self.both():
+            with way, mock.patch.object(files.os, "fsync", side_effect=OSError(28, "No space left on device")):
+                with self.assertRaises(Trouble) as caught:
+                    files.write_new(self.path("new"), b"one", False)
+                self.assertIn("No space left", str(caught.exception))
+                self.assertEqual(caught.exception.status, 3)
+                self.assertEqual(os.listdir(self.room), [])
+
+    def test_killed_while_it_is_written(self):
+        sheet = support.run_program("export", sample("load-cell.kind1"))[1]
+        source = self.file("sheet", sheet)
+        for call, name in (("fsync", "SIGKILL"), ("fsync", "SIGTERM"), ("link", "SIGKILL")):
+            for words in (("set", sample("load-cell.kind1"), "location=1", "-o", self.path("new")), ("make", source, "-o", self.path("new"))):
+                script = KILLED.format(bench=os.path.join(support.HOME, "command"), call=call, signal=name)
+                done = subprocess.run([sys.executable, "-c", script, *words], capture_output=True, check=False)
+                self.assertNotEqual(done.returncode, 0)
+                self.assertEqual(os.listdir(self.room), ["sheet"], (call, name, words[0]))
+
+    def test_killed_while_the_console_answers(self):
+        program = doubles.room(os.path.join(self.room, "there"), console=doubles.SLOW, tray=None)
+        os.mkdir(self.path("out"))
+        new = self.path("out/new")
+        for words in (("set", sample("load-cell.kind1"), "location=1", "-o", new), ("set", sample("load-cell.kind1"), "location=1", "-o", new, "--force")):
+            for delay in (0.1, 0.3, 0.6, 0.9):
+                with subprocess.Popen([program, *words], stdout=subprocess.DEVNULL, stderr=subprocess.DEVNULL) as process:
+                    time.sleep(delay)
+                    process.send_signal(signal.SIGKILL)
+                left = os.listdir(self.path("out"))
+                self.assertIn(left, ([], ["new"]))
+                if left:
+                    self.assertEqual(os.path.getsize(new), 128)
+                    os.unlink(new)
+
+
+if __name__ == "__main__":
+    support.unittest.main()

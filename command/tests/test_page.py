@@ -1,0 +1,35 @@
+"""docs/BENCH.md: each example gives what the page says."""
+import os
+import re
+import subprocess
+
+import doubles
+import support
+
+
+class Examples(support.Case):
+    def blocks(self):
+        """Commands and what stands below them."""
+        with open(os.path.join(support.HOME, "docs", "BENCH.md"), encoding="utf-8") as file:
+            for block in re.findall(r"(?:^    .*\n)+", file.read(), re.MULTILINE):
+                lines = [line[4:] for line in block.splitlines()]
+                for number, line in enumerate(lines):
+                    if line.startswith("$ "):
+                        below = lines[number + 1:]
+                        end = next((n for n, other in enumerate(below) if other.startswith("$ ")), len(below))
+                        yield line[2:], "".join(other + "\n" for other in below[:end])
+
+    def test_each(self):
+        there = self.path("there")
+        doubles.room(there, console=doubles.CONSOLE if not support.console().knows("distance", "-") else doubles.SAME,
+                     tray=doubles.TRAY if not os.path.exists(os.path.join(support.HOME, "bin", "tray")) else doubles.SAME_TRAY)
+        os.symlink(support.SAMPLES, os.path.join(there, "samples"))
+        commands = list(self.blocks())
+        self.assertGreater(len(commands), 10)
+        for command, wanted in commands:
+            done = subprocess.run(command, shell=True, cwd=there, capture_output=True, text=True, check=False)
+            self.assertEqual(done.stdout, wanted, command + done.stderr)
+
+
+if __name__ == "__main__":
+    support.unittest.main()
