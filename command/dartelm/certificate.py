@@ -7,12 +7,16 @@ from fractions import Fraction
 
 from . import fields, files, readings, refusals
 from .image import Sheet, build, open_image
+from .measurands import CASES
 from .readings import WHOLE_SPAN
 from .trouble import ACCEPTED, REFUSED, Refusal, Trouble, misused, refused
 from .units import PERCENT, RATIO, counted, figure_of, float_text, in_unit, percent, split, uncounted
 
-HEADS = ("input", "of the span", "certificate", "chip", "difference")
-NAMES = {"point": ("point", "figure"), "deviation": ("deviation", "correction")}
+FEW = 6
+HEADS = ("point", "at", "input", "certificate", "chip", "difference", "of the span")
+DEVIATION = {"deviation", "deviations", "correction", "corrections"}
+POINT = {"point", "points", "figure", "load", "applied"} | {word for name, _ in CASES for word in re.findall("[a-z]+", name.lower())}
+COLUMNS = "columns like 'point (%)' and 'deviation (%)', or with the sender's unit in the brackets"
 
 
 def run(console, given):
@@ -27,71 +31,87 @@ def run(console, given):
 
 def against(console, image, sheet, path):
     """The chip beside the certificate in a file."""
+    refusal = readings.why_no_reading(console, sheet, image)
+    if refusal:
+        raise refused(readings.no_reading_text(sheet, refusal))
     points = read_certificate(console, sheet, path)
-    return Against(console, image, sheet, points, distance_of(console, sheet, points, path))
-
-
-def distance_of(console, sheet, points, path):
-    """B of the proved distance, B / 2000 billionths of the span. It is told for tables against the electrical figure."""
-    if sheet.domain == 1:
-        return None
     try:
-        return console.distance(points)[1]
+        if sheet.domain == 1:
+            return AgainstTwin(console, image, sheet, points)
+        bound = console.distance(points)[1]
     except Refusal as refusal:
         raise refused(f"{path}: {point_name(refusal)}{refusals.headline(refusal)}") from None
+    return AgainstCurve(console, image, sheet, points) if sheet.curve() else AgainstTable(console, image, sheet, points, bound)
 
 
 def point_name(refusal):
-    return f"point {refusal.place + 1}: " if refusal.number in (7, 10) else ""
+    return f"point {refusal.place + 1}: " if refusal.number in (7, 10, 22) else ""
 
 
 def read_certificate(console, sheet, path):
-    """Points and deviations in billionths of the span. Units stand in the heads of the columns or in each cell."""
+    """Points and deviations in billionths of the span. What stands above the heads of the columns is not looked at."""
     text = files.read_text(path)
-    rows = [(number, [cell.strip() for cell in row]) for number, row in numbered_rows(text) if any(cell.strip() for cell in row)]
-    if not rows:
-        raise misused(f"{path}: it is empty; it begins with a line 'point,deviation'")
-    columns = {what: head(path, rows[0], what) for what in NAMES}
+    for mark in (";", "\t", ","):
+        rows = list(numbered_rows(path, text, mark))
+        for at, (_, row) in enumerate(rows):
+            columns = columns_of(row)
+            if columns:
+                return points_below(console, sheet, path, rows[at + 1:], columns, mark)
+    raise misused(f"{path}: there are no {COLUMNS}")
+
+
+def numbered_rows(path, text, mark):
+    reader = csv.reader(io.StringIO(text), delimiter=mark, skipinitialspace=True)
+    try:
+        for row in reader:
+            cells = [cell.strip() for cell in row]
+            if any(cells) and not cells[0].startswith("#"):
+                yield reader.line_num, cells
+    except csv.Error as error:
+        raise misused(f"{path}:{reader.line_num}: {error}") from None
+
+
+def columns_of(row):
+    """The places of both columns and the units in their heads; None where the row has not both."""
+    deviation = next((at for at, cell in enumerate(row) if DEVIATION & words_of(cell)), None)
+    point = next((at for at, cell in enumerate(row) if at != deviation and POINT & words_of(cell)), None)
+    if point is None or deviation is None:
+        return None
+    return tuple((at, unit_in(row[at])) for at in (point, deviation))
+
+
+def words_of(cell):
+    return set(re.findall("[a-z]+", cell.lower()))
+
+
+def unit_in(head):
+    """The unit in a column's head: between brackets, or behind the name."""
+    found = re.search(r"[(\[]([^()\[\]]*)[)\]]\s*$", head) or re.search(r"\w[\s,]+(?:in\s+)?((?:%|\S+)(?: rms)?(?: of .*)?)$", head)
+    word = found.group(1).strip() if found else ""
+    word = re.sub(r"^(%|per cent|percent) (of )?(the )?(full )?span$", "%", word)
+    return "" if word.lower() in POINT | DEVIATION else word
+
+
+def points_below(console, sheet, path, rows, columns, mark):
     scale = Scale(console, sheet)
     points = []
-    for number, row in rows[1:]:
+    for number, row in rows:
         try:
-            points.append(scale.pair(*(cell(row, *columns[what], what) for what in NAMES), separator(text)))
+            points.append(scale.pair(*(cell(row, *column, what, mark) for column, what in zip(columns, ("point", "deviation")))))
         except Trouble as trouble:
             raise Trouble(f"{path}:{number}: {trouble}", trouble.status) from None
     if not points:
-        raise misused(f"{path}: it has no points")
+        raise misused(f"{path}: it has no points below its columns")
     return points
 
 
-def separator(text):
-    first = next((line for line in text.splitlines() if line.strip()), "")
-    return ";" if ";" in first else "\t" if "\t" in first else ","
-
-
-def numbered_rows(text):
-    reader = csv.reader(io.StringIO(text), delimiter=separator(text), skipinitialspace=True)
-    try:
-        for row in reader:
-            if row and not row[0].startswith("#"):
-                yield reader.line_num, row
-    except csv.Error as error:
-        raise misused(f"line {reader.line_num}: {error}") from None
-
-
-def head(path, row, what):
-    """The place of a column and the unit that stands in its head."""
-    for at, name in enumerate(row[1]):
-        found = re.fullmatch(r"(\w+)\W*?[\s(\[,/]*([^\s()\[\]]*(?: rms)?)[\s)\]]*", name)
-        if found and found.group(1).lower() in NAMES[what]:
-            return at, found.group(2)
-    raise misused(f"{path}:{row[0]}: there is no column '{what}'; the first line is 'point,deviation', with units as 'point (%)'")
-
-
-def cell(row, at, unit, what):
+def cell(row, at, unit, what, mark):
+    """A cell with the unit of its column's head, if it has none; with another separator a comma may be the decimal one."""
     if at >= len(row) or not row[at]:
         raise misused(f"there is no {what}")
-    return row[at], unit
+    text = row[at].replace("\u2212", "-")
+    text = text if mark == "," else text.replace(",", ".")
+    return text if re.search(r"[^\d.eE+\-\s]", text) or not unit else f"{text} {unit}"
 
 
 class Scale:
@@ -101,40 +121,31 @@ class Scale:
         self.unit = fields.around(console, sheet).unit()
         self.ruler = readings.physical_ruler(console, sheet)
 
-    def pair(self, point, deviation, mark):
-        at, figure = self.point(with_unit(*point, mark))
-        return at, self.deviation(with_unit(*deviation, mark), at, figure)
+    def pair(self, point, deviation):
+        at, figure = self.point(point)
+        return at, self.deviation(deviation, at, figure)
 
     def point(self, text):
-        if is_percent(text) and self.unit.name != "%":
+        if self.is_percent(text):
             return counted(figure_of(text, PERCENT, "point"), -7, PERCENT, "point"), None
         figure = Fraction(figure_of(text, self.unit, "point"))
         return self.place(figure, text), figure
 
     def deviation(self, text, at, figure):
-        if figure is None and self.unit.exponent((split(text) or (0, ""))[1]) is not None:
-            raise misused("a deviation in the sender's unit needs a point in it")
-        if figure is None or is_percent(text) and self.unit.name != "%":
+        if self.is_percent(text) or figure is None and self.unit.exponent((split(text) or (0, ""))[1]) is None:
             return counted(figure_of(text, PERCENT, "deviation"), -7, PERCENT, "deviation")
+        if figure is None:
+            raise misused("a deviation in the sender's unit needs a point in it")
         return self.place(figure + Fraction(figure_of(text, self.unit, "deviation")), text) - at
 
+    def is_percent(self, text):
+        return text.rstrip().endswith(PERCENT.spellings) and self.unit.name != "%"
+
     def place(self, figure, text):
-        if self.ruler is None:
-            raise misused("the chip's physical values are missing: write points and deviations in %")
         found = self.ruler.place(figure)
         if found is None:
-            raise misused(f"'{text}' is more than a tenth outside the span")
+            raise misused(f"'{text}' is neither on the span nor within a tenth of it")
         return found
-
-
-def with_unit(text, unit, mark):
-    """A cell with the unit of its column's head, if it has none; with another separator a comma may be the decimal one."""
-    text = text.replace(",", ".") if mark != "," else text
-    return text if re.search(r"[^\d.eE+\-\s]", text) or not unit else f"{text} {unit}"
-
-
-def is_percent(text):
-    return text.rstrip().endswith(("%", "percent", "per cent"))
 
 
 def line_at(points, x):
@@ -150,103 +161,171 @@ def line_at(points, x):
 class At:
     """The chip against the certificate at an input: q, what the certificate has there, and the difference, in billionths."""
 
-    def __init__(self, place, given, reading, wanted):
+    def __init__(self, name, place, given, fraction, figure, wanted):
+        self.name = name
         self.place = place
         self.input = given
-        self.fraction, self.figure = reading
+        self.fraction = fraction
+        self.figure = figure
         self.wanted = wanted
-        self.difference = self.fraction - wanted
+        self.difference = fraction - wanted
 
 
 class Against:
     """A chip beside its certificate at the points of both, which is where they can differ most."""
 
-    def __init__(self, console, image, sheet, points, bound):
-        refusal = readings.why_no_reading(console, sheet, image)
-        if refusal:
-            raise refused(readings.no_reading_text(sheet, refusal))
-        if sheet.curve():
-            raise refused("the chip has a calibration curve: the proved distance is for tables of points")
-        self.sheet, self.points, self.bound = sheet, points, bound
+    def __init__(self, console, image, sheet, points):
+        self.console, self.image, self.sheet, self.points = console, image, sheet, points
         self.unit = fields.around(console, sheet).unit()
         self.prefix = readings.sheet_prefix(sheet, self.unit)
         self.ruler = readings.physical_ruler(console, sheet)
         self.low, self.high = readings.ends_of(sheet)
-        self.twin = None if bound is not None else twin_of(console, sheet, points)
-        self.at = self.taken(console, image, self.places(points))
-        self.between = self.taken(console, image, self.places(sheet.points))
+        self.at = self.taken((str(number), place) for number, place in enumerate(self.places(points), 1))
+        self.own = self.taken(("chip", place) for place in self.places(sheet.points))
 
     def places(self, points):
-        """Where points stand on the electrical span: in domain 1 a point's figure is shown at point plus deviation."""
-        return [point + deviation if self.sheet.domain == 1 else point for point, deviation in points]
+        """Where points stand on the electrical span."""
+        return [point for point, _ in points]
 
-    def taken(self, console, image, places):
+    def taken(self, named):
+        """Readings at the inputs that are nearest to places."""
+        named = list(named)
         span = self.high - self.low
-        inputs = [self.low + math.floor(Fraction(place * span, WHOLE_SPAN) + Fraction(1, 2)) for place in places]
-        found = console.readings(image, inputs)
-        if self.twin:
-            wanted = [got if isinstance(got, Refusal) else got[0] for got in console.readings(self.twin, inputs)]
-        else:
-            wanted = [line_at(self.points, Fraction((given - self.low) * WHOLE_SPAN, span)) for given in inputs]
-        return [At(*one) for one in zip(places, inputs, found, wanted) if not isinstance(one[2], Refusal)]
+        inputs = [self.low + math.floor(Fraction(place * span, WHOLE_SPAN) + Fraction(1, 2)) for _, place in named]
+        found = zip(named, inputs, self.console.readings(self.image, inputs), self.wanted(inputs))
+        return [self.one(*name, given, reading, wanted) for name, given, reading, wanted in found if not isinstance(reading, Refusal)]
+
+    def one(self, name, place, given, reading, wanted):
+        return At(name, place, given, *reading, wanted)
+
+    def wanted(self, inputs):
+        """What the certificate has at inputs, in billionths: its line, where a reading says that they lie."""
+        span = self.high - self.low
+        return [line_at(self.points, Fraction((given - self.low) * WHOLE_SPAN, span)) for given in inputs]
+
+    def over(self, count):
+        """Places from end to end of the span, and the differences there."""
+        steps = [WHOLE_SPAN * n // (count - 1) for n in range(count)]
+        return [(one.place / WHOLE_SPAN, float(one.difference)) for one in self.taken(("", place) for place in steps)]
 
     def all(self):
-        return self.at + self.between
+        return self.at + self.own
 
     def within(self, one):
-        return one.difference == 0 if self.bound is None else 2000 * abs(one.difference) <= self.bound
+        raise NotImplementedError
 
     def agrees(self):
         return all(self.within(one) for one in self.all())
 
-    def worst(self):
-        return max(self.all(), key=lambda one: abs(one.difference))
+    def distance(self):
+        """The proved distance in whole billionths; None where there is none."""
+        return None
 
     def figure(self, place):
-        return readings.figure_text(self.ruler.figures([place])[0], self.unit, self.prefix)
+        found = self.ruler.figures([place])[0]
+        return "" if found is None else readings.figure_text(found, self.unit, self.prefix)
 
-    def physical(self, billionths):
-        """A distance in billionths in the sender's unit."""
+    def physical(self, billionths, sign=True):
+        """A difference in billionths in the sender's unit."""
         zero, far = self.ruler.figures((0, min(abs(billionths), WHOLE_SPAN)))
-        sign = -1 if billionths < 0 else 1
-        return in_unit(float_text(sign * abs(far - zero), 4), self.unit, self.prefix)
-
-    def distance(self):
-        return None if self.bound is None else -(-self.bound // 2000)
+        figure = (far - zero) * (-1 if billionths < 0 else 1)
+        return in_unit(float_text(figure if sign else abs(figure), 4), self.unit, self.prefix, sign)
 
     def lines(self):
-        if self.bound is not None:
-            yield f"proved distance: {percent(self.distance())} of the span, {self.physical(self.distance())}"
-        else:
-            yield "a table against the physical figure has no proved distance: the chip is held against one made from the certificate"
+        yield self.heading()
         rows = [HEADS, *self.rows()]
-        widths = [max(len(row[n]) for row in rows) for n in range(5)]
+        widths = [max(len(row[n]) for row in rows) for n in range(len(HEADS))]
         for row in rows:
-            yield "  " + "  ".join(text.rjust(width) for text, width in zip(row, widths))
+            yield "  " + "  ".join(text.rjust(width) for text, width in zip(row, widths)).rstrip()
 
     def rows(self):
-        """A row for each of the certificate's points."""
-        for one in self.at:
-            yield (in_unit(uncounted(one.input, -9), RATIO), percent(one.place), self.figure(round(one.wanted)),
-                   readings.figure_text(one.figure, self.unit, self.prefix),
-                   percent(round(one.difference), True) + ("" if self.within(one) else " !"))
+        """A row for each of the certificate's points, and for the worst of the chip's own that are too far off."""
+        far = sorted((one for one in self.own if not self.within(one)), key=lambda one: -abs(one.difference))
+        for one in sorted(self.at + far[:FEW], key=lambda one: one.place):
+            difference = round(one.difference)
+            yield (one.name, percent(one.place), in_unit(uncounted(one.input, -9), RATIO), self.figure(round(one.wanted)),
+                   readings.figure_text(one.figure, self.unit, self.prefix), self.physical(difference),
+                   percent(difference, True) + ("" if self.within(one) else " !"))
+
+    def worst(self):
+        one = max(self.all(), key=lambda one: abs(one.difference))
+        difference = round(one.difference)
+        own = ", a point of the chip's own" if one.name == "chip" else ""
+        return f"the worst is at {percent(one.place)}{own}: {percent(difference, True)}, {self.physical(difference)}"
+
+    def beyond(self):
+        """How many of each sort of points are too far off."""
+        sorts = ((self.at, "the certificate's"), (self.own, "the chip's own"))
+        return " and at ".join(f"{sum(not self.within(one) for one in some)} of {whose} {len(some)} points" for some, whose in sorts if some)
+
+
+class AgainstTable(Against):
+    """No reading of a chip that was built from these points strays from their line by more than bound / 2000 billionths."""
+
+    def __init__(self, console, image, sheet, points, bound):
+        super().__init__(console, image, sheet, points)
+        self.bound = bound
+
+    def within(self, one):
+        return 2000 * abs(one.difference) <= self.bound
+
+    def distance(self):
+        return -(-self.bound // 2000)
+
+    def heading(self):
+        return f"proved distance: {percent(self.distance())} of the span, {self.physical(self.distance(), False)}"
 
     def verdict(self):
-        one = self.worst()
-        difference = round(one.difference)
-        worst = f"the worst is at {percent(one.place)}: {percent(difference, True)}, {self.physical(difference)}"
         if self.agrees():
-            return f"AGREES: within the proved distance at every point; {worst}" if self.bound is not None else (
-                "AGREES: it shows what a chip made from the certificate shows at every point")
-        beyond = sum(not self.within(one) for one in self.all())
-        return f"DIFFERS: at {beyond} of {len(self.all())} points, the certificate's and the chip's; {worst}"
+            return f"AGREES: within the proved distance at every point; {self.worst()}"
+        return f"DIFFERS: beyond the proved distance at {self.beyond()}; {self.worst()}"
 
 
-def twin_of(console, sheet, points):
-    """A chip that is built from the certificate, of the largest kind."""
-    twin = Sheet()
-    twin.kind, twin.template, twin.values, twin.domain, twin.points = 2, sheet.template, dict(sheet.values), sheet.domain, points
-    try:
-        return build(console, twin)
-    except Refusal as refusal:
-        raise refused(f"the certificate: {point_name(refusal)}{refusals.headline(refusal)}") from None
+class AgainstTwin(Against):
+    """A table against the physical figure has no proved distance: the chip is held against one that is made from the certificate.
+    A point's figure is shown at point plus deviation."""
+
+    def __init__(self, console, image, sheet, points):
+        twin = Sheet()
+        twin.kind, twin.template, twin.values, twin.domain, twin.points = 2, sheet.template, dict(sheet.values), sheet.domain, points
+        self.twin = build(console, twin)
+        super().__init__(console, image, sheet, points)
+
+    def places(self, points):
+        return [point + deviation for point, deviation in points]
+
+    def wanted(self, inputs):
+        return [0 if isinstance(got, Refusal) else got[0] for got in self.console.readings(self.twin, inputs)]
+
+    def within(self, one):
+        return one.difference == 0
+
+    def heading(self):
+        return "a table against the physical figure has no proved distance: the chip is held against one made from the certificate"
+
+    def verdict(self):
+        if self.agrees():
+            return "AGREES: at every point it shows what a chip made from the certificate shows"
+        return f"DIFFERS: from a chip made from the certificate at {self.beyond()}; {self.worst()}"
+
+
+class AgainstCurve(Against):
+    """Of a curve the fraction is the position, and the figure tells where the chip is: at the place that has it without a curve."""
+
+    def one(self, name, place, given, reading, wanted):
+        there = self.ruler.place(Fraction(reading[1])) if math.isfinite(reading[1]) else None
+        if there is None:
+            raise refused(f"at {percent(place)} the chip's curve gives a figure more than a tenth outside the span")
+        return At(name, place, given, there, reading[1], wanted)
+
+    def within(self, one):
+        return True
+
+    def agrees(self):
+        return False
+
+    def heading(self):
+        return "a curve has no proved distance"
+
+    def verdict(self):
+        return f"NO VERDICT: the proved distance is for tables of points, and the chip has a curve; {self.worst()}"

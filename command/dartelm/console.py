@@ -83,16 +83,6 @@ class Console:
     def ask(self, *words):
         return parsed(self.ask_all([" ".join(str(word) for word in words)])[0], words[0])
 
-    def knows(self, *words):
-        """Whether a line is a command of this console, whatever the answer."""
-        try:
-            self.ask(*words)
-        except Unknown:
-            return False
-        except Refusal:
-            pass
-        return True
-
     def text(self, field, code):
         return from_hexadecimal(self.ask("text", field, code)[0]).decode("ascii")
 

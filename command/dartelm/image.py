@@ -1,13 +1,15 @@
 """A chip's image, and the whole sheet that stands in it, as the proved calls read it."""
 from .console import hexadecimal, listed, parsed
-from .files import read_bytes
+from .files import read_bytes, write_new
 from .refusals import headline
-from .trouble import Refusal, refused
+from .trouble import Refusal, refused, unread
 
 BYTES = {0: 40, 1: 128, 2: 512}
 STREAM_BITS = {0: 312, 1: 992, 2: 3968}
 KINDS = {size: kind for kind, size in BYTES.items()}
 LAST_FIELD = {33: 21, 32: 19}
+MOST_SEGMENTS, MOST_TERMS = 20, 30
+ONE = "3f800000"
 
 
 class Image:
@@ -47,7 +49,8 @@ class Sheet:
         values = " ".join(self.values[field] for field in range(1, LAST_FIELD[self.template] + 1))
         ending = "0 -" if self.text is None else f"1 {hexadecimal(self.text)}"
         if self.curve():
-            behind = f"curve {len(self.segments)} {listed(self.segments)} {listed(self.terms)}"
+            # A line takes no more than a curve may have: of more the count is refused, or the terms up to it.
+            behind = f"curve {len(self.segments)} {listed(self.segments[:MOST_SEGMENTS])} {listed(self.terms[:MOST_TERMS])}"
         else:
             behind = f"{self.domain or 0} {listed(self.points)}"
         return f"build {kind} {BYTES[kind]} maker {self.template} {values} {ending} {behind}"
@@ -63,6 +66,13 @@ class Sheet:
         sheet.text = self.text
         return sheet
 
+    def with_plain_terms(self):
+        """The same segments with terms that none is refused for."""
+        sheet = self.bare_with_text()
+        sheet.segments = self.segments
+        sheet.terms = [(exponent, ONE) for _, count in self.segments for exponent in range(count)]
+        return sheet
+
 
 def build(console, sheet, kind=None):
     answer = parsed(console.ask_all([sheet.build_line(kind)])[0])
@@ -73,7 +83,7 @@ def read_sheet(console, image):
     """The sheet in an image that a check accepts; else the check's refusal."""
     counts = console.ask("check", image)[1:]
     bits, points, end_bit, characters, template = (int(word) for word in counts[:5])
-    segments, terms = (int(word) for word in counts[6:8]) if len(counts) > 6 else (0, 0)
+    segments, terms = (int(word) for word in counts[6:8])
     sheet = Sheet()
     sheet.kind, sheet.bits, sheet.template = image.kind, bits, template
     sheet.domain = None if counts[5] == "-" else int(counts[5])
@@ -107,3 +117,12 @@ def refusal_of(console, image):
     except Refusal as refusal:
         return refusal
     return None
+
+
+def write_image(console, path, image, force):
+    """Writes an image's file and reads it again. What stands in it is what was written, and accepted: the sheet that is read."""
+    write_new(path, image.data, force)
+    there = read_image(path)
+    if there.data != image.data or refusal_of(console, there):
+        raise unread(f"{path}: what stands in the file is not what was written")
+    return read_sheet(console, there)

@@ -12,11 +12,13 @@ from .console import Console, Unknown
 from .refusals import headline
 from .trouble import REFUSED, UNREAD, Refusal, Trouble, misused
 
+VALUED = ("-o", "--level", "--table", "--dash", "--kind", "--today")
 STATUS = "Ends with 0 if accepted, 1 if refused or different, 2 if it is not understood, 3 if a file cannot be read or written."
 
 
 def parser():
-    top = argparse.ArgumentParser(prog="dartelm", description="A sender's chip at the bench, in plain words and units. " + STATUS)
+    about = "A sender's chip at the bench, in plain words and units. " + STATUS
+    top = argparse.ArgumentParser(prog="dartelm", description=about, allow_abbrev=False)
     top.add_argument("--version", action="version", version=version.line())
     commands = top.add_subparsers(dest="command", metavar="COMMAND", required=True)
 
@@ -27,52 +29,56 @@ def parser():
     add_today(show)
 
     why = command(commands, "why", "why an image is refused, what is still whole, and what to do")
-    why.add_argument("file", metavar="FILE")
+    why.add_argument("file", metavar="FILE", help="any file")
+    add_output(why, required=False, about="write the image that a dump or a longer file holds, if it is accepted")
 
     change = command(commands, "set", "a copy of an image with some fields changed, all of them or none")
-    change.add_argument("file", metavar="FILE")
+    change.add_argument("file", metavar="FILE", help="an image of 40, 128 or 512 bytes")
     change.add_argument("changes", metavar="NAME=VALUE", nargs="+",
-                        help="a field's name, words that fit no other, or its number; a value with its unit, as impedance=350.5ohm")
-    change.add_argument("--level", choices=("owner", "calibration", "maker"), default="owner", help="who writes (owner)")
+                        help="a field's name as show has it, words that fit no other, or its number; a value with its unit, as "
+                        "impedance=350.5ohm, or missing")
+    change.add_argument("--level", choices=("owner", "calibration", "maker"), default="owner",
+                        help="who writes: the owner the location alone (this if nothing is said), the calibration room also the ends "
+                        "of the span, date, initials and period, the maker all that is changed alone")
     add_output(change)
 
     read = command(commands, "read", "readings of a chip")
-    read.add_argument("file", metavar="FILE")
+    read.add_argument("file", metavar="FILE", help="an image of 40, 128 or 512 bytes")
     read.add_argument("inputs", metavar="INPUT", nargs="*", help="with its unit, as 1.0mV/V")
-    read.add_argument("--table", metavar="N", type=int, help="N inputs from end to end of the span")
+    read.add_argument("--table", metavar="N", type=int, help="at N inputs from end to end of the span")
     read.add_argument("--dash", choices=("large", "small"), default="large", help="where it is shown (large)")
 
     tray = command(commands, "tray", "a line for each of many chips")
-    tray.add_argument("files", metavar="FILE", nargs="+", help="an image, or a folder of them")
+    tray.add_argument("files", metavar="FILE", nargs="+", help="an image, or a folder of them (folders inside it are not looked into)")
     tray.add_argument("--csv", action="store_true", help="as comma-separated values")
 
     certificate = command(commands, "certificate", "a chip against its certificate's points")
-    certificate.add_argument("file", metavar="FILE")
-    certificate.add_argument("certificate", metavar="CERT.csv", help="columns point and deviation, in %% or in the sender's unit")
+    certificate.add_argument("file", metavar="FILE", help="an image of 40, 128 or 512 bytes")
+    certificate.add_argument("certificate", metavar="CERT.csv", help="columns like 'point (%%)' and 'deviation (%%)', or in the sender's unit")
 
     export = command(commands, "export", "the sheet as lines 'name = value unit', which make takes")
-    export.add_argument("file", metavar="FILE")
+    export.add_argument("file", metavar="FILE", help="an image of 40, 128 or 512 bytes")
     add_output(export, required=False)
 
     make = command(commands, "make", "an image from the lines of a sheet")
-    make.add_argument("sheet", metavar="SHEET")
+    make.add_argument("sheet", metavar="SHEET", help="lines as export writes them")
     make.add_argument("--kind", type=int, choices=(0, 1, 2), help="for another chip: 0 of 40 bytes, 1 of 128, 2 of 512")
     add_output(make)
 
     report = command(commands, "report", "one page in HTML, to be printed or kept")
-    report.add_argument("file", metavar="FILE")
-    report.add_argument("certificate", metavar="CERT.csv", nargs="?")
+    report.add_argument("file", metavar="FILE", help="an image of 40, 128 or 512 bytes")
+    report.add_argument("certificate", metavar="CERT.csv", nargs="?", help="as certificate takes it")
     add_output(report)
     add_today(report)
     return top
 
 
 def command(commands, name, about):
-    return commands.add_parser(name, help=about, description=about[:1].upper() + about[1:] + ". " + STATUS)
+    return commands.add_parser(name, help=about, description=about[:1].upper() + about[1:] + ". " + STATUS, allow_abbrev=False)
 
 
-def add_output(to, required=True):
-    to.add_argument("-o", dest="output", metavar="NEW", required=required, help="the file to write")
+def add_output(to, required=True, about="the file to write"):
+    to.add_argument("-o", dest="output", metavar="NEW", required=required, help=about)
     to.add_argument("--force", action="store_true", help="replace NEW if it is there")
 
 
@@ -80,16 +86,26 @@ def add_today(to):
     to.add_argument("--today", metavar="DATE", default=datetime.date.today().isoformat(), help="the day to judge dates by (today)")
 
 
-def signs_kept(words):
-    """An input like -0.5mV/V is no option: a blank before it says so."""
-    return [" " + word if re.match(r"-[0-9.]", word) else word for word in words]
+def in_order(words):
+    """Options last, wherever they stand. An input like -0.5mV/V is none: a blank before it says so."""
+    options, others = [], []
+    left = iter(words)
+    for word in left:
+        if re.match(r"-[0-9.]", word):
+            others.append(" " + word)
+        elif word.startswith("-") and word != "-":
+            options.append(word)
+            options += [next(left, None)] if word in VALUED else []
+        else:
+            others.append(word)
+    return others + [word for word in options if word is not None]
 
 
 MODULES = {"set": "setting"}
 
 
 def answer(words):
-    given = parser().parse_args(signs_kept(words))
+    given = parser().parse_args(in_order(words))
     module = importlib.import_module("." + MODULES.get(given.command, given.command), __package__)
     with Console() as console:
         if getattr(given, "today", None):

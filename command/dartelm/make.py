@@ -1,21 +1,17 @@
 """make: an image from the lines of a sheet."""
-from . import fields, files, refusals, sheets
+from . import fields, files, refusals, sheets, singles
 from .console import Unknown
 from .fields import FIELDS
-from .image import BYTES, build, read_image, read_sheet
-from .trouble import ACCEPTED, Refusal, misused, refused, unread
-from .units import percent
+from .image import BYTES, STREAM_BITS, build, write_image
+from .trouble import ACCEPTED, Refusal, misused, refused
+from .units import percent, plain, split
 
 
 def run(console, given):
     files.must_be_new(given.output, given.force)
     draft = sheets.parsed(console, given.sheet, files.read_text(given.sheet), given.kind)
     image = made(console, draft)
-    files.write_new(given.output, image.data, given.force)
-    there = read_image(given.output)
-    stored = read_sheet(console, there)
-    if there.data != image.data:
-        raise unread(f"{given.output}: what stands in the file is not what was written")
+    stored = write_image(console, given.output, image, given.force)
     for line in nearest(console, draft, stored):
         print(line)
     print(f"{given.output}: written and read again, accepted: kind {stored.kind} ({BYTES[stored.kind]} bytes), {stored.bits} bits")
@@ -26,28 +22,40 @@ def made(console, draft):
     try:
         return build(console, draft.sheet)
     except Unknown:
-        if draft.sheet.curve() and not console.knows("segment", 1, "-", 0):
-            raise
         raise misused(f"{draft.name}: more than any chip holds") from None
     except Refusal as refusal:
-        raise refused(f"nothing is written: {where(console, draft, refusal)}: {refusals.headline(refusal)}") from None
+        where, word = about(console, draft, refusal)
+        room = f"; kind {draft.sheet.kind} has {STREAM_BITS[draft.sheet.kind]}" if refusal.number == 11 else ""
+        raise refused(f"nothing is written: {where}: {refusals.headline(refusal, word)}{room}") from None
 
 
-def where(console, draft, refusal):
-    """The line that a build's refusal is about. A place may be a field's number or a point's: without points it is a field's."""
+def about(console, draft, refusal):
+    """The line that a build's refusal is about, and which of its row's cases it is. A place may be a field's number or a point's:
+    without points it is a field's."""
     sheet = draft.sheet
-    last = len(FIELDS[sheet.template])
-    if refusal.number in (9, 10):
-        try:
-            build(console, sheet.bare_with_text())
-        except Refusal as alone:
-            if (alone.number, alone.place) == (refusal.number, refusal.place):
-                return draft.at("text" if refusal.place > last else refusal.place)
+    if refusal.number in (9, 10) and refused_alike(console, sheet.bare_with_text(), refusal):
+        if refusal.place > len(FIELDS[sheet.template]):
+            return draft.at("text"), "character"
+        return draft.at(refusal.place), refusals.about(sheet.values[refusal.place])
     if refusal.number in (7, 10, 22) and sheet.points:
-        return draft.at(("point", refusal.place))
-    if refusal.number == 24 and ("term", refusal.place) in draft.lines:
-        return draft.at(("term", refusal.place))
-    return draft.name
+        return draft.at(("point", refusal.place)), "figure"
+    if refusal.number in (10, 24) and sheet.curve():
+        return draft.at(curve_line(console, draft, refusal)), None
+    return draft.name, None
+
+
+def curve_line(console, draft, refusal):
+    """A place may be a segment's index or a term's: with terms that are right it is a segment's."""
+    alike = refused_alike(console, draft.sheet.with_plain_terms(), refusal)
+    return "segment" if alike else "term", refusal.place
+
+
+def refused_alike(console, sheet, refusal):
+    try:
+        build(console, sheet)
+    except Refusal as other:
+        return (other.number, other.place) == (refusal.number, refusal.place)
+    return False
 
 
 def nearest(console, draft, stored):
@@ -64,6 +72,10 @@ def nearest(console, draft, stored):
     for index, (was, now) in enumerate(zip(wanted.segments, stored.segments)):
         if was != now:
             yield f"segment {index}: {percent(was[0])}, stored as {percent(now[0])} (nearest step)"
+    for index, (_, text) in enumerate(draft.terms):
+        was, now = plain(split(text.split(",")[1])[0]), plain(singles.digits(int(stored.terms[index][1], 16)))
+        if was != now:
+            yield f"term {index}: {was}, stored as {now} (nearest step)"
 
 
 def pair(point):

@@ -2,8 +2,9 @@
 import html
 import math
 
-WIDTH, HEIGHT = 720, 215
+WIDTH, HEIGHT = 720, 220
 LEFT, RIGHT, TOP, BOTTOM = 112, 14, 14, 52
+MANY = 40
 
 
 def ticks(low, high):
@@ -62,13 +63,9 @@ class Panel:
         self.parts.append(f'<polyline class="line" points="{points}"/>')
 
     def dots(self, places):
+        size = 3.5 if len(places) <= MANY else 1.5
         for x, y in places:
-            self.parts.append(f'<circle class="dot" cx="{self.x(x):.1f}" cy="{self.y(y):.1f}" r="3.5"/>')
-
-    def sticks(self, places):
-        """From nought to each figure, so that points are told apart without a line between them."""
-        for x, y in places:
-            self.straight("stick", self.x(x), self.x(x), self.y(0), self.y(y))
+            self.parts.append(f'<circle class="dot" cx="{self.x(x):.1f}" cy="{self.y(y):.1f}" r="{size}"/>')
 
     def svg(self):
         title = html.escape(self.title, quote=True)

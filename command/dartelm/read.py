@@ -2,21 +2,21 @@
 from . import fields, readings, refusals
 from .image import open_image
 from .trouble import ACCEPTED, REFUSED, Refusal, misused, refused
-from .units import RATIO, counted, figure_of, float_text, in_unit, percent, uncounted
+from .units import RATIO, counted, figure_of, in_unit, percent, uncounted
 
 MOST = 10000
 
 
 def run(console, given):
-    asked = [input_of(word) for word in given.inputs]
     if given.table is not None and not 2 <= given.table <= MOST:
         raise misused(f"--table takes 2 to {MOST} inputs")
-    if not asked and given.table is None:
+    if not given.inputs and given.table is None:
         raise misused("read takes an input like 1.0mV/V, or --table N")
     image, sheet = open_image(console, given.file)
     refusal = readings.why_no_reading(console, sheet, image, given.dash)
     if refusal:
         raise refused(f"{given.file}: {readings.no_reading_text(sheet, refusal)}")
+    asked = [input_of(word) for word in given.inputs]
     if given.table is not None:
         asked += readings.evenly(readings.ends_of(sheet), given.table)
     taken = readings.take(console, sheet, image, asked, given.dash)
@@ -41,7 +41,7 @@ def cells_of(sheet, by, asked, taken):
             yield shown, refusals.headline(one), "", ""
         elif sheet.curve():
             yield (shown, readings.figure_text(one.figure, unit, prefix), percent(one.fraction),
-                   in_unit(float_text(one.figure - one.straight, 6), unit, prefix, True))
+                   readings.curve_text(sheet, one, unit, prefix))
         else:
             yield shown, readings.figure_text(one.figure, unit, prefix), percent(one.fraction), percent(one.correction, True)
 

@@ -7,7 +7,7 @@ from .fields import MISSING, bits, from_bits, is_single, whole
 from .image import Sheet, build
 from .refusals import headline
 from .trouble import Refusal
-from .units import float_text, in_unit, uncounted
+from .units import float_text, in_unit, rounded, uncounted
 
 WHOLE_SPAN = 1_000_000_000
 
@@ -29,12 +29,11 @@ class Ruler:
         return [None if isinstance(got, Refusal) else got[1] for got in self.console.readings(self.image, places)]
 
     def place(self, figure):
-        """The place whose figure is nearest to one that is given, found by halving; None where it is outside."""
-        ends = self.figures((0, WHOLE_SPAN))
-        rising = ends[0] <= ends[1]
+        """The place whose figure is nearest to one that is given, found by halving; None where it is outside, or there is no span."""
         low, high = -WHOLE_SPAN // 10, WHOLE_SPAN + WHOLE_SPAN // 10
         first, last = self.figures((low, high))
-        if not min(first, last) <= figure <= max(first, last):
+        rising = first < last
+        if first == last or not min(first, last) <= figure <= max(first, last):
             return None
         while low + 1 < high:
             middle = (low + high) // 2
@@ -121,7 +120,19 @@ def figure_text(figure, unit, prefix):
     return in_unit(float_text(figure), unit, prefix)
 
 
+def curve_text(sheet, one, unit, prefix):
+    """What a curve adds, to a billionth of the greater end's power of ten."""
+    figure = one.figure - one.straight
+    if not math.isfinite(figure):
+        return str(figure)
+    return in_unit(rounded(figure, greater_end(sheet).adjusted() - 9), unit, prefix, True)
+
+
+def greater_end(sheet):
+    return max(abs(singles.digits(bits(value))) for value in (sheet.values[7], sheet.values[8]) if value != MISSING)
+
+
 def sheet_prefix(sheet, unit):
     """One prefix for all physical figures of a sheet, which suits its greater end."""
-    ends = [abs(singles.digits(bits(value))) for value in (sheet.values[7], sheet.values[8]) if value != MISSING]
-    return unit.prefix_for(max(ends)) if ends else ""
+    missing = sheet.values[7] == sheet.values[8] == MISSING
+    return "" if missing else unit.prefix_for(greater_end(sheet))

@@ -6,7 +6,7 @@ from .console import HOME
 
 # What a place is, where a number has one sort of place alone.
 PLACES = {2: "page", 3: "bit", 4: "bit", 5: "bit", 6: "bit", 8: "number", 11: "bits", 12: "field", 13: "field", 16: "length",
-          18: "bytes", 19: "field", 20: "field", 21: "field", 23: "points"}
+          18: "bytes", 19: "field", 20: "field", 21: "field", 23: "points", 25: "terms", 26: "ticks"}
 
 # A line is read at a glance up to so many characters.
 LONG = 110
@@ -39,19 +39,37 @@ def advice(refusal):
     return re.sub(r"^(bench|restorer):\s*", "", said.strip()).rstrip(". ")
 
 
-def headline(refusal):
-    """Number, place and meaning on a line, the meaning's first sentence."""
+def headline(refusal, word=None):
+    """Number, place and meaning on a line: of the meaning its first sentence, or the part that has a word."""
     place = PLACES.get(refusal.number, "place")
-    said = shortened(meaning(refusal))
+    said = part_with(meaning(refusal), word) if word else shortened(meaning(refusal))
     return f"refused: {refusal.number} at {place} {refusal.place}" + (f": {said}" if said else "")
+
+
+def about(value):
+    """The word that tells which of a row's cases a refused value is one of."""
+    return {"m": "missing", "s": "Single"}.get(value[0], "figure")
 
 
 def shortened(text):
     """Up to the first sentence's end; where that is long, up to a colon. What stands in brackets is not cut."""
-    ends = [len(text)] + [found.start() for found in re.finditer(r"\. |; ", text) if outside(text, found.start())]
-    first = text[:min(ends)]
-    colons = [found.start() for found in re.finditer(": ", first) if outside(first, found.start())]
-    return first[:colons[0]] if len(first) > LONG and colons else first
+    first = parts(text, r"\. |; ")[0]
+    return parts(first, ": ")[0] if len(first) > LONG else first
+
+
+def part_with(text, word):
+    first = shortened(text)
+    return next((part for part in parts(first, ", ") if word in part), first)
+
+
+def parts(text, marks):
+    """A text cut at marks that stand outside brackets."""
+    found, start = [], 0
+    for mark in re.finditer(marks, text):
+        if outside(text, mark.start()):
+            found.append(text[start:mark.start()])
+            start = mark.end()
+    return found + [text[start:]]
 
 
 def outside(text, at):

@@ -1,6 +1,7 @@
 """report: one page in HTML that needs nothing else, for a screen, a printer or a file."""
 import hashlib
 import html
+import re
 
 from . import certificate, fields, files, readings, refusals, show, version, why
 from .image import Image, read_sheet, refusal_of
@@ -20,8 +21,8 @@ p { margin: .3em 0; }
 .verdict { border: 2px solid #000; padding: .4em .7em; margin: .8em 0; font-weight: bold; }
 .look { border-left: 6px double #000; padding-left: .6em; }
 table { border-collapse: collapse; width: 100%; margin-top: .6em; }
-td, th { text-align: left; vertical-align: top; padding: .12em .6em .12em 0; border-bottom: 1px solid #bbb; }
-td.n, th.n { text-align: right; white-space: nowrap; }
+td, th { text-align: right; vertical-align: top; padding: .12em 0 .12em .6em; border-bottom: 1px solid #bbb; white-space: nowrap; }
+.wide { overflow-x: auto; }
 .fields { columns: 2; column-gap: 2em; }
 .fields p { break-inside: avoid; display: flex; justify-content: space-between; gap: 1em; }
 .fields p { border-bottom: 1px solid #bbb; margin: 0; padding: .12em 0; }
@@ -37,20 +38,19 @@ svg .zero { stroke: #000; stroke-width: 1; stroke-dasharray: 2 3; }
 svg .frame { fill: none; stroke: #000; stroke-width: 1; }
 svg .line { fill: none; stroke: #000; stroke-width: 1.8; }
 svg .dot { fill: #fff; stroke: #000; stroke-width: 1.6; }
-svg .stick { stroke: #000; stroke-width: 1.2; }
 svg .band { fill: #e4e4e4; stroke: #000; stroke-width: 1; stroke-dasharray: 7 4; }
 figure { margin: .4em 0 0; break-inside: avoid; }
 figcaption { font-size: .9em; margin-top: -.4em; }
 footer { margin-top: 1.6em; border-top: 1px solid #000; font-size: .85em; overflow-wrap: anywhere; }
 @media (max-width: 40em) {
   .fields, .points { columns: 1; } body { margin-top: .5em; } svg text { font-size: 18px; } figcaption { margin-top: .2em; }
-  td.n, th.n { white-space: normal; font-size: .8em; }
+  td, th { white-space: normal; font-size: .72em; padding-left: .3em; }
 }
 @page { size: A4; margin: 10mm; }
 @media print {
   body { margin: 0; padding: 0; max-width: none; font-size: 10px; line-height: 1.25; } h2 { break-after: avoid; margin-top: .9em; }
   .points { columns: 3; } .fields { columns: 2; } svg { max-height: 52mm; } svg text { font-size: 10.5px; }
-  footer { margin-top: .8em; } td.n, th.n { white-space: nowrap; font-size: 1em; }
+  footer { margin-top: .8em; } td, th { white-space: nowrap; font-size: 1em; }
 }
 """
 
@@ -83,8 +83,8 @@ def document(title, body):
 
 
 def text(words):
-    """For a page; a figure and its per cent sign stay on one line."""
-    return html.escape(words).replace(" %", "\u00a0%")
+    """For a page; a figure and its unit stay on one line."""
+    return re.sub(r"(?<=[0-9]) (?=[%\w\u00b0])", "\u00a0", html.escape(words))
 
 
 def footer(given, data):
@@ -97,7 +97,7 @@ def footer(given, data):
 
 def refused_body(console, path, data, refusal):
     yield f'<p class="verdict">{text(refusals.headline(refusal).replace("refused", "REFUSED", 1))}</p>'
-    yield f"<pre>{text(chr(10).join(why.told(console, path, data)[1][1:]))}</pre>"
+    yield "<pre>" + html.escape("\n".join(why.told(console, path, data)[0][1:])) + "</pre>"
 
 
 def compared(console, image, sheet, path):
@@ -109,13 +109,14 @@ def sheet_body(console, given, image, sheet, against):
     by = fields.around(console, sheet)
     yield f'<p class="verdict">ACCEPTED: {text(show.summary(sheet))}</p>'
     if against:
-        yield f'<p class="verdict">Certificate {text(against.verdict())}</p>'
+        yield f'<p class="verdict">Certificate: {text(against.verdict())}</p>'
     for line in show.odd(console, sheet, image, by, show.today(console, given.today)):
         yield f'<p class="look">Look at: {text(line)}</p>'
     yield "<h2>Sheet</h2>"
     yield '<div class="fields">' + "".join(f"<p><b>{text((number + ' ' + name).strip())}</b><span>{text(value)}</span></p>"
                                            for number, name, value in show.rows(sheet, by)) + "</div>"
-    yield f"<p>{text('; '.join(show.dash_lines(console, sheet, image)))}</p>"
+    dashes = "; ".join(show.dash_lines(console, sheet, image))
+    yield f"<p>{text(dashes[:1].upper() + dashes[1:])}</p>"
     yield "<h2>Correction over the span</h2>"
     yield from correction_figure(console, sheet, image, by)
     if against:
@@ -127,7 +128,9 @@ def sheet_body(console, given, image, sheet, against):
             f"<p>{index}: {text(place)}{', ' + text(figure) if figure else ''}: {text(deviation)}</p>"
             for index, (place, figure, deviation, _) in enumerate(show.point_table(console, sheet, by))) + "</div>"
     if sheet.curve():
-        yield "<pre>" + text("\n".join(show.segment_lines(sheet))) + "</pre>"
+        first, *segments = show.segment_lines(sheet)
+        yield f"<h2>{text(first[:1].upper() + first[1:])}</h2>"
+        yield "".join(f"<p>{text(segment.strip())}</p>" for segment in segments)
 
 
 def feet(console, sheet, by):
@@ -142,57 +145,56 @@ def feet(console, sheet, by):
 
 
 def correction_figure(console, sheet, image, by):
-    if not sheet.points and not sheet.curve():
-        yield "<p>There are no calibration points: readings lie on the straight line between the ends.</p>"
-        return
     refusal = readings.why_no_reading(console, sheet, image)
-    dots = [(point / WHOLE_SPAN, deviation) for point, deviation in sheet.points]
+    dots = [] if sheet.domain == 1 else [(point / WHOLE_SPAN, deviation) for point, deviation in sheet.points]
     if refusal:
-        caption = f"Deviation at each stored point, in per cent of the span. A reading is {readings.no_reading_text(sheet, refusal)}."
+        no_reading = f"A reading is {readings.no_reading_text(sheet, refusal)}."
+        if not dots:
+            yield f"<p>{text(no_reading)}</p>"
+            return
+        caption = f"Deviation at each stored point, in per cent of the span. {no_reading}"
         yield figure(drawn("Deviations", dots, [], dots, percent_label, feet(console, sheet, by)), caption)
         return
     taken = readings.take(console, sheet, image, readings.evenly(readings.ends_of(sheet), SAMPLES))
+    below = feet(console, sheet, by)
     if sheet.curve():
         line = readings.curve_corrections(taken)
+        unit = by.unit()
         if not line:
             yield "<p>The curve's figures are not finite.</p>"
             return
-        unit = by.unit()
-        caption = f"Correction in {unit.name}, by {SAMPLES} readings over the span."
-
-        def label(y):
-            return in_unit(float_text(y, 4), unit, "", True)
-
-        yield figure(drawn("Correction", line, line, [], label, feet(console, sheet, by)), caption)
+        drawing = drawn("Correction", line, line, [], lambda y: in_unit(float_text(y, 4), unit, "", True), below)
+        yield figure(drawing, f"Line: figure shown minus the figure without the curve, in {unit.name}, by {SAMPLES} readings.")
         return
     line = [(one.position / WHOLE_SPAN, one.correction) for one in taken]
-    if sheet.domain == 1:
-        dots = []
     caption = f"Line: fraction shown minus position, in per cent of the span, by {SAMPLES} readings of the large dash."
-    caption += " Circles: the stored points." if dots else " The stored points are against the physical figure, below."
-    yield figure(drawn("Correction", line + dots, line, dots, percent_label, feet(console, sheet, by)), caption)
+    if not sheet.points:
+        caption += " There are no calibration points."
+    else:
+        caption += " Circles: the stored points." if dots else " The stored points are against the physical figure, below."
+    yield figure(drawn("Correction", line + dots, line, dots, percent_label, below), caption)
 
 
 def certificate_figure(console, sheet, by, against):
+    line = against.over(SAMPLES)
     dots = [(one.place / WHOLE_SPAN, float(one.difference)) for one in against.at]
-    others = [(one.place / WHOLE_SPAN, float(one.difference)) for one in against.between]
     distance = against.distance()
-    heights = [y for _, y in dots + others] + ([distance, -distance] if distance else [])
+    heights = [y for _, y in dots + line] + ([distance, -distance] if distance else [])
     panel = Panel("Chip minus certificate", heights, percent_label if max(map(abs, heights)) >= 1e5 else ppm_label)
     if distance:
         panel.band(distance)
     panel.axes(feet(console, sheet, by))
-    panel.sticks(dots)
+    panel.line(line)
     panel.dots(dots)
-    caption = "Circles: the chip's fraction minus the certificate's line at each of its points (1 ppm of the span is 0.0001 %)."
+    caption = f"Line: the chip minus the certificate, of the span, by {SAMPLES} readings; 1 ppm is 0.0001 %. Circles: the certificate's points."
     if distance:
         caption += (f" Grey band between broken lines: the proved distance, {percent(distance)} of the span "
-                    f"({against.physical(distance)}) either way.")
+                    f"({against.physical(distance, False)}) either way.")
     yield figure(panel.svg(), caption)
-    yield "<table><tr>" + "".join(f'<th class="n">{text(name)}</th>' for name in certificate.HEADS) + "</tr>"
+    yield '<div class="wide"><table><tr>' + "".join(f"<th>{html.escape(name)}</th>" for name in certificate.HEADS) + "</tr>"
     for cells in against.rows():
-        yield "<tr>" + "".join(f'<td class="n">{text(cell)}</td>' for cell in cells) + "</tr>"
-    yield "</table>"
+        yield "<tr>" + "".join(f"<td>{html.escape(cell)}</td>" for cell in cells) + "</tr>"
+    yield "</table></div>"
 
 
 def percent_label(billionths):

@@ -17,8 +17,8 @@ ENDINGS = (".kind0", ".kind1", ".kind2", ".bin", ".img")
 
 def run(console, given):
     paths, passed = found(given.files)
-    for path in passed:
-        print(f"dartelm: passed over, no image by its name or length: {path}", file=sys.stderr)
+    if passed:
+        print(f"dartelm: passed over, no image by name or length: {', '.join(passed)}", file=sys.stderr)
     if not paths:
         raise misused("there is no image in " + ", ".join(given.files))
     images = [Image(read_bytes(path)) for path in paths]
@@ -42,7 +42,7 @@ def run(console, given):
 
 
 def found(names):
-    """The files that are asked for, and those of a folder; of a folder what is no image by name and length is passed over."""
+    """The files that are asked for, and those of a folder, which are passed over where neither name nor length is an image's."""
     paths, passed = [], []
     for name in names:
         if not os.path.isdir(name):
@@ -72,8 +72,6 @@ def judged(images):
 def report(tray):
     """The tray program's report on a tray."""
     program = os.path.join(HOME, "bin", "tray")
-    if not os.path.exists(program):
-        raise unread("there is no tray program here (bin/tray)")
     try:
         done = subprocess.run([program], input=tray, stdout=subprocess.PIPE, check=False)
     except OSError as error:

@@ -125,3 +125,9 @@ def percent(billionths, sign=False):
 def float_text(figure, digits=10):
     """A float's decimal digits, as a decimal."""
     return EXACT.create_decimal(format(figure, f".{digits}g"))
+
+
+def rounded(figure, exponent):
+    """A float to a power of ten, as a decimal."""
+    found = EXACT.create_decimal_from_float(figure)
+    return found.quantize(decimal.Decimal(1).scaleb(exponent), context=EXACT) if found.adjusted() >= exponent else decimal.Decimal(0)

@@ -1,41 +1,99 @@
 """why: each page's verdict, what the whole pages still say, the likely cause, and what to do."""
 import re
 
-from . import refusals
+from . import dumps, files, refusals
 from .fields import FIELDS, MISSING, Around, whole
 from .files import read_bytes
-from .image import BYTES, KINDS, Image, Sheet, build, read_sheet, refusal_of
+from .image import BYTES, KINDS, Image, Sheet, build, read_sheet, refusal_of, write_image
 from .show import summary
-from .trouble import ACCEPTED, REFUSED, Refusal
+from .trouble import ACCEPTED, REFUSED, Refusal, refused
 
 PAGE = 32
 REGISTER = 8
 GOOD, WRONG, BLANK = "adds up", "does not add up", "blank (every byte FF)"
 CUT = "is not there whole"
+WHOLE = "to do: read the chip again, whole: 40 bytes (register first) are kind 0, 128 kind 1, 512 kind 2"
 FULL = {33: 2, 32: 3}
 # The first bit behind the first template's number: a sheet that is refused before it has no template that is known.
 BEHIND_TEMPLATE = 74
 
 
 def run(console, given):
-    data = read_bytes(given.file)
-    accepted, lines = told(console, given.file, data)
+    if given.output:
+        files.must_be_new(given.output, given.force)
+    lines, found = told(console, given.file, read_bytes(given.file))
     print("\n".join(lines))
-    return ACCEPTED if accepted else REFUSED
+    if not given.output:
+        return ACCEPTED if found and not found.inside else REFUSED
+    if not found:
+        raise refused(f"nothing is written: there is no accepted image in {given.file}")
+    sheet = write_image(console, given.output, found.image, given.force)
+    print(f"{given.output}: written and read again, accepted, {summary(sheet)}")
+    return ACCEPTED
+
+
+class Found:
+    """An accepted image: the file's bytes, or what stands inside them."""
+
+    def __init__(self, image, inside):
+        self.image = image
+        self.inside = inside
 
 
 def told(console, path, data):
-    """Whether the check accepts a file's bytes, and what there is to say of them."""
+    """What there is to say of a file's bytes, and the accepted image that they are or hold; None where there is none."""
     image = Image(data)
     refusal = refusal_of(console, image)
-    if len(data) not in KINDS:
-        return False, [f"{path}: {refusals.headline(refusal)}", *wrong_length(console, path, data)]
-    found = verdicts(console, image)
     if refusal is None:
         accepted = f"{path}: accepted, {summary(read_sheet(console, image))}"
-        return True, [accepted, *page_lines(image, found), "nothing is wrong with it"]
-    return False, [f"{path}: {refusals.headline(refusal)}", *page_lines(image, found), *place_lines(console, image, found, refusal),
-                   *still_lines(console, image, found), *cause_lines(console, path, image, found, refusal)]
+        return [accepted, *page_lines(image, verdicts(console, image)), "nothing is wrong with it"], Found(image, False)
+    lines = [f"{path}: {refusals.headline(refusal)}"]
+    dump = dumps.bytes_of(data)
+    if dump and len(dump) in KINDS:
+        more, found = dump_told(console, path, Image(dump))
+        return lines + more, found
+    if len(data) in KINDS:
+        found = verdicts(console, image)
+        lines += [*page_lines(image, found), *place_lines(console, image, found, refusal), *still_lines(console, image, found)]
+    other = other_kind(console, data)
+    if other:
+        size = len(other.data)
+        return lines + [f"likely: another kind's image: the first {size} bytes are an accepted one of kind {other.kind}",
+                        to_write(path, other)], Found(other, True)
+    if dump:
+        lines += [f"likely: a dump in hexadecimal text, of {len(dump)} bytes, which no chip has; {wanted(len(dump))}", WHOLE]
+    elif dumps.text_of(data) is not None:
+        lines += text_lines(path, dumps.text_of(data))
+    else:
+        lines += cause_lines(image, found, refusal) if len(data) in KINDS else length_lines(console, data)
+    return lines, None
+
+
+def dump_told(console, path, image):
+    """The bytes of a dump, judged as an image."""
+    refusal = refusal_of(console, image)
+    likely = f"likely: a dump in hexadecimal text, of {len(image.data)} bytes, which is kind {image.kind}; as an image it is "
+    if refusal is None:
+        return [likely + "accepted", to_write(path, image)], Found(image, True)
+    found = verdicts(console, image)
+    return [likely + refusals.headline(refusal), *page_lines(image, found), *place_lines(console, image, found, refusal),
+            *still_lines(console, image, found), *cause_lines(image, found, refusal)], None
+
+
+def to_write(path, image):
+    return f"to do: 'dartelm why {path} -o NEW.kind{image.kind}' writes it as an image"
+
+
+def text_lines(path, text):
+    if re.search(r"^\s*template\s*=", text, re.MULTILINE):
+        yield "likely: a sheet as 'dartelm export' writes it, and no chip's bytes"
+        yield f"to do: 'dartelm make {path} -o NEW' makes an image from it"
+    elif "deviation" in text.lower():
+        yield "likely: a certificate, and no chip's bytes"
+        yield f"to do: 'dartelm certificate IMAGE {path}' holds an image against it"
+    else:
+        yield "likely: a text, and no chip's bytes"
+        yield WHOLE
 
 
 def page_lines(image, found):
@@ -88,6 +146,9 @@ class Places:
         data = bytes.fromhex(self.index)
         pairs = [(int.from_bytes(data[n:n + 2], "little"), int.from_bytes(data[n + 2:n + 4], "little")) for n in range(0, size, 4)]
         self.pairs = dict(enumerate(pairs, 1))
+
+    def end(self):
+        return sum(self.pairs[len(self.pairs)])
 
     def field_at(self, bit):
         return next((number for number, (offset, _) in self.pairs.items() if offset == bit), None)
@@ -160,20 +221,21 @@ def place_lines(console, image, found, refusal):
         stands = f"page {byte // (PAGE - 1)}, byte {byte % (PAGE - 1) + 1}"
     known = layout(console, image, found)
     number = (known[1] if known else Places(console, 33, 0)).field_at(refusal.place)
-    name = f": {FIELDS[known[0] if known else 33][number - 1].name}" if number and (known or number <= 5) else ""
+    name = ""
+    if number and (known or number <= 5):
+        name = f": {FIELDS[known[0] if known else 33][number - 1].name}"
+    elif known and refusal.place >= known[1].end():
+        name = ", behind the fields: in the calibration points, the curve or the ending"
     yield f"  bit {refusal.place} is bit {refusal.place % 8} of {stands}{name}"
 
 
-def cause_lines(console, path, image, found, refusal):
+def cause_lines(image, found, refusal):
     """The likely cause and what to do, then what docs/REFUSALS.md says of the number."""
-    other = other_kind(console, path, image.data)
     if refusal.number == 17:
         yield "likely: a new chip, to which nothing has been written (or a reader that had no contact: read it again)"
     elif not any(image.data):
         yield "likely: every byte is 0: the reader had no contact, or the chip was wiped"
         yield "to do: read the chip again; if it stays, it holds no sheet: 'dartelm make' one"
-    elif other:
-        yield f"likely: another kind's image: {other}"
     elif found.count(GOOD) == len(found):
         yield "likely: a whole chip whose sheet was written wrongly, or for another device: the pages add up"
     elif len(found) > 1 and found.count(GOOD) == len(found) - 1:
@@ -193,34 +255,18 @@ def bad(found):
     return [page for page, verdict in enumerate(found) if verdict != GOOD]
 
 
-def other_kind(console, path, data):
-    """Another kind whose image stands at the beginning and is accepted."""
+def other_kind(console, data):
+    """An image of another kind that stands at the beginning and is accepted; None where there is none."""
     for kind, size in BYTES.items():
-        if size < len(data):
-            image = Image(data[:size], kind)
-            if refusal_of(console, image) is None:
-                return f"the first {size} bytes are an accepted one of kind {kind}: head -c {size} {path} > NEW.kind{kind}"
+        image = Image(data[:size], kind)
+        if size < len(data) and refusal_of(console, image) is None:
+            return image
     return None
 
 
-def wrong_length(console, path, data):
-    """Why a file is no image: text, cut short, too long, a dump without check bytes."""
+def length_lines(console, data):
+    """Bytes of a length that no chip has: cut short, too long, without check bytes."""
     size = len(data)
-    text = dumped(data)
-    if text is not None and len(text) in KINDS:
-        kind = KINDS[len(text)]
-        said = refusal_of(console, Image(text, kind))
-        yield f"likely: a dump in hexadecimal text, of {len(text)} bytes, which is kind {kind}; as an image it is " + (
-            refusals.headline(said) if said else "accepted")
-        yield f"to do: turn it into bytes: xxd -r {'' if offsets(data) else '-p '}{path} NEW.kind{kind}"
-        return
-    if text is not None and len(text) > 8:
-        yield f"likely: a dump in hexadecimal text, of {len(text)} bytes, which no chip has; {wanted(len(text))}"
-        return
-    other = other_kind(console, path, data)
-    if other:
-        yield f"likely: another kind's image: {other}"
-        return
     if size == 0:
         yield "likely: nothing was read: the file is empty"
     elif size in (39, 124, 496):
@@ -232,7 +278,7 @@ def wrong_length(console, path, data):
         yield f"likely: cut short, or with bytes too many: {wanted(size)}"
     else:
         yield f"likely: no chip's image: {wanted(size)}"
-    yield "to do: read the chip again, whole: 40 bytes (register first) are kind 0, 128 kind 1, 512 kind 2"
+    yield WHOLE
 
 
 def cut_lines(console, data):
@@ -250,23 +296,3 @@ def cut_lines(console, data):
 def wanted(size):
     above = next((chip for chip in sorted(KINDS) if chip > size), None)
     return f"{size} bytes are {above - size} fewer than {above}" if above else f"{size} bytes are more than the largest chip's 512"
-
-
-HEX_LINE = re.compile(rb"\s*(?:[0-9a-fA-F]{1,8}:\s)?\s*((?:(?:0x)?[0-9a-fA-F]{2}[\s,;:]*)+)(?:\s\s.*)?")
-
-
-def offsets(data):
-    return re.match(rb"\s*[0-9a-fA-F]{1,8}:\s", data) is not None
-
-
-def dumped(data):
-    """The bytes of a dump in text: hexadecimal digits, with or without offsets before and letters behind; None if it is none."""
-    found = bytearray()
-    for line in data.splitlines():
-        if not line.strip():
-            continue
-        part = HEX_LINE.fullmatch(line)
-        if not part:
-            return None
-        found += bytes.fromhex(re.sub(rb"0x|[^0-9a-fA-F]", b"", part.group(1)).decode("ascii"))
-    return bytes(found) if found else None
