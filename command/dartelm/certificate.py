@@ -192,11 +192,12 @@ class Against:
         named = list(named)
         span = self.high - self.low
         inputs = [self.low + math.floor(Fraction(place * span, WHOLE_SPAN) + Fraction(1, 2)) for _, place in named]
-        found = zip(named, inputs, self.console.readings(self.image, inputs), self.wanted(inputs))
-        return [self.one(*name, given, reading, wanted) for name, given, reading, wanted in found if not isinstance(reading, Refusal)]
+        found = zip(named, inputs, self.fractions(inputs), self.wanted(inputs))
+        return [At(*name, given, *reading, wanted) for name, given, reading, wanted in found if not isinstance(reading, Refusal)]
 
-    def one(self, name, place, given, reading, wanted):
-        return At(name, place, given, *reading, wanted)
+    def fractions(self, inputs):
+        """What the chip shows at inputs: fraction and figure, or a refusal."""
+        return self.console.readings(self.image, inputs)
 
     def wanted(self, inputs):
         """What the certificate has at inputs, in billionths: its line, where a reading says that they lie."""
@@ -312,11 +313,14 @@ class AgainstTwin(Against):
 class AgainstCurve(Against):
     """Of a curve the fraction is the position, and the figure tells where the chip is: at the place that has it without a curve."""
 
-    def one(self, name, place, given, reading, wanted):
-        there = self.ruler.place(Fraction(reading[1])) if math.isfinite(reading[1]) else None
-        if there is None:
-            raise refused(f"at {percent(place)} the chip's curve gives a figure more than a tenth outside the span")
-        return At(name, place, given, there, reading[1], wanted)
+    def fractions(self, inputs):
+        found = super().fractions(inputs)
+        figures = [one[1] for one in found if not isinstance(one, Refusal)]
+        places = self.ruler.places([Fraction(figure) for figure in figures]) if all(map(math.isfinite, figures)) else [None]
+        if None in places:
+            raise refused("the chip's curve gives a figure more than a tenth outside the span")
+        left = iter(places)
+        return [one if isinstance(one, Refusal) else (next(left), one[1]) for one in found]
 
     def within(self, one):
         return True

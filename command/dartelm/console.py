@@ -33,6 +33,15 @@ def parsed(answer, command=""):
     return words
 
 
+def refusal_in(answer):
+    """The refusal that an answer is; None where it is accepted."""
+    try:
+        parsed(answer)
+    except Refusal as refusal:
+        return refusal
+    return None
+
+
 class Console:
     def __init__(self, home=HOME):
         program = os.path.join(home, "bin", "console")

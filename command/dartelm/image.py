@@ -1,8 +1,8 @@
 """A chip's image, and the whole sheet that stands in it, as the proved calls read it."""
-from .console import hexadecimal, listed, parsed
+from .console import hexadecimal, listed, parsed, refusal_in
 from .files import read_bytes, write_new
 from .refusals import headline
-from .trouble import Refusal, refused, unread
+from .trouble import refused, unread
 
 BYTES = {0: 40, 1: 128, 2: 512}
 STREAM_BITS = {0: 312, 1: 992, 2: 3968}
@@ -112,11 +112,7 @@ def open_image(console, path):
 
 def refusal_of(console, image):
     """None where a check accepts the image."""
-    try:
-        console.ask("check", image)
-    except Refusal as refusal:
-        return refusal
-    return None
+    return refusal_in(console.ask_all([f"check {image}"])[0])
 
 
 def write_image(console, path, image, force):

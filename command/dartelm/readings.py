@@ -10,6 +10,8 @@ from .trouble import Refusal
 from .units import float_text, in_unit, rounded, uncounted
 
 WHOLE_SPAN = 1_000_000_000
+# How far outside the span a reading is taken, at either end.
+OUTSIDE = WHOLE_SPAN // 10
 
 
 class Ruler:
@@ -29,19 +31,23 @@ class Ruler:
         return [None if isinstance(got, Refusal) else got[1] for got in self.console.readings(self.image, places)]
 
     def place(self, figure):
-        """The place whose figure is nearest to one that is given, found by halving; None where it is outside, or there is no span."""
-        low, high = -WHOLE_SPAN // 10, WHOLE_SPAN + WHOLE_SPAN // 10
-        first, last = self.figures((low, high))
-        rising = first < last
-        if first == last or not min(first, last) <= figure <= max(first, last):
-            return None
-        while low + 1 < high:
-            middle = (low + high) // 2
-            found = self.figures((middle,))[0]
-            if (found <= figure) == rising:
-                low = middle
-            else:
-                high = middle
+        return self.places([figure])[0]
+
+    def places(self, figures):
+        """For each figure the place whose own is nearest, found by halving, all of them a step at a time; None for one that is
+        more than a tenth outside, or where there is no span."""
+        first, last = self.figures((-OUTSIDE, WHOLE_SPAN + OUTSIDE))
+        least, greatest = min(first, last), max(first, last)
+        ends = {n: (-OUTSIDE, WHOLE_SPAN + OUTSIDE) for n, figure in enumerate(figures) if first != last and least <= figure <= greatest}
+        for _ in range((WHOLE_SPAN + 2 * OUTSIDE).bit_length()):
+            middles = {n: (low + high) // 2 for n, (low, high) in ends.items()}
+            for (n, middle), found in zip(middles.items(), self.figures(middles.values())):
+                low, high = ends[n]
+                ends[n] = (middle, high) if (found <= figures[n]) == (first < last) else (low, middle)
+        nearest = {n: self.nearer(figures[n], *pair) for n, pair in ends.items()}
+        return [nearest.get(n) for n in range(len(figures))]
+
+    def nearer(self, figure, low, high):
         below, above = (Fraction(found) for found in self.figures((low, high)))
         return low if abs(figure - below) <= abs(above - figure) else high
 

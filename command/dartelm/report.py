@@ -146,7 +146,7 @@ def feet(console, sheet, by):
 
 def correction_figure(console, sheet, image, by):
     refusal = readings.why_no_reading(console, sheet, image)
-    dots = [] if sheet.domain == 1 else [(point / WHOLE_SPAN, deviation) for point, deviation in sheet.points]
+    dots = [(point / WHOLE_SPAN, deviation) for point, deviation in sheet.points]
     if refusal:
         no_reading = f"A reading is {readings.no_reading_text(sheet, refusal)}."
         if not dots:
@@ -167,6 +167,7 @@ def correction_figure(console, sheet, image, by):
         yield figure(drawing, f"Line: figure shown minus the figure without the curve, in {unit.name}, by {SAMPLES} readings.")
         return
     line = [(one.position / WHOLE_SPAN, one.correction) for one in taken]
+    dots = dots if sheet.domain == 0 else []
     caption = f"Line: fraction shown minus position, in per cent of the span, by {SAMPLES} readings of the large dash."
     if not sheet.points:
         caption += " There are no calibration points."

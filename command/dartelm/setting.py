@@ -1,5 +1,6 @@
 """set: a copy of an image with some fields changed, through proposal and commit; all of them or none."""
 from . import fields, files, refusals
+from .console import refusal_in
 from .fields import field_named, is_single, whole
 from .image import Image, open_image, write_image
 from .trouble import ACCEPTED, Refusal, misused, refused, unread
@@ -75,11 +76,8 @@ def reason(console, image, sheet, field, value, text, level, refusal):
 
 def refusal_number(console, image, field, value, level):
     """Of a proposal; 0 where it is accepted."""
-    try:
-        console.ask("propose", image, field.number, value, level)
-    except Refusal as refusal:
-        return refusal.number
-    return 0
+    refusal = refusal_in(console.ask_all([f"propose {image} {field.number} {value} {level}"])[0])
+    return refusal.number if refusal else 0
 
 
 def range_text(console, image, sheet, field, level):

@@ -142,6 +142,9 @@ def curve_lines(console, sheet, image, by):
     """The correction over the span, by readings; of a resistance sender the points alone."""
     if not sheet.points and not sheet.curve():
         return
+    if sheet.template == 32 and sheet.curve():
+        yield "no curve is drawn: no reading is taken from a resistance sender"
+        return
     if sheet.template == 32:
         yield "deviation at each point, of the span (no reading is taken from a resistance sender):"
         yield from text_curve([(point / readings.WHOLE_SPAN, deviation) for point, deviation in sheet.points], tenths)

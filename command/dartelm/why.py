@@ -2,6 +2,7 @@
 import re
 
 from . import dumps, files, refusals
+from .console import refusal_in
 from .fields import FIELDS, MISSING, Around, whole
 from .files import read_bytes
 from .image import BYTES, KINDS, Image, Sheet, build, read_sheet, refusal_of, write_image
@@ -113,7 +114,8 @@ def verdicts(console, image):
     if image.kind == 0:
         return [verdict(refusal_of(console, image))]
     count = BYTES[image.kind] // PAGE
-    return [verdict(refusal_of(console, Image(page_bytes(image, page) * count, image.kind))) for page in range(count)]
+    asked = (f"check {Image(page_bytes(image, page) * count, image.kind)}" for page in range(count))
+    return [verdict(refusal_in(answer)) for answer in console.ask_all(asked)]
 
 
 def verdict(refusal):
@@ -188,23 +190,19 @@ def still_lines(console, image, found):
     known = layout(console, image, found)
     template, places, precision = known or (33, Places(console, 33, 0), 0)
     fields = FIELDS[template] if known else FIELDS[template][:5]
-    whole_image = mended(image, found)
+    standing = [field for field in fields if all(found[page] == GOOD for page in pages_of(image, *places.pairs[field.number]))]
     by = Around(console, template, None, precision)
     lines = []
-    for field in fields:
-        offset, length = places.pairs[field.number]
-        if any(found[page] != GOOD for page in pages_of(image, offset, length)):
-            continue
-        try:
-            value = console.ask("fetch", whole_image, places.index, field.number)[0]
-        except Refusal as refusal:
+    asked = (f"fetch {mended(image, found)} {places.index} {field.number}" for field in standing)
+    for field, answer in zip(standing, console.ask_all(asked)):
+        refusal = refusal_in(answer)
+        if refusal:
             lines.append(f"    {field.name}: bits that it cannot have ({refusal.number} at bit {refusal.place})")
             continue
         if field.number == 6:
-            by.measurand = whole(value)
-        if field.number in (7, 8) and by.measurand is None:
-            continue
-        lines.append(f"    {field.name}: {field.shown(value, by)}")
+            by.measurand = whole(answer)
+        if field.number not in (7, 8) or by.measurand is not None:
+            lines.append(f"    {field.name}: {field.shown(answer, by)}")
     if lines:
         yield "  whole pages still say (not to be measured by):"
         yield from lines

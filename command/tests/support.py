@@ -23,7 +23,8 @@ from dartelm import image as images  # noqa: E402
 from dartelm import main  # noqa: E402
 
 SAMPLES = os.path.join(HOME, "samples")
-ACCEPTED = ("brake-pressure.kind1", "load-cell.kind1", "many-points.kind2", "oil-pressure.kind0", "temperature.kind1", "torque.kind1")
+ACCEPTED = ("brake-pressure.kind1", "exhaust-pressure.kind1", "load-cell.kind1", "many-points.kind2", "oil-pressure.kind0", "temperature.kind1",
+            "torque.kind1")
 REFUSED = ("blank.kind1", "damaged.kind1")
 TODAY = ("--today", "2026-03-01")
 PROGRAM = os.path.join(HOME, "bin", "dartelm")
@@ -120,7 +121,7 @@ def stored_images():
 
 
 def built_images(count, seed):
-    """Random accepted images: every template, precision and kind, values missing, points of both domains, texts."""
+    """Random accepted images: every template, precision and kind, values missing, points of both domains, curves, texts."""
     chance = random.Random(seed)
     found = []
     while len(found) < count:
@@ -129,6 +130,26 @@ def built_images(count, seed):
         if answer.startswith("ok "):
             found.append(images.Image(bytes.fromhex(answer[3:]), sheet.kind))
     return found
+
+
+def sealed(data):
+    """An image's bytes with check bytes that are right."""
+    data = bytearray(data)
+    for page in range(8 if len(data) == 40 else 0, len(data), 32):
+        data[page] = (data[page] - sum(data[0 if len(data) == 40 else page:page + 32])) % 256
+    return bytes(data)
+
+
+def other_home(path, console):
+    """A home of its own with another console; what `dartelm` to run."""
+    os.makedirs(os.path.join(path, "bin"))
+    shutil.copytree(os.path.join(HOME, "command", "dartelm"), os.path.join(path, "command", "dartelm"), ignore=shutil.ignore_patterns("__pycache__"))
+    shutil.copy2(os.path.join(HOME, "bin", "dartelm"), os.path.join(path, "bin", "dartelm"))
+    if console:
+        with open(os.path.join(path, "bin", "console"), "w", encoding="utf-8") as file:
+            file.write(console)
+        os.chmod(os.path.join(path, "bin", "console"), 0o755)
+    return os.path.join(path, "bin", "dartelm")
 
 
 def random_single(chance):
@@ -165,8 +186,14 @@ def random_sheet(chance):
     sheet.values = dict(enumerate(values, 1))
     if chance.random() < 0.6:
         sheet.text = bytes(chance.randrange(1, 128) for _ in range(chance.randrange(12)))
-    if chance.random() < 0.6:
+    behind = chance.choice(("none", "points", "points", "curve"))
+    if behind == "points":
         sheet.domain = chance.randrange(2)
         codes = sorted(chance.sample(range(65535), chance.choice((1, 2, 5, 20))))
         sheet.points = [(15300 * code, chance.randrange(-2000, 2000) * 1000) for code in codes]
+    elif behind == "curve":
+        for code in [0] + sorted(chance.sample(range(1, 8130), chance.randrange(5))):
+            exponents = sorted(chance.sample(range(6), chance.randrange(1, 5)))
+            sheet.segments.append((123000 * code, len(exponents)))
+            sheet.terms += [(exponent, random_single(chance)[1:]) for exponent in exponents]
     return sheet

@@ -55,7 +55,7 @@ class Values(support.Case):
 
     def test_singles_are_understood_again(self):
         chance = support.random.Random(1)
-        for _ in range(3000):
+        for _ in range(1000):
             value = support.random_single(chance)
             self.again(33, 7, 0, value)
             self.again(33, 10, 2, value)

@@ -6,7 +6,6 @@ import sys
 import time
 from unittest import mock
 
-import doubles
 import support
 from dartelm import files
 from dartelm.trouble import Trouble
@@ -20,6 +19,18 @@ from dartelm import main
 os.{call} = lambda *_, **__: os.kill(os.getpid(), signal.{signal})
 sys.exit(main.main(sys.argv[1:]))
 """
+
+
+SLOW = '''#!/usr/bin/env python3
+import subprocess, sys, time
+inner = subprocess.Popen([{console!r}], stdin=subprocess.PIPE, stdout=subprocess.PIPE)
+for line in sys.stdin:
+    time.sleep(0.01)
+    inner.stdin.write(line.encode())
+    inner.stdin.flush()
+    sys.stdout.write(inner.stdout.readline().decode())
+    sys.stdout.flush()
+'''
 
 
 class Write(support.Case):
@@ -63,11 +74,12 @@ class Write(support.Case):
                 self.assertEqual(os.listdir(self.room), ["sheet"], (call, name, words[0]))
 
     def test_killed_while_the_console_answers(self):
-        program = doubles.room(os.path.join(self.room, "there"), console=doubles.SLOW, tray=None)
+        program = support.other_home(self.path("there"), SLOW.format(console=os.path.join(support.HOME, "bin", "console")))
         os.mkdir(self.path("out"))
         new = self.path("out/new")
-        for words in (("set", sample("load-cell.kind1"), "location=1", "-o", new), ("set", sample("load-cell.kind1"), "location=1", "-o", new, "--force")):
-            for delay in (0.1, 0.3, 0.6, 0.9):
+        sheet = self.file("sheet", self.gives(0, "export", sample("load-cell.kind1"))[0])
+        for words in (("set", sample("load-cell.kind1"), "location=1", "-o", new, "--force"), ("make", sheet, "-o", new)):
+            for delay in (0.12, 0.3, 0.5):
                 with subprocess.Popen([program, *words], stdout=subprocess.DEVNULL, stderr=subprocess.DEVNULL) as process:
                     time.sleep(delay)
                     process.send_signal(signal.SIGKILL)

@@ -30,7 +30,7 @@ class Noise(support.Case):
 
     def test_sheets_certificates_and_values(self):
         texts = [self.run_here("export", sample(name))[1] for name in ACCEPTED]
-        for _ in range(150):
+        for _ in range(100):
             self.ends("make", self.file("sheet", self.noisy(self.chance.choice(texts))), "-o", self.path("new"), "--force")
             self.ends("certificate", sample(self.chance.choice(ACCEPTED)), self.file("cert", self.noisy(self.chance.choice(CERTIFICATES))))
             self.ends("set", sample(self.chance.choice(ACCEPTED)), self.noisy(self.chance.choice(CHANGES)).replace("\x00", ""),
@@ -42,9 +42,7 @@ class Noise(support.Case):
             data = bytearray(sample_bytes(self.chance.choice(ACCEPTED)))
             for _ in range(self.chance.choice((1, 3, 30))):
                 data[self.chance.randrange(len(data))] = self.chance.choice((0, 255, self.chance.randrange(256)))
-            for page in range(8 if len(data) == 40 else 0, len(data), 32):
-                data[page] = (data[page] - sum(data[0 if len(data) == 40 else page:page + 32])) % 256
-            path = self.file("image", bytes(data))
+            path = self.file("image", support.sealed(data))
             statuses = [self.ends(*words) for words in (("why", path), ("show", path, "--curve", "--points"), ("export", path),
                                                         ("report", path, "-o", self.path("page"), "--force"))]
             self.assertEqual(len(set(statuses)), 1)

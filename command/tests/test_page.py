@@ -3,7 +3,6 @@ import os
 import re
 import subprocess
 
-import doubles
 import support
 
 
@@ -20,14 +19,12 @@ class Examples(support.Case):
                         yield line[2:], "".join(other + "\n" for other in below[:end])
 
     def test_each(self):
-        there = self.path("there")
-        doubles.room(there, console=doubles.CONSOLE if not support.console().knows("distance", "-") else doubles.SAME,
-                     tray=doubles.TRAY if not os.path.exists(os.path.join(support.HOME, "bin", "tray")) else doubles.SAME_TRAY)
-        os.symlink(support.SAMPLES, os.path.join(there, "samples"))
+        for name in ("bin", "samples"):
+            os.symlink(os.path.join(support.HOME, name), self.path(name))
         commands = list(self.blocks())
         self.assertGreater(len(commands), 10)
         for command, wanted in commands:
-            done = subprocess.run(command, shell=True, cwd=there, capture_output=True, text=True, check=False)
+            done = subprocess.run(command, shell=True, cwd=self.room, capture_output=True, text=True, check=False)
             self.assertEqual(done.stdout, wanted, command + done.stderr)
 
 

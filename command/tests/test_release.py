@@ -21,8 +21,9 @@ class Release(support.Case):
         there = os.path.join(self.path("there"), name)
         env = {**os.environ, "PATH": self.bare()}
         program = os.path.join(there, "bin", "dartelm")
-        for sample in ACCEPTED:
-            found, out, err = run_program("show", os.path.join(there, "samples", sample), program=program, env=env)
+        samples = [os.path.join(there, "samples", name) for name in ACCEPTED]
+        for words in (("show", *samples), ("tray", *samples), ("certificate", samples[2], os.path.join(there, "samples", "load-cell.csv"))):
+            found, out, err = run_program(*words, program=program, env=env)
             self.assertEqual((found, err), (0, ""), out)
         with open(os.path.join(there, "VERSION"), encoding="ascii") as file:
             self.assertIn(f"({file.read().strip()})", run_program("--version", program=program, env=env)[1])

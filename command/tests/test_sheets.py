@@ -17,13 +17,19 @@ class Again(support.Case):
             self.assertEqual(said.encode(), self.bytes(name + ".txt"))
 
     def test_random_images(self):
-        for image in support.built_images(300, 7):
-            text, same = export.exported(support.console(), image, read_sheet(support.console(), image))
-            self.assertTrue(same)
+        """Some hundreds, of every template, precision and kind, with points of both domains, with curves, and without."""
+        sorts = set()
+        for number, image in enumerate(support.built_images(400, 7)):
+            sheet = read_sheet(support.console(), image)
+            text = "\n".join(sheets.written(support.console(), sheet)) + "\n"
             draft = sheets.parsed(support.console(), "again", text)
             again = build(support.console(), draft.sheet)
             self.assertEqual(again.data, image.data, text)
-            self.assertEqual(list(make.nearest(support.console(), draft, read_sheet(support.console(), again))), [])
+            if number % 8 == 0:
+                self.assertEqual(export.exported(support.console(), image, sheet), (text, True))
+                self.assertEqual(list(make.nearest(support.console(), draft, read_sheet(support.console(), again))), [])
+            sorts |= {(sheet.template, sheet.values[9]), (sheet.kind,), (sheet.template, sheet.domain, sheet.curve())}
+        self.assertEqual(len(sorts), 3 + 4 + 3 + 2 * 4)
 
     def test_stored_images(self):
         """Bits behind the end are not the sheet's: where they are not 0 that is said, and the rest is the same."""

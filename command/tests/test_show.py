@@ -11,6 +11,7 @@ class Show(support.Case):
                             ("many-points.kind2", ("missing", "90 more", "large only")),
                             ("oil-pressure.kind0", ("294 of 312 bits", "1000 kPa", "no calibration points", "10.03 us")),
                             ("temperature.kind1", ("194 ohm", "1 mA", "472.48519 ms", "250 \u00b0C", "resistance sender")),
+                            ("exhaust-pressure.kind1", ("300 kPa", "a calibration curve of 2 segments and 5 terms", "1  from 49.9995 %: -0.3 x^0", "large and small")),
                             ("torque.kind1", ("500 Nm", "physical figure (domain 1)", "shown at 25.0402 %"))):
             for flags in ((), ("--curve",), ("--points",)):
                 said, wrong = self.gives(0, "show", sample(name), *flags, *TODAY, out=parts if "--points" not in flags else parts[:1])

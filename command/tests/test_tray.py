@@ -1,84 +1,62 @@
-"""tray: a line a chip. While there is no tray program, a stand-in answers."""
+"""tray: a line a chip, by the tray program."""
 import csv
 import io
 import os
 import shutil
-import tempfile
-import unittest
 
-import doubles
 import support
-from support import ACCEPTED, REFUSED, run_program, sample
+from support import ACCEPTED, sample
 
-BITS = {"brake-pressure.kind1": 589, "load-cell.kind1": 716, "many-points.kind2": 3967, "oil-pressure.kind0": 294, "temperature.kind1": 679, "torque.kind1": 574}
-THERE = os.path.exists(os.path.join(support.HOME, "bin", "tray"))
+BITS = {"brake-pressure.kind1": 589, "exhaust-pressure.kind1": 709, "load-cell.kind1": 716, "many-points.kind2": 3967, "oil-pressure.kind0": 294,
+        "temperature.kind1": 679, "torque.kind1": 574}
+TOTAL = sum(BITS.values())
 
 
-class Trays:
-    program = support.PROGRAM
-
-    def ends(self, status, *words):
-        found, out, err = run_program("tray", *words, program=self.program)
-        self.assertEqual(found, status, out + err)
-        self.assertNotIn("Traceback", out + err)
-        return out, err
-
+class Tray(support.Case):
     def test_files(self):
-        out, _ = self.ends(0, *map(sample, ACCEPTED))
+        out, _ = self.gives(0, "tray", *map(sample, ACCEPTED))
         for name, bits in BITS.items():
             self.assertRegex(out, rf"{name} +{bits} bits  serial [0-9]+\n")
-        self.assertTrue(out.endswith("6 chips: 6 accepted, 0 refused; total 6819 bits\n"))
+        self.assertTrue(out.endswith(f"7 chips: 7 accepted, 0 refused; total {TOTAL} bits\n"))
 
     def test_a_folder(self):
-        out, err = self.ends(1, support.SAMPLES)
+        out, err = self.gives(1, "tray", support.SAMPLES)
         self.assertIn("README.md", err)
-        self.assertIn("8 chips: 6 accepted, 2 refused; total 6819 bits", out)
-        for part in ("refused: 17: ", "refused: 2: ", "serial 555"):
+        for part in (f"9 chips: 7 accepted, 2 refused; total {TOTAL} bits", "refused: 17: ", "refused: 2: ", "serial 555"):
             self.assertIn(part, out)
 
     def test_csv(self):
-        out, err = self.ends(1, support.SAMPLES, "--csv")
+        out, err = self.gives(1, "tray", support.SAMPLES, "--csv")
         rows = list(csv.DictReader(io.StringIO(out)))
         self.assertEqual([row["bits"] for row in rows if row["bits"]], [str(BITS[name]) for name in sorted(BITS)])
         self.assertEqual([row["refused"] for row in rows if row["refused"]], ["17", "2"])
-        self.assertIn("8 chips", err)
+        self.assertIn("9 chips", err)
 
     def test_what_is_no_image(self):
-        out, _ = self.ends(1, self.file("cut.kind1", support.sample_bytes("load-cell.kind1")[:100]), sample("load-cell.kind1"), self.file("none", b""))
+        cut = self.file("cut.kind1", support.sample_bytes("load-cell.kind1")[:100])
+        out, _ = self.gives(1, "tray", cut, sample("load-cell.kind1"), self.file("none", b""))
         self.assertIn("3 chips: 1 accepted, 2 refused; total 716 bits", out)
         self.assertEqual(out.count("refused: 1: "), 2)
         os.mkdir(self.path("empty"))
-        self.ends(2, self.path("empty"))
-        self.ends(3, self.path("nope"))
+        self.gives(2, "tray", self.path("empty"), err="no image in")
+        self.gives(3, "tray", sample("load-cell.kind1"), self.path("nope"), err="cannot read")
+        self.gives(2, "tray", err="FILE")
 
     def test_many(self):
         os.mkdir(self.path("many"))
-        for number in range(self.many):
+        for number in range(401):
             shutil.copy(sample("oil-pressure.kind0" if number % 2 else "blank.kind1"), self.path(f"many/{number:04}"))
-        out, err = self.ends(1, self.path("many"))
-        self.assertIn(f"{self.many} chips: {self.many // 2} accepted, {self.many - self.many // 2} refused; total {self.many // 2 * 294} bits", out)
-        self.assertIn(f"200 of {self.many} chips", err)
+        self.gives(1, "tray", self.path("many"), out=f"401 chips: 200 accepted, 201 refused; total {200 * 294} bits", err=("200 of 401 chips", "401 of 401 chips"))
 
-
-@unittest.skipUnless(THERE, "there is no tray program yet")
-class Proved(Trays, support.Case):
-    many = 1201
-
-
-@unittest.skipIf(THERE, "there is a tray program")
-class WithStandIn(Trays, support.Case):
-    many = 201
-
-    @classmethod
-    def setUpClass(cls):
-        cls.there = tempfile.mkdtemp()
-        cls.addClassCleanup(shutil.rmtree, cls.there)
-        cls.program = doubles.room(os.path.join(cls.there, "repository"))
-
-    def test_without_it(self):
-        found, _, err = run_program("tray", *map(sample, REFUSED))
-        self.assertEqual((found, "no tray program" in err), (3, True))
+    def test_every_refusal_is_the_checks(self):
+        found = {}
+        for image in support.stored_images():
+            refusal = support.images.refusal_of(support.console(), image)
+            found.setdefault(refusal.number if refusal else 0, image)
+        for number, image in found.items():
+            out, _ = self.gives(1 if number else 0, "tray", self.file("one", image.data))
+            self.assertIn(f"refused: {number}: " if number else " bits  serial ", out)
 
 
 if __name__ == "__main__":
-    unittest.main()
+    support.unittest.main()

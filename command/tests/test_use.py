@@ -19,23 +19,32 @@ class Use(support.Case):
         out, _ = self.ends(0, "--help")
         for command in COMMANDS:
             self.assertIn(command, out)
-            self.assertIn("Ends with 0", self.ends(0, command, "--help")[0])
+            self.gives(0, command, "--help", out="Ends with 0")
         self.assertIn("Dartelm", self.ends(0, "--version")[0])
 
     def test_wrong_use(self):
-        for words in ((), ("shov", sample("load-cell.kind1")), ("show",), ("show", "--colour", sample("load-cell.kind1")), ("make", "sheet"), ("report", "f"), ("set", "f")):
-            out, err = self.ends(2, *words)
+        self.assertIn("usage: dartelm", self.ends(2)[1])
+        for words in (("shov", sample("load-cell.kind1")), ("show",), ("show", "--colour", sample("load-cell.kind1")), ("make", "sheet"), ("report", "f"), ("set", "f"),
+                      ("set", "f", "21=1", "-o"), ("export",), ("why",), ("tray",), ("certificate", "f"), ("make", "s", "-o", "n", "--kind", "3"), ("-o",)):
+            out, _ = self.gives(2, *words, err="usage: dartelm")
             self.assertEqual(out, "")
-            self.assertIn("usage: dartelm", err)
+
+    def test_options_stand_anywhere(self):
+        for words in (("show", "--today", "2026-03-01", sample("load-cell.kind1"), "--curve", sample("torque.kind1")),
+                      ("read", "--dash", "small", sample("load-cell.kind1"), "1mV/V", "--table", "3", "-0.1mV/V"),
+                      ("set", "-o", self.path("new"), sample("load-cell.kind1"), "--level", "maker", "13=351ohm", "--force", "serial=3"),
+                      ("report", sample("load-cell.kind1"), "-o", self.path("page"), sample("load-cell.csv"))):
+            self.gives(0, *words)
 
     def test_files_that_cannot_be_read(self):
-        for words in (("show", "nope"), ("why", "nope"), ("set", "nope", "21=1", "-o", "new"), ("read", "nope", "1mV/V"), ("export", "nope"), ("make", "nope", "-o", "new"),
-                      ("report", "nope", "-o", "new"), ("certificate", "nope", "nope"), ("show", support.SAMPLES), ("certificate", sample("load-cell.kind1"), "nope"),
-                      ("show", "")):
-            out, err = self.ends(3, *words)
+        new = self.path("new")
+        for words in (("show", "nope"), ("why", "nope"), ("set", "nope", "21=1", "-o", new), ("read", "nope", "1mV/V"), ("export", "nope"), ("make", "nope", "-o", new),
+                      ("report", "nope", "-o", new), ("certificate", "nope", "nope"), ("show", support.SAMPLES), ("certificate", sample("load-cell.kind1"), "nope"),
+                      ("show", ""), ("tray", "nope"), ("show", sample("load-cell.kind1"), "nope")):
+            out, err = self.gives(3, *words)
             self.assertRegex(err, r"^dartelm: cannot read [^\n]*\n$")
             self.assertEqual(out, "")
-        self.assertFalse(os.path.exists("new"))
+        self.assertEqual(os.listdir(self.room), [])
 
     def test_standard_input(self):
         out, _ = self.ends(0, "show", "-", data=support.sample_bytes("load-cell.kind1"))
@@ -70,15 +79,16 @@ class Use(support.Case):
         self.assertEqual((found, ": accepted" in out), (0, True))
 
     def test_no_console(self):
-        import doubles
-        program = doubles.room(os.path.join(self.room, "there"), console="#!/bin/sh\nexit 3\n", tray=None)
+        program = support.other_home(self.path("there"), "#!/bin/sh\nexit 3\n")
         self.assertIn("without an answer", self.ends(3, "show", sample("load-cell.kind1"), program=program)[1])
         os.unlink(os.path.join(self.room, "there/bin/console"))
         self.assertIn("cannot run", self.ends(3, "show", sample("load-cell.kind1"), program=program)[1])
+        self.assertIn("cannot run", self.ends(3, "tray", sample("load-cell.kind1"), program=program)[1])
 
-    def test_each_sample_as_a_program(self):
-        for name in ACCEPTED:
-            self.ends(0, "show", sample(name), "--curve")
+    def test_as_a_program(self):
+        self.ends(0, "show", *map(sample, ACCEPTED), "--curve")
+        self.ends(1, "show", sample("damaged.kind1"))
+        self.ends(3, "show", "nope")
 
 
 if __name__ == "__main__":
