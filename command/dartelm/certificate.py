@@ -6,16 +6,20 @@ import re
 from fractions import Fraction
 
 from . import fields, files, readings, refusals
-from .image import Sheet, build, open_image
+from .image import build, open_image
 from .measurands import CASES
 from .readings import WHOLE_SPAN
 from .trouble import ACCEPTED, REFUSED, Refusal, Trouble, misused, refused
 from .units import PERCENT, RATIO, counted, figure_of, float_text, in_unit, percent, split, uncounted
 
 FEW = 6
+LARGEST = 2
+BRACKETS = re.compile(r"[(\[]([^()\[\]]*)[)\]]\s*$")
+BEHIND = re.compile(r"\w[\s,]+(?:in\s+)?((?:%|\S+)(?: rms)?(?: of .*)?)$")
 HEADS = ("point", "at", "input", "certificate", "chip", "difference", "of the span")
 DEVIATION = {"deviation", "deviations", "correction", "corrections"}
-POINT = {"point", "points", "figure", "load", "applied"} | {word for name, _ in CASES for word in re.findall("[a-z]+", name.lower())}
+MEASURED = {word for name, _ in CASES for word in re.findall("[a-z]+", name.lower())}
+POINT = {"point", "points", "figure", "load", "applied"} | MEASURED
 COLUMNS = "columns like 'point (%)' and 'deviation (%)', or with the sender's unit in the brackets"
 
 
@@ -56,7 +60,7 @@ def read_certificate(console, sheet, path):
         for at, (_, row) in enumerate(rows):
             columns = columns_of(row)
             if columns:
-                return points_below(console, sheet, path, rows[at + 1:], columns, mark)
+                return points_below(console, sheet, path, rows[at + 1 :], columns, mark)
     raise misused(f"{path}: there are no {COLUMNS}")
 
 
@@ -86,7 +90,7 @@ def words_of(cell):
 
 def unit_in(head):
     """The unit in a column's head: between brackets, or behind the name."""
-    found = re.search(r"[(\[]([^()\[\]]*)[)\]]\s*$", head) or re.search(r"\w[\s,]+(?:in\s+)?((?:%|\S+)(?: rms)?(?: of .*)?)$", head)
+    found = BRACKETS.search(head) or BEHIND.search(head)
     word = found.group(1).strip() if found else ""
     word = re.sub(r"^(%|per cent|percent) (of )?(the )?(full )?span$", "%", word)
     return "" if word.lower() in POINT | DEVIATION else word
@@ -97,7 +101,8 @@ def points_below(console, sheet, path, rows, columns, mark):
     points = []
     for number, row in rows:
         try:
-            points.append(scale.pair(*(cell(row, *column, what, mark) for column, what in zip(columns, ("point", "deviation")))))
+            cells = (cell(row, *column, what, mark) for column, what in zip(columns, ("point", "deviation")))
+            points.append(scale.pair(*cells))
         except Trouble as trouble:
             raise Trouble(f"{path}:{number}: {trouble}", trouble.status) from None
     if not points:
@@ -193,7 +198,9 @@ class Against:
         span = self.high - self.low
         inputs = [self.low + math.floor(Fraction(place * span, WHOLE_SPAN) + Fraction(1, 2)) for _, place in named]
         found = zip(named, inputs, self.fractions(inputs), self.wanted(inputs))
-        return [At(*name, given, *reading, wanted) for name, given, reading, wanted in found if not isinstance(reading, Refusal)]
+        return [
+            At(*name, given, *reading, wanted) for name, given, reading, wanted in found if not isinstance(reading, Refusal)
+        ]
 
     def fractions(self, inputs):
         """What the chip shows at inputs: fraction and figure, or a refusal."""
@@ -244,9 +251,15 @@ class Against:
         far = sorted((one for one in self.own if not self.within(one)), key=lambda one: -abs(one.difference))
         for one in sorted(self.at + far[:FEW], key=lambda one: one.place):
             difference = round(one.difference)
-            yield (one.name, percent(one.place), in_unit(uncounted(one.input, -9), RATIO), self.figure(round(one.wanted)),
-                   readings.figure_text(one.figure, self.unit, self.prefix), self.physical(difference),
-                   percent(difference, True) + ("" if self.within(one) else " !"))
+            yield (
+                one.name,
+                percent(one.place),
+                in_unit(uncounted(one.input, -9), RATIO),
+                self.figure(round(one.wanted)),
+                readings.figure_text(one.figure, self.unit, self.prefix),
+                self.physical(difference),
+                percent(difference, True) + ("" if self.within(one) else " !"),
+            )
 
     def worst(self):
         one = max(self.all(), key=lambda one: abs(one.difference))
@@ -257,7 +270,8 @@ class Against:
     def beyond(self):
         """How many of each sort of points are too far off."""
         sorts = ((self.at, "the certificate's"), (self.own, "the chip's own"))
-        return " and at ".join(f"{sum(not self.within(one) for one in some)} of {whose} {len(some)} points" for some, whose in sorts if some)
+        counts = [(sum(not self.within(one) for one in some), whose, len(some)) for some, whose in sorts if some]
+        return " and at ".join(f"{far} of {whose} {count} points" for far, whose, count in counts)
 
 
 class AgainstTable(Against):
@@ -283,13 +297,13 @@ class AgainstTable(Against):
 
 
 class AgainstTwin(Against):
-    """A table against the physical figure has no proved distance: the chip is held against one that is made from the certificate.
-    A point's figure is shown at point plus deviation."""
+    """A table against the physical figure has no proved distance: the chip is held against one that is made from the
+    certificate. A point's figure is shown at point plus deviation."""
 
     def __init__(self, console, image, sheet, points):
-        twin = Sheet()
-        twin.kind, twin.template, twin.values, twin.domain, twin.points = 2, sheet.template, dict(sheet.values), sheet.domain, points
-        self.twin = build(console, twin)
+        twin = sheet.bare()
+        twin.domain, twin.points = sheet.domain, points
+        self.twin = build(console, twin, LARGEST)
         super().__init__(console, image, sheet, points)
 
     def places(self, points):
@@ -302,7 +316,7 @@ class AgainstTwin(Against):
         return one.difference == 0
 
     def heading(self):
-        return "a table against the physical figure has no proved distance: the chip is held against one made from the certificate"
+        return "a table against the physical figure has no proved distance: the chip is held against one made from these points"
 
     def verdict(self):
         if self.agrees():
@@ -311,7 +325,7 @@ class AgainstTwin(Against):
 
 
 class AgainstCurve(Against):
-    """Of a curve the fraction is the position, and the figure tells where the chip is: at the place that has it without a curve."""
+    """With a curve the fraction is the position: the figure tells where the chip is, at the place that has it without a curve."""
 
     def fractions(self, inputs):
         found = super().fractions(inputs)

@@ -41,8 +41,8 @@ def offsets(lines):
 
 
 def offset(lines, base, words):
-    """Lines with an offset before their bytes, or before words of two, the low one first. Each has to be the number of bytes before
-    it; * stands for lines like the last."""
+    """Lines with an offset before their bytes, or before words of two, the low one first. Each has to be the number of bytes
+    before it; * stands for lines like the last."""
     found, last, first = b"", b"", None
     for number, line in enumerate(lines):
         if line == "*":
@@ -59,7 +59,7 @@ def offset(lines, base, words):
         groups = GROUPS.match(part.group(3) or "")
         last = bytes.fromhex(groups.group()) if groups else b""
         if words:
-            last = b"".join(last[n:n + 2][::-1] for n in range(0, len(last), 2))
+            last = b"".join(last[n : n + 2][::-1] for n in range(0, len(last), 2))
         found += last
     return found
 

@@ -212,10 +212,12 @@ class Field:
         return self.shown(self.parsed(text, by), by)
 
 
-PRECISION = Choice({
-    33: ("steps of 1 mV/V", "steps of 25 nV/V", "full precision"),
-    32: ("steps of 10 ohm", "steps of 1000 ohm", "steps of 1 ohm", "full precision"),
-})
+PRECISION = Choice(
+    {
+        33: ("steps of 1 mV/V", "steps of 25 nV/V", "full precision"),
+        32: ("steps of 10 ohm", "steps of 1000 ohm", "steps of 1 ohm", "full precision"),
+    }
+)
 COMMON = (
     Field(1, "manufacturer ID", Number()),
     Field(2, "model number", Number()),
@@ -240,7 +242,8 @@ def calibration(first):
 
 
 FIELDS = {
-    33: COMMON + (
+    33: COMMON
+    + (
         Field(10, "minimum electrical value", Electrical(RATIO, -9, 2)),
         Field(11, "maximum electrical value", Electrical(RATIO, -9, 2)),
         Field(12, "bridge type", Choice({33: ("quarter", "half", "full")})),
@@ -249,15 +252,18 @@ FIELDS = {
         Field(15, "excitation level, nominal", Quantity(VOLT, -1)),
         Field(16, "excitation level, minimum", Quantity(VOLT, -1)),
         Field(17, "excitation level, maximum", Quantity(VOLT, -1)),
-    ) + calibration(18),
-    32: COMMON + (
+    )
+    + calibration(18),
+    32: COMMON
+    + (
         Field(10, "minimum electrical value", Electrical(OHM, 0, 3)),
         Field(11, "maximum electrical value", Electrical(OHM, 0, 3)),
         Field(12, "mapping method", Choice({32: ("linear", "inverse m/(x+b)", "inverse b+m/x", "inverse 1/(b+m/x)")})),
         Field(13, "response time", Quantity(SECOND, -8)),
         Field(14, "excitation current, nominal", Quantity(AMPERE, -10)),
         Field(15, "excitation current, maximum", Quantity(AMPERE, -10)),
-    ) + calibration(16),
+    )
+    + calibration(16),
 }
 # Fields by what they are, in both templates.
 DATE, INITIALS, PERIOD, LOCATION = ({33: 18 + n, 32: 16 + n} for n in range(4))
@@ -287,4 +293,3 @@ def field_named(template, text):
         raise misused(f"'{text}' fits " + " and ".join(f"'{field.name}' ({field.number})" for field in fit))
     near = difflib.get_close_matches(" ".join(asked), [field.name for field in fields], 1, 0.4)
     raise misused(f"there is no field '{text}' in template {template}" + (f"; did you mean '{near[0]}'?" if near else ""))
-

@@ -116,7 +116,7 @@ def refusal_of(console, image):
 
 
 def write_image(console, path, image, force):
-    """Writes an image's file and reads it again. What stands in it is what was written, and accepted: the sheet that is read."""
+    """Writes an image's file and reads it again: what stands in it is what was written, and accepted. The sheet in it."""
     write_new(path, image.data, force)
     there = read_image(path)
     if there.data != image.data or refusal_of(console, there):

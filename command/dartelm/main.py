@@ -34,12 +34,20 @@ def parser():
 
     change = command(commands, "set", "a copy of an image with some fields changed, all of them or none")
     change.add_argument("file", metavar="FILE", help="an image of 40, 128 or 512 bytes")
-    change.add_argument("changes", metavar="NAME=VALUE", nargs="+",
-                        help="a field's name as show has it, words that fit no other, or its number; a value with its unit, as "
-                        "impedance=350.5ohm, or missing")
-    change.add_argument("--level", choices=("owner", "calibration", "maker"), default="owner",
-                        help="who writes: the owner the location alone (this if nothing is said), the calibration room also the ends "
-                        "of the span, date, initials and period, the maker all that is changed alone")
+    change.add_argument(
+        "changes",
+        metavar="NAME=VALUE",
+        nargs="+",
+        help="a field's name as show has it, words that fit no other, or its number; a value with its unit, as "
+        "impedance=350.5ohm, or missing",
+    )
+    change.add_argument(
+        "--level",
+        choices=("owner", "calibration", "maker"),
+        default="owner",
+        help="who writes: the owner the location alone (this if nothing is said), the calibration room also the ends "
+        "of the span, date, initials and period, the maker all that is changed alone",
+    )
     add_output(change)
 
     read = command(commands, "read", "readings of a chip")
@@ -49,12 +57,16 @@ def parser():
     read.add_argument("--dash", choices=("large", "small"), default="large", help="where it is shown (large)")
 
     tray = command(commands, "tray", "a line for each of many chips")
-    tray.add_argument("files", metavar="FILE", nargs="+", help="an image, or a folder of them (folders inside it are not looked into)")
+    tray.add_argument(
+        "files", metavar="FILE", nargs="+", help="an image, or a folder of them (folders inside it are not looked into)"
+    )
     tray.add_argument("--csv", action="store_true", help="as comma-separated values")
 
     certificate = command(commands, "certificate", "a chip against its certificate's points")
     certificate.add_argument("file", metavar="FILE", help="an image of 40, 128 or 512 bytes")
-    certificate.add_argument("certificate", metavar="CERT.csv", help="columns like 'point (%%)' and 'deviation (%%)', or in the sender's unit")
+    certificate.add_argument(
+        "certificate", metavar="CERT.csv", help="columns like 'point (%%)' and 'deviation (%%)', or in the sender's unit"
+    )
 
     export = command(commands, "export", "the sheet as lines 'name = value unit', which make takes")
     export.add_argument("file", metavar="FILE", help="an image of 40, 128 or 512 bytes")
@@ -83,7 +95,9 @@ def add_output(to, required=True, about="the file to write"):
 
 
 def add_today(to):
-    to.add_argument("--today", metavar="DATE", default=datetime.date.today().isoformat(), help="the day to judge dates by (today)")
+    to.add_argument(
+        "--today", metavar="DATE", default=datetime.date.today().isoformat(), help="the day to judge dates by (today)"
+    )
 
 
 def in_order(words):

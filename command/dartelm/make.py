@@ -14,7 +14,9 @@ def run(console, given):
     stored = write_image(console, given.output, image, given.force)
     for line in nearest(console, draft, stored):
         print(line)
-    print(f"{given.output}: written and read again, accepted: kind {stored.kind} ({BYTES[stored.kind]} bytes), {stored.bits} bits")
+    print(
+        f"{given.output}: written and read again, accepted: kind {stored.kind} ({BYTES[stored.kind]} bytes), {stored.bits} bits"
+    )
     return ACCEPTED
 
 
@@ -30,8 +32,8 @@ def made(console, draft):
 
 
 def about(console, draft, refusal):
-    """The line that a build's refusal is about, and which of its row's cases it is. A place may be a field's number or a point's:
-    without points it is a field's."""
+    """The line that a build's refusal is about, and the word for which of its row's cases it is. A place may be a field's number
+    or a point's: without points it is a field's."""
     sheet = draft.sheet
     if refusal.number in (9, 10) and refused_alike(console, sheet.bare_with_text(), refusal):
         if refusal.place > len(FIELDS[sheet.template]):

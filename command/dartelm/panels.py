@@ -69,5 +69,7 @@ class Panel:
 
     def svg(self):
         title = html.escape(self.title, quote=True)
-        return (f'<svg viewBox="0 0 {WIDTH} {HEIGHT}" preserveAspectRatio="xMinYMid meet" role="img" aria-label="{title}">'
-                f'<title>{title}</title>{"".join(self.parts)}</svg>')
+        return (
+            f'<svg viewBox="0 0 {WIDTH} {HEIGHT}" preserveAspectRatio="xMinYMid meet" role="img" aria-label="{title}">'
+            f'<title>{title}</title>{"".join(self.parts)}</svg>'
+        )

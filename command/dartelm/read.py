@@ -40,8 +40,12 @@ def cells_of(sheet, by, asked, taken):
         if isinstance(one, Refusal):
             yield shown, refusals.headline(one), "", ""
         elif sheet.curve():
-            yield (shown, readings.figure_text(one.figure, unit, prefix), percent(one.fraction),
-                   readings.curve_text(sheet, one, unit, prefix))
+            yield (
+                shown,
+                readings.figure_text(one.figure, unit, prefix),
+                percent(one.fraction),
+                readings.curve_text(sheet, one, unit, prefix),
+            )
         else:
             yield shown, readings.figure_text(one.figure, unit, prefix), percent(one.fraction), percent(one.correction, True)
 

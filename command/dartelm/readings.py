@@ -38,7 +38,11 @@ class Ruler:
         more than a tenth outside, or where there is no span."""
         first, last = self.figures((-OUTSIDE, WHOLE_SPAN + OUTSIDE))
         least, greatest = min(first, last), max(first, last)
-        ends = {n: (-OUTSIDE, WHOLE_SPAN + OUTSIDE) for n, figure in enumerate(figures) if first != last and least <= figure <= greatest}
+        ends = {
+            n: (-OUTSIDE, WHOLE_SPAN + OUTSIDE)
+            for n, figure in enumerate(figures)
+            if first != last and least <= figure <= greatest
+        }
         for _ in range((WHOLE_SPAN + 2 * OUTSIDE).bit_length()):
             middles = {n: (low + high) // 2 for n, (low, high) in ends.items()}
             for (n, middle), found in zip(middles.items(), self.figures(middles.values())):
@@ -71,8 +75,10 @@ def ends_of(sheet):
     ends = [sheet.values[10], sheet.values[11]]
     if MISSING in ends:
         return None
-    return tuple(math.floor(Fraction(singles.as_float(bits(end))) * WHOLE_SPAN + Fraction(1, 2)) if is_single(end) else whole(end)
-                 for end in ends)
+    return tuple(
+        math.floor(Fraction(singles.as_float(bits(end))) * WHOLE_SPAN + Fraction(1, 2)) if is_single(end) else whole(end)
+        for end in ends
+    )
 
 
 def evenly(ends, count):
@@ -97,9 +103,10 @@ def take(console, sheet, image, inputs, dash="large"):
     """A Taken for each input, or its refusal."""
     inputs = list(inputs)
     bare = build(console, sheet.bare())
-    return [reading if isinstance(reading, Refusal) else Taken(given, reading, straight)
-            for given, reading, straight in
-            zip(inputs, console.readings(image, inputs, dash), console.readings(bare, inputs, dash))]
+    return [
+        reading if isinstance(reading, Refusal) else Taken(given, reading, straight)
+        for given, reading, straight in zip(inputs, console.readings(image, inputs, dash), console.readings(bare, inputs, dash))
+    ]
 
 
 def curve_corrections(taken):

@@ -5,8 +5,25 @@ import re
 from .console import HOME
 
 # What a place is, where a number has one sort of place alone.
-PLACES = {2: "page", 3: "bit", 4: "bit", 5: "bit", 6: "bit", 8: "number", 11: "bits", 12: "field", 13: "field", 16: "length",
-          18: "bytes", 19: "field", 20: "field", 21: "field", 23: "points", 25: "terms", 26: "ticks"}
+PLACES = {
+    2: "page",
+    3: "bit",
+    4: "bit",
+    5: "bit",
+    6: "bit",
+    8: "number",
+    11: "bits",
+    12: "field",
+    13: "field",
+    16: "length",
+    18: "bytes",
+    19: "field",
+    20: "field",
+    21: "field",
+    23: "points",
+    25: "terms",
+    26: "ticks",
+}
 
 # A line is read at a glance up to so many characters.
 LONG = 110
@@ -67,7 +84,7 @@ def parts(text, marks):
     found, start = [], 0
     for mark in re.finditer(marks, text):
         if outside(text, mark.start()):
-            found.append(text[start:mark.start()])
+            found.append(text[start : mark.start()])
             start = mark.end()
     return found + [text[start:]]
 

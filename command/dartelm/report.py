@@ -21,7 +21,8 @@ p { margin: .3em 0; }
 .verdict { border: 2px solid #000; padding: .4em .7em; margin: .8em 0; font-weight: bold; }
 .look { border-left: 6px double #000; padding-left: .6em; }
 table { border-collapse: collapse; width: 100%; margin-top: .6em; }
-td, th { text-align: right; vertical-align: top; padding: .12em 0 .12em .6em; border-bottom: 1px solid #bbb; white-space: nowrap; }
+td, th { text-align: right; vertical-align: top; padding: .12em 0 .12em .6em; border-bottom: 1px solid #bbb; }
+td, th { white-space: nowrap; }
 .wide { overflow-x: auto; }
 .fields { columns: 2; column-gap: 2em; }
 .fields p { break-inside: avoid; display: flex; justify-content: space-between; gap: 1em; }
@@ -48,7 +49,8 @@ footer { margin-top: 1.6em; border-top: 1px solid #000; font-size: .85em; overfl
 }
 @page { size: A4; margin: 10mm; }
 @media print {
-  body { margin: 0; padding: 0; max-width: none; font-size: 10px; line-height: 1.25; } h2 { break-after: avoid; margin-top: .9em; }
+  body { margin: 0; padding: 0; max-width: none; font-size: 10px; line-height: 1.25; }
+  h2 { break-after: avoid; margin-top: .9em; }
   .points { columns: 3; } .fields { columns: 2; } svg { max-height: 52mm; } svg text { font-size: 10.5px; }
   footer { margin-top: .8em; } td, th { white-space: nowrap; font-size: 1em; }
 }
@@ -77,9 +79,11 @@ def run(console, given):
 
 
 def document(title, body):
-    return (f'<!DOCTYPE html>\n<html lang="en">\n<head>\n<meta charset="utf-8">\n'
-            f'<meta name="viewport" content="width=device-width, initial-scale=1">\n<title>{text(title)}</title>\n'
-            f'<style>{STYLE}</style>\n</head>\n<body>\n<h1>{text(title)}</h1>\n' + "\n".join(body) + "\n</body>\n</html>\n")
+    return (
+        f'<!DOCTYPE html>\n<html lang="en">\n<head>\n<meta charset="utf-8">\n'
+        f'<meta name="viewport" content="width=device-width, initial-scale=1">\n<title>{text(title)}</title>\n'
+        f"<style>{STYLE}</style>\n</head>\n<body>\n<h1>{text(title)}</h1>\n" + "\n".join(body) + "\n</body>\n</html>\n"
+    )
 
 
 def text(words):
@@ -90,9 +94,11 @@ def text(words):
 def footer(given, data):
     certified = f", certificate {text(given.certificate)}" if given.certificate else ""
     digest = hashlib.sha256(data).hexdigest()
-    return (f"<footer><p>{text(version.line())}. File {text(given.file)}{certified}, {len(data)} bytes, SHA-256 {digest}. "
-            f"Written {text(given.today)}.</p><p>Figures are those of the proved programs; this page, its units and its drawing are "
-            "not proved.</p></footer>")
+    return (
+        f"<footer><p>{text(version.line())}. File {text(given.file)}{certified}, {len(data)} bytes, SHA-256 {digest}. "
+        f"Written {text(given.today)}.</p><p>Figures are those of the proved programs, and differences of them; this page, its units "
+        "and its drawing are not proved.</p></footer>"
+    )
 
 
 def refused_body(console, path, data, refusal):
@@ -113,8 +119,10 @@ def sheet_body(console, given, image, sheet, against):
     for line in show.odd(console, sheet, image, by, show.today(console, given.today)):
         yield f'<p class="look">Look at: {text(line)}</p>'
     yield "<h2>Sheet</h2>"
-    yield '<div class="fields">' + "".join(f"<p><b>{text((number + ' ' + name).strip())}</b><span>{text(value)}</span></p>"
-                                           for number, name, value in show.rows(sheet, by)) + "</div>"
+    yield '<div class="fields">' + "".join(
+        f"<p><b>{text((number + ' ' + name).strip())}</b><span>{text(value)}</span></p>"
+        for number, name, value in show.rows(sheet, by)
+    ) + "</div>"
     dashes = "; ".join(show.dash_lines(console, sheet, image))
     yield f"<p>{text(dashes[:1].upper() + dashes[1:])}</p>"
     yield "<h2>Correction over the span</h2>"
@@ -126,7 +134,8 @@ def sheet_body(console, given, image, sheet, against):
         yield f"<h2>{len(sheet.points)} calibration points, {'physical' if sheet.domain else 'electrical'} domain</h2>"
         yield '<div class="points">' + "".join(
             f"<p>{index}: {text(place)}{', ' + text(figure) if figure else ''}: {text(deviation)}</p>"
-            for index, (place, figure, deviation, _) in enumerate(show.point_table(console, sheet, by))) + "</div>"
+            for index, (place, figure, deviation, _) in enumerate(show.point_table(console, sheet, by))
+        ) + "</div>"
     if sheet.curve():
         first, *segments = show.segment_lines(sheet)
         yield f"<h2>{text(first[:1].upper() + first[1:])}</h2>"
@@ -187,10 +196,13 @@ def certificate_figure(console, sheet, by, against):
     panel.axes(feet(console, sheet, by))
     panel.line(line)
     panel.dots(dots)
-    caption = f"Line: the chip minus the certificate, of the span, by {SAMPLES} readings; 1 ppm is 0.0001 %. Circles: the certificate's points."
+    caption = f"Line: the chip minus the certificate, of the span, by {SAMPLES} readings; 1 ppm is 0.0001 %. "
+    caption += "Circles: the certificate's points."
     if distance:
-        caption += (f" Grey band between broken lines: the proved distance, {percent(distance)} of the span "
-                    f"({against.physical(distance, False)}) either way.")
+        caption += (
+            f" Grey band between broken lines: the proved distance, {percent(distance)} of the span "
+            f"({against.physical(distance, False)}) either way."
+        )
     yield figure(panel.svg(), caption)
     yield '<div class="wide"><table><tr>' + "".join(f"<th>{html.escape(name)}</th>" for name in certificate.HEADS) + "</tr>"
     for cells in against.rows():

@@ -68,7 +68,7 @@ def reason(console, image, sheet, field, value, text, level, refusal):
     if refusal.number == 10 and not is_single(value):
         return said + range_text(console, image, sheet, field, level)
     if refusal.number == 20:
-        for higher in LEVELS[LEVELS.index(level) + 1:]:
+        for higher in LEVELS[LEVELS.index(level) + 1 :]:
             if refusal_number(console, image, field, value, higher) != 20:
                 return said + f"; --level {higher} may"
     return said

@@ -25,7 +25,7 @@ def written(console, sheet):
     at = 0
     for start, count in sheet.segments:
         yield f"segment = {percent(start)}"
-        for exponent, coefficient in sheet.terms[at:at + count]:
+        for exponent, coefficient in sheet.terms[at : at + count]:
             yield f"term = {exponent}, {plain(singles.digits(int(coefficient, 16)))}"
         at += count
     if sheet.text is not None:
@@ -192,5 +192,7 @@ def text_of(draft, value):
     inner = value[1:-1]
     bad = re.search(r'["]|\\(?!x[0-9a-f]{2})|[^\x01-\x7f]', inner)
     if bad:
-        raise draft.wrong(line, f"'{bad.group()}' cannot stand in the text; \\x and two hexadecimal digits stand for a character")
+        raise draft.wrong(
+            line, f"'{bad.group()}' cannot stand in the text; \\x and two hexadecimal digits stand for a character"
+        )
     return re.sub(r"\\x([0-9a-f]{2})", lambda found: chr(int(found.group(1), 16)), inner).encode("latin-1")

@@ -41,8 +41,10 @@ def lines_of(console, path, image, sheet, given):
 
 
 def summary(sheet):
-    return (f"kind {sheet.kind} ({BYTES[sheet.kind]} bytes), {sheet.bits} of {STREAM_BITS[sheet.kind]} bits; "
-            f"template {sheet.template}, {SENDERS[sheet.template]}")
+    return (
+        f"kind {sheet.kind} ({BYTES[sheet.kind]} bytes), {sheet.bits} of {STREAM_BITS[sheet.kind]} bits; "
+        f"template {sheet.template}, {SENDERS[sheet.template]}"
+    )
 
 
 def rows(sheet, by):
@@ -122,15 +124,17 @@ def point_table(console, sheet, by):
         then = [""] * len(moved)
     else:
         then = [f"shows {figure}" if figure else "" for figure in figures(moved)]
-    return [(percent(point), figure, percent(deviation, True), last)
-            for (point, deviation), figure, last in zip(sheet.points, figures(point for point, _ in sheet.points), then)]
+    return [
+        (percent(point), figure, percent(deviation, True), last)
+        for (point, deviation), figure, last in zip(sheet.points, figures(point for point, _ in sheet.points), then)
+    ]
 
 
 def segment_lines(sheet):
     yield f"a calibration curve of {len(sheet.segments)} segments and {len(sheet.terms)} terms, in per cent of the span"
     at = 0
     for index, (start, count) in enumerate(sheet.segments):
-        yield f"{index:>4}  from {percent(start)}: " + ", ".join(term_text(*term) for term in sheet.terms[at:at + count])
+        yield f"{index:>4}  from {percent(start)}: " + ", ".join(term_text(*term) for term in sheet.terms[at : at + count])
         at += count
 
 

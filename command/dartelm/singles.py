@@ -11,7 +11,7 @@ def as_float(bits):
 
 
 def nearest(figure):
-    """The bits of the Single nearest to a decimal, the even one of two; an infinite one, which a call refuses, past the last."""
+    """The bits of the Single nearest to a decimal, of two the even one; past the last an infinite one, which a call refuses."""
     sign = 0x80000000 if figure.is_signed() else 0
     size = abs(figure)
     try:

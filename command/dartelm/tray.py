@@ -24,10 +24,10 @@ def run(console, given):
     images = [Image(read_bytes(path)) for path in paths]
     rows, total = [], 0
     for start in range(0, len(images), AT_ONCE):
-        some = images[start:start + AT_ONCE]
+        some = images[start : start + AT_ONCE]
         told, bits = judged(some)
         total += bits
-        rows += zip(paths[start:start + AT_ONCE], some, told, serials(console, some, told))
+        rows += zip(paths[start : start + AT_ONCE], some, told, serials(console, some, told))
         if len(images) > AT_ONCE:
             print(f"dartelm: {len(rows)} of {len(images)} chips", file=sys.stderr)
     refused = sum(number < 0 for _, _, number, _ in rows)
@@ -42,7 +42,7 @@ def run(console, given):
 
 
 def found(names):
-    """The files that are asked for, and those of a folder, which are passed over where neither name nor length is an image's."""
+    """The files that are asked for, and those of folders; of these the ones that neither name nor length makes an image."""
     paths, passed = [], []
     for name in names:
         if not os.path.isdir(name):

@@ -128,6 +128,8 @@ def float_text(figure, digits=10):
 
 
 def rounded(figure, exponent):
-    """A float to a power of ten, as a decimal."""
+    """A float to a power of ten, as a decimal; one that is far above it to some digits."""
     found = EXACT.create_decimal_from_float(figure)
-    return found.quantize(decimal.Decimal(1).scaleb(exponent), context=EXACT) if found.adjusted() >= exponent else decimal.Decimal(0)
+    if found.adjusted() - exponent > LONGEST:
+        return float_text(figure)
+    return EXACT.plus(found.quantize(decimal.Decimal(1).scaleb(exponent), context=EXACT))

@@ -59,8 +59,10 @@ def told(console, path, data):
     other = other_kind(console, data)
     if other:
         size = len(other.data)
-        return lines + [f"likely: another kind's image: the first {size} bytes are an accepted one of kind {other.kind}",
-                        to_write(path, other)], Found(other, True)
+        return lines + [
+            f"likely: another kind's image: the first {size} bytes are an accepted one of kind {other.kind}",
+            to_write(path, other),
+        ], Found(other, True)
     if dump:
         lines += [f"likely: a dump in hexadecimal text, of {len(dump)} bytes, which no chip has; {wanted(len(dump))}", WHOLE]
     elif dumps.text_of(data) is not None:
@@ -77,8 +79,13 @@ def dump_told(console, path, image):
     if refusal is None:
         return [likely + "accepted", to_write(path, image)], Found(image, True)
     found = verdicts(console, image)
-    return [likely + refusals.headline(refusal), *page_lines(image, found), *place_lines(console, image, found, refusal),
-            *still_lines(console, image, found), *cause_lines(image, found, refusal)], None
+    return [
+        likely + refusals.headline(refusal),
+        *page_lines(image, found),
+        *place_lines(console, image, found, refusal),
+        *still_lines(console, image, found),
+        *cause_lines(image, found, refusal),
+    ], None
 
 
 def to_write(path, image):
@@ -106,7 +113,7 @@ def page_bytes(image, page):
     """A page as it stands in the image, with the register that kind 0 has before it."""
     if image.kind == 0:
         return image.data
-    return image.data[PAGE * page:PAGE * (page + 1)]
+    return image.data[PAGE * page : PAGE * (page + 1)]
 
 
 def verdicts(console, image):
@@ -146,7 +153,10 @@ class Places:
         size = 4 * len(values)
         self.index = console.ask("index", build(console, sheet), "00" * size)[1]
         data = bytes.fromhex(self.index)
-        pairs = [(int.from_bytes(data[n:n + 2], "little"), int.from_bytes(data[n + 2:n + 4], "little")) for n in range(0, size, 4)]
+        pairs = [
+            (int.from_bytes(data[n : n + 2], "little"), int.from_bytes(data[n + 2 : n + 4], "little"))
+            for n in range(0, size, 4)
+        ]
         self.pairs = dict(enumerate(pairs, 1))
 
     def end(self):
@@ -164,8 +174,8 @@ def pages_of(image, offset, length):
 
 
 def layout(console, image, found):
-    """The template and the places of its fields, as far as whole pages tell; else None. A fetch tells the templates apart by the
-    index that it asks for, a check whether the first block is one of them."""
+    """The template and the places of its fields, as far as whole pages tell; else None. A fetch tells the templates apart by
+    the index that it asks for, a check whether the first block is one of them."""
     whole_image = mended(image, found)
     try:
         console.ask("fetch", whole_image, "00" * 76, 1)
@@ -293,4 +303,6 @@ def cut_lines(console, data):
 
 def wanted(size):
     above = next((chip for chip in sorted(KINDS) if chip > size), None)
-    return f"{size} bytes are {above - size} fewer than {above}" if above else f"{size} bytes are more than the largest chip's 512"
+    return (
+        f"{size} bytes are {above - size} fewer than {above}" if above else f"{size} bytes are more than the largest chip's 512"
+    )

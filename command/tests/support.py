@@ -23,8 +23,15 @@ from dartelm import image as images  # noqa: E402
 from dartelm import main  # noqa: E402
 
 SAMPLES = os.path.join(HOME, "samples")
-ACCEPTED = ("brake-pressure.kind1", "exhaust-pressure.kind1", "load-cell.kind1", "many-points.kind2", "oil-pressure.kind0", "temperature.kind1",
-            "torque.kind1")
+ACCEPTED = (
+    "brake-pressure.kind1",
+    "exhaust-pressure.kind1",
+    "load-cell.kind1",
+    "many-points.kind2",
+    "oil-pressure.kind0",
+    "temperature.kind1",
+    "torque.kind1",
+)
 REFUSED = ("blank.kind1", "damaged.kind1")
 TODAY = ("--today", "2026-03-01")
 PROGRAM = os.path.join(HOME, "bin", "dartelm")
@@ -113,7 +120,12 @@ def stored_images():
     with open(os.path.join(HOME, "crates", "console", "stdin"), encoding="ascii") as file:
         for line in file:
             words = line.rstrip("\n").split(" ")
-            if words[0] in ("check", "field", "reading", "pair", "char") and len(words) > 2 and words[1] in "012" and words[2] != "-":
+            if (
+                words[0] in ("check", "field", "reading", "pair", "char")
+                and len(words) > 2
+                and words[1] in "012"
+                and words[2] != "-"
+            ):
                 data = bytes.fromhex(words[2])
                 if len(data) == images.BYTES[int(words[1])]:
                     found[words[2]] = images.Image(data, int(words[1]))
@@ -136,14 +148,18 @@ def sealed(data):
     """An image's bytes with check bytes that are right."""
     data = bytearray(data)
     for page in range(8 if len(data) == 40 else 0, len(data), 32):
-        data[page] = (data[page] - sum(data[0 if len(data) == 40 else page:page + 32])) % 256
+        data[page] = (data[page] - sum(data[0 if len(data) == 40 else page : page + 32])) % 256
     return bytes(data)
 
 
 def other_home(path, console):
     """A home of its own with another console; what `dartelm` to run."""
     os.makedirs(os.path.join(path, "bin"))
-    shutil.copytree(os.path.join(HOME, "command", "dartelm"), os.path.join(path, "command", "dartelm"), ignore=shutil.ignore_patterns("__pycache__"))
+    shutil.copytree(
+        os.path.join(HOME, "command", "dartelm"),
+        os.path.join(path, "command", "dartelm"),
+        ignore=shutil.ignore_patterns("__pycache__"),
+    )
     shutil.copy2(os.path.join(HOME, "bin", "dartelm"), os.path.join(path, "bin", "dartelm"))
     if console:
         with open(os.path.join(path, "bin", "console"), "w", encoding="utf-8") as file:
@@ -158,6 +174,10 @@ def random_single(chance):
     return f"s{chance.randrange(0x7F800000) | chance.choice((0, 0x80000000)):08x}"
 
 
+# Start, step and number of codes of an electrical end, by template and precision.
+STEPS = {33: ((-(10**9), 10**6, 2047), (-6550000, 25, 524287)), 32: ((0, 10, 127), (0, 1000, 1023), (0, 1, 65535))}
+
+
 def random_sheet(chance):
     sheet = images.Sheet()
     sheet.kind = chance.choice((0, 1, 1, 2, 2))
@@ -170,19 +190,38 @@ def random_sheet(chance):
     def end():
         if precision == (2 if sheet.template == 33 else 3):
             return maybe(random_single(chance))
-        if sheet.template == 33:
-            return maybe(f"w{chance.choice((-10**9 + 10**6 * chance.randrange(2047), -6550000 + 25 * chance.randrange(524287))[precision:precision + 1])}")
-        return maybe(f"w{(10, 1000, 1)[precision] * chance.randrange((127, 1023, 65535)[precision])}")
+        start, step, codes = STEPS[sheet.template][precision]
+        return maybe(f"w{start + step * chance.randrange(codes)}")
 
-    values = [f"w{chance.randrange(17, 16382)}", f"w{chance.randrange(1 << 15)}", f"w{chance.randrange(1, 27)}", f"w{chance.randrange(64)}",
-              f"w{chance.randrange(1 << 24)}", f"w{chance.randrange(46)}", maybe(random_single(chance)), maybe(random_single(chance)), f"w{precision}", end(), end()]
+    values = [
+        f"w{chance.randrange(17, 16382)}",
+        f"w{chance.randrange(1 << 15)}",
+        f"w{chance.randrange(1, 27)}",
+        f"w{chance.randrange(64)}",
+        f"w{chance.randrange(1 << 24)}",
+        f"w{chance.randrange(46)}",
+        maybe(random_single(chance)),
+        maybe(random_single(chance)),
+        f"w{precision}",
+        end(),
+        end(),
+    ]
     if sheet.template == 33:
-        values += [f"w{chance.randrange(3)}", maybe(f"w{chance.randrange(10, 262153)}"), maybe(f"w{chance.randrange(100, 791180997)}")]
+        values += [
+            f"w{chance.randrange(3)}",
+            maybe(f"w{chance.randrange(10, 262153)}"),
+            maybe(f"w{chance.randrange(100, 791180997)}"),
+        ]
         values += [maybe(f"w{chance.randrange(1, 512)}") for _ in range(3)]
     else:
         values += [f"w{chance.randrange(4)}", maybe(f"w{chance.randrange(100, 791180997)}")]
         values += [maybe(f"w{chance.randrange(10000, 1000000000)}") for _ in range(2)]
-    values += [maybe(f"w{chance.randrange(65535)}"), f"w{chance.randrange(1 << 15)}", f"w{chance.randrange(1 << 12)}", f"w{chance.randrange(1 << 11)}"]
+    values += [
+        maybe(f"w{chance.randrange(65535)}"),
+        f"w{chance.randrange(1 << 15)}",
+        f"w{chance.randrange(1 << 12)}",
+        f"w{chance.randrange(1 << 11)}",
+    ]
     sheet.values = dict(enumerate(values, 1))
     if chance.random() < 0.6:
         sheet.text = bytes(chance.randrange(1, 128) for _ in range(chance.randrange(12)))

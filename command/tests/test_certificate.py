@@ -9,7 +9,9 @@ from support import ACCEPTED, REFUSED, sample
 
 PERCENT = "point (%),deviation (%)\n0,0\n20,0.015\n40,0.042\n60,0.038\n80,0.009\n100,-0.021\n"
 NEWTON = "point [N];deviation [N]\n0;0\n1000;0,75\n2000;2,1\n3000;1,9\n4000;0,45\n5000;-1,05\n"
-CELLS = "# a comment\nFigure,Deviation,Note\n0 N,0 %,a\n1kN,0.75 N,b\n40 %,0.042 %,c\n3000N,1.9N,d\n80%,0.009%,e\n\n5 kN,-1.05 N,f\n"
+CELLS = (
+    "# a comment\nFigure,Deviation,Note\n0 N,0 %,a\n1kN,0.75 N,b\n40 %,0.042 %,c\n3000N,1.9N,d\n80%,0.009%,\n\n5 kN,-1.05 N\n"
+)
 TABS = "Applied force in kN\tDeviation in % of span\n0\t0\n1\t0,015\n2\t0,042\n3\t0,038\n4\t0,009\n5\t\u22120,021\n"
 TORQUE = "point,deviation\n0%,0%\n25%,0.04%\n50%,0.065%\n75%,0.03%\n100%,-0.015%\n"
 
@@ -20,15 +22,34 @@ class Certificate(support.Case):
 
     def test_agrees(self):
         for text in (PERCENT, NEWTON, CELLS, TABS):
-            self.against(0, "load-cell.kind1", text, out=(
-                "proved distance: 0.0000517 % of the span, 0.002585 N", "2002.1 N   2002.09998 N", "-0.00002 N", "AGREES"))
-        self.gives(0, "certificate", sample("load-cell.kind1"), sample("load-cell.csv"), out=(
-            "6 points", "AGREES: within the proved distance at every point; the worst is at 99.99927 %, a point of the chip's own: -0.0000011 %, -0.000055 N"))
+            self.against(
+                0,
+                "load-cell.kind1",
+                text,
+                out=("proved distance: 0.0000517 % of the span, 0.002585 N", "2002.1 N   2002.09998 N", "-0.00002 N", "AGREES"),
+            )
+        self.gives(
+            0,
+            "certificate",
+            sample("load-cell.kind1"),
+            sample("load-cell.csv"),
+            out=(
+                "6 points",
+                "AGREES: within the proved distance at every point; the worst is at 99.99927 %, a point of the chip's own: ",
+                "own: -0.0000011 %, -0.000055 N",
+            ),
+        )
 
     def test_differs(self):
-        said, _ = self.against(1, "load-cell.kind1", NEWTON.replace("2,1", "2,3"), out=(
-            "DIFFERS: beyond the proved distance at 1 of the certificate's 6 points and at 1 of the chip's own 6 points",
-            "the worst is at 40 %: -0.0040004 %, -0.2 N"))
+        said, _ = self.against(
+            1,
+            "load-cell.kind1",
+            NEWTON.replace("2,1", "2,3"),
+            out=(
+                "DIFFERS: beyond the proved distance at 1 of the certificate's 6 points and at 1 of the chip's own 6 points",
+                "the worst is at 40 %: -0.0040004 %, -0.2 N",
+            ),
+        )
         self.assertEqual(said.count(" !"), 2)
         self.against(1, "load-cell.kind1", "point %,deviation %\n0,0\n100,0\n", out=("DIFFERS", "chip  40.00032 %", "+2.1 N"))
         said, _ = self.against(1, "many-points.kind2", PERCENT, out="at 95 of the chip's own 96 points")
@@ -44,10 +65,16 @@ class Certificate(support.Case):
             sheet.kind, sheet.text = 2, None
             ends = sorted(chance.sample(range(1, 60), 2))
             sheet.values[9] = f"w{number % 3}"
-            sheet.values[10], sheet.values[11] = ((f"w{1000000 * end}" for end in ends), (f"w{100025 * end}" for end in ends),
-                                                  (f"s{nearest(EXACT.create_decimal(end) / 777):08x}" for end in ends))[number % 3]
+            sheet.values[10], sheet.values[11] = (
+                (f"w{1000000 * end}" for end in ends),
+                (f"w{100025 * end}" for end in ends),
+                (f"s{nearest(EXACT.create_decimal(end) / 777):08x}" for end in ends),
+            )[number % 3]
             places = sorted(chance.sample(range(0, 66000), chance.choice((1, 2, 6, 30))))
-            sheet.points = [(15192 * place + chance.randrange(-900, 900) * (place > 0), chance.randrange(-9000000, 9000000)) for place in places]
+            sheet.points = [
+                (15192 * place + chance.randrange(-900, 900) * (place > 0), chance.randrange(-9000000, 9000000))
+                for place in places
+            ]
             try:
                 chip = build(support.console(), sheet)
                 bound = support.console().distance(sheet.points)[1]
@@ -62,9 +89,16 @@ class Certificate(support.Case):
 
     def test_a_span_that_falls(self):
         """A greater fraction is a smaller figure: differences have the figure's sign."""
-        self.gives(0, "set", sample("load-cell.kind1"), "min phys=5000N", "max phys=0N", "--level", "maker", "-o", self.path("falls"))
+        self.gives(
+            0, "set", sample("load-cell.kind1"), "min phys=5000N", "max phys=0N", "--level", "maker", "-o", self.path("falls")
+        )
         self.against(1, self.path("falls"), PERCENT.replace("0.042", "0.046"), out=("-0.0040004 %", "+0.2 N"))
-        self.against(0, self.path("falls"), "point (N),deviation (N)\n5000,0\n4000,-0.75\n3000,-2.1\n2000,-1.9\n1000,-0.45\n0,1.05\n", out="AGREES")
+        self.against(
+            0,
+            self.path("falls"),
+            "point (N),deviation (N)\n5000,0\n4000,-0.75\n3000,-2.1\n2000,-1.9\n1000,-0.45\n0,1.05\n",
+            out="AGREES",
+        )
 
     def test_physical_domain(self):
         self.against(0, "torque.kind1", TORQUE, out=("no proved distance", "AGREES"))
@@ -72,7 +106,12 @@ class Certificate(support.Case):
         self.against(1, "torque.kind1", TORQUE.replace("0.065%", "-90%"), err="point 3: refused: 22")
 
     def test_a_curve_has_no_verdict(self):
-        self.against(1, "exhaust-pressure.kind1", PERCENT, out=("a curve has no proved distance", "60.14400001 kPa  +0.099 kPa", "NO VERDICT", "at 20 %: +0.033 %"))
+        self.against(
+            1,
+            "exhaust-pressure.kind1",
+            PERCENT,
+            out=("a curve has no proved distance", "60.14400001 kPa  +0.099 kPa", "NO VERDICT", "at 20 %: +0.033 %"),
+        )
         self.against(1, "exhaust-pressure.kind1", "point %,deviation %\n0,0\n0.0001,0\n", err="point 2: refused: 7")
         sheet, _ = self.gives(0, "export", sample("exhaust-pressure.kind1"))
         self.gives(0, "make", self.file("sheet", sheet.replace("term = 1, 0.004", "term = 1, 3e38")), "-o", self.path("steep"))
@@ -82,32 +121,58 @@ class Certificate(support.Case):
         self.against(1, "temperature.kind1", PERCENT, err="refused: 4 at bit 64")
         for name in REFUSED:
             self.against(1, name, PERCENT, err=("refused: ", "dartelm why"))
-        for text, part in (("point %,deviation %\n0,0\n0.0001,0\n", "point 2: refused: 7"), ("point %,deviation %\n0,0\n105,0\n", "point 2: refused: 10"),
-                           ("point %,deviation %\n0,200\n", "point 1: refused: 10"),
-                           ("point %,deviation %\n" + "".join(f"{n / 2},0\n" for n in range(130)), "refused: 16 at length 260")):
+        for text, part in (
+            ("point %,deviation %\n0,0\n0.0001,0\n", "point 2: refused: 7"),
+            ("point %,deviation %\n0,0\n105,0\n", "point 2: refused: 10"),
+            ("point %,deviation %\n0,200\n", "point 1: refused: 10"),
+            ("point %,deviation %\n" + "".join(f"{n / 2},0\n" for n in range(130)), "refused: 16 at length 260"),
+        ):
             self.against(1, "load-cell.kind1", text, err=part)
 
     def test_not_understood(self):
-        for text, part in (("", "there are no columns"), ("0,0\n", "there are no columns"), ("point,dev\n", "there are no columns"), ("deviation\n1\n", "no columns"),
-                           ("point,deviation\n", "no points below"), ("point,deviation\n20,0.1%\n", "cert:2: point: '20' has no unit"),
-                           ("point %,deviation\n20,0.1\n", "has no unit"), ("point %,deviation %\n20\n", "cert:2: there is no deviation"),
-                           ("point %,deviation N\n20,1\n", "needs a point in it"), ("point Pa,deviation Pa\n20,1\n", "not understood"),
-                           ("point N,deviation N\n9999,1\n", "nor within a tenth of it"), ("point %,deviation %\n0,0\nx,0\n", "cert:3:"),
-                           ("point %,deviation %\n0.00000001,0\n", "finer"), ("Lab,Bench\n\npoint %,deviation %\n0,0\n20,?\n", "cert:5:")):
+        for text, part in (
+            ("", "there are no columns"),
+            ("0,0\n", "there are no columns"),
+            ("point,dev\n", "there are no columns"),
+            ("deviation\n1\n", "no columns"),
+            ("point,deviation\n", "no points below"),
+            ("point,deviation\n20,0.1%\n", "cert:2: point: '20' has no unit"),
+            ("point %,deviation\n20,0.1\n", "has no unit"),
+            ("point %,deviation %\n20\n", "cert:2: there is no deviation"),
+            ("point %,deviation N\n20,1\n", "needs a point in it"),
+            ("point Pa,deviation Pa\n20,1\n", "not understood"),
+            ("point N,deviation N\n9999,1\n", "nor within a tenth of it"),
+            ("point %,deviation %\n0,0\nx,0\n", "cert:3:"),
+            ("point %,deviation %\n0.00000001,0\n", "finer"),
+            ("Lab,Bench\n\npoint %,deviation %\n0,0\n20,?\n", "cert:5:"),
+        ):
             self.against(2, "load-cell.kind1", text, err=part)
         self.gives(3, "certificate", sample("load-cell.kind1"), self.file("cert", b"\xff\xfe\x00"), err="no text")
         self.gives(2, "certificate", sample("load-cell.kind1"), err="CERT.csv")
 
     def test_heads(self):
-        for head, unit in (("point", ""), ("point (%)", "%"), ("Calibration point (% of span)", "%"), ("deviation, % of the span", "%"), ("force [N]", "N"),
-                           ("Applied force in kN", "kN"), ("deviation", ""), ("voltage (V rms)", "V rms"), ("point %", "%"), ("Calibration point", "")):
+        for head, unit in (
+            ("point", ""),
+            ("point (%)", "%"),
+            ("Calibration point (% of span)", "%"),
+            ("deviation, % of the span", "%"),
+            ("force [N]", "N"),
+            ("Applied force in kN", "kN"),
+            ("deviation", ""),
+            ("voltage (V rms)", "V rms"),
+            ("point %", "%"),
+            ("Calibration point", ""),
+        ):
             self.assertEqual(certificate.unit_in(head), unit, head)
 
     def test_each_sample(self):
         for name in ACCEPTED:
             status, said, wrong = self.run_here("certificate", sample(name), self.file("cert", PERCENT))
             self.assertEqual(status, 0 if name == "load-cell.kind1" else 1)
-            self.assertTrue(("AGREES" if status == 0 else "refused: 4" if "temp" in name else "NO VERDICT" if "exh" in name else "DIFFERS") in said + wrong)
+            self.assertTrue(
+                ("AGREES" if status == 0 else "refused: 4" if "temp" in name else "NO VERDICT" if "exh" in name else "DIFFERS")
+                in said + wrong
+            )
 
 
 if __name__ == "__main__":

@@ -21,7 +21,7 @@ sys.exit(main.main(sys.argv[1:]))
 """
 
 
-SLOW = '''#!/usr/bin/env python3
+SLOW = """#!/usr/bin/env python3
 import subprocess, sys, time
 inner = subprocess.Popen([{console!r}], stdin=subprocess.PIPE, stdout=subprocess.PIPE)
 for line in sys.stdin:
@@ -30,7 +30,7 @@ for line in sys.stdin:
     inner.stdin.flush()
     sys.stdout.write(inner.stdout.readline().decode())
     sys.stdout.flush()
-'''
+"""
 
 
 class Write(support.Case):
@@ -67,7 +67,10 @@ class Write(support.Case):
         sheet = support.run_program("export", sample("load-cell.kind1"))[1]
         source = self.file("sheet", sheet)
         for call, name in (("fsync", "SIGKILL"), ("fsync", "SIGTERM"), ("link", "SIGKILL")):
-            for words in (("set", sample("load-cell.kind1"), "location=1", "-o", self.path("new")), ("make", source, "-o", self.path("new"))):
+            for words in (
+                ("set", sample("load-cell.kind1"), "location=1", "-o", self.path("new")),
+                ("make", source, "-o", self.path("new")),
+            ):
                 script = KILLED.format(bench=os.path.join(support.HOME, "command"), call=call, signal=name)
                 done = subprocess.run([sys.executable, "-c", script, *words], capture_output=True, check=False)
                 self.assertNotEqual(done.returncode, 0)

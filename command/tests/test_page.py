@@ -14,7 +14,7 @@ class Examples(support.Case):
                 lines = [line[4:] for line in block.splitlines()]
                 for number, line in enumerate(lines):
                     if line.startswith("$ "):
-                        below = lines[number + 1:]
+                        below = lines[number + 1 :]
                         end = next((n for n, other in enumerate(below) if other.startswith("$ ")), len(below))
                         yield line[2:], "".join(other + "\n" for other in below[:end])
 

@@ -20,15 +20,17 @@ class Ruler(support.Case):
         for low, high in (("0", "5000"), ("-5000", "5000"), ("250", "-50"), ("0", "0.1"), ("1e-30", "3e38"), ("7", "7")):
             ruler = readings.Ruler(support.console(), single(low), single(high))
             least, greatest = (as_float(int(single(end)[1:], 16)) for end in (low, high))
-            places = [0, 1, 10**9, -10**8, 11 * 10**8] + [chance.randrange(-10**8, 11 * 10**8) for _ in range(20)]
+            places = [0, 1, 10**9, -(10**8), 11 * 10**8] + [chance.randrange(-(10**8), 11 * 10**8) for _ in range(20)]
             for place, figure in zip(places, ruler.figures(places)):
-                self.assertEqual(struct.pack(">d", figure), struct.pack(">d", least + (greatest - least) * (place / 1000000000)))
-            self.assertEqual(ruler.figures((-10**8 - 1, 11 * 10**8 + 1)), [None, None])
+                self.assertEqual(
+                    struct.pack(">d", figure), struct.pack(">d", least + (greatest - least) * (place / 1000000000))
+                )
+            self.assertEqual(ruler.figures((-(10**8) - 1, 11 * 10**8 + 1)), [None, None])
 
     def test_places(self):
         for low, high in (("0", "5000"), ("-5000", "5000"), ("250", "-50"), ("0", "16e6")):
             ruler = readings.Ruler(support.console(), single(low), single(high))
-            for place in (0, 1, 200000000, 333333333, 10**9, -10**8, 1099999999):
+            for place in (0, 1, 200000000, 333333333, 10**9, -(10**8), 1099999999):
                 self.assertEqual(ruler.place(Fraction(ruler.figures((place,))[0])), place)
             self.assertIsNone(ruler.place(Fraction(10**9)))
 
@@ -54,7 +56,7 @@ class Span(support.Case):
         image = support.images.read_image(support.sample("load-cell.kind1"))
         sheet = read_sheet(support.console(), image)
         low, high = readings.ends_of(sheet)
-        for (point, deviation) in sheet.points:
+        for point, deviation in sheet.points:
             given = low + round(Fraction(point * (high - low), 10**9))
             (one,) = readings.take(support.console(), sheet, image, [given])
             self.assertLessEqual(abs(one.correction - deviation), 1000)

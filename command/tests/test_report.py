@@ -59,9 +59,17 @@ class Report(support.Case):
         for part in ("Certificate: AGREES", 'class="band"', "Chip minus certificate", "0.002585\u00a0N", "certificate " + cert):
             self.assertIn(part, text)
         self.assertEqual(text.count("<svg"), 2)
-        for name, verdict in (("many-points.kind2", "DIFFERS"), ("oil-pressure.kind0", "DIFFERS"), ("torque.kind1", "DIFFERS"), ("exhaust-pressure.kind1", "NO VERDICT")):
+        for name, verdict in (
+            ("many-points.kind2", "DIFFERS"),
+            ("oil-pressure.kind0", "DIFFERS"),
+            ("torque.kind1", "DIFFERS"),
+            ("exhaust-pressure.kind1", "NO VERDICT"),
+        ):
             text = self.page(1, sample(name), cert)
-            self.assertEqual((text.count("<svg"), verdict in text, 'class="band"' in text), (2, True, verdict == "DIFFERS" and name != "torque.kind1"))
+            self.assertEqual(
+                (text.count("<svg"), verdict in text, 'class="band"' in text),
+                (2, True, verdict == "DIFFERS" and name != "torque.kind1"),
+            )
         self.page(1, sample("damaged.kind1"), cert)
         self.gives(1, "report", sample("temperature.kind1"), cert, "-o", self.path("other.html"), err="refused: 4")
         self.assertFalse(os.path.exists(self.path("other.html")))
@@ -81,7 +89,9 @@ class Report(support.Case):
         self.assertEqual(self.bytes("there"), b"precious")
         self.gives(3, "report", sample("load-cell.kind1"), self.path("nope"), "-o", self.path("page.html"), err="cannot read")
         self.gives(3, "report", self.path("nope"), "-o", self.path("page.html"), err="cannot read")
-        self.gives(2, "report", sample("load-cell.kind1"), self.file("cert", "a,b\n"), "-o", self.path("page.html"), err="no columns")
+        self.gives(
+            2, "report", sample("load-cell.kind1"), self.file("cert", "a,b\n"), "-o", self.path("page.html"), err="no columns"
+        )
         self.assertFalse(os.path.exists(self.path("page.html")))
         self.gives(2, "report", sample("load-cell.kind1"), err="-o")
 

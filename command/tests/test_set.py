@@ -14,7 +14,13 @@ class Set(support.Case):
         self.assertEqual(os.listdir(self.room), [])
 
     def test_a_date(self):
-        self.set(0, "date=2026-11-16", "--level", "calibration", out=("calibration date: 2025-11-03 -> 2026-11-16", "written and read again, accepted"))
+        self.set(
+            0,
+            "date=2026-11-16",
+            "--level",
+            "calibration",
+            out=("calibration date: 2025-11-03 -> 2026-11-16", "written and read again, accepted"),
+        )
         self.assertEqual(len(self.bytes("new")), 128)
         self.gives(0, "show", self.path("new"), out="2026-11-16")
         self.assertEqual(sorted(os.listdir(self.room)), ["new"])
@@ -25,19 +31,66 @@ class Set(support.Case):
         self.assertEqual(support.console().ask("change", "1", cell, "13", "w3505", "maker")[1], self.bytes("new").hex())
 
     def test_several_by_names_and_numbers(self):
-        self.set(0, "13=350.5ohm", "response=1.14us", "initials=A.B", "11=2.00039mV/V", "bridge type=half", "serial=7", "--level", "maker", out=(
-            "1 us -> 1.14 us, stored as 1.29 us (nearest step)", "2 mV/V -> 2.00039 mV/V, stored as 2.0004 mV/V (nearest step)", "full (2) -> half (1)", "555 -> 7"))
+        self.set(
+            0,
+            "13=350.5ohm",
+            "response=1.14us",
+            "initials=A.B",
+            "11=2.00039mV/V",
+            "bridge type=half",
+            "serial=7",
+            "--level",
+            "maker",
+            out=(
+                "1 us -> 1.14 us, stored as 1.29 us (nearest step)",
+                "2 mV/V -> 2.00039 mV/V, stored as 2.0004 mV/V (nearest step)",
+                "full (2) -> half (1)",
+                "555 -> 7",
+            ),
+        )
 
     def test_resistance_and_precision(self):
-        self.set(0, "current nominal=1.01mA", "mapping=1", "max elec=195ohm", "--level", "maker", source="temperature.kind1", out="stored as")
-        self.gives(0, "set", sample("brake-pressure.kind1"), "greatest electrical=2.1mV/V", "--level", "calibration", "-o", self.path("p2"), out="1.9876 mV/V -> 2.1 mV/V")
+        self.set(
+            0,
+            "current nominal=1.01mA",
+            "mapping=1",
+            "max elec=195ohm",
+            "--level",
+            "maker",
+            source="temperature.kind1",
+            out="stored as",
+        )
+        self.gives(
+            0,
+            "set",
+            sample("brake-pressure.kind1"),
+            "greatest electrical=2.1mV/V",
+            "--level",
+            "calibration",
+            "-o",
+            self.path("p2"),
+            out="1.9876 mV/V -> 2.1 mV/V",
+        )
         self.gives(0, "set", sample("oil-pressure.kind0"), "location=9", "-o", self.path("k0"), out="3 -> 9")
 
     def test_digits_that_a_single_has_not(self):
-        self.set(0, "max phys=5000.123456789N", "--level", "calibration", out="5000 N -> 5000.123456789 N, stored as 5000.1235 N (nearest step)")
+        self.set(
+            0,
+            "max phys=5000.123456789N",
+            "--level",
+            "calibration",
+            out="5000 N -> 5000.123456789 N, stored as 5000.1235 N (nearest step)",
+        )
 
     def test_the_measurand_gives_the_unit(self):
-        self.set(0, "maximum physical value=7kPa", "measurand=Pa", "--level", "maker", out=("5000 N -> 7000 Pa", "force/weight, N (4) -> pressure, Pa (12)", "look at:"))
+        self.set(
+            0,
+            "maximum physical value=7kPa",
+            "measurand=Pa",
+            "--level",
+            "maker",
+            out=("5000 N -> 7000 Pa", "force/weight, N (4) -> pressure, Pa (12)", "look at:"),
+        )
 
     def test_measurands_that_are_none(self):
         self.unwritten(1, "measurand=46", "--level", "maker", err="refused: 10")
@@ -54,17 +107,33 @@ class Set(support.Case):
         self.set(0, "location=5")
 
     def test_refused(self):
-        for words, part in ((("precision=0",), ("refused: 12 at field 9", "dartelm export")), (("impedance=30000ohm",), "refused: 10"), (("serial=16777216",), "refused: 10"),
-                            (("bridge type=missing",), "refused: 9"), (("maximum physical value=1e39N",), "refused: 10"), (("letter=missing",), "refused: 9"),
-                            (("impedance=1ohm", "bridge type=3"), "refused: 10")):
+        for words, part in (
+            (("precision=0",), ("refused: 12 at field 9", "dartelm export")),
+            (("impedance=30000ohm",), "refused: 10"),
+            (("serial=16777216",), "refused: 10"),
+            (("bridge type=missing",), "refused: 9"),
+            (("maximum physical value=1e39N",), "refused: 10"),
+            (("letter=missing",), "refused: 9"),
+            (("impedance=1ohm", "bridge type=3"), "refused: 10"),
+        ):
             self.unwritten(1, *words, "--level", "maker", err=part)
         for name in support.REFUSED:
             self.unwritten(1, "location=1", source=name, err="dartelm why")
 
     def test_wrong_use(self):
-        for words, part in ((("impedance=351",), "has no unit; write it in ohm"), (("impedance",), "no NAME=VALUE"), (("impedence=3ohm",), "did you mean"),
-                            (("version=3",), "fits"), (("location=1", "21=2"), "twice"), (("text=hello",), "not changed alone"), (("22=1",), "no field 22"),
-                            (("location=1", "--level", "king"), "--level"), ((), "NAME=VALUE"), (("date=",), "2018-01-02"), (("=5",), "no field")):
+        for words, part in (
+            (("impedance=351",), "has no unit; write it in ohm"),
+            (("impedance",), "no NAME=VALUE"),
+            (("impedence=3ohm",), "did you mean"),
+            (("version=3",), "fits"),
+            (("location=1", "21=2"), "twice"),
+            (("text=hello",), "not changed alone"),
+            (("22=1",), "no field 22"),
+            (("location=1", "--level", "king"), "--level"),
+            ((), "NAME=VALUE"),
+            (("date=",), "2018-01-02"),
+            (("=5",), "no field"),
+        ):
             self.unwritten(2, *words, err=part)
         self.gives(2, "set", sample("load-cell.kind1"), "location=1", err="-o")
 

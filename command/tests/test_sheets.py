@@ -42,8 +42,12 @@ class Again(support.Case):
             text, same = export.exported(support.console(), image, sheet)
             differing += not same
             self.assertEqual(text.startswith("#"), not same)
-            again = read_sheet(support.console(), build(support.console(), sheets.parsed(support.console(), "again", text).sheet))
-            self.assertEqual((again.values, again.points, again.text, again.domain), (sheet.values, sheet.points, sheet.text, sheet.domain))
+            again = read_sheet(
+                support.console(), build(support.console(), sheets.parsed(support.console(), "again", text).sheet)
+            )
+            self.assertEqual(
+                (again.values, again.points, again.text, again.domain), (sheet.values, sheet.points, sheet.text, sheet.domain)
+            )
         self.assertGreater(count, 50)
 
     def test_bits_behind_the_end_are_said(self):
@@ -79,8 +83,14 @@ class Make(support.Case):
         self.make(0, self.edited("manufacturer ID", "maker"))
         self.make(0, self.edited("bridge element impedance", "13"))
         self.make(0, self.edited("= 1 us", "= 1.14us"), out="response time: 1.14 us, stored as 1.29 us (nearest step)")
-        self.make(0, self.edited("= 5000 N", "= 5.000123456789 kN"), out="maximum physical value: 5000.123456789 N, stored as 5000.1235 N (nearest step)")
-        self.make(0, self.edited("20.00016 %", "20%"), out="point 1: 20 % +0.015 %, stored as 20.00016 % +0.015 % (nearest step)")
+        self.make(
+            0,
+            self.edited("= 5000 N", "= 5.000123456789 kN"),
+            out="maximum physical value: 5000.123456789 N, stored as 5000.1235 N (nearest step)",
+        )
+        self.make(
+            0, self.edited("20.00016 %", "20%"), out="point 1: 20 % +0.015 %, stored as 20.00016 % +0.015 % (nearest step)"
+        )
         self.make(0, "\n".join(reversed(self.text.splitlines()[:23])), out="kind 1")
         self.make(0, self.text, "--kind", "2", out="kind 2 (512 bytes)")
         self.make(0, self.text.replace("kind = 1\n", ""), "--kind", "2")
@@ -88,21 +98,37 @@ class Make(support.Case):
         self.make(0, self.edited('"rolling road 2, left drum"', '"a\\x0ab # = \\x22"'))
 
     def test_lines_that_are_not_understood(self):
-        for old, new, line, part in (("= 350 ohm", "= 350", 15, "has no unit"), ("= 350 ohm", "", 15, "no line 'name = value'"), ("template = 33", "template = 34", 2, "no template"),
-                                     ("kind = 1", "kind = 5", 1, "no kind"), ("serial number = 555", "serial = five", 7, "whole number"),
-                                     ("serial number = 555", "serial = 5\nserial number = 5", 8, "stands in line 7"), ("N (4)", "N (5)", 8, "none of"),
-                                     ("model number = 77", "model number = 77\nmodel number = 77", 5, "stands in line 4"),
-                                     ("= 5000 N", "= 5000 Pa", 10, "not understood"), ("domain = electrical", "domain = both", 24, "domain"),
-                                     ("point = 0 %, 0 %", "point = 0, 0", 25, "has no unit"), ("point = 0 %, 0 %", "point = 0 %", 25, "two parts"),
-                                     ("point = 0 %, 0 %", "point = 0.00000001 %, 0 %", 25, "finer"), ("text = \"rolling", "text = rolling", 31, "between"),
-                                     ("rolling road", "r\u00f6lling road", 31, "cannot stand"), ("rolling road", "r\\ad", 31, "cannot stand"),
-                                     ("2025-11-03", "3.11.2025", 20, "2018-01-02"), ("version letter", "colour", 5, "no field"), ("domain = electrical\n", "", 24, "points need")):
+        for old, new, line, part in (
+            ("= 350 ohm", "= 350", 15, "has no unit"),
+            ("= 350 ohm", "", 15, "no line 'name = value'"),
+            ("template = 33", "template = 34", 2, "no template"),
+            ("kind = 1", "kind = 5", 1, "no kind"),
+            ("serial number = 555", "serial = five", 7, "whole number"),
+            ("serial number = 555", "serial = 5\nserial number = 5", 8, "stands in line 7"),
+            ("N (4)", "N (5)", 8, "none of"),
+            ("model number = 77", "model number = 77\nmodel number = 77", 5, "stands in line 4"),
+            ("= 5000 N", "= 5000 Pa", 10, "not understood"),
+            ("domain = electrical", "domain = both", 24, "domain"),
+            ("point = 0 %, 0 %", "point = 0, 0", 25, "has no unit"),
+            ("point = 0 %, 0 %", "point = 0 %", 25, "two parts"),
+            ("point = 0 %, 0 %", "point = 0.00000001 %, 0 %", 25, "finer"),
+            ('text = "rolling', "text = rolling", 31, "between"),
+            ("rolling road", "r\u00f6lling road", 31, "cannot stand"),
+            ("rolling road", "r\\ad", 31, "cannot stand"),
+            ("2025-11-03", "3.11.2025", 20, "2018-01-02"),
+            ("version letter", "colour", 5, "no field"),
+            ("domain = electrical\n", "", 24, "points need"),
+        ):
             self.make(2, self.edited(old, new), err=(f"sheet:{line}: ", part))
 
     def test_lines_that_are_not_there(self):
         for number, line in enumerate(self.text.splitlines()):
             if number < 23:
-                self.make(2, "\n".join(self.text.splitlines()[:number] + self.text.splitlines()[number + 1:]), err="there is no line '" + line.split(" = ")[0])
+                self.make(
+                    2,
+                    "\n".join(self.text.splitlines()[:number] + self.text.splitlines()[number + 1 :]),
+                    err="there is no line '" + line.split(" = ")[0],
+                )
         self.make(2, "", err="there is no line")
         without = "\n".join(line for line in self.text.splitlines() if not line.startswith("point"))
         self.make(2, without, err="a domain without points")
@@ -110,9 +136,17 @@ class Make(support.Case):
         self.make(2, self.text + "term = 1, 2\n", err="a term before")
 
     def test_refused_with_the_line(self):
-        for old, new, line, number in (("= 350 ohm", "= 0.5 ohm", 15, 10), ("= 1451", "= 16", 3, 10), ("bridge type = full (2)", "bridge type = missing", 14, 9),
-                                       ("40.00032", "20.00016", 27, 7), ("40.00032", "20.0002", 27, 7), ("0.042", "110", 27, 10), ("60.00048", "101", 28, 10),
-                                       ("rolling", "roll\\x00ing", 31, 10), ("rolling", "roll\\xffing", 31, 10)):
+        for old, new, line, number in (
+            ("= 350 ohm", "= 0.5 ohm", 15, 10),
+            ("= 1451", "= 16", 3, 10),
+            ("bridge type = full (2)", "bridge type = missing", 14, 9),
+            ("40.00032", "20.00016", 27, 7),
+            ("40.00032", "20.0002", 27, 7),
+            ("0.042", "110", 27, 10),
+            ("60.00048", "101", 28, 10),
+            ("rolling", "roll\\x00ing", 31, 10),
+            ("rolling", "roll\\xffing", 31, 10),
+        ):
             self.make(1, self.edited(old, new), err=(f"sheet:{line}: refused: {number} ", "nothing is written"))
         self.make(1, self.text, "--kind", "0", err="refused: 11 at bits ")
         self.make(1, self.edited("rolling", "r" * 400), err="refused: 11 at bits ")

@@ -5,16 +5,38 @@ from support import ACCEPTED, REFUSED, TODAY, sample
 
 class Show(support.Case):
     def test_each_accepted_sample(self):
-        for name, parts in (("load-cell.kind1", ("716 of 992 bits", "350 ohm", "2 mV/V", "10 V", "1 us", "5000 N", "due 2026-11-03", "1000.008 N",
-                                                 "shows 1000.758 N", "+0.015 %", '"rolling road 2, left drum"', "large and small")),
-                            ("brake-pressure.kind1", ("-0.0075 mV/V", "1.9876 mV/V", "16 MPa", "full precision (2)")),
-                            ("many-points.kind2", ("missing", "90 more", "large only")),
-                            ("oil-pressure.kind0", ("294 of 312 bits", "1000 kPa", "no calibration points", "10.03 us")),
-                            ("temperature.kind1", ("194 ohm", "1 mA", "472.48519 ms", "250 \u00b0C", "resistance sender")),
-                            ("exhaust-pressure.kind1", ("300 kPa", "a calibration curve of 2 segments and 5 terms", "1  from 49.9995 %: -0.3 x^0", "large and small")),
-                            ("torque.kind1", ("500 Nm", "physical figure (domain 1)", "shown at 25.0402 %"))):
+        for name, parts in (
+            (
+                "load-cell.kind1",
+                (
+                    "716 of 992 bits",
+                    "350 ohm",
+                    "2 mV/V",
+                    "10 V",
+                    "1 us",
+                    "5000 N",
+                    "due 2026-11-03",
+                    "1000.008 N",
+                    "shows 1000.758 N",
+                    "+0.015 %",
+                    '"rolling road 2, left drum"',
+                    "large and small",
+                ),
+            ),
+            ("brake-pressure.kind1", ("-0.0075 mV/V", "1.9876 mV/V", "16 MPa", "full precision (2)")),
+            ("many-points.kind2", ("missing", "90 more", "large only")),
+            ("oil-pressure.kind0", ("294 of 312 bits", "1000 kPa", "no calibration points", "10.03 us")),
+            ("temperature.kind1", ("194 ohm", "1 mA", "472.48519 ms", "250 \u00b0C", "resistance sender")),
+            (
+                "exhaust-pressure.kind1",
+                ("300 kPa", "a calibration curve of 2 segments and 5 terms", "1  from 49.9995 %: -0.3 x^0", "large and small"),
+            ),
+            ("torque.kind1", ("500 Nm", "physical figure (domain 1)", "shown at 25.0402 %")),
+        ):
             for flags in ((), ("--curve",), ("--points",)):
-                said, wrong = self.gives(0, "show", sample(name), *flags, *TODAY, out=parts if "--points" not in flags else parts[:1])
+                said, wrong = self.gives(
+                    0, "show", sample(name), *flags, *TODAY, out=parts if "--points" not in flags else parts[:1]
+                )
                 self.assertEqual(wrong, "")
                 self.assertNotIn("look at: calibration is overdue", said)
 
@@ -40,12 +62,17 @@ class Show(support.Case):
         return [line for line in said.splitlines() if line.startswith("look at: ")]
 
     def test_what_is_odd(self):
-        for changes, part in ((["excitation min=12V", "excitation max=5V"], "least above greatest excitation: 12 V is above 5 V (fields 16 and 17)"),
-                              (["date=2026-03-02"], "still to come: 2026-03-02"),
-                              (["date=2025-03-01", "period=364days"], "overdue since 2026-02-28"),
-                              (["minimum physical value=6000N"], "least above greatest physical value: 6000 N is above 5000 N"),
-                              (["minimum electrical value=3mV/V"], "least above greatest electrical value"),
-                              (["nominal=20V"], "not between")):
+        for changes, part in (
+            (
+                ["excitation min=12V", "excitation max=5V"],
+                "least above greatest excitation: 12 V is above 5 V (fields 16 and 17)",
+            ),
+            (["date=2026-03-02"], "still to come: 2026-03-02"),
+            (["date=2025-03-01", "period=364days"], "overdue since 2026-02-28"),
+            (["minimum physical value=6000N"], "least above greatest physical value: 6000 N is above 5000 N"),
+            (["minimum electrical value=3mV/V"], "least above greatest electrical value"),
+            (["nominal=20V"], "not between"),
+        ):
             self.assertTrue(any(part in line for line in self.look("load-cell.kind1", changes, *TODAY)), changes)
         self.assertEqual(self.look("load-cell.kind1", ["date=2025-03-01", "period=365days"], *TODAY), [])
         self.assertEqual(self.look("load-cell.kind1", ["date=missing"], *TODAY), [])
@@ -72,7 +99,9 @@ class Show(support.Case):
 
 class Read(support.Case):
     def test_a_reading(self):
-        said, _ = self.gives(0, "read", sample("load-cell.kind1"), "1.0mV/V", out=("2502.000005 N", "50.0400001 %", "+0.0400001 %", "large dash"))
+        said, _ = self.gives(
+            0, "read", sample("load-cell.kind1"), "1.0mV/V", out=("2502.000005 N", "50.0400001 %", "+0.0400001 %", "large dash")
+        )
         self.assertEqual(len(said.splitlines()), 3)
         self.gives(0, "read", sample("load-cell.kind1"), "1000uV/V", "1 mV/V", "0.001V/V", "--dash", "small", out="small dash")
         self.gives(0, "read", sample("many-points.kind2"), "-1.5mV/V", "-.5mV/V", out="-1.5 mV/V")
@@ -86,16 +115,30 @@ class Read(support.Case):
         self.gives(0, "read", sample("brake-pressure.kind1"), "--table", "3", out=("-0.0075 mV/V", "1.9876 mV/V", "0 %"))
 
     def test_refused(self):
-        self.gives(1, "read", sample("temperature.kind1"), "1mV/V", err="refused: 4 at bit 64: no reading is taken from a resistance sender")
+        self.gives(
+            1,
+            "read",
+            sample("temperature.kind1"),
+            "1mV/V",
+            err="refused: 4 at bit 64: no reading is taken from a resistance sender",
+        )
         self.gives(1, "read", sample("many-points.kind2"), "1mV/V", "--dash", "small", err="refused: 23 at points 96")
         self.gives(1, "read", sample("load-cell.kind1"), "1mV/V", "3mV/V", out=("2502.000005 N", "refused: 14"))
         self.gives(1, "read", sample("load-cell.kind1"), "9e9V/V", out="refused: 14")
         self.gives(1, "read", sample("damaged.kind1"), "1mV/V", err=("refused: 2 at page 2", "dartelm why"))
 
     def test_wrong_use(self):
-        for words, part in ((("1.0",), "has no unit; write it in V/V, mV/V"), (("1mV",), "not understood"), ((), "read takes an input"),
-                            (("--table", "1"), "--table takes"), (("--table", "x"), "--table"), (("1mV/V", "--dash", "round"), "--dash"),
-                            (("0.1nV/V",), "finer"), (("1e20V/V",), "far outside"), (("now",), "no number")):
+        for words, part in (
+            (("1.0",), "has no unit; write it in V/V, mV/V"),
+            (("1mV",), "not understood"),
+            ((), "read takes an input"),
+            (("--table", "1"), "--table takes"),
+            (("--table", "x"), "--table"),
+            (("1mV/V", "--dash", "round"), "--dash"),
+            (("0.1nV/V",), "finer"),
+            (("1e20V/V",), "far outside"),
+            (("now",), "no number"),
+        ):
             self.gives(2, "read", sample("load-cell.kind1"), *words, err=part)
 
 

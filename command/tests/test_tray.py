@@ -7,8 +7,15 @@ import shutil
 import support
 from support import ACCEPTED, sample
 
-BITS = {"brake-pressure.kind1": 589, "exhaust-pressure.kind1": 709, "load-cell.kind1": 716, "many-points.kind2": 3967, "oil-pressure.kind0": 294,
-        "temperature.kind1": 679, "torque.kind1": 574}
+BITS = {
+    "brake-pressure.kind1": 589,
+    "exhaust-pressure.kind1": 709,
+    "load-cell.kind1": 716,
+    "many-points.kind2": 3967,
+    "oil-pressure.kind0": 294,
+    "temperature.kind1": 679,
+    "torque.kind1": 574,
+}
 TOTAL = sum(BITS.values())
 
 
@@ -46,7 +53,13 @@ class Tray(support.Case):
         os.mkdir(self.path("many"))
         for number in range(401):
             shutil.copy(sample("oil-pressure.kind0" if number % 2 else "blank.kind1"), self.path(f"many/{number:04}"))
-        self.gives(1, "tray", self.path("many"), out=f"401 chips: 200 accepted, 201 refused; total {200 * 294} bits", err=("200 of 401 chips", "401 of 401 chips"))
+        self.gives(
+            1,
+            "tray",
+            self.path("many"),
+            out=f"401 chips: 200 accepted, 201 refused; total {200 * 294} bits",
+            err=("200 of 401 chips", "401 of 401 chips"),
+        )
 
     def test_every_refusal_is_the_checks(self):
         found = {}

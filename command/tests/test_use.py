@@ -24,23 +24,50 @@ class Use(support.Case):
 
     def test_wrong_use(self):
         self.assertIn("usage: dartelm", self.ends(2)[1])
-        for words in (("shov", sample("load-cell.kind1")), ("show",), ("show", "--colour", sample("load-cell.kind1")), ("make", "sheet"), ("report", "f"), ("set", "f"),
-                      ("set", "f", "21=1", "-o"), ("export",), ("why",), ("tray",), ("certificate", "f"), ("make", "s", "-o", "n", "--kind", "3"), ("-o",)):
+        for words in (
+            ("shov", sample("load-cell.kind1")),
+            ("show",),
+            ("show", "--colour", sample("load-cell.kind1")),
+            ("make", "sheet"),
+            ("report", "f"),
+            ("set", "f"),
+            ("set", "f", "21=1", "-o"),
+            ("export",),
+            ("why",),
+            ("tray",),
+            ("certificate", "f"),
+            ("make", "s", "-o", "n", "--kind", "3"),
+            ("-o",),
+        ):
             out, _ = self.gives(2, *words, err="usage: dartelm")
             self.assertEqual(out, "")
 
     def test_options_stand_anywhere(self):
-        for words in (("show", "--today", "2026-03-01", sample("load-cell.kind1"), "--curve", sample("torque.kind1")),
-                      ("read", "--dash", "small", sample("load-cell.kind1"), "1mV/V", "--table", "3", "-0.1mV/V"),
-                      ("set", "-o", self.path("new"), sample("load-cell.kind1"), "--level", "maker", "13=351ohm", "--force", "serial=3"),
-                      ("report", sample("load-cell.kind1"), "-o", self.path("page"), sample("load-cell.csv"))):
+        for words in (
+            ("show", "--today", "2026-03-01", sample("load-cell.kind1"), "--curve", sample("torque.kind1")),
+            ("read", "--dash", "small", sample("load-cell.kind1"), "1mV/V", "--table", "3", "-0.1mV/V"),
+            ("set", "-o", self.path("new"), sample("load-cell.kind1"), "--level", "maker", "13=351ohm", "--force", "serial=3"),
+            ("report", sample("load-cell.kind1"), "-o", self.path("page"), sample("load-cell.csv")),
+        ):
             self.gives(0, *words)
 
     def test_files_that_cannot_be_read(self):
         new = self.path("new")
-        for words in (("show", "nope"), ("why", "nope"), ("set", "nope", "21=1", "-o", new), ("read", "nope", "1mV/V"), ("export", "nope"), ("make", "nope", "-o", new),
-                      ("report", "nope", "-o", new), ("certificate", "nope", "nope"), ("show", support.SAMPLES), ("certificate", sample("load-cell.kind1"), "nope"),
-                      ("show", ""), ("tray", "nope"), ("show", sample("load-cell.kind1"), "nope")):
+        for words in (
+            ("show", "nope"),
+            ("why", "nope"),
+            ("set", "nope", "21=1", "-o", new),
+            ("read", "nope", "1mV/V"),
+            ("export", "nope"),
+            ("make", "nope", "-o", new),
+            ("report", "nope", "-o", new),
+            ("certificate", "nope", "nope"),
+            ("show", support.SAMPLES),
+            ("certificate", sample("load-cell.kind1"), "nope"),
+            ("show", ""),
+            ("tray", "nope"),
+            ("show", sample("load-cell.kind1"), "nope"),
+        ):
             out, err = self.gives(3, *words)
             self.assertRegex(err, r"^dartelm: cannot read [^\n]*\n$")
             self.assertEqual(out, "")
@@ -55,9 +82,16 @@ class Use(support.Case):
         with open("/dev/full", "wb") as full:
             _, err = self.ends(3, "show", sample("load-cell.kind1"), stdout=full)
         self.assertIn("No space left", err)
-        done = subprocess.run(f"'{support.PROGRAM}' show --points '{sample('many-points.kind2')}' | head -c 1", shell=True, capture_output=True, check=False)
+        done = subprocess.run(
+            f"'{support.PROGRAM}' show --points '{sample('many-points.kind2')}' | head -c 1",
+            shell=True,
+            capture_output=True,
+            check=False,
+        )
         self.assertNotIn(b"Traceback", done.stderr)
-        done = subprocess.run(f"'{support.PROGRAM}' show '{sample('load-cell.kind1')}' >&-", shell=True, capture_output=True, check=False)
+        done = subprocess.run(
+            f"'{support.PROGRAM}' show '{sample('load-cell.kind1')}' >&-", shell=True, capture_output=True, check=False
+        )
         self.assertNotIn(b"Traceback", done.stderr)
         done = subprocess.run(f"'{support.PROGRAM}' show - <&-", shell=True, capture_output=True, check=False)
         self.assertNotIn(b"Traceback", done.stderr)
