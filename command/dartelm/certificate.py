@@ -325,7 +325,7 @@ class AgainstTwin(Against):
 
 
 class AgainstCurve(Against):
-    """With a curve the fraction is the position: the figure tells where the chip is, at the place that has it without a curve."""
+    """With a curve the fraction is the position: the figure tells where the chip is, the place that has it without a curve."""
 
     def fractions(self, inputs):
         found = super().fractions(inputs)

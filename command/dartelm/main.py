@@ -49,6 +49,7 @@ def parser():
         "of the span, date, initials and period, the maker all that is changed alone",
     )
     add_output(change)
+    add_today(change)
 
     read = command(commands, "read", "readings of a chip")
     read.add_argument("file", metavar="FILE", help="an image of 40, 128 or 512 bytes")
@@ -76,6 +77,7 @@ def parser():
     make.add_argument("sheet", metavar="SHEET", help="lines as export writes them")
     make.add_argument("--kind", type=int, choices=(0, 1, 2), help="for another chip: 0 of 40 bytes, 1 of 128, 2 of 512")
     add_output(make)
+    add_today(make)
 
     report = command(commands, "report", "one page in HTML, to be printed or kept")
     report.add_argument("file", metavar="FILE", help="an image of 40, 128 or 512 bytes")

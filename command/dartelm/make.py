@@ -3,6 +3,7 @@ from . import fields, files, refusals, sheets, singles
 from .console import Unknown
 from .fields import FIELDS
 from .image import BYTES, STREAM_BITS, build, write_image
+from .looks import look_lines
 from .trouble import ACCEPTED, Refusal, misused, refused
 from .units import percent, plain, split
 
@@ -12,7 +13,7 @@ def run(console, given):
     draft = sheets.parsed(console, given.sheet, files.read_text(given.sheet), given.kind)
     image = made(console, draft)
     stored = write_image(console, given.output, image, given.force)
-    for line in nearest(console, draft, stored):
+    for line in (*nearest(console, draft, stored), *look_lines(console, stored, given.today)):
         print(line)
     print(
         f"{given.output}: written and read again, accepted: kind {stored.kind} ({BYTES[stored.kind]} bytes), {stored.bits} bits"
@@ -32,8 +33,8 @@ def made(console, draft):
 
 
 def about(console, draft, refusal):
-    """The line that a build's refusal is about, and the word for which of its row's cases it is. A place may be a field's number
-    or a point's: without points it is a field's."""
+    """The line that a build's refusal is about, and the word for which of its row's cases it is. A place may be a field's
+    number or a point's: without points it is a field's."""
     sheet = draft.sheet
     if refusal.number in (9, 10) and refused_alike(console, sheet.bare_with_text(), refusal):
         if refusal.place > len(FIELDS[sheet.template]):

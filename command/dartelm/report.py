@@ -3,7 +3,7 @@ import hashlib
 import html
 import re
 
-from . import certificate, fields, files, readings, refusals, show, version, why
+from . import certificate, fields, files, looks, readings, refusals, show, version, why
 from .image import Image, read_sheet, refusal_of
 from .panels import Panel
 from .readings import WHOLE_SPAN
@@ -68,7 +68,7 @@ def run(console, given):
     else:
         sheet = read_sheet(console, image)
         against = compared(console, image, sheet, given.certificate)
-        title = "Maker {}, model {}, serial {}".format(*(show.shown_field(console, sheet, field) for field in (1, 2, 5)))
+        title = "Maker {}, model {}, serial {}".format(*(looks.shown(console, sheet, field) for field in (1, 2, 5)))
         body = sheet_body(console, given, image, sheet, against)
     page = document(title, [*body, footer(given, data)]).encode("utf-8")
     files.write_new(given.output, page, given.force)
@@ -96,8 +96,8 @@ def footer(given, data):
     digest = hashlib.sha256(data).hexdigest()
     return (
         f"<footer><p>{text(version.line())}. File {text(given.file)}{certified}, {len(data)} bytes, SHA-256 {digest}. "
-        f"Written {text(given.today)}.</p><p>Figures are those of the proved programs, and differences of them; this page, its units "
-        "and its drawing are not proved.</p></footer>"
+        f"Written {text(given.today)}.</p><p>Figures are those of the proved programs, and differences of them; this page, its "
+        "units and its drawing are not proved.</p></footer>"
     )
 
 
@@ -116,12 +116,12 @@ def sheet_body(console, given, image, sheet, against):
     yield f'<p class="verdict">ACCEPTED: {text(show.summary(sheet))}</p>'
     if against:
         yield f'<p class="verdict">Certificate: {text(against.verdict())}</p>'
-    for line in show.odd(console, sheet, image, by, show.today(console, given.today)):
-        yield f'<p class="look">Look at: {text(line)}</p>'
+    for line in looks.look_lines(console, sheet, given.today):
+        yield f'<p class="look">{text(line[:1].upper() + line[1:])}</p>'
     yield "<h2>Sheet</h2>"
     yield '<div class="fields">' + "".join(
         f"<p><b>{text((number + ' ' + name).strip())}</b><span>{text(value)}</span></p>"
-        for number, name, value in show.rows(sheet, by)
+        for number, name, value in show.rows(console, sheet, by)
     ) + "</div>"
     dashes = "; ".join(show.dash_lines(console, sheet, image))
     yield f"<p>{text(dashes[:1].upper() + dashes[1:])}</p>"

@@ -3,6 +3,7 @@ from . import fields, files, refusals
 from .console import refusal_in
 from .fields import field_named, is_single, whole
 from .image import Image, open_image, write_image
+from .looks import look_lines
 from .trouble import ACCEPTED, Refusal, misused, refused, unread
 
 LEVELS = ("owner", "calibration", "maker")
@@ -32,6 +33,10 @@ def run(console, given):
     if any(again.values[number] != value for number, value in stored.items()):
         raise unread(f"{given.output}: what stands in the file is not what was written")
     print("\n".join(lines))
+    were = look_lines(console, sheet, given.today)
+    for line in look_lines(console, again, given.today):
+        if line not in were:
+            print(line)
     if 6 in stored and not {7, 8} <= set(stored):
         print("look at: the physical values that were not set keep their numbers, in the new unit")
     print(f"{given.output}: written and read again, accepted")

@@ -1,8 +1,9 @@
 """show: the sheet in plain words and units."""
 from . import fields, readings, refusals, singles
 from .drawing import text_curve
-from .fields import MISSING, FIELDS, DATE, PERIOD, whole
+from .fields import FIELDS, PERIOD
 from .image import BYTES, STREAM_BITS, read_image, read_sheet
+from .looks import due_date, look_lines
 from .trouble import ACCEPTED, REFUSED, Refusal
 from .units import OHM, float_text, in_unit, percent, plain
 
@@ -30,14 +31,13 @@ def run(console, given):
 def lines_of(console, path, image, sheet, given):
     by = fields.around(console, sheet)
     yield f"{path}: accepted, {summary(sheet)}"
-    for number, name, value in rows(sheet, by):
+    for number, name, value in rows(console, sheet, by):
         yield f"{number:>4}  {name:<39}{value}"
     yield from correction_lines(console, sheet, by, given.points)
     if given.curve:
         yield from curve_lines(console, sheet, image, by)
     yield from dash_lines(console, sheet, image)
-    for line in odd(console, sheet, image, by, today(console, given.today)):
-        yield f"look at: {line}"
+    yield from look_lines(console, sheet, given.today)
 
 
 def summary(sheet):
@@ -47,12 +47,12 @@ def summary(sheet):
     )
 
 
-def rows(sheet, by):
+def rows(console, sheet, by):
     """Number, name and value of each field, and of what stands behind them."""
     for field in FIELDS[sheet.template]:
         value = field.shown(sheet.values[field.number], by)
         if field.number == PERIOD[sheet.template]:
-            due = due_date(sheet, by)
+            due = due_date(console, sheet)
             value += f", due {due}" if due else ""
         yield str(field.number), field.name, value
     yield "", "closing text", "none" if sheet.text is None else quoted(sheet.text)
@@ -61,26 +61,6 @@ def rows(sheet, by):
 def quoted(text):
     """A closing text, with what does not print as \\x and two digits."""
     return '"' + "".join(chr(c) if 32 <= c < 127 and chr(c) not in '"\\' else f"\\x{c:02x}" for c in text) + '"'
-
-
-def due_code(sheet):
-    date = sheet.values[DATE[sheet.template]]
-    return None if date == MISSING else whole(date) + whole(sheet.values[PERIOD[sheet.template]])
-
-
-def due_date(sheet, by):
-    """The day by which it is to be calibrated again, as text."""
-    code = due_code(sheet)
-    if code is None:
-        return None
-    try:
-        return by.console.text(18, code)
-    except Refusal:
-        return "after 2177-06-05"
-
-
-def today(console, date):
-    return console.code(18, date)
 
 
 def correction_lines(console, sheet, by, every):
@@ -184,43 +164,3 @@ def dash_lines(console, sheet, image):
         yield f"dashes: no reading: {refusals.headline(refusal)}"
     else:
         yield "dashes: large and small"
-
-
-def odd(console, sheet, image, by, now):
-    """What is accepted and yet worth a look. None of it is a refusal."""
-    values = sheet.values
-    date = values[DATE[sheet.template]]
-    if date != MISSING and whole(date) > now:
-        yield f"the calibration date is still to come: {by.console.text(18, whole(date))}"
-    due = due_code(sheet)
-    if due is not None and due < now and whole(date) <= now:
-        yield f"calibration is overdue since {due_date(sheet, by)}"
-    for low, high, what in falling_pairs(sheet):
-        if MISSING not in (values[low], values[high]) and order(values[low]) > order(values[high]):
-            yield f"{what}: {shown(sheet, by, low)} is above {shown(sheet, by, high)} (fields {low} and {high})"
-    if sheet.template == 33 and MISSING not in (values[15], values[16], values[17]):
-        low, nominal, high = (whole(values[n]) for n in (16, 15, 17))
-        if low <= high and not low <= nominal <= high:
-            nominal, low, high = (shown(sheet, by, number) for number in (15, 16, 17))
-            yield f"the nominal excitation, {nominal}, is not between {low} and {high}"
-
-
-def falling_pairs(sheet):
-    yield 7, 8, "least above greatest physical value"
-    yield 10, 11, "least above greatest electrical value"
-    if sheet.template == 33:
-        yield 16, 17, "least above greatest excitation"
-    else:
-        yield 14, 15, "nominal above greatest excitation current"
-
-
-def order(value):
-    return singles.as_float(fields.bits(value)) if fields.is_single(value) else whole(value)
-
-
-def shown(sheet, by, number):
-    return FIELDS[sheet.template][number - 1].shown(sheet.values[number], by)
-
-
-def shown_field(console, sheet, number):
-    return shown(sheet, fields.around(console, sheet), number)
