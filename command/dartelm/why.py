@@ -241,6 +241,7 @@ def cause_lines(image, found, refusal):
     """The likely cause and what to do, then what docs/REFUSALS.md says of the number."""
     if refusal.number == 17:
         yield "likely: a new chip, to which nothing has been written (or a reader that had no contact: read it again)"
+        yield "to do: 'dartelm export' the sheet of a sender like it, edit its lines and 'dartelm make' the image"
     elif not any(image.data):
         yield "likely: every byte is 0: the reader had no contact, or the chip was wiped"
         yield "to do: read the chip again; if it stays, it holds no sheet: 'dartelm make' one"
@@ -253,7 +254,7 @@ def cause_lines(image, found, refusal):
     else:
         yield "likely: no page adds up: a bad contact, a dump that does not begin at the first byte, or no such chip"
     said = refusals.advice(refusal)
-    if said and any(image.data):
+    if said and any(image.data) and refusal.number != 17:
         yield f"to do: {said}"
     if refusals.shortened(refusals.meaning(refusal)) != refusals.meaning(refusal):
         yield f"{refusal.number} is: {refusals.meaning(refusal)}"

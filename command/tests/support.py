@@ -23,16 +23,8 @@ from dartelm import image as images  # noqa: E402
 from dartelm import main  # noqa: E402
 
 SAMPLES = os.path.join(HOME, "samples")
-ACCEPTED = (
-    "brake-pressure.kind1",
-    "exhaust-pressure.kind1",
-    "load-cell.kind1",
-    "many-points.kind2",
-    "oil-pressure.kind0",
-    "temperature.kind1",
-    "torque.kind1",
-)
 REFUSED = ("blank.kind1", "damaged.kind1")
+ACCEPTED = tuple(sorted(name for name in os.listdir(SAMPLES) if ".kind" in name and name not in REFUSED))
 TODAY = ("--today", "2026-03-01")
 PROGRAM = os.path.join(HOME, "bin", "dartelm")
 

@@ -29,7 +29,7 @@ class Release(support.Case):
         for words in (
             ("show", *samples),
             ("tray", *samples),
-            ("certificate", samples[2], os.path.join(there, "samples", "load-cell.csv")),
+            ("certificate", os.path.join(there, "samples", "load-cell.kind1"), os.path.join(there, "samples", "load-cell.csv")),
         ):
             found, out, err = run_program(*words, program=program, env=env)
             self.assertEqual((found, err), (0, ""), out)

@@ -30,6 +30,30 @@ class Set(support.Case):
         cell = sample_bytes("load-cell.kind1").hex()
         self.assertEqual(support.console().ask("change", "1", cell, "13", "w3505", "maker")[1], self.bytes("new").hex())
 
+    def test_each_sample(self):
+        for name in support.ACCEPTED:
+            self.gives(0, "set", sample(name), "location=77", "-o", self.path(name), out="-> 77")
+            self.gives(0, "show", self.path(name), out="measurement location ID                77")
+
+    def test_what_is_worth_a_look_afterwards(self):
+        said, _ = self.set(0, "date=2027-01-01", "nominal=20V", "--level", "maker", *support.TODAY)
+        self.assertIn("look at: the calibration date is still to come", said)
+        self.assertIn("look at: the nominal excitation", said)
+        said, _ = self.set(0, "location=1", "--force", *support.TODAY)
+        self.assertNotIn("look at", said)
+
+    def test_the_range_is_told(self):
+        for word, part in (
+            ("location=3000", "a figure outside the field's range; it takes 0 to 2047"),
+            ("impedance=0.5ohm", "it takes 1 ohm to 26215.2 ohm"),
+            ("response=8s", "it takes 1 us to 7.91180996 s"),
+            ("max elec=-7mV/V", "it takes -6.55 mV/V to 6.55715 mV/V"),
+            ("measurand=46", "it takes temperature, K (0) to power, W (45)"),
+            ("max phys=1e39N", "a Single that is not finite"),
+            ("bridge type=missing", "missing where it may not be"),
+        ):
+            self.unwritten(1, word, "--level", "maker", err=part)
+
     def test_several_by_names_and_numbers(self):
         self.set(
             0,

@@ -127,6 +127,20 @@ class Read(support.Case):
         self.gives(1, "read", sample("load-cell.kind1"), "9e9V/V", out="refused: 14")
         self.gives(1, "read", sample("damaged.kind1"), "1mV/V", err=("refused: 2 at page 2", "dartelm why"))
 
+    def test_refused_for_the_ends(self):
+        ends = (
+            ("21 at field 11", "greatest electrical=3V/V"),
+            ("13 at field 11", "least electrical=1.9V/V"),
+            ("13 at field 7", "min phys=missing"),
+        )
+        for number, (part, change) in enumerate(ends):
+            chip = self.path(str(number))
+            self.gives(0, "set", sample("brake-pressure.kind1"), change, "--level", "maker", "-o", chip)
+            self.gives(1, "read", chip, "1mV/V", err=f"refused: {part}")
+            self.gives(0, "show", chip, "--curve", out=("dashes: no reading", f"no curve: refused: {part}"))
+            self.gives(0, "report", chip, "-o", self.path("page"), "--force")
+            self.gives(1, "certificate", chip, sample("load-cell.csv"), err=f"refused: {part}")
+
     def test_wrong_use(self):
         for words, part in (
             (("1.0",), "has no unit; write it in V/V, mV/V"),
