@@ -2,10 +2,12 @@
 import os
 import sys
 
-from .trouble import unread
+from .trouble import misused, unread
 
 # More than any chip's image, dump, sheet or certificate has.
 LONGEST = 1 << 20
+# Bytes that no text has.
+CONTROLS = set(range(9)) | set(range(14, 32))
 
 
 def read_bytes(path):
@@ -19,11 +21,22 @@ def read_bytes(path):
 
 
 def read_text(path):
+    """UTF-8, or what a spreadsheet writes in its place."""
     data = read_bytes(path)
     try:
-        return data.decode("utf-8-sig")
+        if data.startswith((b"\xff\xfe", b"\xfe\xff")):
+            return data.decode("utf-16")
+        return data.decode("utf-8-sig" if is_utf8(data) or CONTROLS.intersection(data) else "cp1252")
     except UnicodeDecodeError as error:
         raise unread(f"cannot read {path}: it is no text (byte {error.start})") from None
+
+
+def is_utf8(data):
+    try:
+        data.decode("utf-8")
+    except UnicodeDecodeError:
+        return False
+    return True
 
 
 def reason(error):
@@ -32,6 +45,8 @@ def reason(error):
 
 def must_be_new(path, force):
     """Said before anything is worked out, so that no work is lost; `write_new` holds to it again."""
+    if path in ("", "-"):
+        raise misused(f"-o takes a file's name, and '{path}' is none")
     if not force and os.path.lexists(path):
         raise unread(f"{path} is there already; --force replaces it")
 

@@ -71,7 +71,7 @@ def parsed(console, name, text, kind=None):
 
 def put(draft, number, line):
     name, equals, value = line.partition("=")
-    name, value = " ".join(fields.words_of(name)), value.strip()
+    name, value = " ".join(fields.words_of(name)), uncommented(value.strip())
     if not equals or not name:
         raise draft.wrong(number, f"'{line.strip()}' is no line 'name = value'")
     lists = {"point": draft.points, "segment": draft.segments, "term": draft.terms}
@@ -83,6 +83,12 @@ def put(draft, number, line):
         raise draft.wrong(number, f"'{name}' stands in line {draft.lines[name]} already")
     draft.given[name] = value
     draft.lines[name] = number
+
+
+def uncommented(value):
+    """Without a comment behind it; between marks # is a letter like others."""
+    found = re.fullmatch(r'("[^"]*")\s*#.*|(.*?)\s#[^"]*', value)
+    return value if not found else found.group(1) or found.group(2).rstrip()
 
 
 def numbered(draft, name, among):

@@ -91,6 +91,10 @@ def figure_of(text, unit, what):
     if parts is None:
         raise misused(f"{what}: '{text}' is no number in {unit.takes()}")
     number, word = parts
+    if re.match(r",[0-9]", word):
+        raise misused(
+            f"{what}: '{text.strip()}' has a comma; write it with a decimal point, as {text.strip().replace(',', '.', 1)}"
+        )
     if not word:
         example = plain(number) + unit.named(unit.shown[0])
         raise misused(f"{what}: '{text.strip()}' has no unit; write it in {unit.takes()}, as {example}")

@@ -14,6 +14,7 @@ REGISTER = 8
 GOOD, WRONG, BLANK = "adds up", "does not add up", "blank (every byte FF)"
 CUT = "is not there whole"
 WHOLE = "to do: read the chip again, whole: 40 bytes (register first) are kind 0, 128 kind 1, 512 kind 2"
+BUILD = ": 'dartelm export' that of a sender like it, edit its lines and 'dartelm make' the image"
 FULL = {33: 2, 32: 3}
 # The first bit behind the first template's number: a sheet that is refused before it has no template that is known.
 BEHIND_TEMPLATE = 74
@@ -241,7 +242,6 @@ def cause_lines(image, found, refusal):
     """The likely cause and what to do, then what docs/REFUSALS.md says of the number."""
     if refusal.number == 17:
         yield "likely: a new chip, to which nothing has been written (or a reader that had no contact: read it again)"
-        yield "to do: 'dartelm export' the sheet of a sender like it, edit its lines and 'dartelm make' the image"
     elif not any(image.data):
         yield "likely: every byte is 0: the reader had no contact, or the chip was wiped"
         yield "to do: read the chip again; if it stays, it holds no sheet: 'dartelm make' one"
@@ -254,8 +254,8 @@ def cause_lines(image, found, refusal):
     else:
         yield "likely: no page adds up: a bad contact, a dump that does not begin at the first byte, or no such chip"
     said = refusals.advice(refusal)
-    if said and any(image.data) and refusal.number != 17:
-        yield f"to do: {said}"
+    if said and any(image.data):
+        yield f"to do: {said}" + (BUILD if refusal.number == 17 else "")
     if refusals.shortened(refusals.meaning(refusal)) != refusals.meaning(refusal):
         yield f"{refusal.number} is: {refusals.meaning(refusal)}"
 

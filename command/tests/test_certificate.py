@@ -150,6 +150,11 @@ class Certificate(support.Case):
         self.gives(3, "certificate", sample("load-cell.kind1"), self.file("cert", b"\xff\xfe\x00"), err="no text")
         self.gives(2, "certificate", sample("load-cell.kind1"), err="CERT.csv")
 
+    def test_letters_of_a_spreadsheet(self):
+        text = "Prüfung ±\nLast in N\tDeviation (N)\n".replace("Last", "Load") + NEWTON.split("\n", 1)[1].replace(";", "\t")
+        for letters in ("utf-8-sig", "cp1252", "utf-16"):
+            self.gives(0, "certificate", sample("load-cell.kind1"), self.file("cert", text.encode(letters)), out="AGREES")
+
     def test_heads(self):
         for head, unit in (
             ("point", ""),

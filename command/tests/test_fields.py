@@ -158,7 +158,7 @@ class Values(support.Case):
             (13, "351V", "not understood"),
             (13, "350.55ohm", "350.5 ohm or 350.6 ohm"),
             (13, "ohm", "no number"),
-            (13, "1,5ohm", "not understood"),
+            (13, "1,5ohm", "has a comma; write it with a decimal point, as 1.5ohm"),
             (11, "2", "mV/V"),
             (11, "2mV", "not understood"),
             (11, "0.5nV/V", "finer"),

@@ -160,6 +160,7 @@ class Set(support.Case):
         ):
             self.unwritten(2, *words, err=part)
         self.gives(2, "set", sample("load-cell.kind1"), "location=1", err="-o")
+        self.gives(2, "set", sample("load-cell.kind1"), "location=1", "-o", "-", err="-o takes a file's name")
 
     def test_files(self):
         self.unwritten(3, "location=1", source="nope", err="cannot read")

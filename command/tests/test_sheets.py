@@ -81,6 +81,8 @@ class Make(support.Case):
         self.make(0, self.edited("= 350 ohm", "= 350.5 ohm"))
         self.make(0, "\ufeff# a comment\r\n\r\n" + self.text.replace("\n", "\r\n"))
         self.make(0, self.edited("manufacturer ID", "maker"))
+        self.make(0, self.edited("= 350 ohm", "= 350 ohm  # measured"))
+        self.make(0, self.edited('left drum"', 'left # drum" # where it is'))
         self.make(0, self.edited("bridge element impedance", "13"))
         self.make(0, self.edited("= 1 us", "= 1.14us"), out="response time: 1.14 us, stored as 1.29 us (nearest step)")
         self.make(

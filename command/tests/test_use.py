@@ -38,6 +38,7 @@ class Use(support.Case):
             ("certificate", "f"),
             ("make", "s", "-o", "n", "--kind", "3"),
             ("-o",),
+            ("export", sample("load-cell.kind1"), "-o"),
         ):
             out, _ = self.gives(2, *words, err="usage: dartelm")
             self.assertEqual(out, "")
