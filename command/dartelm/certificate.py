@@ -10,7 +10,7 @@ from .image import build, open_image
 from .measurands import CASES
 from .readings import WHOLE_SPAN
 from .trouble import ACCEPTED, REFUSED, Refusal, Trouble, misused, refused
-from .units import PERCENT, RATIO, counted, figure_of, float_text, in_unit, percent, split, uncounted
+from .units import PERCENT, RATIO, counted, figure_of, float_text, in_unit, many, percent, split, uncounted
 
 FEW = 6
 LARGEST = 2
@@ -26,7 +26,7 @@ COLUMNS = "columns like 'point (%)' and 'deviation (%)', or with the sender's un
 def run(console, given):
     image, sheet = open_image(console, given.file)
     beside = against(console, image, sheet, given.certificate)
-    print(f"{given.file} against {given.certificate}, {len(beside.points)} points")
+    print(f"{given.file} against {given.certificate}, {many(len(beside.points), 'point')}")
     for line in beside.lines():
         print(line)
     print(beside.verdict())
@@ -271,7 +271,7 @@ class Against:
         """How many of each sort of points are too far off."""
         sorts = ((self.at, "the certificate's"), (self.own, "the chip's own"))
         counts = [(sum(not self.within(one) for one in some), whose, len(some)) for some, whose in sorts if some]
-        return " and at ".join(f"{far} of {whose} {count} points" for far, whose, count in counts)
+        return " and at ".join(f"{far} of {whose} {many(count, 'point')}" for far, whose, count in counts)
 
 
 class AgainstTable(Against):

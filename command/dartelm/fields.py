@@ -266,7 +266,7 @@ FIELDS = {
     + calibration(16),
 }
 # Fields by what they are, in both templates.
-DATE, INITIALS, PERIOD, LOCATION = ({33: 18 + n, 32: 16 + n} for n in range(4))
+DATE, PERIOD = {33: 18, 32: 16}, {33: 20, 32: 18}
 
 # Words that documents 01 and 02 have for the standard's.
 SAME = {"least": "minimum", "greatest": "maximum", "maker": "manufacturer"}

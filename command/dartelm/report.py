@@ -8,7 +8,7 @@ from .image import Image, read_sheet, refusal_of
 from .panels import Panel
 from .readings import WHOLE_SPAN
 from .trouble import ACCEPTED, REFUSED
-from .units import float_text, in_unit, percent, plain, signed
+from .units import float_text, in_unit, many, percent, plain, signed
 
 SAMPLES = 241
 STYLE = """
@@ -131,7 +131,8 @@ def sheet_body(console, given, image, sheet, against):
         yield "<h2>Chip minus certificate</h2>"
         yield from certificate_figure(console, sheet, by, against)
     if sheet.points:
-        yield f"<h2>{len(sheet.points)} calibration points, {'physical' if sheet.domain else 'electrical'} domain</h2>"
+        points = many(len(sheet.points), "calibration point")
+        yield f"<h2>{points}, {'physical' if sheet.domain else 'electrical'} domain</h2>"
         yield '<div class="points">' + "".join(
             f"<p>{index}: {text(place)}{', ' + text(figure) if figure else ''}: {text(deviation)}</p>"
             for index, (place, figure, deviation, _) in enumerate(show.point_table(console, sheet, by))

@@ -5,7 +5,7 @@ from .fields import FIELDS, PERIOD
 from .image import BYTES, STREAM_BITS, read_image, read_sheet
 from .looks import due_date, look_lines
 from .trouble import ACCEPTED, REFUSED, Refusal
-from .units import OHM, float_text, in_unit, percent, plain
+from .units import OHM, float_text, in_unit, many, percent, plain
 
 FEW = 12
 SENDERS = {33: "a bridge sender", 32: "a resistance sender"}
@@ -72,7 +72,8 @@ def correction_lines(console, sheet, by, every):
         return
     table = point_table(console, sheet, by)
     against = "physical" if sheet.domain else "electrical"
-    yield f"{len(sheet.points)} calibration points against the {against} figure (domain {sheet.domain}), deviations of the span"
+    points = many(len(sheet.points), "calibration point")
+    yield f"{points} against the {against} figure (domain {sheet.domain}), deviations of the span"
     shown = range(len(sheet.points))
     if len(sheet.points) > FEW and not every:
         shown = (0, 1, 2, None, len(sheet.points) - 3, len(sheet.points) - 2, len(sheet.points) - 1)
@@ -111,7 +112,8 @@ def point_table(console, sheet, by):
 
 
 def segment_lines(sheet):
-    yield f"a calibration curve of {len(sheet.segments)} segments and {len(sheet.terms)} terms, in per cent of the span"
+    segments, terms = many(len(sheet.segments), "segment"), many(len(sheet.terms), "term")
+    yield f"a calibration curve of {segments} and {terms}, in per cent of the span"
     at = 0
     for index, (start, count) in enumerate(sheet.segments):
         yield f"{index:>4}  from {percent(start)}: " + ", ".join(term_text(*term) for term in sheet.terms[at : at + count])

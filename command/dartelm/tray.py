@@ -9,6 +9,7 @@ from .console import HOME, parsed
 from .files import read_bytes, reason
 from .image import KINDS, Image
 from .trouble import ACCEPTED, REFUSED, Refusal, misused, unread
+from .units import many
 
 # A tray ends after 1,000 images; fewer let the progress be seen.
 AT_ONCE = 200
@@ -31,7 +32,7 @@ def run(console, given):
         if len(images) > AT_ONCE:
             print(f"dartelm: {len(rows)} of {len(images)} chips", file=sys.stderr)
     refused = sum(number < 0 for _, _, number, _ in rows)
-    ending = f"{len(rows)} chips: {len(rows) - refused} accepted, {refused} refused; total {total} bits"
+    ending = f"{many(len(rows), 'chip')}: {len(rows) - refused} accepted, {refused} refused; total {total} bits"
     if given.csv:
         as_csv(rows)
         print(f"dartelm: {ending}", file=sys.stderr)

@@ -126,6 +126,10 @@ def percent(billionths, sign=False):
     return in_unit(uncounted(billionths, -7), PERCENT, "", sign)
 
 
+def many(count, word):
+    return f"{count} {word}" if count == 1 else f"{count} {word}s"
+
+
 def float_text(figure, digits=10):
     """A float's decimal digits, as a decimal."""
     return EXACT.create_decimal(format(figure, f".{digits}g"))

@@ -49,28 +49,21 @@ def told(console, path, data):
     if refusal is None:
         accepted = f"{path}: accepted, {summary(read_sheet(console, image))}"
         return [accepted, *page_lines(image, verdicts(console, image)), "nothing is wrong with it"], Found(image, False)
-    lines = [f"{path}: {refusals.headline(refusal)}"]
-    dump = dumps.bytes_of(data)
+    head = f"{path}: {refusals.headline(refusal)}"
+    dump, other = dumps.bytes_of(data), other_kind(console, data)
     if dump and len(dump) in KINDS:
-        more, found = dump_told(console, path, Image(dump))
-        return lines + more, found
-    if len(data) in KINDS:
-        found = verdicts(console, image)
-        lines += [*page_lines(image, found), *place_lines(console, image, found, refusal), *still_lines(console, image, found)]
-    other = other_kind(console, data)
+        lines, found = dump_told(console, path, Image(dump))
+        return [head, *lines], found
     if other:
         size = len(other.data)
-        return lines + [
-            f"likely: another kind's image: the first {size} bytes are an accepted one of kind {other.kind}",
-            to_write(path, other),
-        ], Found(other, True)
+        likely = f"likely: another kind's image: the first {size} bytes are an accepted one of kind {other.kind}"
+        return [head, likely, to_write(path, other)], Found(other, True)
     if dump:
-        lines += [f"likely: a dump in hexadecimal text, of {len(dump)} bytes, which no chip has; {wanted(len(dump))}", WHOLE]
-    elif dumps.text_of(data) is not None:
-        lines += text_lines(path, dumps.text_of(data))
-    else:
-        lines += cause_lines(image, found, refusal) if len(data) in KINDS else length_lines(console, data)
-    return lines, None
+        short = f"likely: a dump in hexadecimal text, of {len(dump)} bytes, which no chip has; {wanted(len(dump))}"
+        return [head, short, WHOLE], None
+    if dumps.text_of(data) is not None:
+        return [head, *text_lines(path, dumps.text_of(data))], None
+    return [head, *(chip_lines(console, image, refusal) if len(data) in KINDS else length_lines(console, data))], None
 
 
 def dump_told(console, path, image):
@@ -79,14 +72,16 @@ def dump_told(console, path, image):
     likely = f"likely: a dump in hexadecimal text, of {len(image.data)} bytes, which is kind {image.kind}; as an image it is "
     if refusal is None:
         return [likely + "accepted", to_write(path, image)], Found(image, True)
+    return [likely + refusals.headline(refusal), *chip_lines(console, image, refusal)], None
+
+
+def chip_lines(console, image, refusal):
+    """A refused chip: its pages, where the refusal stands, what whole pages say, the cause."""
     found = verdicts(console, image)
-    return [
-        likely + refusals.headline(refusal),
-        *page_lines(image, found),
-        *place_lines(console, image, found, refusal),
-        *still_lines(console, image, found),
-        *cause_lines(image, found, refusal),
-    ], None
+    yield from page_lines(image, found)
+    yield from place_lines(console, image, found, refusal)
+    yield from still_lines(console, image, found)
+    yield from cause_lines(image, found, refusal)
 
 
 def to_write(path, image):
