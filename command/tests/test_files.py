@@ -13,7 +13,7 @@ from support import sample
 
 KILLED = """
 import os, signal, sys
-sys.path.insert(0, {bench!r})
+sys.path.insert(0, {command!r})
 sys.dont_write_bytecode = True
 from dartelm import main
 os.{call} = lambda *_, **__: os.kill(os.getpid(), signal.{signal})
@@ -71,10 +71,21 @@ class Write(support.Case):
                 ("set", sample("load-cell.kind1"), "location=1", "-o", self.path("new")),
                 ("make", source, "-o", self.path("new")),
             ):
-                script = KILLED.format(bench=os.path.join(support.HOME, "command"), call=call, signal=name)
+                script = KILLED.format(command=os.path.join(support.HOME, "command"), call=call, signal=name)
                 done = subprocess.run([sys.executable, "-c", script, *words], capture_output=True, check=False)
                 self.assertNotEqual(done.returncode, 0)
                 self.assertEqual(os.listdir(self.room), ["sheet"], (call, name, words[0]))
+
+    def test_killed_while_it_replaces(self):
+        there = self.file("there", "precious")
+        words = ("set", sample("load-cell.kind1"), "location=1", "-o", there, "--force")
+        for call in ("fsync", "link", "replace"):
+            script = KILLED.format(command=os.path.join(support.HOME, "command"), call=call, signal="SIGKILL")
+            done = subprocess.run([sys.executable, "-c", script, *words], capture_output=True, check=False)
+            self.assertNotEqual(done.returncode, 0)
+            self.assertEqual(self.bytes("there"), b"precious")
+            for name in os.listdir(self.room):
+                self.assertIn(os.path.getsize(self.path(name)), (8, 128))
 
     def test_killed_while_the_console_answers(self):
         program = support.other_home(self.path("there"), SLOW.format(console=os.path.join(support.HOME, "bin", "console")))
