@@ -74,7 +74,7 @@ class Noise(support.Case):
 
     def test_sheets_certificates_and_values(self):
         texts = [self.run_here("export", sample(name))[1] for name in ACCEPTED]
-        for _ in range(100):
+        for _ in range(70):
             self.ends("make", self.file("sheet", self.noisy(self.chance.choice(texts))), "-o", self.path("new"), "--force")
             self.ends(
                 "certificate",
@@ -94,7 +94,7 @@ class Noise(support.Case):
             self.ends("read", sample("load-cell.kind1"), self.noisy("1.0mV/V"))
 
     def test_images(self):
-        for _ in range(60):
+        for _ in range(40):
             data = bytearray(sample_bytes(self.chance.choice(ACCEPTED)))
             for _ in range(self.chance.choice((1, 3, 30))):
                 data[self.chance.randrange(len(data))] = self.chance.choice((0, 255, self.chance.randrange(256)))

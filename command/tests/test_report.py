@@ -75,7 +75,7 @@ class Report(support.Case):
         self.assertFalse(os.path.exists(self.path("other.html")))
 
     def test_random_images(self):
-        for image in support.built_images(60, 9):
+        for image in support.built_images(40, 9):
             self.page(0, self.file("random", image.data))
 
     def test_letters_that_mean_something_in_a_page(self):

@@ -19,7 +19,7 @@ class Again(support.Case):
     def test_random_images(self):
         """Some hundreds, of every template, precision and kind, with points of both domains, with curves, and without."""
         sorts = set()
-        for number, image in enumerate(support.built_images(400, 7)):
+        for number, image in enumerate(support.built_images(300, 7)):
             sheet = read_sheet(support.console(), image)
             text = "\n".join(sheets.written(support.console(), sheet)) + "\n"
             draft = sheets.parsed(support.console(), "again", text)

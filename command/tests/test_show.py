@@ -92,7 +92,7 @@ class Show(support.Case):
         self.gives(2, "show", sample("load-cell.kind1"), "--today", "tomorrow", err="--today")
 
     def test_a_text_that_does_not_print(self):
-        for image in support.built_images(60, 5):
+        for image in support.built_images(40, 5):
             said, _ = self.gives(0, "show", self.file("random", image.data), "--curve", "--points")
             self.assertTrue(all(line.isprintable() for line in said.splitlines()), repr(said))
 

@@ -176,9 +176,11 @@ class Why(support.Case):
 
     def test_every_stored_image(self):
         numbers = set()
-        for image in support.stored_images():
+        for number, image in enumerate(support.stored_images()):
             refusal = support.images.refusal_of(support.console(), image)
             path = self.file("stored", image.data)
+            if not refusal and number % 4:
+                continue
             for command in ("why", "show"):
                 said, _ = self.gives(1 if refusal else 0, command, path)
             if refusal:
