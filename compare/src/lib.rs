@@ -6,6 +6,9 @@ pub mod calls;
 pub mod console;
 #[allow(unsafe_code)]
 pub mod ffi;
+pub mod laid;
+pub mod layout;
+pub mod limit;
 pub mod plain;
 pub mod random;
 pub mod structs;

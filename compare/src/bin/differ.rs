@@ -9,6 +9,7 @@ use std::process::ExitCode;
 use compare::calls::{Calls, Plain};
 use compare::console::{Command, Given};
 use compare::ffi::Product;
+use compare::layout::{Layout, get, image_length, pages, stream_bits};
 use compare::plain::{self, Level, Template, Value};
 use compare::random::Random;
 use compare::structs::{
@@ -21,14 +22,10 @@ use compare::structs::{
 mod curves;
 #[path = "differ/images.rs"]
 mod images;
-#[path = "differ/layout.rs"]
-mod layout;
 #[path = "differ/recordings.rs"]
 mod recordings;
 #[path = "differ/values.rs"]
 mod values;
-
-use layout::{Layout, get, image_length, pages, stream_bits};
 
 const CALLS: [&str; 21] = [
     "check", "page", "field", "pair", "char", "build", "change", "reading", "text", "code", "sheet", "kind", "index",

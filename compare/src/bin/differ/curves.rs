@@ -1,9 +1,9 @@
 //! Curves: handed to a build, laid bit by bit, and damaged.
 
+use compare::layout::{Layout, put, stream_bits};
 use compare::plain::{self, Curve, Segment, Term};
 
 use crate::Differ;
-use crate::layout::{Layout, put, stream_bits};
 
 /// Bits of block 41 before its segments, of a segment before its terms, and of a term.
 const HEAD: usize = 19;

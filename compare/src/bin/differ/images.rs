@@ -1,8 +1,8 @@
 //! Images: laid bit by bit with anything wrong now and then, and damaged.
 
+use compare::layout::{Layout, Row, image_length, mend, put, stream_bits};
 use compare::plain::{self, Template};
 
-use crate::layout::{Layout, Row, image_length, mend, put, stream_bits};
 use crate::{Differ, MARGIN};
 
 impl Differ {

@@ -1,9 +1,9 @@
 //! Recordings of a run at ten and at sixty a second, and lists of points for their distance.
 
 use compare::console::Command;
+use compare::layout::BILLION;
 use compare::plain::{self, Dash, Domain};
 
-use crate::layout::BILLION;
 use crate::{COMPARE, DISTANCE, Differ};
 
 impl Differ {

@@ -1,10 +1,10 @@
 //! What the calls are handed: values, inputs, points, texts; good ones, at the edges, and bad ones.
 
+use compare::layout::{BILLION, Layout, Row, gcd, stream_bits};
 use compare::plain::{self, Domain, Template, Value};
 use compare::structs::ByFlags;
 
 use crate::Differ;
-use crate::layout::{BILLION, Layout, Row, gcd, stream_bits};
 
 impl Differ {
     pub fn finite(&mut self) -> f32 {

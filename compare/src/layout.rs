@@ -1,6 +1,6 @@
 //! The chip and the tables of fields, as the generator knows them.
 
-use compare::plain::Template;
+use crate::plain::Template;
 
 pub const BILLION: i64 = 1_000_000_000;
 
@@ -27,21 +27,30 @@ pub fn stream_byte(kind: u8, byte: usize) -> usize {
     }
 }
 
+/// The parts of so many bits by stream byte: the byte's place in the image, the first bit in it, how many, and how many came
+/// before; those past the stream's end fall away.
+fn parts(kind: u8, bit: usize, width: usize) -> impl Iterator<Item = (usize, usize, usize, usize)> {
+    let end = (bit + width).min(stream_bits(kind));
+    let bytes = if bit < end { bit / 8..(end - 1) / 8 + 1 } else { 0..0 };
+    bytes.map(move |byte| {
+        let from = bit.max(8 * byte);
+        let to = end.min(8 * byte + 8);
+        (stream_byte(kind, byte), from % 8, to - from, from - bit)
+    })
+}
+
 /// Puts bits into the stream; those past its end fall away.
 pub fn put(kind: u8, image: &mut [u8], bit: usize, width: usize, code: u64) {
-    for i in 0..width {
-        if bit + i < stream_bits(kind) {
-            let byte = &mut image[stream_byte(kind, (bit + i) / 8)];
-            let one = 1 << ((bit + i) % 8);
-            *byte = if code >> i & 1 == 1 { *byte | one } else { *byte & !one };
-        }
+    for (byte, first, count, before) in parts(kind, bit, width) {
+        let mask = (0xff >> (8 - count)) << first;
+        image[byte] = image[byte] & !mask | (code >> before << first) as u8 & mask;
     }
 }
 
+/// Bits of the stream; those past its end are 0.
 pub fn get(kind: u8, image: &[u8], bit: usize, width: usize) -> u64 {
-    (0..width)
-        .filter(|i| bit + i < stream_bits(kind))
-        .map(|i| u64::from(image[stream_byte(kind, (bit + i) / 8)] >> ((bit + i) % 8) & 1) << i)
+    parts(kind, bit, width)
+        .map(|(byte, first, count, before)| u64::from(image[byte] >> first & 0xff >> (8 - count)) << before)
         .sum()
 }
 
@@ -85,7 +94,7 @@ impl Row {
 }
 
 /// What the fields of a sheet go by.
-#[derive(Clone, Copy)]
+#[derive(Clone, Copy, Debug, PartialEq)]
 pub struct Layout {
     pub template: Template,
     pub precision: usize,
