@@ -190,17 +190,7 @@ impl Calls for Plain {
 
     fn check(&self, kind: u8, image: &[u8]) -> CheckAnswer {
         match plain::check(kind, image) {
-            Ok(Summary { bits, points, end_bit, characters, template, domain, segments, terms }) => CheckAnswer {
-                bits,
-                points,
-                characters,
-                end_bit: end_bit as u8,
-                template: template.number(),
-                domain: domain_byte(domain),
-                segments,
-                terms,
-                ..CheckAnswer::default()
-            },
+            Ok(summary) => summary.into(),
             Err(Refusal { number, place }) => CheckAnswer { number, place, ..CheckAnswer::default() },
         }
     }

@@ -1,6 +1,6 @@
 //! The structs of `include/dartelm.h`. Floats are compared by their bits.
 
-use crate::plain::{Dash, Domain, Level, Template, Value};
+use crate::plain::{Dash, Domain, Level, Summary, Template, Value};
 
 /// A field's value by two flags.
 #[derive(Clone, Copy, Debug, Default)]
@@ -128,6 +128,23 @@ pub struct CheckAnswer {
     pub domain: u8,
     pub segments: u64,
     pub terms: u64,
+}
+
+impl From<Summary> for CheckAnswer {
+    fn from(summary: Summary) -> CheckAnswer {
+        let Summary { bits, points, end_bit, characters, template, domain, segments, terms } = summary;
+        CheckAnswer {
+            bits,
+            points,
+            characters,
+            end_bit: end_bit as u8,
+            template: template.number(),
+            domain: domain_byte(domain),
+            segments,
+            terms,
+            ..CheckAnswer::default()
+        }
+    }
 }
 
 #[derive(Clone, Copy, Debug, Default, PartialEq)]

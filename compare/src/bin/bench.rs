@@ -1,4 +1,5 @@
-//! bench: nanoseconds a call, the product's and the plain implementation's, by turns on the same buffers.
+//! bench: nanoseconds a call, the product's and the plain implementation's, and for a check the limit's, by turns on the same
+//! buffers; Markdown tables, and at the end whether the targets hold.
 
 #![forbid(unsafe_code)]
 
@@ -7,16 +8,25 @@ use std::time::Instant;
 
 use compare::calls::{Calls, Plain};
 use compare::ffi::Product;
-use compare::plain::{Curve, Dash, Level, Segment, Term, Value};
-use compare::structs::{ByFlags, Fields};
+use compare::limit;
+use compare::plain::{Curve, Dash, Level, Segment, Template, Term, Value};
+use compare::structs::{ByFlags, CheckAnswer, Fields};
 
-const ROUNDS: usize = 1_000;
-const ROUND_NANOSECONDS: f64 = 1e5;
+// A figure is the least of PASSES x ROUNDS rounds; a pass goes through all rows, so that what else the machine does for some
+// seconds is met by no row in all its passes.
+const PASSES: usize = 8;
+const ROUNDS: usize = 400;
+const ROUND_NANOSECONDS: f64 = 2e4;
 
 /// A sheet on a chip, with what the calls are handed.
 struct Case {
     kind: u8,
     image: Vec<u8>,
+    /// The template's last field, and its date.
+    last: u64,
+    dated: u64,
+    /// The code that the date holds between commits.
+    date: u64,
     fields: Fields,
     text: &'static [u8],
     points: Vec<i64>,
@@ -25,6 +35,14 @@ struct Case {
     slow: Vec<i64>,
     fast: Vec<i64>,
 }
+
+/// A kind, how many points, and a text.
+type Chip = (u8, i64, &'static [u8]);
+
+const CHIPS: [Chip; 6] =
+    [(0, 0, b"Dash"), (1, 0, b"Dash"), (1, 18, b"Dash"), (2, 0, b"Dash"), (2, 20, b"Dash"), (2, 99, b"D")];
+
+const DATE: i64 = 7_306;
 
 fn values() -> [Value; 21] {
     use Value::{Missing, Single, Whole};
@@ -46,7 +64,7 @@ fn values() -> [Value; 21] {
         Whole(50),
         Missing,
         Missing,
-        Whole(7_306),
+        Whole(DATE),
         Whole(1_057),
         Whole(365),
         Whole(21),
@@ -60,29 +78,60 @@ fn full_precision() -> [Value; 21] {
     values
 }
 
+/// Of template 32.
+fn resistance() -> [Value; 21] {
+    use Value::{Missing, Whole};
+    let mut values = values();
+    values[8..].copy_from_slice(&[
+        Whole(2),
+        Whole(80),
+        Whole(194),
+        Whole(3),
+        Whole(100),
+        Whole(10_000_000),
+        Missing,
+        Whole(DATE),
+        Whole(1_057),
+        Whole(365),
+        Whole(21),
+        Missing,
+        Missing,
+    ]);
+    values
+}
+
 impl Case {
-    fn new(kind: u8, values: [Value; 21], count: i64, text: &'static [u8]) -> Case {
+    fn new(template: Template, values: [Value; 21], (kind, points, text): Chip) -> Case {
+        let fields = Fields {
+            values: values.map(ByFlags::from),
+            end_bit: 1,
+            level: Level::Maker.into(),
+            template: template.number(),
+        };
+        let point = |i| [i * 1_000_000_000 / points.max(1), (i * 7_919 % 200 - 100) * 10_000];
         let mut case = Case {
             kind,
             image: vec![0; [40, 128, 512][usize::from(kind)]],
-            fields: Fields { values: values.map(ByFlags::from), end_bit: 1, level: Level::Maker.into(), template: 33 },
+            last: template.last() as u64,
+            // The date stands four fields from the end.
+            dated: template.last() as u64 - 3,
+            date: DATE as u64,
+            fields,
             text,
-            points: (0..count)
-                .flat_map(|i| [i * 1_000_000_000 / count.max(1), (i * 7_919 % 200 - 100) * 10_000])
-                .collect(),
+            points: (0..points).flat_map(point).collect(),
             curve: Curve::default(),
             index: [0; 480],
             slow: Vec::new(),
             fast: Vec::new(),
         };
         let number = build(&Plain, &mut case, 0).max(index(&Plain, &mut case, 0));
-        assert_eq!(number, 0, "kind {kind}, {count} points");
+        assert_eq!(number, 0, "kind {kind}, {points} points");
         case
     }
 
     /// With a curve of so many segments of two terms.
     fn drawn(kind: u8, segments: usize) -> Case {
-        let mut case = Case::new(kind, values(), 0, b"Dash");
+        let mut case = Case::new(Template::Bridge, values(), (kind, 0, b"Dash"));
         case.curve.count = segments as u64;
         for i in 0..segments {
             case.curve.segments[i] = Segment { start: i as i64 * 1_000_000_000 / segments as i64, terms: 2 };
@@ -92,9 +141,7 @@ impl Case {
         assert_eq!(build_curve(&Plain, &mut case, 0), 0, "kind {kind}, {segments} segments");
         case
     }
-}
 
-impl Case {
     /// With two recordings of a run, of so many fast ticks.
     fn recorded(mut self, ticks: usize) -> Case {
         for tick in 0..ticks {
@@ -121,12 +168,20 @@ fn field<C: Calls>(calls: &C, case: &mut Case, field: u64) -> u8 {
     black_box(&calls.field(black_box(case.kind), black_box(&case.image), black_box(field))).number
 }
 
+/// The limit, answered as a check is.
+#[inline(never)]
+fn limit_check(case: &mut Case, _: usize) -> u8 {
+    let summary = limit::check(black_box(case.kind), black_box(&case.image));
+    let refused = CheckAnswer { number: 1, ..CheckAnswer::default() };
+    black_box(&summary.map_or(refused, CheckAnswer::from)).number
+}
+
 fn first_field<C: Calls>(calls: &C, case: &mut Case, _: usize) -> u8 {
     field(calls, case, 1)
 }
 
 fn last_field<C: Calls>(calls: &C, case: &mut Case, _: usize) -> u8 {
-    field(calls, case, 21)
+    field(calls, case, case.last)
 }
 
 #[inline(never)]
@@ -146,16 +201,12 @@ fn first_fetched<C: Calls>(calls: &C, case: &mut Case, _: usize) -> u8 {
 }
 
 fn last_fetched<C: Calls>(calls: &C, case: &mut Case, _: usize) -> u8 {
-    fetch(calls, case, 21)
+    fetch(calls, case, case.last)
 }
 
 #[inline(never)]
 fn sheet<C: Calls>(calls: &C, case: &mut Case, _: usize) -> u8 {
     black_box(&calls.sheet(black_box(case.kind), black_box(&case.image))).number
-}
-
-fn each_field<C: Calls>(calls: &C, case: &mut Case, _: usize) -> u8 {
-    (1..=21).map(|number| field(calls, case, number)).max().unwrap_or(0)
 }
 
 #[inline(never)]
@@ -166,9 +217,26 @@ fn reading<C: Calls>(calls: &C, case: &mut Case, turn: usize) -> u8 {
 
 #[inline(never)]
 fn change<C: Calls>(calls: &C, case: &mut Case, turn: usize) -> u8 {
-    let value = ByFlags::from(Value::Whole(7_306 + (turn % 2) as i64));
+    let value = ByFlags::from(Value::Whole(DATE + (turn % 2) as i64));
     let (image, level) = (black_box(&mut case.image), black_box(Level::CalibrationRoom.into()));
-    let answer = calls.change(black_box(case.kind), image, level, black_box(18), black_box(value));
+    let answer = calls.change(black_box(case.kind), image, level, black_box(case.dated), black_box(value));
+    black_box(&answer).number
+}
+
+#[inline(never)]
+fn propose<C: Calls>(calls: &C, case: &mut Case, turn: usize) -> u8 {
+    let value = ByFlags::from(Value::Whole(DATE + (turn % 2) as i64));
+    let (image, level) = (black_box(&case.image), black_box(Level::CalibrationRoom.into()));
+    let answer = calls.propose(black_box(case.kind), image, level, black_box(case.dated), black_box(value));
+    black_box(&answer).number
+}
+
+#[inline(never)]
+fn commit<C: Calls>(calls: &C, case: &mut Case, _: usize) -> u8 {
+    let (present, new) = (case.date, case.date ^ 1);
+    case.date = new;
+    let (image, level) = (black_box(&mut case.image), black_box(Level::CalibrationRoom.into()));
+    let answer = calls.commit(black_box(case.kind), image, level, black_box(case.dated), present, black_box(new));
     black_box(&answer).number
 }
 
@@ -198,106 +266,289 @@ fn distance<C: Calls>(calls: &C, case: &mut Case, _: usize) -> u8 {
     black_box(&calls.distance(black_box(&case.points))).number
 }
 
-type Run<'a> = &'a dyn Fn(&mut Case, usize);
+// ---- rows ----
+
+type Run = Box<dyn Fn(&mut Case, usize)>;
+
+/// A loop over one side's call; every call must be accepted.
+fn over(call: impl Fn(&mut Case, usize) -> u8 + 'static) -> Run {
+    Box::new(move |case, turns| {
+        let mut refused = 0u64;
+        for turn in 0..turns {
+            refused += u64::from(call(case, turn) != 0);
+            black_box(&case.image);
+        }
+        assert_eq!(refused, 0);
+    })
+}
+
+/// A call's name, and both sides of it.
+struct Call {
+    name: &'static str,
+    product: Run,
+    plain: Run,
+}
+
+macro_rules! call {
+    ($name:expr, $call:ident) => {
+        Call {
+            name: $name,
+            product: over(|case, turn| $call(&Product, case, turn)),
+            plain: over(|case, turn| $call(&Plain, case, turn)),
+        }
+    };
+}
+
+/// The product, the plain implementation, and for a check the limit.
+struct Row {
+    case: usize,
+    /// What stands before the figures.
+    labels: Vec<String>,
+    name: &'static str,
+    points: i64,
+    sides: Vec<Run>,
+    turns: usize,
+    /// How much a call does: the ticks of a comparison.
+    amount: f64,
+    least: Vec<f64>,
+}
+
+impl Row {
+    /// So many nanoseconds a call, or a tick, on a side.
+    fn figure(&self, side: usize) -> f64 {
+        self.least[side] / self.amount
+    }
+
+    fn ratio(&self) -> f64 {
+        self.figure(PRODUCT) / self.figure(PLAIN)
+    }
+
+    fn to_limit(&self) -> Option<f64> {
+        (self.sides.len() > LIMIT).then(|| self.figure(PRODUCT) / self.figure(LIMIT))
+    }
+
+    fn named(&self, of: &Table) -> String {
+        let labels: Vec<String> = of
+            .labels
+            .iter()
+            .zip(&self.labels)
+            .map(|(name, label)| format!("{} {label}", name.to_lowercase()))
+            .collect();
+        format!("{}: {}, {}", of.title, labels.join(", "), self.name)
+    }
+}
+
+const PRODUCT: usize = 0;
+const PLAIN: usize = 1;
+const LIMIT: usize = 2;
+
+struct Table {
+    title: &'static str,
+    labels: Vec<&'static str>,
+    rows: Vec<Row>,
+}
+
+#[derive(Default)]
+struct Bench {
+    cases: Vec<Case>,
+    tables: Vec<Table>,
+}
+
+impl Bench {
+    fn table(&mut self, title: &'static str, labels: &[&'static str]) {
+        self.tables.push(Table { title, labels: labels.to_vec(), rows: Vec::new() });
+    }
+
+    /// Rows of the last table on a case.
+    fn rows(&mut self, case: Case, labels: &[i64], amount: usize, calls: impl IntoIterator<Item = Call>) {
+        let points = case.points.len() as i64 / 2;
+        let Some(table) = self.tables.last_mut() else {
+            return;
+        };
+        for Call { name, product, plain } in calls {
+            let mut sides = vec![product, plain];
+            if name == "check" {
+                sides.push(over(limit_check));
+            }
+            table.rows.push(Row {
+                case: self.cases.len(),
+                labels: labels.iter().map(|label| label.to_string()).collect(),
+                name,
+                points,
+                turns: 0,
+                amount: amount as f64,
+                least: vec![f64::MAX; sides.len()],
+                sides,
+            });
+        }
+        self.cases.push(case);
+    }
+
+    fn measure(&mut self) {
+        for _ in 0..PASSES {
+            for row in self.tables.iter_mut().flat_map(|table| &mut table.rows) {
+                row.pass(&mut self.cases[row.case]);
+            }
+        }
+    }
+}
 
 /// Nanoseconds a call over so many calls.
-fn timed(run: Run, case: &mut Case, turns: usize) -> f64 {
+fn timed(run: &Run, case: &mut Case, turns: usize) -> f64 {
     let start = Instant::now();
     run(case, turns);
     start.elapsed().as_nanos() as f64 / turns as f64
 }
 
-/// Both sides by turns, in many short rounds; the least of each, so that what else the machine does is left out.
-fn measure(product: Run, plain: Run, case: &mut Case) -> (f64, f64) {
-    let turns = (ROUND_NANOSECONDS / timed(product, case, 1_000)).max(10.0) as usize;
-    rounds(product, plain, case, ROUNDS, turns)
-}
-
-fn rounds(product: Run, plain: Run, case: &mut Case, count: usize, turns: usize) -> (f64, f64) {
-    let (mut ours, mut theirs) = (f64::MAX, f64::MAX);
-    for _ in 0..count {
-        ours = ours.min(timed(product, case, turns));
-        theirs = theirs.min(timed(plain, case, turns));
-    }
-    (ours, theirs)
-}
-
-/// A loop over one side's call; every call must be accepted.
-fn over<C: Calls>(calls: C, call: fn(&C, &mut Case, usize) -> u8) -> impl Fn(&mut Case, usize) {
-    move |case, turns| {
-        let mut refused = 0u64;
-        for turn in 0..turns {
-            refused += u64::from(call(&calls, case, turn) != 0);
-            black_box(&case.image);
+impl Row {
+    /// All sides by turns, in many short rounds; the least of each.
+    fn pass(&mut self, case: &mut Case) {
+        if self.turns == 0 {
+            let once = (0..10).map(|_| timed(&self.sides[PRODUCT], case, 2)).fold(f64::MAX, f64::min);
+            self.turns = (ROUND_NANOSECONDS / once).max(1.0) as usize;
         }
-        assert_eq!(refused, 0);
+        // A comparison is longer than a round.
+        let rounds = if self.amount > 1.0 { 4 } else { ROUNDS };
+        for _ in 0..rounds {
+            for (side, least) in self.sides.iter().zip(&mut self.least) {
+                *least = least.min(timed(side, case, self.turns));
+            }
+        }
     }
 }
 
-const CASES: [(u8, i64, &[u8]); 6] =
-    [(0, 0, b"Dash"), (1, 0, b"Dash"), (1, 18, b"Dash"), (2, 0, b"Dash"), (2, 20, b"Dash"), (2, 99, b"D")];
+// ---- the tables ----
+
+fn sheets(bench: &mut Bench) {
+    bench.table("Template 33", &["Kind", "Points"]);
+    for chip in CHIPS {
+        let calls = [
+            call!("check", check),
+            call!("field 1", first_field),
+            call!("field 21", last_field),
+            call!("reading", reading),
+            call!("change field 18", change),
+            call!("build", build),
+        ];
+        bench.rows(Case::new(Template::Bridge, values(), chip), &[chip.0.into(), chip.1], 1, calls);
+    }
+    for chip in [CHIPS[1], CHIPS[4]] {
+        let case = Case::new(Template::Bridge, full_precision(), chip);
+        bench.rows(case, &[chip.0.into(), chip.1], 1, [call!("reading, precision 2", reading)]);
+    }
+    bench.table("Template 32", &["Kind", "Points"]);
+    for chip in CHIPS {
+        let calls = [
+            call!("check", check),
+            call!("field 1", first_field),
+            call!("field 19", last_field),
+            call!("change field 16", change),
+            call!("build", build),
+        ];
+        bench.rows(Case::new(Template::Resistance, resistance(), chip), &[chip.0.into(), chip.1], 1, calls);
+    }
+}
+
+fn others(bench: &mut Bench) {
+    bench.table("Curves", &["Kind", "Segments"]);
+    for (kind, segments) in [(1, 2), (2, 2), (2, 15)] {
+        let calls = [call!("check", check), call!("reading", reading), call!("build", build_curve)];
+        bench.rows(Case::drawn(kind, segments), &[kind.into(), segments as i64], 1, calls);
+    }
+    let bridges = CHIPS.map(|chip| (Template::Bridge, values(), chip));
+    let resistances = [CHIPS[0], CHIPS[5]].map(|chip| (Template::Resistance, resistance(), chip));
+    let both: Vec<_> = bridges.into_iter().chain(resistances).collect();
+    bench.table("Through an index", &["Template", "Kind", "Points"]);
+    for (template, values, chip) in &both {
+        let labels = [template.number().into(), chip.0.into(), chip.1];
+        let last = if *template == Template::Bridge { FETCH_LAST } else { "fetch 19" };
+        let calls = [call!("index made", index), call!("fetch 1", first_fetched), call!(last, last_fetched)];
+        bench.rows(Case::new(*template, *values, *chip), &labels, 1, calls);
+    }
+    bench.table("Proposal and commit of the date", &["Template", "Kind", "Points"]);
+    for (template, values, chip) in &both {
+        let labels = [template.number().into(), chip.0.into(), chip.1];
+        let calls = [call!("propose", propose), call!("commit", commit)];
+        bench.rows(Case::new(*template, *values, *chip), &labels, 1, calls);
+    }
+    bench.table("All fields in one call", &["Template", "Kind", "Points"]);
+    for (template, values, chip) in &both {
+        let labels = [template.number().into(), chip.0.into(), chip.1];
+        bench.rows(Case::new(*template, *values, *chip), &labels, 1, [call!("sheet", sheet)]);
+    }
+    bench.table("Recordings compared, nanoseconds a fast tick", &["Kind", "Points", "Fast ticks"]);
+    for chip in [CHIPS[0], CHIPS[2], CHIPS[4], CHIPS[5]] {
+        for ticks in [6, 60_000] {
+            let case = Case::new(Template::Bridge, values(), chip).recorded(ticks);
+            bench.rows(case, &[chip.0.into(), chip.1, ticks as i64], ticks, [call!("compare", compare)]);
+        }
+    }
+    bench.table("Distance", &["Points"]);
+    for chip in [CHIPS[4], CHIPS[5]] {
+        let case = Case::new(Template::Bridge, values(), chip);
+        bench.rows(case, &[chip.1], 1, [call!("distance", distance)]);
+    }
+}
+
+const FETCH_LAST: &str = "fetch 21";
+
+fn nanoseconds(figure: f64) -> String {
+    if figure < 100.0 { format!("{figure:.1}") } else { format!("{figure:.0}") }
+}
+
+fn print(table: &Table) {
+    let limited = table.rows.iter().any(|row| row.to_limit().is_some());
+    println!("{}:\n", table.title);
+    print!("| {} | Call | Product, ns | Plain, ns | Product / plain |", table.labels.join(" | "));
+    println!("{}", if limited { " Limit, ns | Product / limit |" } else { "" });
+    println!("{}", "|---".repeat(table.labels.len() + if limited { 6 } else { 4 }) + "|");
+    for row in &table.rows {
+        let (product, plain) = (nanoseconds(row.figure(PRODUCT)), nanoseconds(row.figure(PLAIN)));
+        print!("| {} | {} | {product} | {plain} | {:.2} |", row.labels.join(" | "), row.name, row.ratio());
+        match row.to_limit() {
+            Some(ratio) => println!(" {} | {ratio:.2} |", nanoseconds(row.figure(LIMIT))),
+            None => println!("{}", if limited { " | |" } else { "" }),
+        }
+    }
+    println!();
+}
+
+/// Whether rows stay at or below a ratio, and the worst of them.
+fn target(name: &str, most: f64, ratios: impl Iterator<Item = (f64, String)>) {
+    let ratios: Vec<(f64, String)> = ratios.collect();
+    let held = ratios.iter().filter(|(ratio, _)| *ratio <= most).count();
+    let holds = if held == ratios.len() { "yes" } else { "**no**" };
+    if let Some((worst, row)) = ratios.iter().max_by(|a, b| a.0.total_cmp(&b.0)) {
+        println!("| {name} | {most} | {holds} | {held} of {} | {worst:.2} | {row} |", ratios.len());
+    }
+}
+
+fn targets(tables: &[Table]) {
+    let named = |table: &Table, row: &Row| row.named(table);
+    let all = || tables.iter().flat_map(|table| table.rows.iter().map(move |row| (table, row)));
+    let sheets = || all().filter(|(table, _)| table.title.starts_with("Template"));
+    let bare = || sheets().filter(|(_, row)| row.points == 0 && row.name != "build");
+    println!("| Target | At most | Holds | Rows | Worst | There |");
+    println!("|---|---|---|---|---|---|");
+    let plain = |(table, row): (&Table, &Row)| (row.ratio(), named(table, row));
+    target("templates 33 and 32: product / plain", 0.9, sheets().map(plain));
+    target("check, field, reading, change without points: product / plain", 0.5, bare().map(plain));
+    let limited = bare().filter_map(|(table, row)| Some((row.to_limit()?, named(table, row))));
+    target("check without points: product / limit", 3.0, limited);
+    let at_99 = |name: &'static str| all().find(|(_, row)| row.name == name && row.points == 99);
+    let fetched = at_99(FETCH_LAST).zip(at_99("field 21"));
+    let fetched = fetched
+        .map(|((table, fetched), (_, read))| (fetched.figure(PRODUCT) / read.figure(PRODUCT), named(table, fetched)));
+    target("fetch of field 21 at 99 points: fetch / field read", 0.2, fetched.into_iter());
+    let others = all().filter(|(table, _)| !table.title.starts_with("Template"));
+    target("the other tables (no target): product / plain", 0.9, others.map(plain));
+}
 
 fn main() {
-    println!("| Kind | Points | Call | Product, ns | Plain, ns | Product / plain |");
-    println!("|---|---|---|---|---|---|");
-    for (kind, points, text) in CASES {
-        let mut case = Case::new(kind, values(), points, text);
-        let rows: [(&str, Run, Run); 10] = [
-            ("check", &over(Product, check), &over(Plain, check)),
-            ("field 1", &over(Product, first_field), &over(Plain, first_field)),
-            ("field 21", &over(Product, last_field), &over(Plain, last_field)),
-            ("index", &over(Product, index), &over(Plain, index)),
-            ("fetch 1", &over(Product, first_fetched), &over(Plain, first_fetched)),
-            ("fetch 21", &over(Product, last_fetched), &over(Plain, last_fetched)),
-            ("reading", &over(Product, reading), &over(Plain, reading)),
-            ("change field 18", &over(Product, change), &over(Plain, change)),
-            ("build", &over(Product, build), &over(Plain, build)),
-            ("distance", &over(Product, distance), &over(Plain, distance)),
-        ];
-        for (name, product, plain) in rows {
-            let (ours, theirs) = measure(product, plain, &mut case);
-            println!("| {kind} | {points} | {name} | {ours:.0} | {theirs:.0} | {:.2} |", ours / theirs);
-        }
-    }
-    for (kind, points) in [(1, 0), (2, 20)] {
-        let mut case = Case::new(kind, full_precision(), points, b"Dash");
-        let (ours, theirs) = measure(&over(Product, reading), &over(Plain, reading), &mut case);
-        println!("| {kind} | {points} | reading, precision 2 | {ours:.0} | {theirs:.0} | {:.2} |", ours / theirs);
-    }
-    println!();
-    println!("| Kind | Segments | Call | Product, ns | Plain, ns | Product / plain |");
-    println!("|---|---|---|---|---|---|");
-    for (kind, segments) in [(1, 2), (2, 2), (2, 15)] {
-        let mut case = Case::drawn(kind, segments);
-        let rows: [(&str, Run, Run); 3] = [
-            ("check", &over(Product, check), &over(Plain, check)),
-            ("reading", &over(Product, reading), &over(Plain, reading)),
-            ("build", &over(Product, build_curve), &over(Plain, build_curve)),
-        ];
-        for (name, product, plain) in rows {
-            let (ours, theirs) = measure(product, plain, &mut case);
-            println!("| {kind} | {segments} | {name} | {ours:.0} | {theirs:.0} | {:.2} |", ours / theirs);
-        }
-    }
-    println!();
-    println!("| Kind | Points | Fast ticks compared | Product, ns a tick | Plain, ns a tick | Product / plain |");
-    println!("|---|---|---|---|---|---|");
-    for (kind, points, text) in CASES {
-        for ticks in [6, 60_000] {
-            let mut case = Case::new(kind, values(), points, text).recorded(ticks);
-            let (product, plain) = (over(Product, compare), over(Plain, compare));
-            // As many ticks in a round.
-            let (ours, theirs) = rounds(&product, &plain, &mut case, 30, 60_000 / ticks);
-            let (ours, theirs) = (ours / ticks as f64, theirs / ticks as f64);
-            println!("| {kind} | {points} | {ticks} | {ours:.0} | {theirs:.0} | {:.2} |", ours / theirs);
-        }
-    }
-    println!();
-    println!("| Kind | Points | All fields in one call, ns | 21 field reads, ns |");
-    println!("|---|---|---|---|");
-    for (kind, points, text) in CASES {
-        let mut case = Case::new(kind, values(), points, text);
-        let (one, each) = measure(&over(Product, sheet), &over(Product, each_field), &mut case);
-        println!("| {kind} | {points} | {one:.0} | {each:.0} |");
-    }
+    let mut bench = Bench::default();
+    sheets(&mut bench);
+    others(&mut bench);
+    bench.measure();
+    bench.tables.iter().for_each(print);
+    targets(&bench.tables);
 }
