@@ -13,7 +13,12 @@ pub fn check(kind: u8, image: &[u8]) -> Option<Summary> {
 }
 
 fn word(bytes: &[u8], at: usize) -> u64 {
-    u64::from_le_bytes(std::array::from_fn(|i| bytes[at + i]))
+    bytes[at..].first_chunk().map_or(0, |eight| u64::from_le_bytes(*eight))
+}
+
+/// 57 bits at least from a bit of a stream without check bytes.
+fn bits(stream: &[u8; STREAM], bit: usize) -> u64 {
+    word(stream, bit / 8) >> (bit % 8)
 }
 
 fn sum(bytes: &[u8]) -> u8 {
@@ -29,6 +34,9 @@ fn odd_single(code: u64) -> bool {
     let code = code as u32;
     code & 0x7f80_0000 == 0x7f80_0000 && code != u32::MAX
 }
+
+/// The bytes of the longest stream, and eight more.
+const STREAM: usize = 504;
 
 /// Where the last fields end, by precision.
 const BRIDGE_ENDS: [usize; 3] = [275, 291, 317];
@@ -84,6 +92,18 @@ impl<const LENGTH: usize> Chip<'_, LENGTH> {
         gathered >> (bit % 8)
     }
 
+    /// The stream without its check bytes, as far as the page of a bit, and zeros.
+    fn stream(&self, end: usize) -> [u8; STREAM] {
+        let mut stream = [0; STREAM];
+        let (register, pages) = self.0.split_at(Self::REGISTER);
+        stream[..Self::REGISTER].copy_from_slice(register);
+        let (parts, _) = stream[Self::REGISTER..].as_chunks_mut::<31>();
+        for (part, page) in parts.iter_mut().zip(pages.as_chunks::<32>().0).take(end / 248 + 1) {
+            part.copy_from_slice(&page[1..]);
+        }
+        stream
+    }
+
     fn sheet(&self) -> Option<Summary> {
         if !self.summed() {
             return None;
@@ -94,14 +114,16 @@ impl<const LENGTH: usize> Chip<'_, LENGTH> {
         let from_112 = word(self.0, 15);
         let from_144 = word(self.0, 19);
         let from_176 = word(self.0, 23);
-        let mut wrong = outside(basic & 0x3fff, 17, 16_381)
-            | outside(basic >> 29 & 0x1f, 1, 26)
-            | (from_64 >> 10 & 0x3f > 45)
-            | odd_single(from_64 >> 16)
-            | odd_single(from_112);
-        let odd_ends = odd_single(from_144 >> 2) | odd_single(from_176 >> 2);
+        if outside(basic & 0x3fff, 17, 16_381)
+            || outside(basic >> 29 & 0x1f, 1, 26)
+            || from_64 >> 10 & 0x3f > 45
+            || odd_single(from_64 >> 16)
+            || odd_single(from_112)
+        {
+            return None;
+        }
         let precision = (from_144 & 3) as usize;
-        let (template, end) = match from_64 & 0x3ff {
+        let (template, end, single) = match from_64 & 0x3ff {
             0x84 => {
                 let end = *BRIDGE_ENDS.get(precision)?;
                 let bridge = match precision {
@@ -109,16 +131,15 @@ impl<const LENGTH: usize> Chip<'_, LENGTH> {
                     1 => from_144 >> 40,
                     _ => from_176 >> 34,
                 };
-                wrong |= (bridge & 3 == 3) | (precision == 2) & odd_ends;
-                (Template::Bridge, end)
+                if bridge & 3 == 3 {
+                    return None;
+                }
+                (Template::Bridge, end, precision == 2)
             }
-            0x80 => {
-                wrong |= (precision == 3) & odd_ends;
-                (Template::Resistance, RESISTANCE_ENDS[precision])
-            }
+            0x80 => (Template::Resistance, RESISTANCE_ENDS[precision], precision == 3),
             _ => return None,
         };
-        if wrong {
+        if single && (odd_single(from_144 >> 2) || odd_single(from_176 >> 2)) {
             return None;
         }
         self.rest(template, end)
@@ -165,18 +186,20 @@ impl<const LENGTH: usize> Chip<'_, LENGTH> {
         if points == 0 || end + 3 > Self::BITS {
             return None;
         }
-        let mut wrong = false;
+        let stream = self.stream(end);
         let (mut last_point, mut last_sum) = (-1, -1);
         while bit < end {
-            let pair = self.from(bit);
+            let pair = bits(&stream, bit);
             let (point, deviation) = ((pair & 0xffff) as i64, (pair >> 16 & 0x1f_ffff) as i64);
-            let sum = if physical { 15_300 * point + 1_000 * deviation } else { last_sum + 1 };
-            wrong |= (point == 0xffff) | (deviation == 0x1f_ffff) | (point <= last_point) | (sum <= last_sum);
+            let sum = 15_300 * point + 1_000 * deviation;
+            if point == 0xffff || deviation == 0x1f_ffff || point <= last_point || physical && sum <= last_sum {
+                return None;
+            }
             (last_point, last_sum) = (point, sum);
             bit += 37;
         }
         let domain = Some(if physical { Domain::Physical } else { Domain::Electrical });
-        (!wrong).then_some(Block { domain, points, end, ..Block::default() })
+        Some(Block { domain, points, end, ..Block::default() })
     }
 
     /// The segments from a bit on; the domain and the count stand before it.
@@ -185,13 +208,14 @@ impl<const LENGTH: usize> Chip<'_, LENGTH> {
         if head & 1 == 1 || outside(segments, 1, 20) {
             return None;
         }
+        let stream = self.stream(Self::BITS);
         let mut terms = 0;
         let mut least_start = 0;
         for index in 0..segments {
             if bit + 20 > Self::BITS {
                 return None;
             }
-            let segment = self.from(bit);
+            let segment = bits(&stream, bit);
             let (start, count) = (segment & 0x1fff, segment >> 13 & 0x7f);
             bit += 20;
             terms += count;
@@ -203,7 +227,7 @@ impl<const LENGTH: usize> Chip<'_, LENGTH> {
             least_start = start + 1;
             let mut least_power = 64;
             while bit < end {
-                let term = self.from(bit);
+                let term = bits(&stream, bit);
                 let (power, coefficient) = (term & 0x7f, term >> 7);
                 if power < least_power || power > 74 || power % 2 == 1 || coefficient >> 23 & 0xff == 0xff {
                     return None;

@@ -18,10 +18,14 @@ const PASSES: usize = 8;
 const ROUNDS: usize = 400;
 const ROUND_NANOSECONDS: f64 = 2e4;
 
+/// Room for an image that begins where a line of the cache does, so that no run is slower for where its images came to lie.
+#[repr(align(64))]
+struct Room([u8; 512]);
+
 /// A sheet on a chip, with what the calls are handed.
 struct Case {
     kind: u8,
-    image: Vec<u8>,
+    image: &'static mut [u8],
     /// The template's last field, and its date.
     last: u64,
     dated: u64,
@@ -111,7 +115,7 @@ impl Case {
         let point = |i| [i * 1_000_000_000 / points.max(1), (i * 7_919 % 200 - 100) * 10_000];
         let mut case = Case {
             kind,
-            image: vec![0; [40, 128, 512][usize::from(kind)]],
+            image: &mut Box::leak(Box::new(Room([0; 512]))).0[..[40, 128, 512][usize::from(kind)]],
             last: template.last() as u64,
             // The date stands four fields from the end.
             dated: template.last() as u64 - 3,
@@ -146,11 +150,11 @@ impl Case {
     fn recorded(mut self, ticks: usize) -> Case {
         for tick in 0..ticks {
             let input = -250_000 + (tick * 7_919 % 3_500_000) as i64;
-            let shown = Plain.reading(self.kind, &self.image, input, Dash::Large.into()).fraction;
+            let shown = Plain.reading(self.kind, self.image, input, Dash::Large.into()).fraction;
             self.fast.extend([input, shown]);
         }
         self.slow = self.fast.chunks_exact(12).flat_map(|ticks| [ticks[0], ticks[1]]).collect();
-        assert_eq!(Plain.compare(self.kind, &self.image, &self.slow, &self.fast).agrees, 1, "{ticks} ticks");
+        assert_eq!(Plain.compare(self.kind, self.image, &self.slow, &self.fast).agrees, 1, "{ticks} ticks");
         self
     }
 }
@@ -160,18 +164,18 @@ impl Case {
 
 #[inline(never)]
 fn check<C: Calls>(calls: &C, case: &mut Case, _: usize) -> u8 {
-    black_box(&calls.check(black_box(case.kind), black_box(&case.image))).number
+    black_box(&calls.check(black_box(case.kind), black_box(&*case.image))).number
 }
 
 #[inline(never)]
 fn field<C: Calls>(calls: &C, case: &mut Case, field: u64) -> u8 {
-    black_box(&calls.field(black_box(case.kind), black_box(&case.image), black_box(field))).number
+    black_box(&calls.field(black_box(case.kind), black_box(&*case.image), black_box(field))).number
 }
 
 /// The limit, answered as a check is.
 #[inline(never)]
 fn limit_check(case: &mut Case, _: usize) -> u8 {
-    let summary = limit::check(black_box(case.kind), black_box(&case.image));
+    let summary = limit::check(black_box(case.kind), black_box(&*case.image));
     let refused = CheckAnswer { number: 1, ..CheckAnswer::default() };
     black_box(&summary.map_or(refused, CheckAnswer::from)).number
 }
@@ -187,12 +191,12 @@ fn last_field<C: Calls>(calls: &C, case: &mut Case, _: usize) -> u8 {
 #[inline(never)]
 fn index<C: Calls>(calls: &C, case: &mut Case, _: usize) -> u8 {
     let buffer = black_box(&mut case.index[..]);
-    black_box(&calls.index(black_box(case.kind), black_box(&case.image), buffer)).number
+    black_box(&calls.index(black_box(case.kind), black_box(&*case.image), buffer)).number
 }
 
 #[inline(never)]
 fn fetch<C: Calls>(calls: &C, case: &mut Case, field: u64) -> u8 {
-    let (image, index) = (black_box(&case.image), black_box(&case.index[..]));
+    let (image, index) = (black_box(&*case.image), black_box(&case.index[..]));
     black_box(&calls.fetch(black_box(case.kind), image, index, black_box(field))).number
 }
 
@@ -206,19 +210,19 @@ fn last_fetched<C: Calls>(calls: &C, case: &mut Case, _: usize) -> u8 {
 
 #[inline(never)]
 fn sheet<C: Calls>(calls: &C, case: &mut Case, _: usize) -> u8 {
-    black_box(&calls.sheet(black_box(case.kind), black_box(&case.image))).number
+    black_box(&calls.sheet(black_box(case.kind), black_box(&*case.image))).number
 }
 
 #[inline(never)]
 fn reading<C: Calls>(calls: &C, case: &mut Case, turn: usize) -> u8 {
     let (input, dash) = (-250_000 + 220_000 * (turn % 16) as i64, Dash::Large.into());
-    black_box(&calls.reading(black_box(case.kind), black_box(&case.image), black_box(input), black_box(dash))).number
+    black_box(&calls.reading(black_box(case.kind), black_box(&*case.image), black_box(input), black_box(dash))).number
 }
 
 #[inline(never)]
 fn change<C: Calls>(calls: &C, case: &mut Case, turn: usize) -> u8 {
     let value = ByFlags::from(Value::Whole(DATE + (turn % 2) as i64));
-    let (image, level) = (black_box(&mut case.image), black_box(Level::CalibrationRoom.into()));
+    let (image, level) = (black_box(&mut *case.image), black_box(Level::CalibrationRoom.into()));
     let answer = calls.change(black_box(case.kind), image, level, black_box(case.dated), black_box(value));
     black_box(&answer).number
 }
@@ -226,7 +230,7 @@ fn change<C: Calls>(calls: &C, case: &mut Case, turn: usize) -> u8 {
 #[inline(never)]
 fn propose<C: Calls>(calls: &C, case: &mut Case, turn: usize) -> u8 {
     let value = ByFlags::from(Value::Whole(DATE + (turn % 2) as i64));
-    let (image, level) = (black_box(&case.image), black_box(Level::CalibrationRoom.into()));
+    let (image, level) = (black_box(&*case.image), black_box(Level::CalibrationRoom.into()));
     let answer = calls.propose(black_box(case.kind), image, level, black_box(case.dated), black_box(value));
     black_box(&answer).number
 }
@@ -235,7 +239,7 @@ fn propose<C: Calls>(calls: &C, case: &mut Case, turn: usize) -> u8 {
 fn commit<C: Calls>(calls: &C, case: &mut Case, _: usize) -> u8 {
     let (present, new) = (case.date, case.date ^ 1);
     case.date = new;
-    let (image, level) = (black_box(&mut case.image), black_box(Level::CalibrationRoom.into()));
+    let (image, level) = (black_box(&mut *case.image), black_box(Level::CalibrationRoom.into()));
     let answer = calls.commit(black_box(case.kind), image, level, black_box(case.dated), present, black_box(new));
     black_box(&answer).number
 }
@@ -243,7 +247,7 @@ fn commit<C: Calls>(calls: &C, case: &mut Case, _: usize) -> u8 {
 #[inline(never)]
 fn build<C: Calls>(calls: &C, case: &mut Case, _: usize) -> u8 {
     let (text, domain, points) = (black_box(case.text), black_box(0), black_box(&case.points));
-    let (kind, image, fields) = (black_box(case.kind), black_box(&mut case.image), *black_box(&case.fields));
+    let (kind, image, fields) = (black_box(case.kind), black_box(&mut *case.image), *black_box(&case.fields));
     let answer = calls.build(kind, image, fields, text, domain, points);
     black_box(&answer).number
 }
@@ -251,14 +255,14 @@ fn build<C: Calls>(calls: &C, case: &mut Case, _: usize) -> u8 {
 #[inline(never)]
 fn build_curve<C: Calls>(calls: &C, case: &mut Case, _: usize) -> u8 {
     let (text, curve) = (black_box(case.text), *black_box(&case.curve));
-    let (kind, image, fields) = (black_box(case.kind), black_box(&mut case.image), *black_box(&case.fields));
+    let (kind, image, fields) = (black_box(case.kind), black_box(&mut *case.image), *black_box(&case.fields));
     black_box(&calls.build_curve(kind, image, fields, text, curve)).number
 }
 
 #[inline(never)]
 fn compare<C: Calls>(calls: &C, case: &mut Case, _: usize) -> u8 {
     let (slow, fast) = (black_box(&case.slow), black_box(&case.fast));
-    black_box(&calls.compare(black_box(case.kind), black_box(&case.image), slow, fast)).number
+    black_box(&calls.compare(black_box(case.kind), black_box(&*case.image), slow, fast)).number
 }
 
 #[inline(never)]
@@ -276,7 +280,7 @@ fn over(call: impl Fn(&mut Case, usize) -> u8 + 'static) -> Run {
         let mut refused = 0u64;
         for turn in 0..turns {
             refused += u64::from(call(case, turn) != 0);
-            black_box(&case.image);
+            black_box(&*case.image);
         }
         assert_eq!(refused, 0);
     })
