@@ -483,16 +483,19 @@ impl Laid {
         self.lines[place + 1].code = (deviation + 1).saturating_sub(153 * tens + random.below(3));
     }
 
-    /// Puts the lines into the image's stream and the check bytes right; answers with the line that the stream ends in, if it is
-    /// too short.
-    pub fn lay(&self, image: &mut [u8]) -> Option<End> {
+    /// The line that the stream ends in, if it is too short.
+    pub fn end(&self) -> Option<End> {
+        cut(self.kind, &self.lines)
+    }
+
+    /// Puts the lines into the image's stream, and the check bytes right.
+    pub fn lay(&self, image: &mut [u8]) {
         let mut bit = 0;
         for line in &self.lines {
             put(self.kind, image, bit, line.width, line.code);
             bit += line.width;
         }
         mend(self.kind, image);
-        cut(self.kind, &self.lines)
     }
 }
 
@@ -546,7 +549,8 @@ mod tests {
                     let one = Ends { kind, ends: vec![(*layout, *end, vec![*way])] };
                     let laid = one.pick(&mut random);
                     let mut image = vec![0; image_length(kind)];
-                    assert_eq!(laid.lay(&mut image), Some(*end), "{way:?}");
+                    laid.lay(&mut image);
+                    assert_eq!(laid.end(), Some(*end), "{way:?}");
                     let place = (stream_bits(kind) - end.1) as u64;
                     assert_eq!(plain::check(kind, &image).err(), Some(plain::Refusal { number: 3, place }), "{way:?}");
                 }

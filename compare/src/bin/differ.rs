@@ -1,5 +1,5 @@
-//! differ [CALLS] [SEED]: random calls of the product and of the plain implementation, handed the same; after each every
-//! member of the answers and every byte of the lent buffers are compared.
+//! differ [--counts] [CALLS] [SEED]: random calls of the product and of the plain implementation, handed the same; after each
+//! every member of the answers and every byte of the lent buffers are compared. With --counts it also tells what was met.
 
 #![forbid(unsafe_code)]
 
@@ -9,6 +9,7 @@ use std::process::ExitCode;
 use compare::calls::{Calls, Plain};
 use compare::console::{Command, Given};
 use compare::ffi::Product;
+use compare::laid::Ends;
 use compare::layout::{Layout, get, image_length, pages, stream_bits};
 use compare::plain::{self, Level, Template, Value};
 use compare::random::Random;
@@ -22,10 +23,14 @@ use compare::structs::{
 mod curves;
 #[path = "differ/images.rs"]
 mod images;
+#[path = "differ/met.rs"]
+mod met;
 #[path = "differ/recordings.rs"]
 mod recordings;
 #[path = "differ/values.rs"]
 mod values;
+
+use met::Met;
 
 const CALLS: [&str; 21] = [
     "check", "page", "field", "pair", "char", "build", "change", "reading", "text", "code", "sheet", "kind", "index",
@@ -148,6 +153,9 @@ struct Differ {
     kinds: [[u64; 3]; CALLS.len()],
     /// Recordings that agree.
     agreed: u64,
+    /// By kind.
+    ends: [Ends; 3],
+    met: Met,
 }
 
 impl Differ {
@@ -161,6 +169,8 @@ impl Differ {
             numbers: [[0; NUMBERS]; CALLS.len()],
             kinds: [[0; 3]; CALLS.len()],
             agreed: 0,
+            ends: [0, 1, 2].map(Ends::new),
+            met: Met::default(),
         }
     }
 
@@ -268,10 +278,13 @@ impl Differ {
     }
 
     fn field_number(&mut self) -> u64 {
+        let layout = self.layout();
         match self.random.below(100) {
             0..=3 => self.random.pick(&[0, 19, 20, 21, 22, 23, 1 << 32 | 1, 1 << 63, u64::MAX]),
             4 => self.random.word(),
-            _ => 1 + self.random.below(self.layout().last() as u64),
+            // The last that begins in the first page, which mostly crosses into the next.
+            5..=14 => (1..=layout.last()).rfind(|field| layout.first_bit(*field) < 248).unwrap_or(1) as u64,
+            _ => 1 + self.random.below(layout.last() as u64),
         }
     }
 
@@ -406,7 +419,11 @@ impl Differ {
             let near = bits + 2 - self.random.below(40);
             let inside = self.random.below(bits);
             let any = self.random.below(1 << 16);
-            let offset = self.random.pick(&[0, 64, 146, bits - width, bits - width + 1, near, inside, any]);
+            // Across the next page or, in kind 0, out of the register.
+            let page = if self.kind == 0 { 64 } else { 248 * (1 + self.random.below(pages(self.kind) as u64 - 1)) };
+            let across = page - self.random.below(32);
+            let offset =
+                self.random.pick(&[0, 64, 146, bits - width, bits - width + 1, near, inside, across, across, any]);
             let end = self.random.pick(&[7, 10, 11, 16, 19, 32]);
             let length = self.random.pick(&[width, width, width, 0, end, end, end, width + 1, width | 256, any]);
             let entry = &mut self.lent.index_mut()[at..at + 4];
@@ -694,8 +711,8 @@ impl Differ {
     fn round(&mut self) {
         self.pick_kind();
         let number = self.build();
-        if number != 0 || self.random.percent(25) {
-            self.lay();
+        if number != 0 || self.random.percent(40) {
+            if self.random.percent(60) { self.shape() } else { self.lay() }
         }
         for _ in 0..self.random.within(2, 12) {
             match self.random.below(20) {
@@ -715,6 +732,18 @@ impl Differ {
                 _ => self.act(),
             }
         }
+    }
+
+    /// Calls by the number that they answered with, and what the images met.
+    fn report_counts(&self) {
+        println!("| Number | Calls | of these checks |");
+        println!("|---|---|---|");
+        for number in 0..NUMBERS {
+            let calls: u64 = self.numbers.iter().map(|numbers| numbers[number]).sum();
+            println!("| {number} | {calls} | {} |", self.numbers[CHECK][number]);
+        }
+        self.met.report(&self.ends);
+        println!();
     }
 
     fn report(&self, seed: u64) {
@@ -748,7 +777,11 @@ impl Differ {
 }
 
 fn main() -> ExitCode {
-    let words: Vec<String> = std::env::args().skip(1).collect();
+    let mut words: Vec<String> = std::env::args().skip(1).collect();
+    let counts = words.first().is_some_and(|word| word == "--counts");
+    if counts {
+        words.remove(0);
+    }
     let number = |place: usize, otherwise: u64| match words.get(place) {
         Some(word) => word.parse().ok(),
         None => Some(otherwise),
@@ -756,13 +789,16 @@ fn main() -> ExitCode {
     let clock =
         std::time::SystemTime::now().duration_since(std::time::UNIX_EPOCH).map_or(1, |time| time.as_nanos() as u64);
     let (Some(calls), Some(seed), true) = (number(0, 1_000_000), number(1, clock), words.len() < 3) else {
-        eprintln!("differ [CALLS] [SEED]");
+        eprintln!("differ [--counts] [CALLS] [SEED]");
         return ExitCode::from(2);
     };
     println!("seed {seed}");
     let mut differ = Differ::new(seed);
     while differ.calls < calls {
         differ.round();
+    }
+    if counts {
+        differ.report_counts();
     }
     differ.report(seed);
     if differ.differ == 0 { ExitCode::SUCCESS } else { ExitCode::FAILURE }

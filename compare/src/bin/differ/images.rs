@@ -1,5 +1,6 @@
 //! Images: laid bit by bit with anything wrong now and then, and damaged.
 
+use compare::laid::Laid;
 use compare::layout::{Layout, Row, image_length, mend, put, stream_bits};
 use compare::plain::{self, Template};
 
@@ -169,6 +170,15 @@ impl Differ {
         }
         mend(kind, &mut image);
         self.lent.image[MARGIN..MARGIN + image.len()].copy_from_slice(&image);
+    }
+
+    /// An image laid line by line: accepted, with a line made wrong, or with the stream's end inside one.
+    pub fn shape(&mut self) {
+        let kind = self.kind;
+        let laid = Laid::any(&mut self.random, &self.ends[usize::from(kind)]);
+        let image = &mut self.lent.image[MARGIN..MARGIN + image_length(kind)];
+        laid.lay(image);
+        self.met.note(&laid, image);
     }
 
     /// Blank pages: all of them or but one; before the page of kind 0 a register that adds up to 32, so that the sum is right.
