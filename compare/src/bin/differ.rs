@@ -435,6 +435,10 @@ impl Differ {
         if self.random.percent(20) {
             self.lent.index_length = self.random.pick(&[480, 85, 84, 83, 4 * last, 4 * last - 1, 0]);
         }
+        let whole = self.lent.image;
+        if self.random.percent(15) && (1..=last as u64).contains(&field) {
+            self.damage_field(field as usize, layout);
+        }
         let index = self.lent.index().to_vec();
         let kind = self.chip();
         self.both(
@@ -443,6 +447,7 @@ impl Differ {
             |image| Command::Fetch(kind, image.to_vec(), index.clone(), field),
             |calls, lent| calls.fetch(kind, lent.image(), lent.index(), field),
         );
+        self.lent.image = whole;
     }
 
     fn propose(&mut self) {

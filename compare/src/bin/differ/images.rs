@@ -196,6 +196,14 @@ impl Differ {
         }
     }
 
+    /// Another code in a field, with the check bytes mended.
+    pub fn damage_field(&mut self, field: usize, layout: Layout) {
+        let code = self.field_code(field, layout, 50);
+        let image = &mut self.lent.image[MARGIN..MARGIN + image_length(self.kind)];
+        put(self.kind, image, layout.first_bit(field), layout.width(field), code);
+        mend(self.kind, image);
+    }
+
     /// Damages the image, mostly with its check bytes mended.
     pub fn damage(&mut self) {
         let kind = self.kind;
