@@ -13,14 +13,18 @@ use compare::plain::{Curve, Dash, Level, Segment, Template, Term, Value};
 use compare::structs::{ByFlags, CheckAnswer, Fields};
 
 // A figure is the least of PASSES x ROUNDS rounds; a pass goes through all rows, so that what else the machine does for some
-// seconds is met by no row in all its passes.
+// seconds is met by no row in all its passes, and on images in other places, so that none is slower for where they came to lie.
 const PASSES: usize = 8;
-const ROUNDS: usize = 400;
+const ROUNDS: usize = 250;
 const ROUND_NANOSECONDS: f64 = 2e4;
 
-/// Room for an image that begins where a line of the cache does, so that no run is slower for where its images came to lie.
+/// Room for an image, from a line of the cache on.
 #[repr(align(64))]
 struct Room([u8; 512]);
+
+fn room(bytes: usize) -> &'static mut [u8] {
+    &mut Box::leak(Box::new(Room([0; 512]))).0[..bytes]
+}
 
 /// A sheet on a chip, with what the calls are handed.
 struct Case {
@@ -38,6 +42,9 @@ struct Case {
     index: [u8; 480],
     slow: Vec<i64>,
     fast: Vec<i64>,
+    /// How many fast ticks are compared in a call, and from which on in the next.
+    ticks: usize,
+    tick: usize,
 }
 
 /// A kind, how many points, and a text.
@@ -115,7 +122,7 @@ impl Case {
         let point = |i| [i * 1_000_000_000 / points.max(1), (i * 7_919 % 200 - 100) * 10_000];
         let mut case = Case {
             kind,
-            image: &mut Box::leak(Box::new(Room([0; 512]))).0[..[40, 128, 512][usize::from(kind)]],
+            image: room([40, 128, 512][usize::from(kind)]),
             last: template.last() as u64,
             // The date stands four fields from the end.
             dated: template.last() as u64 - 3,
@@ -127,6 +134,8 @@ impl Case {
             index: [0; 480],
             slow: Vec::new(),
             fast: Vec::new(),
+            ticks: 0,
+            tick: 0,
         };
         let number = build(&Plain, &mut case, 0).max(index(&Plain, &mut case, 0));
         assert_eq!(number, 0, "kind {kind}, {points} points");
@@ -146,18 +155,29 @@ impl Case {
         case
     }
 
-    /// With two recordings of a run, of so many fast ticks.
+    /// With two recordings of a run, compared so many fast ticks a call.
     fn recorded(mut self, ticks: usize) -> Case {
-        for tick in 0..ticks {
+        for tick in 0..RUN {
             let input = -250_000 + (tick * 7_919 % 3_500_000) as i64;
             let shown = Plain.reading(self.kind, self.image, input, Dash::Large.into()).fraction;
             self.fast.extend([input, shown]);
         }
         self.slow = self.fast.chunks_exact(12).flat_map(|ticks| [ticks[0], ticks[1]]).collect();
-        assert_eq!(Plain.compare(self.kind, self.image, &self.slow, &self.fast).agrees, 1, "{ticks} ticks");
+        assert_eq!(Plain.compare(self.kind, self.image, &self.slow, &self.fast).agrees, 1);
+        self.ticks = ticks;
         self
     }
+
+    /// The image to another place.
+    fn moved(&mut self) {
+        let image = room(self.image.len());
+        image.copy_from_slice(self.image);
+        self.image = image;
+    }
 }
+
+/// Fast ticks of a run of 1,000 seconds.
+const RUN: usize = 60_000;
 
 // Both sides are called through the same functions, which are not inlined, and with the same arguments; every member of an
 // answer is wanted.
@@ -261,7 +281,9 @@ fn build_curve<C: Calls>(calls: &C, case: &mut Case, _: usize) -> u8 {
 
 #[inline(never)]
 fn compare<C: Calls>(calls: &C, case: &mut Case, _: usize) -> u8 {
-    let (slow, fast) = (black_box(&case.slow), black_box(&case.fast));
+    let (from, to) = (2 * case.tick, 2 * (case.tick + case.ticks));
+    case.tick = if to < case.fast.len() { case.tick + case.ticks } else { 0 };
+    let (slow, fast) = (black_box(&case.slow[from / 6..to / 6]), black_box(&case.fast[from..to]));
     black_box(&calls.compare(black_box(case.kind), black_box(&*case.image), slow, fast)).number
 }
 
@@ -390,6 +412,7 @@ impl Bench {
 
     fn measure(&mut self) {
         for _ in 0..PASSES {
+            self.cases.iter_mut().for_each(Case::moved);
             for row in self.tables.iter_mut().flat_map(|table| &mut table.rows) {
                 row.pass(&mut self.cases[row.case]);
             }
@@ -411,8 +434,8 @@ impl Row {
             let once = (0..10).map(|_| timed(&self.sides[PRODUCT], case, 2)).fold(f64::MAX, f64::min);
             self.turns = (ROUND_NANOSECONDS / once).max(1.0) as usize;
         }
-        // A comparison is longer than a round.
-        let rounds = if self.amount > 1.0 { 4 } else { ROUNDS };
+        // One comparison can be longer than many rounds.
+        let rounds = if self.turns > 1 { ROUNDS } else { ROUNDS / 80 * if self.amount < RUN as f64 { 20 } else { 1 } };
         for _ in 0..rounds {
             for (side, least) in self.sides.iter().zip(&mut self.least) {
                 *least = least.min(timed(side, case, self.turns));
@@ -480,12 +503,12 @@ fn others(bench: &mut Bench) {
         let labels = [template.number().into(), chip.0.into(), chip.1];
         bench.rows(Case::new(*template, *values, *chip), &labels, 1, [call!("sheet", sheet)]);
     }
-    bench.table("Recordings compared, nanoseconds a fast tick", &["Kind", "Points", "Fast ticks"]);
-    for chip in [CHIPS[0], CHIPS[2], CHIPS[4], CHIPS[5]] {
-        for ticks in [6, 60_000] {
-            let case = Case::new(Template::Bridge, values(), chip).recorded(ticks);
-            bench.rows(case, &[chip.0.into(), chip.1, ticks as i64], ticks, [call!("compare", compare)]);
-        }
+    // A run of 60,000 fast ticks: in one call, which another program on the machine will hardly leave alone, and by parts.
+    bench.table("Recordings compared, nanoseconds a fast tick", &["Kind", "Points", "Fast ticks a call"]);
+    for (chip, ticks) in [(0, 2_400), (2, 2_400), (4, 6), (4, 2_400), (4, RUN), (5, 2_400)] {
+        let chip = CHIPS[chip];
+        let case = Case::new(Template::Bridge, values(), chip).recorded(ticks);
+        bench.rows(case, &[chip.0.into(), chip.1, ticks as i64], ticks, [call!("compare", compare)]);
     }
     bench.table("Distance", &["Points"]);
     for chip in [CHIPS[4], CHIPS[5]] {
