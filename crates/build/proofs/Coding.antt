@@ -41,9 +41,8 @@ use Rattle.build.proofs.FieldPlans.{withBlock, block-needed, fields-lis
 -- ---- one value
 
 -- The answer for a value that a caller can lend.
-pub encodes : (row : Row) (place : ℕ) {value : Value} (v : Value) (e : Encoded) → Sound row → value ≡ v → Real v → encodedSaid e ≡ encode row place v → Encodes row place value e
-encodes row place v e s same real said =
-    rw same (record { said = said; fits = λ code h. reads-back row place 0 code v s real (sym said ∙ ap encodedSaid h) .0 })
+pub encodes : (row : Row) (place : ℕ) (v : Value) (e : Encoded) → Sound row → Real v → encodedSaid e ≡ encode row place v → Encodes row place v e
+encodes row place v e s real said = record { said = said; fits = λ code h. reads-back row place 0 code v s real (sym said ∙ ap encodedSaid h) .0 }
 
 -- A figure that is handed to a callee.
 pub seen : (row : Row) (place : ℕ) {figure : ℤ} → SFits w64 figure → encode row place (Whole (toZ w64 (ofZ w64 figure))) ≡ encode row place (Whole figure)

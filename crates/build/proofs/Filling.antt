@@ -14,7 +14,7 @@ use Rattle.memory.specs.Image.{imageBytes, streamBits, streamOf, streamNumber, 
 use Rattle.memory.specs.Answers.{Whole, streamIndex}
 use Rattle.stream.specs.Answers.{InStream}
 use Rattle.memory.specs.Pieces.{Piece, piece, pack, needed}
-use Rattle.memory.proofs.PieceLaws.{pack-append, needed-append}
+use Rattle.memory.proofs.PieceLaws.{Fit, pack-lt, pack-append, needed-append}
 use Rattle.memory.proofs.Streams.{stream-at, stream-length}
 use Rattle.memory.proofs.Written.{put-whole, put-bytes, put-stream}
 use Rattle.build.specs.Filled.{Free, Room, Filled, Begun}
@@ -50,7 +50,7 @@ module _ (z : Sizes) where
       let size : 2 ^ w * 2 ^ at ≡ 2 ^ n .at = sym (pow-add 2 w at) ∙ ap (λ (n : ℕ). 2 ^ n) (add-comm w at ∙ sym moved) in
       record {
         free = record {
-          whole = record { long = ap length put ∙ put-whole z a at w code (f .whole .long); small = f .whole .small };
+          whole = record { long = ap length put ∙ put-whole z a at w code (f .whole .long); small = f .whole .small; paged = f .whole .paged; few = f .whole .few };
           bytes = rw put (put-bytes z a at w code (f .whole .long) (f .bytes));
           below = rw (e, ← size) (digits-lt h (f .below));
         };
@@ -86,7 +86,7 @@ module _ (z : Sizes) where
 
     -- The same for one code, which is put at the cursor.
     module _ {left : List Piece} (w code : ℕ) (qs : List Piece) (e : left ≡ piece w code ∷ qs) (f : Filling a k all b m left) where
-      pub code-inside : 1 ≤ w → w ≤ 32 → InStream z b (m .at) w
+      pub code-inside : 1 ≤ w → w ≤ 49 → InStream z b (m .at) w
       code-inside some most = record {
         whole = f .room .free .whole;
         inside = omega (arith, room-first (piece w code ∷ []) qs e f .inside);
@@ -96,6 +96,25 @@ module _ (z : Sizes) where
 
       pub code-more : {c : List ℕ} {n : Cursor} → code < 2 ^ w → (c ≡ putIn z b (m .at) w code) × (n .at ≡ m .at + w) → Filling a k all c n qs
       code-more fits put = filling-more (piece w code ∷ []) qs e f (fills (room-first (piece w code ∷ []) qs e f) fits (put .0) (put .1))
+
+    -- The same for several, which are put as one code.
+    module _ {left : List Piece} (ps qs : List Piece) (e : left ≡ ps ++ qs) (f : Filling a k all b m left) where
+      joined : {code : ℕ} → code ≡ pack ps → Filling a k all b m (piece (needed ps) code ∷ qs)
+      joined {code} h =
+          let digits : pack qs * 2 ^ needed ps + code ≡ pack left = ap (λ (x : ℕ). pack qs * 2 ^ needed ps + x) h ∙ sym (ap pack e ∙ pack-append ps qs) in
+          let bits : needed qs + needed ps ≡ needed left = sym (ap needed e ∙ needed-append ps qs) in
+          record {
+            room = record { free = f .room .free; inside = omega (arith, bits, f .room .inside) };
+            stream = ap (λ (x : ℕ). x * 2 ^ m .at + streamNumber z b) digits ∙ f .stream;
+            moved = omega (arith, bits, f .moved);
+          }
+
+      pub joined-inside : 1 ≤ needed ps → needed ps ≤ 49 → InStream z b (m .at) (needed ps)
+      joined-inside = code-inside (needed ps) (pack ps) qs refl (joined refl)
+
+      pub joined-more : {c : List ℕ} {n : Cursor} {code : ℕ} → Fit ps → (c ≡ putIn z b (m .at) (needed ps) code) × (n .at ≡ m .at + needed ps) → code ≡ pack ps →
+          Filling a k all c n qs
+      joined-more {code = code} fits put h = code-more (needed ps) code qs refl (joined h) (rw h (pack-lt ps fits)) put
 
     pub filled : Filling a k all b m [] → Filled z a k all b m
     filled f = record { free = f .room .free; stream = omega (arith, f .stream, zero-mul (2 ^ m .at)); moved = omega (arith, f .moved) }
@@ -118,7 +137,7 @@ cleared-free z image w =
     let whole : length cleared ≡ imageBytes z = length-replicate n 0 ∙ w .long in
     let none : streamNumber z cleared ≡ 0 =
     zeros-number (streamOf z cleared) (λ i h. stream-at z cleared whole i (omega (arith, stream-length z cleared whole, h)) ∙ zeros-at n (streamIndex z i)) in
-    record { whole = record { long = whole; small = w .small }; bytes = (λ i. omega (arith, zeros-at n i)); below = omega (arith, none) }
+    record { whole = record { long = whole; small = w .small; paged = w .paged; few = w .few }; bytes = (λ i. omega (arith, zeros-at n i)); below = omega (arith, none) }
 
 module _ (z : Sizes) {image a : List ℕ} (whole : Whole z image) (e : a ≡ replicate (length image) 0) where
   pub cleared : Free z a 0

@@ -1,8 +1,8 @@
 -- The text, one character after the other.
 use mathlib.Core.Path.{_≡_, refl, ap, _∙_}
 use mathlib.Core.Bool.{Bool, true, false, _||_}
-use mathlib.Core.List.{List, [], _∷_, map}
-use Prim.Native.Nat.{ℕ, _+_, _≤_, _<_}
+use mathlib.Core.List.{List, [], _∷_, _++_, map}
+use Prim.Native.Nat.{ℕ, suc, _+_, _≤_, _<_}
 use native.Mathlib.Numerals.{add-one}
 use native.Mathlib.Omega.{arith}
 use borrow.Author.Tests.{lt-ltb, le-ltb, eq-eqb, ne-eqb}
@@ -11,10 +11,11 @@ use lib.ListN.{length, drop, getD, drop-of-length-le}
 use lib.Seq.{drop-cons}
 use Rattle.refusal.specs.Outcome.{Outcome, good, refused, _>>_, refuse_if_}
 use Rattle.refusal.specs.Rows.{wrongSort, outOfRange}
-use Rattle.memory.specs.Pieces.{piece}
+use Rattle.memory.specs.Pieces.{Piece, piece}
+use Rattle.memory.proofs.PieceLaws.{Fit}
 use Rattle.build.specs.Build.{unfit, endingPieces}
 use Rattle.build.specs.Tested.{tested}
-use Rattle.build.specs.Filled.{codedEnding}
+use Rattle.build.specs.Filled.{sevenPieces, codedEnding}
 
 module _ (text : List ℕ) (i : ℕ) (h : i < length text) where
   -- ---- tested
@@ -35,6 +36,24 @@ module _ (text : List ℕ) (i : ℕ) (h : i < length text) where
 
   pub text-left : map (piece 7) (drop i text) ≡ piece 7 (getD text i 0) ∷ map (piece 7) (drop (i + 1) text)
   text-left = rw (add-one i) (ap (map (piece 7)) (drop-cons text i 0 h))
+
+-- Seven at a time.
+module _ (text : List ℕ) (i : ℕ) where
+  abbrev character : ℕ → Piece
+  character k = piece 7 (getD text (i + k) 0)
+
+  char-left : (k : ℕ) → i + k < length text → map (piece 7) (drop (i + k) text) ≡ piece 7 (getD text (i + k) 0) ∷ map (piece 7) (drop (i + suc k) text)
+  char-left k h =
+      let e : i + k + 1 ≡ i + suc k = omega arith in
+      text-left text (i + k) h ∙ ap (λ (n : ℕ). piece 7 (getD text (i + k) 0) ∷ map (piece 7) (drop n text)) e
+
+  pub seven-left : i + 7 ≤ length text → map (piece 7) (drop i text) ≡ sevenPieces text i ++ map (piece 7) (drop (i + 7) text)
+  seven-left h =
+      text-left text i (omega arith)
+      ∙ ap (λ l. piece 7 (getD text i 0) ∷ l) (char-left 1 (omega arith) ∙ ap (λ l. character 1 ∷ l) (char-left 2 (omega arith) ∙ ap (λ l. character 2 ∷ l) (char-left 3 (omega arith) ∙ ap (λ l. character 3 ∷ l) (char-left 4 (omega arith) ∙ ap (λ l. character 4 ∷ l) (char-left 5 (omega arith) ∙ ap (λ l. character 5 ∷ l) (char-left 6 (omega arith)))))))
+
+  pub seven-fits : ((j : ℕ) → getD text j 0 < 128) → Fit (sevenPieces text i)
+  seven-fits h = (h i, (h (i + 1), (h (i + 2), (h (i + 3), (h (i + 4), (h (i + 5), (h (i + 6), tt)))))))
 
 module _ (text : List ℕ) (i : ℕ) (h : length text ≤ i) where
   pub unfit-end : unfit (drop i text) ≡ false

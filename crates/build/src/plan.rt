@@ -6,6 +6,7 @@ use fields::Encoded;
 use fields::Judged;
 use fields::Layout;
 use fields::Previous;
+use fields::Row;
 use fields::Template;
 use fields::Value;
 use refusal::Refusal;
@@ -16,7 +17,8 @@ ghost use lib.Dec.{eqb, ltb};
 ghost use lib.ListN.{length};
 ghost use Rattle.refusal.specs.Outcome.{refuse_if_};
 ghost use Rattle.refusal.specs.Rows.{outOfRange};
-ghost use Rattle.fields.specs.Lines.{chose, lineOf, rowOf, lastField, ending};
+ghost use Rattle.fields.specs.Lines.{chose, lineOf, lastField, ending};
+ghost use Rattle.fields.specs.Stored.{Sound};
 ghost use Rattle.fields.specs.Answers.{judgedSaid, previousSaid};
 ghost use Rattle.build.specs.Build.{templateIn, unfit, endingPieces, pairsLent, codesFor, pairCodes, tablePieces};
 ghost use Rattle.build.specs.Tested.{tested, pairAt, codesSaid, Encodes, FieldsPlanned};
@@ -48,15 +50,11 @@ pub fn template_in(sheet: Sheet) -> Template
 }
 
 // The code of a field's value, which fits its row's bits: a Single that is lent has 32.
-fn code_of(layout: Layout, field: u64, value: Value) -> Encoded
-    requires { ⌜ (1 ≤ field) × (field ≤ lastField (layout .template)) ⌝ }
-    ensures { λ r. ⌜ Encodes (rowOf layout field) field value r ⌝ }
+fn code_of(row: Row, field: u64, value: Value) -> Encoded
+    requires { ⌜ Sound row ⌝ }
+    ensures { λ r. ⌜ Encodes row field value r ⌝ }
 {
-    match value {
-        Value::Whole(figure) => coding::encode_whole(layout, field, figure),
-        Value::Single(x) => coding::encode_single(layout, field, x),
-        Value::Missing => coding::encode_missing(layout, field),
-    }
+    coding::encode_by(row, field, value)
 }
 
 // The latest choice behind a field.
@@ -89,7 +87,7 @@ pub fn plan_fields(sheet: Sheet) -> Plan
             precision,
         };
         let row = fields::row_of(layout, field);
-        match code_of(layout, field, value) {
+        match code_of(row, field, value) {
             Encoded::Refused(r) => {
                 return Plan {
                     answer: Judged::Refused(r),

@@ -1,5 +1,6 @@
 // What a build writes, once nothing turns it down: pieces one behind the other into a cleared image, then every check byte.
-// A function that lays pieces takes the cursor to lay them at, and hands back the cursor behind them.
+// A function that lays pieces takes the cursor to lay them at, and hands back the cursor behind them. Neighbours go in as one
+// field, the first in its lowest bits, which is faster.
 use crate::drawing::CurvePlan;
 use crate::plan::CodedField;
 use crate::plan::PairAnswer;
@@ -19,7 +20,12 @@ ghost use Rattle.memory.specs.Pieces.{piece, pack, needed};
 ghost use Rattle.layout.specs.Pieces.{blockPieces};
 ghost use Rattle.build.specs.Build.{pairsLent, codesFor, tablePieces};
 ghost use Rattle.build.specs.Tested.{piecesOf, Accepted, fieldPiece, Fit, pairAt, codedFields, codedCurve, Tested};
-ghost use Rattle.build.specs.Filled.{Room, Filled, Begun, codedPair, codedPairs, codedEnding, codedSheet};
+ghost use Rattle.build.specs.Filled.{Room, Filled, Begun, codedPair, codedPairs, sevenPieces, codedEnding, codedSheet};
+
+// The bits of a point, and of a pair.
+const POINT_BITS: u64 = 16;
+
+const PAIR_BITS: usize = 37;
 
 // The fields from index `first` up to `end`.
 fn lay_fields(
@@ -38,7 +44,7 @@ fn lay_fields(
     let mut i = first;
     while i < end {
         let field = fields[i];
-        cursor = cursor.put(sizes, image, field.width as usize, field.code);
+        cursor = cursor.append(sizes, image, field.width as usize, field.code);
         i += 1;
     }
     cursor
@@ -50,7 +56,7 @@ fn lay_block(sizes: Sizes, image: &mut [u8], cursor: Cursor, number: u64) -> Cur
     requires { ⌜ number < 2 ^ 8 ⌝ }
     ensures { λ r. ⌜ Filled sizes (now (image .entry)) cursor (blockPieces number) (now (image .exit)) r ⌝ }
 {
-    cursor.put(sizes, image, 2, 0).put(sizes, image, 8, number)
+    cursor.append(sizes, image, 10, 4 * number)
 }
 
 // Pair i, which has its codes.
@@ -62,10 +68,9 @@ fn lay_pair(sizes: Sizes, image: &mut [u8], cursor: Cursor, points: &[i64], i: u
     match code_pair(points, i) {
         PairAnswer::Refused(_) => cursor,
         PairAnswer::Are(codes) => {
-            let point_bits = coding::cal_point().width as usize;
-            let deviation_bits = coding::cal_deviation().width as usize;
-            let next = cursor.put(sizes, image, point_bits, codes.point as u64);
-            next.put(sizes, image, deviation_bits, codes.deviation as u64)
+            let deviation = codes.deviation as u64;
+            let code = codes.point as u64 + (deviation << POINT_BITS);
+            cursor.append(sizes, image, PAIR_BITS, code)
         }
     }
 }
@@ -103,8 +108,7 @@ fn lay_table(
     }
     let code = coding::domain_code(domain);
     let block = lay_block(sizes, image, cursor, 40);
-    let count = block.put(sizes, image, 1, code);
-    let pairs = count.put(sizes, image, 7, n as u64);
+    let pairs = block.append(sizes, image, 8, code + 2 * n as u64);
     lay_pairs(sizes, image, pairs, points)
 }
 
@@ -124,13 +128,32 @@ fn lay_curve(
     let mut i: usize = 0;
     while i < count {
         let code = codes[i];
-        cursor = cursor.put(sizes, image, code.width as usize, code.code);
+        cursor = cursor.append(sizes, image, code.width as usize, code.code);
         i += 1;
     }
     cursor
 }
 
-// The text in 7-bit characters. The zero that ends it needs no writing.
+// A character of the text.
+fn character(text: &[u8], i: usize) -> u64
+    requires { ⌜ (i < length (now text)) × ((j : ℕ) → getD (now text) j 0 < 128) ⌝ }
+    ensures { λ r. ⌜ (r ≡ getD (now (text .entry)) i 0) × (r < 128) ⌝ }
+{
+    text[i] as u64
+}
+
+// Seven characters from index i on, as one code.
+fn seven(text: &[u8], i: usize) -> u64
+    requires { ⌜ (i + 7 ≤ length (now text)) × ((j : ℕ) → getD (now text) j 0 < 128) ⌝ }
+    ensures { λ r. ⌜ (r ≡ pack (sevenPieces (now (text .entry)) i)) × (r < 2 ^ 49) ⌝ }
+{
+    let last = 128 * character(text, i + 6) + character(text, i + 5);
+    let four = 128 * (128 * last + character(text, i + 4)) + character(text, i + 3);
+    let six = 128 * (128 * four + character(text, i + 2)) + character(text, i + 1);
+    128 * six + character(text, i)
+}
+
+// The text in 7-bit characters, seven at a time while they last. The zero that ends it needs no writing.
 fn lay_text(sizes: Sizes, image: &mut [u8], start: Cursor, text: &[u8]) -> Cursor
     requires { ⌜ Room sizes (now image) start (map (piece 7) (now text)) ⌝ }
     requires { ⌜ ((i : ℕ) → getD (now text) i 0 < 128) ⌝ }
@@ -138,8 +161,13 @@ fn lay_text(sizes: Sizes, image: &mut [u8], start: Cursor, text: &[u8]) -> Curso
 {
     let mut cursor = start;
     let mut i: usize = 0;
-    while i < text.len() {
-        cursor = cursor.put(sizes, image, 7, text[i] as u64);
+    let n = text.len();
+    while 7 <= n - i {
+        cursor = cursor.append(sizes, image, 49, seven(text, i));
+        i += 7;
+    }
+    while i < n {
+        cursor = cursor.append(sizes, image, 7, character(text, i));
         i += 1;
     }
     cursor
@@ -151,8 +179,7 @@ fn lay_ending(sizes: Sizes, image: &mut [u8], cursor: Cursor, end_bit: bool, tex
     requires { ⌜ ((i : ℕ) → getD (now text) i 0 < 128) ⌝ }
     ensures { λ r. ⌜ Filled sizes (now (image .entry)) cursor (codedEnding «end_bit» (now (text .entry))) (now (image .exit)) r ⌝ }
 {
-    let end = cursor.put(sizes, image, 2, 3);
-    let characters = end.put(sizes, image, 1, end_bit as u64);
+    let characters = cursor.append(sizes, image, 3, 3 + 4 * end_bit as u64);
     lay_text(sizes, image, characters, text)
 }
 

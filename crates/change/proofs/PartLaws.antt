@@ -4,12 +4,9 @@ use mathlib.Core.Bool.{Bool, true, false, not, _||_}
 use mathlib.Core.List.{List}
 use Prim.Native.Nat.{ℕ, _+_, _-_, _^_, _≤_, _<_}
 use native.Mathlib.Omega.{arith}
-use lib.Dec.{T, eqb, ltb}
+use lib.Dec.{eqb, ltb}
 use lib.ListN.{length}
 use borrow.Author.Tests.{eqb-false, ltb-false, eq-eqb, ne-eqb, lt-ltb, le-ltb}
-use denote.Laws.{Is}
-use denote.Enum.Declared as enum
-use denote.Enum.Laws.{vals, owed}
 use Rattle.refusal.specs.declared.Refusal.{Refusal}
 use Rattle.refusal.specs.Outcome.{Outcome, good, refused, _>>_, _>>=_, refuse_if_}
 use Rattle.refusal.specs.Rows.{noSuch, changedAlone, levelTooLow}
@@ -21,7 +18,6 @@ use Rattle.stream.specs.Answers.{InStream}
 use Rattle.memory.proofs.Chips.{sizes-chip}
 use Rattle.memory.proofs.SumLaws.{sums-right}
 use Rattle.fields.specs.declared.Value.{Value}
-use Rattle.fields.specs.declared.Value.the-variants.{Whole, Single, Missing}
 use Rattle.fields.specs.declared.Template.{Template}
 use Rattle.fields.specs.declared.Layout.{Layout}
 use Rattle.fields.specs.declared.Level.{Level}
@@ -29,10 +25,9 @@ use Rattle.fields.specs.Rules.{encode}
 use Rattle.fields.specs.Stored.{Real}
 use Rattle.fields.specs.Lines.{lastField, lineOf, rowOf}
 use Rattle.fields.specs.Levels.{mayWrite}
-use Rattle.fields.proofs.Value.{the-type}
-use Rattle.fields.proofs.Value.Laws.{the-laws}
 use Rattle.fields.proofs.RowLaws.{row-sound}
 use Rattle.fields.proofs.StoredLaws.{reads-back}
+pub use Rattle.coding.proofs.Lent.{lent-real}
 use Rattle.layout.specs.Contents.{Contents}
 use Rattle.layout.specs.Image.{streamIn, field, layoutOf}
 use Rattle.layout.specs.Places.{fieldPlace}
@@ -146,12 +141,6 @@ module _ {kind : ℕ} {image : List ℕ} {o : Opened} {c : Contents} (h : Opens 
       record { whole = held-whole h; inside = omega (arith, ea, ew, stands-here lo hi .inside); some = omega (arith, ew, s .some); most = omega (arith, ew, s .most) }
 
 -- ---- a change of an opened sheet
-
--- What owning a value tells: an f32 in it is one.
-pub lent-real : (v : Value) → Is (enum.row the-type) v (vals the-type the-laws v) → Real v
-lent-real (Whole z) h = tt
-lent-real (Single x) h = subst T (sym (owed the-type the-laws (Single x) (vals the-type the-laws (Single x)) h .0 .1)) tt
-lent-real Missing h = tt
 
 module _ {kind : ℕ} {image : List ℕ} {o : Opened} {c : Contents} (h : Opens kind image o c) (level : Level) (f : ℕ) (v : Value) where
   abbrev z : Sizes

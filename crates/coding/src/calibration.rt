@@ -90,7 +90,7 @@ pub fn encode_deviation(place: u64, figure: i64) -> Encoded
 }
 
 // A pair's point plus its deviation, in billionths of the span above the least deviation.
-fn sum_above(codes: Codes) -> u64
+pub fn sum_above(codes: Codes) -> u64
     ensures { λ r. ⌜ r ≡ spec.D * codes .point + spec.R * codes .deviation ⌝ }
 {
     D * codes.point as u64 + R * codes.deviation as u64

@@ -93,21 +93,6 @@ fn geometric(scale: Scale, width: u64, place: u64, figure: i64) -> Encoded
     Encoded::Code(stored_code(scale, plus(figure)))
 }
 
-// The code of a whole figure, or 9 where the rule takes no whole number.
-fn whole(row: Row, place: u64, figure: i64) -> Encoded
-    requires { ⌜ Sound row ⌝ }
-    ensures { λ r. ⌜ encodedSaid r ≡ wholeCode (row .rule) (row .width) place figure ⌝ }
-{
-    let width = row.width;
-    let rule = row.rule;
-    match rule {
-        Rule::Plain(least, greatest) => plain(least, greatest, place, figure),
-        Rule::Stepped(start, step) => stepped(start, step, width, place, figure),
-        Rule::Geometric(scale) => geometric(scale, width, place, figure),
-        Rule::Single => wrong_sort(place),
-    }
-}
-
 // The bits of a Single, or 10 where it is not finite. A NaN is turned down before its bits are asked for; an exponent of
 // all ones is then an infinity's.
 pub fn bits(place: u64, x: f32) -> Encoded
@@ -123,56 +108,82 @@ pub fn bits(place: u64, x: f32) -> Encoded
     out_of_range(place)
 }
 
-// The code of a Single, or 9 where the rule takes none.
-fn single(rule: Rule, place: u64, x: f32) -> Encoded
-    ensures { λ r. ⌜ encodedSaid r ≡ singleCode rule place x ⌝ }
+// All ones, or 9 where the row has no missing.
+fn missing_code(row: Row, place: u64) -> Encoded
+    requires { ⌜ Sound row ⌝ }
+    ensures { λ r. ⌜ encodedSaid r ≡ encodeOf row place Value.Missing ⌝ }
 {
-    match rule {
-        Rule::Plain(_, _) => wrong_sort(place),
-        Rule::Stepped(_, _) => wrong_sort(place),
-        Rule::Geometric(_) => wrong_sort(place),
-        Rule::Single => bits(place, x),
-    }
-}
-
-// `encode` of a whole figure, of a Single and of missing. The row is found here and is no parameter, so that the rule is a
-// constant to the compiler in each arm of the rows.
-pub fn encode_whole(layout: Layout, field: u64, figure: i64) -> Encoded
-    requires { ⌜ (1 ≤ field) × (field ≤ lastField (layout .template)) ⌝ }
-    ensures { λ r. ⌜ encodedSaid r ≡ encodeOf (rowOf layout field) field (Value.Whole figure) ⌝ }
-{
-    whole(row_of(layout, field), field, figure)
-}
-
-pub fn encode_single(layout: Layout, field: u64, x: f32) -> Encoded
-    requires { ⌜ (1 ≤ field) × (field ≤ lastField (layout .template)) ⌝ }
-    ensures { λ r. ⌜ encodedSaid r ≡ encodeOf (rowOf layout field) field (Value.Single x) ⌝ }
-{
-    let row = row_of(layout, field);
-    let rule = row.rule;
-    single(rule, field, x)
-}
-
-pub fn encode_missing(layout: Layout, field: u64) -> Encoded
-    requires { ⌜ (1 ≤ field) × (field ≤ lastField (layout .template)) ⌝ }
-    ensures { λ r. ⌜ encodedSaid r ≡ encodeOf (rowOf layout field) field Value.Missing ⌝ }
-{
-    let row = row_of(layout, field);
     if row.missing {
         return Encoded::Code(all_ones(row.width));
     }
-    wrong_sort(field)
+    wrong_sort(place)
 }
 
-// The code of a field's value, whatever i64 or f32 it holds: refusal 9 where the row takes no value of its sort, 10 where it
-// has no code for it, each at the field.
+// The code of a value by each rule: 9 where the rule takes no value of its sort.
+fn encode_plain(row: Row, least: u64, greatest: u64, place: u64, value: Value) -> Encoded
+    requires { ⌜ Sound row × (row .rule ≡ Rule.Plain least greatest) ⌝ }
+    ensures { λ r. ⌜ encodedSaid r ≡ encodeOf row place value ⌝ }
+{
+    match value {
+        Value::Whole(figure) => plain(least, greatest, place, figure),
+        Value::Single(_) => wrong_sort(place),
+        Value::Missing => missing_code(row, place),
+    }
+}
+
+fn encode_stepped(row: Row, start: i64, step: u64, place: u64, value: Value) -> Encoded
+    requires { ⌜ Sound row × (row .rule ≡ Rule.Stepped start step) ⌝ }
+    ensures { λ r. ⌜ encodedSaid r ≡ encodeOf row place value ⌝ }
+{
+    match value {
+        Value::Whole(figure) => stepped(start, step, row.width, place, figure),
+        Value::Single(_) => wrong_sort(place),
+        Value::Missing => missing_code(row, place),
+    }
+}
+
+fn encode_geometric(row: Row, scale: Scale, place: u64, value: Value) -> Encoded
+    requires { ⌜ Sound row × (row .rule ≡ Rule.Geometric scale) ⌝ }
+    ensures { λ r. ⌜ encodedSaid r ≡ encodeOf row place value ⌝ }
+{
+    match value {
+        Value::Whole(figure) => geometric(scale, row.width, place, figure),
+        Value::Single(_) => wrong_sort(place),
+        Value::Missing => missing_code(row, place),
+    }
+}
+
+fn encode_single(row: Row, place: u64, value: Value) -> Encoded
+    requires { ⌜ Sound row × (row .rule ≡ Rule.Single) ⌝ }
+    ensures { λ r. ⌜ encodedSaid r ≡ encodeOf row place value ⌝ }
+{
+    match value {
+        Value::Whole(_) => wrong_sort(place),
+        Value::Single(x) => bits(place, x),
+        Value::Missing => missing_code(row, place),
+    }
+}
+
+// The code of a value, whatever i64 or f32 it holds: refusal 9 where the row takes no value of its sort, 10 where it has no
+// code for it, each with the place that the call gives. The rule is asked before the value: it is a constant to the compiler
+// where the row is.
+pub fn encode_by(row: Row, place: u64, value: Value) -> Encoded
+    requires { ⌜ Sound row ⌝ }
+    ensures { λ r. ⌜ encodedSaid r ≡ encodeOf row place value ⌝ }
+{
+    let rule = row.rule;
+    match rule {
+        Rule::Plain(least, greatest) => encode_plain(row, least, greatest, place, value),
+        Rule::Stepped(start, step) => encode_stepped(row, start, step, place, value),
+        Rule::Geometric(scale) => encode_geometric(row, scale, place, value),
+        Rule::Single => encode_single(row, place, value),
+    }
+}
+
+// The code of a field's value, each refusal at the field.
 pub fn encode(layout: Layout, field: u64, value: Value) -> Encoded
     requires { ⌜ (1 ≤ field) × (field ≤ lastField (layout .template)) ⌝ }
     ensures { λ r. ⌜ encodedSaid r ≡ encodeOf (rowOf layout field) field value ⌝ }
 {
-    match value {
-        Value::Whole(figure) => encode_whole(layout, field, figure),
-        Value::Single(x) => encode_single(layout, field, x),
-        Value::Missing => encode_missing(layout, field),
-    }
+    encode_by(row_of(layout, field), field, value)
 }

@@ -11,6 +11,7 @@ pub mod StoringRule
 pub mod StoringLaws
 pub mod FloatLaws
 pub mod DecodeLaws
+pub mod OpenLaws
 pub mod EncodeLaws
 pub mod StoredLaws
 pub mod MarkLaws

@@ -18,6 +18,7 @@ ghost use Prim.Native.Nat.{ℕ, min, _+_, _-_, _*_, _≤_, _<_};
 ghost use lib.ListN.{length};
 ghost use Rattle.fields.specs.Rows.{bridgeEnd, resistanceEnd};
 ghost use Rattle.fields.specs.Lines.{basic, linesOf, lineOf, lastField, ending, numberOf, templateOf, rowOf, bitsBefore};
+ghost use Rattle.fields.specs.Judgement.{OpenBehind};
 ghost use Rattle.fields.specs.Answers.{templateSaid};
 
 // The fields of Basic.
@@ -127,8 +128,8 @@ pub fn mark_of(template: Template, field: u64) -> Mark
 }
 
 // The rows of Basic, the same in every layout.
-fn basic_row(field: u64) -> Row
-    requires { ⌜ (1 ≤ field) × (field ≤ 5) ⌝ }
+pub fn basic_row(field: u64) -> Row
+    requires { ⌜ (1 ≤ field) × (field ≤ length basic) ⌝ }
     ensures { λ r. ⌜ ((layout : Layout) → r ≡ rowOf layout field) ⌝ }
 {
     match field {
@@ -141,8 +142,8 @@ fn basic_row(field: u64) -> Row
 }
 
 // The rows of template 33.
-fn bridge_row(precision: u64, field: u64) -> Row
-    requires { ⌜ (5 < field) × (field ≤ 21) ⌝ }
+pub fn bridge_row(precision: u64, field: u64) -> Row
+    requires { ⌜ (length basic < field) × (field ≤ lastField Template.Bridge) ⌝ }
     ensures { λ r. ⌜ r ≡ lineOf Template.Bridge field .rowAt precision ⌝ }
 {
     match field {
@@ -166,8 +167,8 @@ fn bridge_row(precision: u64, field: u64) -> Row
 }
 
 // The rows of template 32.
-fn resistance_row(precision: u64, field: u64) -> Row
-    requires { ⌜ (5 < field) × (field ≤ 19) ⌝ }
+pub fn resistance_row(precision: u64, field: u64) -> Row
+    requires { ⌜ (length basic < field) × (field ≤ lastField Template.Resistance) ⌝ }
     ensures { λ r. ⌜ r ≡ lineOf Template.Resistance field .rowAt precision ⌝ }
 {
     match field {
@@ -200,6 +201,23 @@ pub fn row_of(layout: Layout, field: u64) -> Row
     match template {
         Template::Bridge => bridge_row(layout.precision, field),
         Template::Resistance => resistance_row(layout.precision, field),
+    }
+}
+
+// The last field of Basic that can turn a code down: those behind it take every code.
+pub fn basic_closed() -> u64
+    ensures { λ r. ⌜ (r ≤ length basic) × ((template : Template) → OpenBehind template r (length basic)) ⌝ }
+{
+    3
+}
+
+// The same of a template.
+pub fn last_closed(template: Template) -> u64
+    ensures { λ r. ⌜ (r ≤ lastField template) × OpenBehind template r (lastField template) ⌝ }
+{
+    match template {
+        Template::Bridge => 12,
+        Template::Resistance => 11,
     }
 }
 

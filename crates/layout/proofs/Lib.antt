@@ -1,6 +1,7 @@
 pub mod Formats
 pub mod Fields
 pub mod Choices
+pub mod Judging
 pub mod Repeats
 pub mod Curves
 pub mod CurveTerms
@@ -13,3 +14,4 @@ pub mod Puts
 pub mod Standing
 pub mod CurvePlaces
 pub mod Numbers
+pub mod Rising

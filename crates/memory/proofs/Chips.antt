@@ -49,4 +49,4 @@ sizes-chip kind bytes z e =
 pub sizes-whole : (kind : ℕ) (image : List ℕ) (z : Sizes) → imageSizes kind (length image) ≡ good z → Whole z image
 sizes-whole kind image z e =
     let c = sizes-chip kind (length image) z e in
-    record { long = c .long; small = omega arith }
+    record { long = c .long; small = omega arith; paged = c .paged; few = c .few }

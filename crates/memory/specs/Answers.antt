@@ -2,7 +2,7 @@
 use mathlib.Core.Path.{_≡_}
 use mathlib.Core.Bool.{cond}
 use mathlib.Core.List.{List}
-use Prim.Native.Nat.{ℕ, _+_, _-_, _/_, _^_, _<_}
+use Prim.Native.Nat.{ℕ, _+_, _-_, _/_, _^_, _<_, _≤_}
 use lib.ListN.{length}
 use lib.Dec.{ltb}
 use Rattle.refusal.specs.Outcome.{Outcome, good, refused}
@@ -14,10 +14,12 @@ use Rattle.memory.specs.declared.pages.Sums.{Sums}
 use Rattle.memory.specs.declared.pages.Sums.the-variants.{Right, Wrong, Blank}
 use Rattle.memory.specs.Image.{imageBytes}
 
--- An image of these sizes. No chip has 2^32 bytes.
+-- An image of these sizes: a page at least, no more than 8 bytes of register. No chip has 2^32 bytes.
 pub record Whole (z : Sizes) (image : List ℕ) : Type 0 where
   pub long : length image ≡ imageBytes z
   pub small : imageBytes z < 2 ^ 32
+  pub paged : 1 ≤ z .pages
+  pub few : z .register ≤ 8
 
 -- Where byte i of the stream stands in the image: behind the check byte of its page and those before.
 abbrev pub streamIndex : Sizes → ℕ → ℕ

@@ -59,7 +59,7 @@ module _ (kind : ℕ) (image : List ℕ) (z : Sizes) (c : Contents) (level : Lev
       record {
         stream = λ n o. ap (λ (M : ℕ). bit M n) number ∙ puts N (x .at) (x .row .width) code fits .others n o;
         checks =
-            mended-check z image (chip .long) bytes (x .at) (x .row .width) code inside (sound .some) (sound .most) fits (chip .paged)
+            mended-check z image (chip .long) bytes (x .at) (x .row .width) code inside (sound .some) (omega (arith, sound .most)) fits (chip .paged)
             (sums-right z image (accepted-at kind image c z e sizes .0));
       }
 

@@ -202,7 +202,7 @@ module _ {kind : ℕ} {image : List ℕ} {o : Opened} {c : Contents} (h : Opens 
   opened-rises domain e = calibration-rises _ (c .calibration) domain (holding h .formed .calibrated) (sym (domain-is h) ∙ e)
 
 -- Of template 33.
-bridge : (t : Template) → isResistance t ≡ false → t ≡ Bridge
+pub bridge : (t : Template) → isResistance t ≡ false → t ≡ Bridge
 bridge Bridge e = refl
 bridge Resistance e = absurd (true≢false e)
 

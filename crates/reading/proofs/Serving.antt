@@ -1,155 +1,114 @@
--- The segment of a curve that serves, found by going along its segments, and its terms among those of the whole curve.
-use mathlib.Core.Path.{_≡_, refl, sym, ap, _∙_}
-use mathlib.Core.List.{List, [], _∷_, _++_, map, map-append, append-assoc}
+-- The segment of a curve that serves, found by going along its segments from place to place, and its terms where they stand.
+use mathlib.Core.Path.{_≡_, refl, sym, ap, ap₂, _∙_, subst}
+use mathlib.Core.List.{List, [], _∷_, map}
 use mathlib.Core.Bool.{true, false}
-use Prim.Native.Nat.{ℕ, _+_, _≤_, _<_}
+use Prim.Native.Nat.{ℕ, suc, _+_, _-_, _*_, _≤_, _<_}
 use native.Mathlib.Omega.{arith}
 use lib.IntN.{ℤ}
-use lib.ListN.{length, getD, drop, length-append, length-map}
-use lib.Seq.{slice, take-append-add, take-append-seam, drop-append-seam, getD-append-add}
+use lib.ListN.{length, getD}
 use lib.Signed.{ltZ}
 use Rattle.integers.proofs.PartLaws.{le-leZ, lt-leZ, ltZ-parts, nltZ-parts, is-true, is-false}
 use Rattle.fields.specs.declared.Segment.{Segment}
-use Rattle.fields.specs.declared.Term.{Term}
-use Rattle.fields.specs.Curves.{noSegment}
-use Rattle.layout.specs.Contents.{FoundSegment}
-use Rattle.layout.specs.Image.{allTerms, segmentIn, termIn}
+use Rattle.layout.specs.Format.{Stream}
+use Rattle.layout.specs.Contents.{FoundTerm, FoundSegment}
+use Rattle.layout.specs.Image.{segmentIn, termIn}
+use Rattle.layout.proofs.CurvePlaces.{TermStands, CurveStands}
+use Rattle.sheet.specs.Walk.{segmentAt, segmentEnd}
+use Rattle.sheet.proofs.CurvePlaces.{term-is, curve-behind, first-is}
 use Rattle.reading.specs.Reading.{serving, servingTerms}
+use Rattle.reading.specs.Steps.{termsFrom, ownTerms}
 
--- What stands between two lists.
-slice-between : {A : Type 0} (before own after : List A) → slice (length before) (length before + length own) (before ++ (own ++ after)) ≡ own
-slice-between before own after =
-    ap (drop (length before)) (take-append-add before (own ++ after) (length own) ∙ ap (λ l. before ++ l) (take-append-seam own after)) ∙ drop-append-seam before own
+-- Terms that stand one behind the other.
+terms-are : (s : Stream) (at : ℕ) (terms : List FoundTerm) → ((i : ℕ) (none : FoundTerm) → i < length terms → TermStands s (at + 39 * i) (getD terms i none)) →
+    termsFrom s at (length terms) ≡ map termIn terms
+terms-are s at [] h = refl
+terms-are s at (t ∷ terms) h =
+    ap₂ _∷_ (term-is (subst (λ (n : ℕ). TermStands s n t) (omega arith) (h 0 t (omega arith))))
+    (terms-are s (at + 39) terms (λ i none l. subst (λ (n : ℕ). TermStands s n (getD terms i none)) (omega arith) (h (suc i) none (omega arith))))
 
-all-append : (xs ys : List FoundSegment) → allTerms (xs ++ ys) ≡ allTerms xs ++ allTerms ys
-all-append [] ys = refl
-all-append (x ∷ xs) ys = ap (λ l. x .terms ++ l) (all-append xs ys) ∙ sym (append-assoc (x .terms) (allTerms xs) (allTerms ys))
-
-module _ (p : ℤ) (segments : List FoundSegment) where
-  abbrev pub allIn : List Term
-  allIn = map termIn (allTerms segments)
-
-  -- So many segments were looked at: the last of them serves as far as is known, and its terms are those from first to end.
-  pub record Walked (first end index : ℕ) : Type 0 where
-    pub before : List FoundSegment
+module _ (p : ℤ) (s : Stream) (segments : List FoundSegment) where
+  -- The segment at a place serves as far as is known, and so many segments are left from it on.
+  pub record Walked (at terms left : ℕ) : Type 0 where
     pub own : FoundSegment
     pub after : List FoundSegment
-    pub joined : segments ≡ before ++ (own ∷ after)
-    pub passed : first ≡ length (allTerms before)
-    pub ended : end ≡ first + length (own .terms)
-    pub next : index ≡ length before + 1
+    pub stand : CurveStands s at (own ∷ after)
+    pub many : terms ≡ length (own .terms)
+    pub rest : left ≡ suc (length after)
     pub serves : servingTerms p segments ≡ map termIn (serving p own after .terms)
 
-  -- The terms of the one that serves.
-  pub record Served (first end : ℕ) : Type 0 where
-    pub rises : first ≤ end
-    pub inside : end ≤ length allIn
-    pub are : slice first end allIn ≡ servingTerms p segments
+  -- The first segment.
+  pub walked-first : {at : ℕ} → CurveStands s at segments → {n : ℕ} → n ≡ length segments → 0 < n → (x : Segment) → x ≡ segmentAt s at → Walked at (x .terms) n
+  walked-first {at} h {n} k l x e = go segments refl
+    where
+      go : (xs : List FoundSegment) → segments ≡ xs → Walked at (x .terms) n
+      go [] f = absurd (omega (arith, ap length f))
+      go (own ∷ after) f =
+          let c : CurveStands s at (own ∷ after) = subst (CurveStands s at) f h in
+          record {
+            own = own;
+            after = after;
+            stand = c;
+            many = ap (λ (y : Segment). y .terms) (e ∙ first-is own after c);
+            rest = k ∙ ap length f;
+            serves = ap (servingTerms p) f;
+          }
 
-  module _ {first end index : ℕ} (w : Walked first end index) where
-    all-are : allIn ≡ map termIn (allTerms (w .before)) ++ (map termIn (w .own .terms) ++ map termIn (allTerms (w .after)))
-    all-are =
-        ap (λ l. map termIn (allTerms l)) (w .joined) ∙ ap (map termIn) (all-append (w .before) (w .own ∷ w .after))
-        ∙ map-append termIn (allTerms (w .before)) (w .own .terms ++ allTerms (w .after))
-        ∙ ap (λ l. map termIn (allTerms (w .before)) ++ l) (map-append termIn (w .own .terms) (allTerms (w .after)))
-
-    pub walked-inside : (first ≤ end) × (end ≤ length allIn)
-    walked-inside = (
-      omega (arith, w .ended),
-      omega (
-        arith,
-        w .ended,
-        w .passed,
-        ap length all-are,
-        length-append (map termIn (allTerms (w .before))) (map termIn (w .own .terms) ++ map termIn (allTerms (w .after))),
-        length-append (map termIn (w .own .terms)) (map termIn (allTerms (w .after))),
-        length-map (allTerms (w .before)) termIn,
-        length-map (w .own .terms) termIn,
-      ),
-    )
-
-    own-are : slice first end allIn ≡ map termIn (w .own .terms)
+  module _ {at terms left : ℕ} (w : Walked at terms left) where
+    own-are : ownTerms s at terms ≡ map termIn (w .own .terms)
     own-are =
-        let a : first ≡ length (map termIn (allTerms (w .before))) = w .passed ∙ sym (length-map (allTerms (w .before)) termIn) in
-        let b : end ≡ length (map termIn (allTerms (w .before))) + length (map termIn (w .own .terms)) = omega (arith, w .ended, a, length-map (w .own .terms) termIn) in
-        rw (all-are, b, a) (slice-between (map termIn (allTerms (w .before))) (map termIn (w .own .terms)) (map termIn (allTerms (w .after))))
+        ap (ownTerms s at) (w .many)
+        ∙ terms-are s (at + 20) (w .own .terms) (λ i none l. subst (λ (n : ℕ). TermStands s (n + 20 + 39 * i) (getD (w .own .terms) i none)) (w .stand .first (w .own) (omega arith)) (w .stand .stand 0 (w .own) (omega arith) .terms i none l))
 
-    serves-own : serving p (w .own) (w .after) ≡ w .own → Served first end
-    serves-own e = record {
-      rises = walked-inside .0;
-      inside = walked-inside .1;
-      are = own-are ∙ ap (λ (s : FoundSegment). map termIn (s .terms)) (sym e) ∙ sym (w .serves);
-    }
+    serves-own : serving p (w .own) (w .after) ≡ w .own → ownTerms s at terms ≡ servingTerms p segments
+    serves-own e = own-are ∙ ap (λ (x : FoundSegment). map termIn (x .terms)) (sym e) ∙ sym (w .serves)
 
-    -- Behind the last segment.
-    pub served-last : length segments ≤ index → Served first end
+    -- None is behind it.
+    pub served-last : left ≤ 1 → ownTerms s at terms ≡ servingTerms p segments
     unfolding serving
-    served-last h = go (w .after) refl
+    served-last l = go (w .after) refl
       where
-        go : (after : List FoundSegment) → w .after ≡ after → Served first end
+        go : (after : List FoundSegment) → w .after ≡ after → ownTerms s at terms ≡ servingTerms p segments
         go [] e = serves-own (ap (serving p (w .own)) e)
-        go (s ∷ after) e = absurd (omega (arith, w .next, ap length (w .joined), length-append (w .before) (w .own ∷ w .after), ap length e))
+        go (x ∷ after) e = absurd (omega (arith, w .rest, ap length e))
 
     -- The segment behind it.
-    record Next (s : Segment) : Type 0 where
+    record Next (x : Segment) : Type 0 where
       found : FoundSegment
       rest : List FoundSegment
       is : w .after ≡ found ∷ rest
-      same : s ≡ segmentIn found
+      stand : CurveStands s (segmentEnd at terms) (found ∷ rest)
+      same : x ≡ segmentIn found
 
-    next-is : index < length segments → (s : Segment) → s ≡ getD (map segmentIn segments) index noSegment → Next s
-    next-is h s e = go (w .after) refl
-      where
-        go : (after : List FoundSegment) → w .after ≡ after → Next s
-        go [] f = absurd (omega (arith, w .next, ap length (w .joined), length-append (w .before) (w .own ∷ w .after), ap length f))
-        go (x ∷ after) f = record {
-          found = x;
-          rest = after;
-          is = f;
-          same = e ∙ rw (w .joined, f, map-append segmentIn (w .before) (w .own ∷ x ∷ after), w .next, sym (length-map (w .before) segmentIn)) (getD-append-add (map segmentIn (w .before)) (segmentIn (w .own) ∷ segmentIn x ∷ map segmentIn after) 1 noSegment);
-        }
-
-    serves-next : {s : Segment} (n : Next s) → ltZ p (s .start) ≡ false → serving p (w .own) (w .after) ≡ serving p (n .found) (n .rest)
+    serves-next : {x : Segment} (n : Next x) → ltZ p (x .start) ≡ false → serving p (w .own) (w .after) ≡ serving p (n .found) (n .rest)
     unfolding serving
-    serves-next {s} n l = rw (n .is) (rw (le-leZ (segmentIn (n .found) .start) p (rw (n .same) at (nltZ-parts p (s .start) (is-false l)))))
+    serves-next {x} n b = rw (n .is) (rw (le-leZ (segmentIn (n .found) .start) p (rw (n .same) at (nltZ-parts p (x .start) (is-false b)))))
 
-    module _ (h : index < length segments) (s : Segment) (e : s ≡ getD (map segmentIn segments) index noSegment) where
+    module _ (l : 1 < left) (x : Segment) (e : x ≡ segmentAt s (segmentEnd at terms)) where
+      next-is : Next x
+      next-is = go (w .after) refl
+        where
+          go : (after : List FoundSegment) → w .after ≡ after → Next x
+          go [] f = absurd (omega (arith, w .rest, ap length f))
+          go (found ∷ rest) f =
+              let c : CurveStands s (segmentEnd at terms) (found ∷ rest) = subst (CurveStands s (segmentEnd at terms)) f (subst (λ (n : ℕ). CurveStands s (segmentEnd at n) (w .after)) (sym (w .many)) (curve-behind (w .own) (w .after) (w .stand))) in
+              record { found = found; rest = rest; is = f; stand = c; same = e ∙ first-is found rest c }
+
       -- It starts behind p.
-      pub served-here : ltZ p (s .start) ≡ true → Served first end
+      pub served-here : ltZ p (x .start) ≡ true → ownTerms s at terms ≡ servingTerms p segments
       unfolding serving
-      served-here l =
-          let n = next-is h s e in
-          serves-own (rw (n .is) (rw (lt-leZ (segmentIn (n .found) .start) p (rw (n .same) at (ltZ-parts p (s .start) (is-true l))))))
+      served-here b =
+          let n = next-is in
+          serves-own (rw (n .is) (rw (lt-leZ (segmentIn (n .found) .start) p (rw (n .same) at (ltZ-parts p (x .start) (is-true b))))))
 
       -- It starts at or below p.
-      pub walked-on : ltZ p (s .start) ≡ false → Walked end (end + s .terms) (index + 1)
-      unfolding serving
-      walked-on l =
-          let n = next-is h s e in
+      pub walked-on : ltZ p (x .start) ≡ false → Walked (segmentEnd at terms) (x .terms) (left - 1)
+      walked-on b =
+          let n = next-is in
           record {
-            before = w .before ++ (w .own ∷ []);
             own = n .found;
             after = n .rest;
-            joined = w .joined ∙ ap (λ r. w .before ++ (w .own ∷ r)) (n .is) ∙ sym (append-assoc (w .before) (w .own ∷ []) (n .found ∷ n .rest));
-            passed = omega (arith, w .ended, w .passed, ap length (all-append (w .before) (w .own ∷ [])), length-append (allTerms (w .before)) (w .own .terms ++ []), length-append (w .own .terms) []);
-            ended = ap (λ (x : Segment). end + x .terms) (n .same);
-            next = omega (arith, w .next, length-append (w .before) (w .own ∷ []));
-            serves = w .serves ∙ ap (λ (t : FoundSegment). map termIn (t .terms)) {x = serving p (w .own) (w .after)} {y = serving p (n .found) (n .rest)} (serves-next n l);
+            stand = n .stand;
+            many = ap (λ (y : Segment). y .terms) (n .same);
+            rest = omega (arith, w .rest, ap length (n .is));
+            serves = w .serves ∙ ap (λ (t : FoundSegment). map termIn (t .terms)) {x = serving p (w .own) (w .after)} {y = serving p (n .found) (n .rest)} (serves-next n b);
           }
-
-  -- The first segment.
-  pub walked-first : 0 < length segments → (s : Segment) → s ≡ getD (map segmentIn segments) 0 noSegment → Walked 0 (s .terms) 1
-  walked-first h s e = go segments refl
-    where
-      go : (l : List FoundSegment) → segments ≡ l → Walked 0 (s .terms) 1
-      go [] f = absurd (omega (arith, ap length f))
-      go (x ∷ after) f = record {
-        before = [];
-        own = x;
-        after = after;
-        joined = f;
-        passed = refl;
-        ended = omega (arith, ap (λ (y : Segment). y .terms) (e ∙ ap (λ l. getD (map segmentIn l) 0 noSegment) f));
-        next = refl;
-        serves = ap (servingTerms p) f;
-      }

@@ -1,24 +1,27 @@
 -- The terms of a curve that stands: their exponents rise from 0 to 5, so that the fraction is worked from them one after the other.
-use mathlib.Core.Path.{_≡_, refl}
+use mathlib.Core.Path.{_≡_, refl, sym, ap, ap₂, _∙_}
 use mathlib.Core.Bool.{Bool, true, false, cond}
 use mathlib.Core.List.{List, [], _∷_, map}
-use Prim.Native.Nat.{ℕ, zero, suc, _<_}
+use Prim.Native.Nat.{ℕ, suc, _+_, _-_, _*_, _≤_, _<_}
 use native.Mathlib.Omega.{arith}
-use lib.IntN.{ℤ, pos, natAbs}
-use lib.ListN.{length, getD}
+use lib.IntN.{ℤ, natAbs}
+use lib.ListN.{length}
 use lib.Signed.{leZ}
 use Rattle.fields.specs.declared.Term.{Term}
-use Rattle.fields.specs.Curves.{noTerm}
 use Rattle.fields.specs.Figure.{floatFraction}
-use Rattle.layout.specs.Contents.{FoundTerm, FoundSegment, Calibration, bare, table, curve, Passed, behindSegment, nothingPassed}
+use Rattle.layout.specs.Format.{Stream}
+use Rattle.layout.specs.Contents.{FoundSegment, Calibration, bare, table, curve, Passed, behindSegment, nothingPassed}
 use Rattle.layout.specs.Image.{segmentsIn, segmentIn, termIn}
 use Rattle.layout.proofs.Curves.{SegmentsAt}
 use Rattle.layout.proofs.CurveTerms.{Rises, terms-rise}
 use Rattle.layout.proofs.Calibrations.{CalibrationAt}
+use Rattle.sheet.specs.Walk.{termAt, segmentEnd}
+use Rattle.curve.specs.declared.Powers.{Powers}
 use Rattle.curve.specs.Curve.{fractionBy}
-use Rattle.curve.specs.Powers.{noPowers, taken, upToHighest, Rising}
+use Rattle.curve.specs.Powers.{noPowers, withTerm, taken, upToHighest, Rising}
 use Rattle.curve.proofs.PowerLaws.{fraction-taken}
 use Rattle.reading.specs.Reading.{fraction, serving, servingTerms, share}
+use Rattle.reading.specs.Steps.{termsFrom, ownTerms}
 
 -- ---- exponents
 
@@ -27,11 +30,29 @@ rising : (least : ℕ) (terms : List Term) → Rises least terms → Rising leas
 rising least [] h = tt
 rising least (t ∷ terms) h = (h .0, (h .1, rising (suc (natAbs (t .exponent))) terms (h .2)))
 
--- The exponent of a term is no negative number.
-pub exponent-natural : (terms : List FoundTerm) (i : ℕ) → getD (map termIn terms) i noTerm .exponent ≡ pos (natAbs (getD (map termIn terms) i noTerm .exponent))
-exponent-natural [] i = refl
-exponent-natural (t ∷ terms) zero = refl
-exponent-natural (t ∷ terms) (suc i) = exponent-natural terms i
+-- ---- the terms of a segment, one after the other
+
+pub all-left : (s : Stream) (at n : ℕ) (powers : Powers) → taken powers (ownTerms s (at + 39 * 0) (n - 0)) ≡ taken powers (ownTerms s at n)
+all-left s at n powers =
+    let place : at + 39 * 0 ≡ at = omega arith in
+    let all : n - 0 ≡ n = omega arith in
+    ap₂ (λ (k m : ℕ). taken powers (ownTerms s k m)) place all
+
+module _ (s : Stream) (at n i : ℕ) (powers : Powers) where
+  -- The one behind i of them, and the others.
+  pub one-taken : i < n → (t : Term) {k : ℕ} → t ≡ termAt s k → k ≡ segmentEnd at i →
+      taken (withTerm powers t) (ownTerms s (at + 39 * (i + 1)) (n - (i + 1))) ≡ taken powers (ownTerms s (at + 39 * i) (n - i))
+  one-taken l t {k} e f =
+      let place : k ≡ at + 39 * i + 20 = omega (arith, f) in
+      let next : at + 39 * (i + 1) + 20 ≡ at + 39 * i + 20 + 39 = omega arith in
+      let left : n - i ≡ suc (n - (i + 1)) = omega arith in
+      ap (λ (x : Term). taken (withTerm powers x) (ownTerms s (at + 39 * (i + 1)) (n - (i + 1)))) (e ∙ ap (termAt s) place)
+      ∙ ap (λ (m : ℕ). taken (withTerm powers (termAt s (at + 39 * i + 20))) (termsFrom s m (n - (i + 1)))) next
+      ∙ ap (λ (m : ℕ). taken powers (ownTerms s (at + 39 * i) m)) (sym left)
+
+  -- Behind the last.
+  pub none-left : n ≤ i → powers ≡ taken powers (ownTerms s (at + 39 * i) (n - i))
+  none-left l = let none : n - i ≡ 0 = omega arith in ap (λ (m : ℕ). taken powers (ownTerms s (at + 39 * i) m)) (sym none)
 
 -- ---- the segment that serves
 

@@ -1,7 +1,8 @@
 -- Only inner contracts need these: what the steps of a reading ask, so that nothing overflows, and what they answer.
 use mathlib.Core.Path.{_≡_}
 use mathlib.Core.Bool.{not}
-use Prim.Native.Nat.{_+_, _^_, _≤_}
+use mathlib.Core.List.{List, [], _∷_}
+use Prim.Native.Nat.{ℕ, zero, suc, _+_, _^_, _≤_}
 use lib.Dec.{T}
 use lib.IntN.{ℤ, pos, natAbs, _+ℤ_, _-ℤ_}
 use lib.Ieee.{isNan}
@@ -17,6 +18,10 @@ use Rattle.reading.specs.declared.ends.EndsAnswer.the-variants.{Are, Ref
 use Rattle.fields.specs.declared.Pair.{Pair}
 use Rattle.fields.specs.declared.Domain.{Domain}
 use Rattle.fields.specs.declared.Domain.the-variants.{Electrical, Physical}
+use Rattle.fields.specs.declared.Term.{Term}
+use Rattle.layout.specs.Format.{Stream}
+use Rattle.layout.specs.Places.{segmentHead, termBits}
+use Rattle.sheet.specs.Walk.{termAt}
 use Rattle.line.specs.Before.{pointOf}
 use Rattle.line.specs.Line.{between}
 use Rattle.line.specs.Crossing.{sum, crossingHeld, crossingBetween}
@@ -70,3 +75,11 @@ heldIn Physical p a = crossingHeld p a
 abbrev pub betweenIn : Domain → ℤ → Pair → Pair → ℤ
 betweenIn Electrical p a b = p +ℤ nearest (between p 1 a b .num over between p 1 a b .run)
 betweenIn Physical p a b = crossingBetween p a b
+
+-- The n terms from a place on, and those of the segment at a place.
+abbrev pub termsFrom : Stream → ℕ → ℕ → List Term
+termsFrom s at zero = []
+termsFrom s at (suc n) = termAt s at ∷ termsFrom s (at + termBits) n
+
+abbrev pub ownTerms : Stream → ℕ → ℕ → List Term
+ownTerms s at n = termsFrom s (at + segmentHead) n

@@ -1,55 +1,61 @@
 // What the physical figure goes by: the fraction q, or with a curve its float fraction, from the terms of the segment that serves.
 use curve::Powers;
+use memory::Sizes;
 use sheet::Opened;
-use sheet::segment_in;
-use sheet::term_in;
+use sheet::curve_place;
+use sheet::segment_at;
+use sheet::segment_end;
+use sheet::term_at;
 ghost use mathlib.Core.Path.{_≡_};
 ghost use Prim.Native.Nat.{ℕ, _^_, _≤_, _<_};
 ghost use lib.IntN.{natAbs};
-ghost use lib.Seq.{slice};
+ghost use Rattle.memory.specs.Answers.{Whole};
 ghost use Rattle.layout.specs.Contents.{Contents};
-ghost use Rattle.layout.specs.Image.{segmentsIn, terms};
+ghost use Rattle.layout.specs.Image.{streamIn, segmentsIn};
 ghost use Rattle.sheet.specs.Opened.{Opens, Held};
 ghost use Rattle.curve.specs.Powers.{noPowers, taken};
 ghost use Rattle.reading.specs.Reading.{fraction, servingTerms, share as shareOf};
+ghost use Rattle.reading.specs.Steps.{ownTerms};
 
-// Terms side by side, counted from 0 over the whole curve: the first of them, and the first behind them.
+// The terms of a segment: its place, and how many they are.
 pub struct Run {
-    pub first: u64,
-    pub end: u64,
+    pub at: usize,
+    pub terms: u64,
 }
 
 // The terms of the segment that serves at p.
 fn serving(sheet: Opened, image: &[u8], p: i64) -> Run
     requires { ⌜ Held sheet (now image) × (0 < sheet .summary .segments) ⌝ }
-    ensures { λ r. ⌜ (r .first ≤ r .end) × (r .end ≤ sheet .summary .terms) × ((kind : ℕ) (c : Contents) → Opens kind (now (image .entry)) sheet c → slice (r .first) (r .end) (terms c) ≡ servingTerms p (segmentsIn (c .calibration))) ⌝ }
+    ensures { λ r. ⌜ (r .at < 2 ^ 32) × (r .terms < 2 ^ 7) × ((kind : ℕ) (c : Contents) → Opens kind (now (image .entry)) sheet c → ownTerms (streamIn (sheet .sizes) (now (image .entry))) (r .at) (r .terms) ≡ servingTerms p (segmentsIn (c .calibration))) ⌝ }
 {
+    let sizes = sheet.sizes;
+    let layout = sheet.layout;
     let summary = sheet.summary;
-    let segment = segment_in(sheet, image, 0);
-    let mut first: u64 = 0;
-    let mut end = segment.terms;
-    let mut index: u64 = 1;
-    while index < summary.segments {
-        let next = segment_in(sheet, image, index);
+    let mut at = curve_place(layout);
+    let mut terms = segment_at(sizes, image, at).terms;
+    let mut left = summary.segments;
+    while 1 < left {
+        let behind = segment_end(at, terms);
+        let next = segment_at(sizes, image, behind);
         if p < next.start {
-            return Run { first, end };
+            return Run { at, terms };
         }
-        first = end;
-        end += next.terms;
-        index += 1;
+        at = behind;
+        terms = next.terms;
+        left -= 1;
     }
-    Run { first, end }
+    Run { at, terms }
 }
 
 // Their coefficients by power.
-fn powers_of(sheet: Opened, image: &[u8], run: Run) -> Powers
-    requires { ⌜ Held sheet (now image) × (run .first ≤ run .end) × (run .end ≤ sheet .summary .terms) ⌝ }
-    ensures { λ r. ⌜ (r .count ≤ 6) × ((kind : ℕ) (c : Contents) → Opens kind (now (image .entry)) sheet c → r ≡ taken noPowers (slice (run .first) (run .end) (terms c))) ⌝ }
+fn powers_of(sizes: Sizes, image: &[u8], run: Run) -> Powers
+    requires { ⌜ Whole sizes (now image) × (run .at < 2 ^ 32) × (run .terms < 2 ^ 7) ⌝ }
+    ensures { λ r. ⌜ (r .count ≤ 6) × (r ≡ taken noPowers (ownTerms (streamIn sizes (now (image .entry))) (run .at) (run .terms))) ⌝ }
 {
     let mut powers = Powers::none();
-    let mut index = run.first;
-    while index < run.end {
-        let term = term_in(sheet, image, index);
+    let mut index: u64 = 0;
+    while index < run.terms {
+        let term = term_at(sizes, image, segment_end(run.at, index));
         powers = powers.with(term.exponent as u64, term.coefficient);
         index += 1;
     }
@@ -65,6 +71,7 @@ pub fn share(sheet: Opened, image: &[u8], p: i64, q: i64) -> f64
     if summary.segments == 0 {
         return fields::float_fraction(q);
     }
+    let sizes = sheet.sizes;
     let run = serving(sheet, image, p);
-    curve::float_fraction(powers_of(sheet, image, run), p)
+    curve::float_fraction(powers_of(sizes, image, run), p)
 }

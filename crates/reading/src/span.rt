@@ -4,7 +4,7 @@ use crate::ends::ends_of;
 use fields::Value;
 use refusal::Refusal;
 use sheet::Opened;
-use sheet::value_in;
+use sheet::unscaled_in;
 ghost use mathlib.Core.Path.{_≡_};
 ghost use mathlib.Core.Bool.{false};
 ghost use Prim.Native.Nat.{ℕ};
@@ -32,13 +32,13 @@ pub fn span_in(sheet: Opened, image: &[u8]) -> SpanAnswer
     requires { ⌜ Held sheet (now image) × (isResistance (sheet .layout .template) ≡ false) ⌝ }
     ensures { λ r. ⌜ ((kind : ℕ) (c : Contents) → Opens kind (now (image .entry)) sheet c → spanSaid r ≡ spanOf c) ⌝ }
 {
-    let Value::Single(low) = value_in(sheet, image, 7) else {
+    let Value::Single(low) = unscaled_in(sheet, image, 7) else {
         return SpanAnswer::Refused(refusal::no_span(7));
     };
-    let Value::Single(high) = value_in(sheet, image, 8) else {
+    let Value::Single(high) = unscaled_in(sheet, image, 8) else {
         return SpanAnswer::Refused(refusal::no_span(8));
     };
-    match ends_of(value_in(sheet, image, 10), value_in(sheet, image, 11)) {
+    match ends_of(unscaled_in(sheet, image, 10), unscaled_in(sheet, image, 11)) {
         EndsAnswer::Refused(r) => SpanAnswer::Refused(r),
         EndsAnswer::Are(ends) => SpanAnswer::Is(Span {
             low,

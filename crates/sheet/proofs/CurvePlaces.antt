@@ -2,20 +2,20 @@
 use mathlib.Core.Path.{_≡_, refl, sym, ap, ap₂, _∙_, subst}
 use mathlib.Core.Bool.{Bool, true, false, cond}
 use mathlib.Core.List.{List, [], _∷_, _++_}
-use Prim.Native.Nat.{ℕ, zero, suc, _+_, _-_, _*_, _/_, _≤_, _<_}
+use Prim.Native.Nat.{ℕ, zero, suc, _+_, _-_, _*_, _/_, _^_, _≤_, _<_}
 use native.Mathlib.Omega.{arith}
 use native.Mathlib.Decide.{decLt}
 use lib.Dec.{ltb}
 use lib.IntN.{ℤ, pos, natAbs}
 use lib.ListN.{length, getD, length-append}
 use borrow.Author.Tests.{le-ltb, lt-ltb, ltb-false}
-use Rattle.refusal.specs.Outcome.{good, refused}
+use Rattle.refusal.specs.Outcome.{Outcome, good, refused}
 use Rattle.refusal.specs.Rows.{pastEnd}
 use Rattle.memory.specs.Bits.{fieldAt}
 use Rattle.fields.specs.declared.Value.{Value}
 use Rattle.fields.specs.declared.Term.{Term}
 use Rattle.fields.specs.Curves.{mostTerms}
-use Rattle.layout.specs.Format.{bits, Stream, parse}
+use Rattle.layout.specs.Format.{bits, Stream, Parsed, parse}
 use Rattle.layout.specs.Contents.{FoundTerm, FoundSegment, Calibration, bare, table, curve, Passed, behindSegment, nothingPassed}
 use Rattle.layout.specs.Image.{segmentsIn, segmentIn, allTerms, termIn, figure, float}
 use Rattle.layout.proofs.Formats.{parsed}
@@ -25,6 +25,7 @@ use Rattle.layout.proofs.Places.{get-front, get-back}
 use Rattle.layout.proofs.Standing.{stands-parse}
 use Rattle.layout.proofs.CurvePlaces.{TermStands, SegmentStands, CurveStands}
 use Rattle.sheet.specs.Walk.{valueIn, numberIn, segmentAt, termAt, segmentEnd, behindSegments, termPlace}
+use Rattle.sheet.proofs.Steps.{bits-lt}
 
 -- ---- how many they are
 
@@ -58,6 +59,14 @@ term-is {s} {at} {t} h = ap₂ made (ap valueIn (stands-parse (h .exponent))) (a
     made : Value → Value → Term
     made x c = record { exponent = pos (natAbs (figure x) / 10); coefficient = float c }
 
+-- As many terms as 7 bits tell.
+pub terms-lt : (s : Stream) (at : ℕ) → segmentAt s at .terms < 2 ^ 7
+terms-lt s at = go (parse s (bits 7) (at + 13)) refl
+  where
+    go : (o : Outcome (Parsed ℕ)) → o ≡ parse s (bits 7) (at + 13) → numberIn o < 2 ^ 7
+    go (good x) e = bits-lt s (at + 13) 7 e
+    go (refused r) e = omega arith
+
 -- ---- one after the other
 
 -- Behind the first segment stand the others.
@@ -68,10 +77,12 @@ curve-behind {s} {at} x segments h = record {
   next = λ i none l. h .next (suc i) none (omega arith);
 }
 
--- The first of them tells where the next stands.
+-- The first of them, which tells where the next stands.
+pub first-is : {s : Stream} {at : ℕ} (x : FoundSegment) (segments : List FoundSegment) → CurveStands s at (x ∷ segments) → segmentAt s at ≡ segmentIn x
+first-is {s} x segments h = ap (segmentAt s) (sym (h .first x (omega arith))) ∙ segment-is (h .stand 0 x (omega arith))
+
 first-terms : {s : Stream} {at : ℕ} (x : FoundSegment) (segments : List FoundSegment) → CurveStands s at (x ∷ segments) → segmentAt s at .terms ≡ length (x .terms)
-first-terms {s} x segments h =
-    ap (λ (n : ℕ). segmentAt s n .terms) (sym (h .first x (omega arith))) ∙ ap (λ y. y .terms) (segment-is (h .stand 0 x (omega arith)))
+first-terms x segments h = ap (λ y. y .terms) (first-is x segments h)
 
 -- Segment i.
 pub segment-place : {s : Stream} (at : ℕ) (segments : List FoundSegment) → CurveStands s at segments → (i : ℕ) (none : FoundSegment) → i < length segments →

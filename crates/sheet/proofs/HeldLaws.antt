@@ -15,9 +15,14 @@ use Rattle.memory.proofs.Chips.{sizes-whole, sizes-chip}
 use Rattle.fields.specs.declared.Value.{Value}
 use Rattle.fields.specs.declared.Layout.{Layout}
 use Rattle.fields.specs.declared.Pair.{Pair}
-use Rattle.fields.specs.Lines.{lastField, rowOf}
+use Rattle.fields.specs.declared.Template.{Template}
+use Rattle.fields.specs.declared.Template.the-variants.{Bridge}
+use Rattle.fields.specs.Rows.{bridgeEnd}
+use Rattle.fields.specs.Lines.{Line, lastField, lineOf, rowOf}
 use Rattle.fields.specs.Calibration.{calPoint, calDeviation, noPair}
 use Rattle.fields.specs.Curves.{noSegment, noTerm}
+use Rattle.fields.proofs.TemplateFacts.{span-lines}
+use Rattle.coding.specs.Unscaled.{Unscaled}
 use Rattle.layout.specs.Format.{bits, Stream, parse}
 use Rattle.layout.specs.Contents.{Contents, FoundPair, FoundTerm, FoundSegment, fieldOf}
 use Rattle.layout.specs.Image.{streamIn, nothing, field, layoutOf, pairsIn, pairIn, segmentsIn, segmentIn, allTerms, termIn, figure, points, segments, terms}
@@ -38,6 +43,21 @@ getD-mapped : {A B : Type 0} (f : A → B) (xs : List A) (i : ℕ) (none : A) (o
 getD-mapped f [] i none other l = absurd (omega arith)
 getD-mapped f (x ∷ xs) zero none other l = refl
 getD-mapped f (x ∷ xs) (suc i) none other l = getD-mapped f xs i none other (omega arith)
+
+-- No end of the span of template 33 has a geometric rule.
+line-unscaled : (layout : Layout) (f : ℕ) {l : Line} → layout .template ≡ Bridge → lineOf Bridge f ≡ l → Unscaled (l .rowAt (layout .precision) .rule) → Unscaled (rowOf layout f .rule)
+line-unscaled layout f e is u = subst (λ (l : Line). Unscaled (l .rowAt (layout .precision) .rule)) (sym (ap (λ (t : Template). lineOf t f) e ∙ is)) u
+
+end-unscaled : (p : ℕ) → Unscaled (bridgeEnd p .rule)
+end-unscaled zero = tt
+end-unscaled (suc zero) = tt
+end-unscaled (suc (suc p)) = tt
+
+pub span-unscaled : (layout : Layout) → layout .template ≡ Bridge →
+    Unscaled (rowOf layout 7 .rule) × Unscaled (rowOf layout 8 .rule) × Unscaled (rowOf layout 10 .rule) × Unscaled (rowOf layout 11 .rule)
+span-unscaled layout e =
+    let ends = end-unscaled (layout .precision) in
+    (line-unscaled layout 7 e (span-lines .0) tt, line-unscaled layout 8 e (span-lines .1) tt, line-unscaled layout 10 e (span-lines .3) ends, line-unscaled layout 11 e (span-lines .4) ends)
 
 module _ {kind : ℕ} {image : List ℕ} {o : Opened} {c : Contents} (h : Opens kind image o c) where
   abbrev s : Stream

@@ -12,10 +12,13 @@ use Rattle.refusal.proofs.Outcomes.{told}
 use Rattle.memory.specs.declared.Sizes.{Sizes}
 use Rattle.stream.specs.declared.cursor.Cursor.{Cursor}
 use Rattle.fields.specs.declared.Template.{Template}
-use Rattle.fields.specs.Lines.{Line, basic, templateLines, linesOf, lastField}
+use Rattle.fields.specs.declared.Judged.{Judged}
+use Rattle.fields.specs.declared.Judged.the-variants.{Stands, Refused as Turned}
+use Rattle.fields.specs.Lines.{basic, templateLines, linesOf}
 use Rattle.layout.specs.Format.{Format, ends, _>>=_, place, Stream, Parsed, parse}
 use Rattle.layout.specs.Contents.{Found, Calibration, Contents, Ending, fieldsOf, firstBlock, calibrationOf, endingOf, sheetOf}
 use Rattle.layout.specs.Image.{streamIn, lastChoice, layoutOf, pairIn, pairsIn, segmentIn, segmentsIn, termIn, allTerms}
+use Rattle.layout.specs.Places.{firstSelector}
 use Rattle.layout.proofs.Formats.{parsed, parse-next, parse-refused, parsed-by}
 use Rattle.layout.proofs.Fields.{laid-pieces, laid-length}
 use Rattle.layout.proofs.Choices.{last-append, basic-last}
@@ -31,9 +34,23 @@ use Rattle.sheet.specs.declared.ending.EndStep.{EndStep}
 use Rattle.sheet.specs.declared.ending.EndStep.the-variants.{Ended, Refused as NoEnd}
 use Rattle.sheet.specs.Check.{domainIn}
 use Rattle.sheet.specs.Opened.{openedAs}
-use Rattle.sheet.specs.Walk.{keeping, choiceOn, countsOf, EndCount, endCount, linesFrom, walked, choiceSaid, templateStepSaid, blockSaid, endSaid}
+use Rattle.sheet.specs.Walk.{
+  keeping,
+  choiceOn,
+  countsOf,
+  EndCount,
+  endCount,
+  basicChoice,
+  ownStart,
+  ownChoice,
+  walked,
+  choiceSaid,
+  stoodTo,
+  templateStepSaid,
+  blockSaid,
+  endSaid,
+}
 use Rattle.sheet.proofs.Steps.{kept, keep-next, keep-refused}
-use Rattle.sheet.proofs.WalkSteps.{basic-lines, own-lines}
 
 abbrev made : Template → List Found → Calibration → Ending → ℕ → Contents
 made template fields calibration ending end = record {
@@ -112,46 +129,37 @@ module _ (z : Sizes) (image : List ℕ) where
   halted : {r : Refusal} → parse s sheetOf 0 ≡ refused r → refused r ≡ walked z image
   halted e = sym (ap (λ o. outcome._>>=_ o (λ x. good (openedAs z (x .found)))) e)
 
-  -- Basic's lines are the first of every template.
-  module _ (t₀ : Template) (n₀ at₀ : ℕ) (en : n₀ ≡ length basic) (ea : at₀ ≡ 0) (x : ChoiceStep)
-      (e₀ : choiceSaid x ≡ keeping (choiceOn (linesFrom t₀ 1 n₀) 0) (parse s (fieldsOf (linesFrom t₀ 1 n₀) 0) at₀)) where
-    e : choiceSaid x ≡ keeping (choiceOn basic 0) (parse s (fieldsOf basic 0) 0)
-    e = e₀ ∙ ap₂ (λ (ls : List Line) (n : ℕ). keeping (choiceOn ls 0) (parse s (fieldsOf ls 0) n)) (basic-lines t₀ en) ea
-
-    pub basics-halt : {r : Refusal} → x ≡ NoChoice r → refused r ≡ walked z image
+  module _ (x : Judged) (e : stoodTo 0 firstSelector x ≡ basicChoice s) where
+    pub basics-halt : {r : Refusal} → x ≡ Turned r → refused r ≡ walked z image
     unfolding sheetOf
-    basics-halt h = halted (keep-refused (choiceOn basic 0) s (fieldsOf basic 0) afterBasics 0 (told choiceSaid h e))
+    basics-halt h = halted (keep-refused (choiceOn basic 0) s (fieldsOf basic 0) afterBasics 0 (told (stoodTo 0 firstSelector) h e))
 
-    module _ {p₀ : ℕ} {block : Cursor} (h : x ≡ Chosen p₀ block) (y : TemplateStep) (f : templateStepSaid y ≡ parse s firstBlock (block .at)) where
-      basics : (bs : List Found) × (choiceOn basic 0 bs ≡ p₀) × (good (parsed bs (block .at)) ≡ parse s (fieldsOf basic 0) 0)
-      basics = kept (choiceOn basic 0) (parse s (fieldsOf basic 0) 0) (told choiceSaid h e)
+    module _ (h : x ≡ Stands) (y : TemplateStep) (f : templateStepSaid y ≡ parse s firstBlock firstSelector) where
+      basics : (bs : List Found) × (choiceOn basic 0 bs ≡ 0) × (good (parsed bs firstSelector) ≡ parse s (fieldsOf basic 0) 0)
+      basics = kept (choiceOn basic 0) (parse s (fieldsOf basic 0) 0) (told (stoodTo 0 firstSelector) h e)
 
       abbrev bs : List Found
       bs = basics .0
 
-      at-block : Reached (afterBasics bs) (block .at)
+      at-block : Reached (afterBasics bs) firstSelector
       unfolding sheetOf
       at-block = parse-next s (fieldsOf basic 0) afterBasics 0 (basics .2)
 
       pub block-halts : {r : Refusal} → y ≡ NoTemplate r → refused r ≡ walked z image
-      block-halts g = halted (at-block ∙ parse-refused s firstBlock (afterBlock bs) (block .at) (told templateStepSaid g f))
+      block-halts g = halted (at-block ∙ parse-refused s firstBlock (afterBlock bs) firstSelector (told templateStepSaid g f))
 
-      module _ {t : Template} {own : Cursor} (g : y ≡ Named t own) (m₀ : ℕ) (em : m₀ ≡ lastField t) (w : ChoiceStep)
-          (k₀ : choiceSaid w ≡ keeping (choiceOn (linesFrom t (n₀ + 1) m₀) 0) (parse s (fieldsOf (linesFrom t (n₀ + 1) m₀) 0) (own .at))) where
-        k : choiceSaid w ≡ keeping (choiceOn (templateLines t) 0) (parse s (fieldsOf (templateLines t) 0) (own .at))
-        k = k₀ ∙ ap (λ (ls : List Line). keeping (choiceOn ls 0) (parse s (fieldsOf ls 0) (own .at))) (own-lines t en em)
-
-        at-own : Reached (afterBlock bs t) (own .at)
-        at-own = at-block ∙ parse-next s firstBlock (afterBlock bs) (block .at) (told templateStepSaid g f)
+      module _ {t : Template} (g : y ≡ Named t) (w : ChoiceStep) (k : choiceSaid w ≡ ownChoice s t) where
+        at-own : Reached (afterBlock bs t) ownStart
+        at-own = at-block ∙ parse-next s firstBlock (afterBlock bs) firstSelector (told templateStepSaid g f)
 
         pub own-halts : {r : Refusal} → w ≡ NoChoice r → refused r ≡ walked z image
         own-halts m =
-            halted (at-own ∙ keep-refused (choiceOn (templateLines t) 0) s (fieldsOf (templateLines t) 0) (λ os. afterOwn t (bs ++ os)) (own .at) (told choiceSaid m k))
+            halted (at-own ∙ keep-refused (choiceOn (templateLines t) 0) s (fieldsOf (templateLines t) 0) (λ os. afterOwn t (bs ++ os)) ownStart (told choiceSaid m k))
 
         module _ {p : ℕ} {behind : Cursor} (m : w ≡ Chosen p behind) (v : BlockStep) (i : blockSaid v ≡ keeping countsOf (parse s calibrationOf (behind .at))) where
           owns : (os : List Found) × (choiceOn (templateLines t) 0 os ≡ p) × Reached (afterOwn t (bs ++ os)) (behind .at)
           owns =
-              let (os, q, r) = keep-next (choiceOn (templateLines t) 0) s (fieldsOf (templateLines t) 0) (λ os. afterOwn t (bs ++ os)) (own .at) (told choiceSaid m k) in
+              let (os, q, r) = keep-next (choiceOn (templateLines t) 0) s (fieldsOf (templateLines t) 0) (λ os. afterOwn t (bs ++ os)) ownStart (told choiceSaid m k) in
               (os, q, at-own ∙ r)
 
           pub calibration-halts : {r : Refusal} → v ≡ NoBlock r → refused r ≡ walked z image
@@ -179,7 +187,7 @@ module _ (z : Sizes) (image : List ℕ) where
             sheet-opens {endBit} {characters} {end} o =
                 let (os, q, c, a, r) = at-end in
                 let (e, b, d) = keep-next endCount s endingOf (finish os c) (last .at) (told endSaid o l) in
-                let precise : p ≡ lastChoice (linesOf t) (bs ++ os) 0 = sym (choice-is s t bs os (block .at) (basics .2) ∙ q) in
+                let precise : p ≡ lastChoice (linesOf t) (bs ++ os) 0 = sym (choice-is s t bs os firstSelector (basics .2) ∙ q) in
                 let table : n ≡ countsIn c = sym (counts-are c ∙ a) in
                 (λ i. good (opens z t (precise i) (table i) (sym b i) (end .at)))
                 ∙ sym (ap (λ o. outcome._>>=_ o (λ x. good (openedAs z (x .found)))) (r ∙ d))

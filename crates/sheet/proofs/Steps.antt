@@ -66,6 +66,11 @@ keep-made {A} part make s m at = ap (keeping part) (parse-bind s m (λ a. ends (
     go (good x) = refl
     go (refused r) = refl
 
+-- As a step behind what was found.
+pub keep-bind : {A B : Type 0} (part : A → B) (o : Outcome (Parsed A)) → keeping part o ≡ outcome._>>=_ o (λ x. good (parsed (part (x .found)) (x .next)))
+keep-bind part (good x) = refl
+keep-bind part (refused r) = refl
+
 -- A part of a part.
 pub keep-twice : {A B C : Type 0} (other : B → C) (part : A → B) (o : Outcome (Parsed A)) → keeping other (keeping part o) ≡ keeping (λ a. other (part a)) o
 keep-twice other part (good x) = refl

@@ -2,7 +2,7 @@
 use mathlib.Core.Path.{_≡_, refl, sym, ap, ap₂, _∙_}
 use mathlib.Core.List.{List, [], _∷_}
 use mathlib.Core.Option.{Option, none, some}
-use Prim.Native.Nat.{ℕ, suc, _+_, _-_, _≤_, _<_}
+use Prim.Native.Nat.{ℕ, suc, _+_, _-_, _/_, _%_, _^_, _≤_, _<_}
 use native.Mathlib.Nat.{sub-zero}
 use native.Mathlib.Omega.{arith}
 use lib.ListN.{length}
@@ -10,15 +10,20 @@ use Rattle.refusal.specs.declared.Refusal.{Refusal}
 use Rattle.refusal.specs.Outcome as outcome
 use Rattle.refusal.specs.Outcome.{Outcome, good, refused}
 use Rattle.refusal.proofs.Outcomes.{told}
+use Rattle.memory.specs.Bits.{fieldAt}
 use Rattle.stream.specs.declared.cursor.Cursor.{Cursor}
 use Rattle.fields.specs.declared.Judged.{Judged}
 use Rattle.fields.specs.declared.Judged.the-variants.{Stands, Refused as Turned}
 use Rattle.fields.specs.declared.Codes.{Codes}
 use Rattle.fields.specs.declared.Domain.{Domain}
+use Rattle.fields.specs.declared.Domain.the-variants.{Physical}
 use Rattle.fields.specs.Answers.{judgedSaid}
+use Rattle.fields.specs.Rules.{allOnes}
 use Rattle.fields.specs.Calibration.{calDomain, domainOf, pointCount, calPoint, calDeviation, codesOf, follows}
 use Rattle.layout.specs.Format.{Format, ends, _>>=_, _>>_, given, Stream, Parsed, parse}
 use Rattle.layout.specs.Contents.{Found, FoundPair, Calibration, table, paired, codesIn, fieldOf, pairOf, pairsOf, tableOf}
+use Rattle.layout.specs.Places.{pairBits}
+use Rattle.layout.proofs.Rising.{sumAbove, Admits, admits-first, admits-next, codesFrom, pair-rises}
 use Rattle.sheet.specs.declared.walk.CodeStep.{CodeStep}
 use Rattle.sheet.specs.declared.walk.CodeStep.the-variants.{Code, Refused as NoCode}
 use Rattle.sheet.specs.declared.table.CodesStep.{CodesStep}
@@ -28,7 +33,7 @@ use Rattle.sheet.specs.declared.table.CountStep.the-variants.{Counted, R
 use Rattle.sheet.specs.declared.TableDomain.the-variants.{Is}
 use Rattle.sheet.specs.declared.block.Counts.{Counts}
 use Rattle.sheet.specs.Walk.{keeping, Coded, coded, countsOf, tableFrom, behind, codeSaid, codesSaid, countSaid}
-use Rattle.sheet.proofs.Steps.{keep-next, keep-refused, keep-made, keep-twice, countLeft, count-more}
+use Rattle.sheet.proofs.Steps.{keep-next, keep-refused, keep-made, keep-twice, countLeft, count-start, count-more, count-done}
 
 -- ---- the codes of a pair
 
@@ -93,6 +98,36 @@ module _ (s : Stream) (domain : Domain) (n : ℕ) (before : Option Codes) (left 
       let (p, q, w) = keep-next codesIn s (pairOf domain before) others at (told codesSaid h e) in
       ap (keeping passed) (at-pair ∙ w) ∙ count-more s (λ (k : ℕ). pairsOf domain k (some (codesIn p))) n p left (next .at) more most
       ∙ ap (λ c. pairsLeft s domain n (some c) (left - 1) (next .at)) q
+
+-- ---- pairs that rise
+
+-- So many of n pairs are left at a place, behind one that any with such a point and such a sum may follow.
+pub record Risen (s : Stream) (domain : Domain) (n start at least floor left : ℕ) : Type 0 where
+  pub before : Option Codes
+  pub admits : Admits domain before least floor
+  pub rest : pairsLeft s domain n before left at ≡ keeping length (parse s (pairsOf domain n none) start)
+
+module _ (s : Stream) (domain : Domain) (n start : ℕ) where
+  pub risen-start : Risen s domain n start start 0 0 n
+  risen-start = record { before = none; admits = admits-first domain 0 0; rest = count-start s (λ (k : ℕ). pairsOf domain k none) n start }
+
+  module _ (at least floor left : ℕ) (h : Risen s domain n start at least floor left) where
+    pub risen-next : (both least′ floor′ : ℕ) → 0 < left → left ≤ n → at + pairBits ≤ s .bits → both ≡ fieldAt (s .number) at pairBits →
+        least ≤ both % 2 ^ 16 → both % 2 ^ 16 < least′ → (both % 2 ^ 16 ≡ allOnes 16 → ⊥) → (both / 2 ^ 16 ≡ allOnes 21 → ⊥) →
+        (domain ≡ Physical → (floor ≤ sumAbove (codesFrom both)) × (sumAbove (codesFrom both) < floor′)) →
+        Risen s domain n start (at + pairBits) least′ floor′ (left - 1)
+    risen-next both least′ floor′ more most inside e l m hp hd g =
+        let p = pair-rises s at both e domain (h .before) least floor (h .admits) inside l hp hd (λ d. g d .0) in
+        let next : Cursor = record { at = at + pairBits } in
+        record {
+          before = some (codesFrom both);
+          admits = admits-next domain (codesFrom both) least′ floor′ m (λ d. g d .1);
+          rest = sym (pairs-next s domain n (h .before) left at more most (Stand (codesFrom both) next) (sym (ap (keeping codesIn) p)) refl) ∙ h .rest;
+        }
+
+    pub risen-done : left ≤ 0 → good (record { found = n; next = at }) ≡ keeping length (parse s (pairsOf domain n none) start)
+    unfolding pairsOf
+    risen-done z = sym (count-done s (λ (k : ℕ). pairsOf domain k (h .before)) n left at refl z) ∙ h .rest
 
 -- ---- the table that they are
 

@@ -1,33 +1,42 @@
 -- The walk over fields and blocks.
-use mathlib.Core.Path.{_≡_, refl, sym, ap, ap₂, _∙_}
+use mathlib.Core.Path.{_≡_, refl, sym, ap, ap₂, _∙_, subst, subst₂}
 use mathlib.Core.Bool.{Bool, not, cond}
-use mathlib.Core.List.{List, [], _∷_, _++_, append-nil}
-use mathlib.Core.Option.{Option, none, some}
+use mathlib.Core.List.{List, [], _∷_, _++_}
 use Prim.Native.Nat.{ℕ, suc, _+_, _-_, _≤_, _<_}
 use native.Mathlib.Omega.{arith}
 use lib.Dec.{eqb}
-use lib.ListN.{length, take, drop, length-append}
+use lib.ListN.{length, take, drop, getD, length-append}
 use lib.Seq.{drop-cons, take-at, drop-at, take-length}
 use borrow.Author.Tests.{eq-eqb, ne-eqb}
 use Rattle.refusal.specs.declared.Refusal.{Refusal}
 use Rattle.refusal.specs.Outcome.{Outcome, good, refused}
 use Rattle.refusal.specs.Rows.{wrongBlock}
 use Rattle.refusal.proofs.Outcomes.{told}
+use Rattle.memory.specs.declared.Sizes.{Sizes}
+use Rattle.memory.specs.Bits.{fieldAt}
+use Rattle.memory.specs.Image.{streamBits}
+use Rattle.memory.specs.Answers.{Whole}
 use Rattle.stream.specs.declared.cursor.Cursor.{Cursor}
+use Rattle.fields.specs.declared.Row.{Row}
 use Rattle.fields.specs.declared.Template.{Template}
-use Rattle.fields.specs.declared.TemplateAnswer.{TemplateAnswer}
-use Rattle.fields.specs.declared.TemplateAnswer.the-variants.{Is, Unknown}
-use Rattle.fields.specs.Answers.{templateSaid}
-use Rattle.fields.specs.Lines.{Line, line, chose, basic, templateLines, templateOf, linesOf, lastField, lineOf, noLine}
+use Rattle.fields.specs.declared.Layout.{Layout}
+use Rattle.fields.specs.declared.Judged.{Judged}
+use Rattle.fields.specs.declared.Judged.the-variants.{Stands, Refused as Turned}
+use Rattle.fields.specs.Answers.{judgedSaid}
+use Rattle.fields.specs.Judgement.{judge, Open, OpenBehind}
+use Rattle.fields.specs.Lines.{Line, line, chose, basic, templateLines, linesOf, lastField, lineOf, noLine}
+use Rattle.fields.specs.Stored.{Sound}
+use Rattle.fields.proofs.RowLaws.{row-sound}
 use Rattle.layout.specs.Format.{Format, ends, _>>=_, bits, refuse_if_, Stream, Parsed, parse}
-use Rattle.layout.specs.Contents.{Found, fieldOf, fieldsOf, selectorOf, named, firstBlock}
+use Rattle.layout.specs.Contents.{Found, fieldOf, fieldsOf}
+use Rattle.layout.specs.Image.{streamIn}
+use Rattle.layout.specs.Places.{firstSelector, behindFields}
 use Rattle.layout.proofs.Formats.{parsed, parse-next, parse-refused}
+use Rattle.layout.proofs.Judging.{Come, come-open, come-inside, come-halt, come-next, behind-open, basic-come, own-come}
 use Rattle.sheet.specs.declared.walk.CodeStep.{CodeStep}
 use Rattle.sheet.specs.declared.walk.CodeStep.the-variants.{Code, Refused as NoCode}
-use Rattle.sheet.specs.declared.walk.MarkStep.{MarkStep}
-use Rattle.sheet.specs.declared.walk.MarkStep.the-variants.{Behind, Refused as NoMark}
-use Rattle.sheet.specs.Walk.{keeping, Coded, coded, choiceOn, linesFrom, markOf, behind, codeSaid, markSaid}
-use Rattle.sheet.proofs.Steps.{keep-next, keep-refused, keep-made}
+use Rattle.sheet.specs.Walk.{keeping, Coded, coded, choiceOn, linesFrom, basicChoice, ownStart, ownChoice, Lies, markOf, codeSaid}
+use Rattle.sheet.proofs.Steps.{keep-next, keep-refused, keep-made, keep-bind}
 
 -- ---- a code that has to be the one wanted
 
@@ -61,6 +70,14 @@ fields-done s template f last latest at l =
     let e : suc last - f ≡ 0 = omega arith in
     ap (λ (n : ℕ). keeping (choiceOn (take n (drop (f - 1) (linesOf template))) latest) (parse s (fieldsOf (take n (drop (f - 1) (linesOf template))) latest) at)) e
 
+-- The first of them.
+first-line : (template : Template) (f last : ℕ) → 1 ≤ f → f ≤ last → last ≤ lastField template → linesFrom template f last ≡ lineOf template f ∷ linesFrom template (f + 1) last
+first-line template f last lo hi most =
+    let n : suc last - f ≡ suc (suc last - (f + 1)) = omega arith in
+    let i : suc (f - 1) ≡ f + 1 - 1 = omega arith in
+    ap₂ (λ (k : ℕ) (ls : List Line). take k ls) n (drop-cons (linesOf template) (f - 1) noLine (omega arith))
+    ∙ ap (λ (k : ℕ). lineOf template f ∷ take (suc last - (f + 1)) (drop k (linesOf template))) i
+
 module _ (s : Stream) (template : Template) (f last latest at : ℕ) (lo : 1 ≤ f) (hi : f ≤ last) (most : last ≤ lastField template) (x : CodeStep)
     (e : codeSaid at x ≡ keeping coded (parse s (fieldOf (lineOf template f .rowAt latest)) at)) where
   abbrev here : Line
@@ -69,19 +86,12 @@ module _ (s : Stream) (template : Template) (f last latest at : ℕ) (lo : 1 ≤
   abbrev rest : List Line
   rest = linesFrom template (f + 1) last
 
-  first-line : linesFrom template f last ≡ here ∷ rest
-  first-line =
-      let n : suc last - f ≡ suc (suc last - (f + 1)) = omega arith in
-      let i : suc (f - 1) ≡ f + 1 - 1 = omega arith in
-      ap₂ (λ (k : ℕ) (ls : List Line). take k ls) n (drop-cons (linesOf template) (f - 1) noLine (omega arith))
-      ∙ ap (λ (k : ℕ). here ∷ take (suc last - (f + 1)) (drop k (linesOf template))) i
-
   abbrev others : Found → Format (List Found)
   others y = fieldsOf rest (chose (here .sets) (y .code) latest) >>= λ ys. ends (y ∷ ys)
 
   at-field : fieldsLeft s template f last latest at ≡ keeping (choiceOn (here ∷ rest) latest) (parse s (fieldOf (here .rowAt latest) >>= others) at)
   unfolding fieldsOf
-  at-field = ap (λ ls. keeping (choiceOn ls latest) (parse s (fieldsOf ls latest) at)) first-line
+  at-field = ap (λ ls. keeping (choiceOn ls latest) (parse s (fieldsOf ls latest) at)) (first-line template f last lo hi most)
 
   pub fields-halt : {r : Refusal} → x ≡ NoCode r → fieldsLeft s template f last latest at ≡ refused r
   fields-halt h =
@@ -96,13 +106,9 @@ module _ (s : Stream) (template : Template) (f last latest at : ℕ) (lo : 1 ≤
       ∙ ap (λ (p : ℕ). fieldsLeft s template (f + 1) last p (next .at)) (ap (λ (c : Coded). chose (here .sets) (c .code) latest) q ∙ sym g)
 
 -- Basic's lines, and the template's own.
-pub basic-most : (template : Template) → length basic ≤ lastField template
+basic-lines : (template : Template) → linesFrom template 1 (length basic) ≡ basic
 unfolding linesOf
-basic-most template = omega (arith, length-append basic (templateLines template))
-
-pub basic-lines : (template : Template) {n : ℕ} → n ≡ length basic → linesFrom template 1 n ≡ basic
-unfolding linesOf
-basic-lines template {n} e = take-at basic (templateLines template) (suc n - 1) (omega arith)
+basic-lines template = take-at basic (templateLines template) (suc (length basic) - 1) (omega arith)
 
 pub own-lines : (template : Template) {n m : ℕ} → n ≡ length basic → m ≡ lastField template → linesFrom template (n + 1) m ≡ templateLines template
 unfolding linesOf
@@ -110,32 +116,57 @@ own-lines template {n} {m} e f =
     let k : suc m - (n + 1) ≡ length (templateLines template) = omega (arith, length-append basic (templateLines template)) in
     ap₂ (λ (i : ℕ) (ls : List Line). take i ls) k (drop-at basic (templateLines template) (n + 1 - 1) (omega arith)) ∙ take-length (templateLines template)
 
--- ---- the first block
+pub basic-most : (template : Template) → length basic ≤ lastField template
+unfolding linesOf
+basic-most template = omega (arith, length-append basic (templateLines template))
 
-module _ (s : Stream) (at : ℕ) (x : MarkStep) (e : markSaid x ≡ parse s (markOf 2 0 at) at) where
-  abbrev numbered : Format Template
-  numbered = bits 8 >>= λ number. named at (templateOf number)
+-- ---- fields judged at their places
 
-  pub selector-halts : {r : Refusal} → x ≡ NoMark r → refused r ≡ parse s firstBlock at
-  unfolding firstBlock selectorOf
-  selector-halts h = sym (parse-refused s (markOf 2 0 at) (λ u. numbered) at (told markSaid h e))
+-- Basic, the first block and the precision lie in every stream.
+pub stream-holds : {z : Sizes} {image : List ℕ} → Whole z image → {n : ℕ} → n ≤ 248 → n ≤ streamBits z
+stream-holds w h = omega (arith, w .paged)
 
-  module _ {next : Cursor} (h : x ≡ Behind next) where
-    at-number : parse s firstBlock at ≡ parse s numbered (next .at)
-    unfolding firstBlock selectorOf
-    at-number = parse-next s (markOf 2 0 at) (λ u. numbered) at (told markSaid h e)
+-- The judging comes first to the first line.
+pub basic-start : (template : Template) {z : Sizes} {image : List ℕ} → Whole z image → let s = streamIn z image in
+    Come s 0 firstSelector (basicChoice s) (linesFrom template 1 (length basic)) 0
+basic-start template {z} {image} w =
+    let s : Stream = streamIn z image in
+    subst₂ (λ o ls. Come s 0 firstSelector o ls 0) (sym (keep-bind (choiceOn basic 0) (parse s (fieldsOf basic 0) 0))) (sym (basic-lines template))
+    (basic-come s (stream-holds w (omega arith)))
 
-    pub number-past : {r : Refusal} → refused r ≡ parse s (bits 8) (next .at) → refused r ≡ parse s firstBlock at
-    number-past f = sym (at-number ∙ parse-refused s (bits 8) (λ number. named at (templateOf number)) (next .at) f)
+pub own-start : {z : Sizes} {image : List ℕ} {layout : Layout} → Lies z image layout → {n : ℕ} → n ≡ length basic → let s = streamIn z image in
+    Come s (layout .precision) (behindFields layout) (ownChoice s (layout .template)) (linesFrom (layout .template) (n + 1) (lastField (layout .template))) ownStart
+own-start {z} {image} {layout} h e =
+    let s : Stream = streamIn z image in
+    let t : Template = layout .template in
+    subst₂ (λ o ls. Come s (layout .precision) (behindFields layout) o ls ownStart)
+    (sym (keep-bind (choiceOn (templateLines t) 0) (parse s (fieldsOf (templateLines t) 0) ownStart))) (sym (own-lines t e refl))
+    (own-come s layout (h .precise) (h .inside))
 
-    module _ {number n : ℕ} (f : good (parsed number n) ≡ parse s (bits 8) (next .at)) (y : TemplateAnswer) (g : templateSaid y ≡ templateOf number) where
-      at-name : parse s firstBlock at ≡ parse s (named at (templateSaid y)) n
-      at-name =
-          at-number ∙ parse-next s (bits 8) (λ number. named at (templateOf number)) (next .at) f
-          ∙ ap (λ o. parse s (named at o) n) (sym g)
+module _ {s : Stream} {choice end : ℕ} {answer : Outcome (Parsed ℕ)} (t : Template) (f last at : ℕ) (h : Come s choice end answer (linesFrom t f last) at) where
+  -- Behind the last field that can turn a code down.
+  pub judged-all : {closed : ℕ} → OpenBehind t closed last → closed < f → good (parsed choice end) ≡ answer
+  judged-all all l = come-open h (behind-open (linesOf t) noLine choice (f - 1) (suc last - f) rows)
+    where
+      rows : (j : ℕ) → f - 1 ≤ j → j < f - 1 + (suc last - f) → Open (getD (linesOf t) j noLine .rowAt choice)
+      rows j lo hi =
+          let e : suc j - 1 ≡ j = omega arith in
+          subst (λ (i : ℕ). Open (getD (linesOf t) i noLine .rowAt choice)) e (all choice (suc j) (omega arith) (omega arith))
 
-      pub number-names : {template : Template} → y ≡ Is template → good (parsed template n) ≡ parse s firstBlock at
-      number-names k = sym (at-name ∙ ap (λ u. parse s (named at (templateSaid u)) n) k)
+  -- At field f.
+  module _ (lo : 1 ≤ f) (hi : f ≤ last) (most : last ≤ lastField t) {row : Row} (e : row ≡ lineOf t f .rowAt choice) where
+    here-come : Come s choice end answer (lineOf t f ∷ linesFrom t (f + 1) last) at
+    here-come = subst (λ ls. Come s choice end answer ls at) (first-line t f last lo hi most) h
 
-      pub number-unknown : y ≡ Unknown → refused (wrongBlock at) ≡ parse s firstBlock at
-      number-unknown k = sym (at-name ∙ ap (λ u. parse s (named at (templateSaid u)) n) k)
+    pub judged-inside : end ≤ s .bits → at + row .width ≤ s .bits
+    judged-inside = come-inside here-come e
+
+    pub judged-sound : Sound row
+    judged-sound = subst Sound (sym e) (row-sound (record { template = t; precision = choice }) f lo (omega arith))
+
+    module _ (j : Judged) (g : judgedSaid j ≡ judge row at (fieldAt (s .number) at (row .width))) where
+      pub judged-halt : {r : Refusal} → j ≡ Turned r → refused r ≡ answer
+      judged-halt = come-halt here-come e j g
+
+      pub judged-next : j ≡ Stands → Come s choice end answer (linesFrom t (f + 1) last) (at + row .width)
+      judged-next = come-next here-come e j g

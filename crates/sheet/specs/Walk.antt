@@ -1,8 +1,9 @@
 -- Only inner contracts need these: the walk over a stream, which parses it by the formats of layout and keeps of what they find only what a check gives.
+use mathlib.Core.Path.{_≡_}
 use mathlib.Core.Bool.{Bool, not, cond}
 use mathlib.Core.List.{List, [], _∷_}
 use mathlib.Core.Option.{Option, none}
-use Prim.Native.Nat.{ℕ, zero, suc, _+_, _-_, _*_, _/_}
+use Prim.Native.Nat.{ℕ, zero, suc, _+_, _-_, _*_, _/_, _≤_}
 use lib.Dec.{eqb, ltb}
 use lib.IntN.{pos, natAbs}
 use lib.ListN.{length, take, drop}
@@ -10,6 +11,9 @@ use Rattle.refusal.specs.Outcome as outcome
 use Rattle.refusal.specs.Outcome.{Outcome, good, refused}
 use Rattle.refusal.specs.Rows.{wrongBlock}
 use Rattle.memory.specs.declared.Sizes.{Sizes}
+use Rattle.memory.specs.Bits.{fieldAt}
+use Rattle.memory.specs.Image.{streamBits, streamNumber}
+use Rattle.memory.specs.Answers.{Whole}
 use Rattle.stream.specs.declared.cursor.Cursor.{Cursor}
 use Rattle.stream.specs.declared.cursor.Taken.{Taken}
 use Rattle.stream.specs.declared.cursor.Taken.the-variants.{Field, Refused as NotTaken}
@@ -17,6 +21,9 @@ use Rattle.fields.specs.declared.Value.{Value}
 use Rattle.fields.specs.declared.Value.the-variants.{Missing}
 use Rattle.fields.specs.declared.Row.{Row}
 use Rattle.fields.specs.declared.Template.{Template}
+use Rattle.fields.specs.declared.Layout.{Layout}
+use Rattle.fields.specs.declared.Judged.{Judged}
+use Rattle.fields.specs.declared.Judged.the-variants.{Stands, Refused as Turned}
 use Rattle.fields.specs.declared.Codes.{Codes}
 use Rattle.fields.specs.declared.Domain.{Domain}
 use Rattle.fields.specs.declared.Earlier.{Earlier}
@@ -25,11 +32,11 @@ use Rattle.fields.specs.declared.Term.{Term}
 use Rattle.fields.specs.Answers.{earlierSaid}
 use Rattle.fields.specs.Curves.{segmentStart, exponent, coefficient, tenthsOf, tenthsBefore, exponentFollows}
 use Rattle.fields.specs.Judgement.{judge}
-use Rattle.fields.specs.Lines.{Line, linesOf}
+use Rattle.fields.specs.Lines.{Line, basic, templateLines, linesOf}
 use Rattle.layout.specs.Format.{Format, ends, _>>=_, _>>_, bits, refuse_if_, Stream, Parsed, parse}
-use Rattle.layout.specs.Contents.{Found, Calibration, table, Passed, Ending, fieldOf, selectorOf, pairsOf, blockAt, sheetOf}
+use Rattle.layout.specs.Contents.{Found, Calibration, table, Passed, Ending, fieldOf, fieldsOf, selectorOf, pairsOf, blockAt, sheetOf}
 use Rattle.layout.specs.Image.{streamIn, lastChoice, pairsIn, segmentsIn, allTerms, figure, float}
-use Rattle.layout.specs.Places.{segmentHead, termBits}
+use Rattle.layout.specs.Places.{blockBits, firstSelector, fieldPlace, behindFields, segmentHead, termBits}
 use Rattle.sheet.specs.declared.opening.Opened.{Opened}
 use Rattle.sheet.specs.declared.walk.CodeStep.{CodeStep}
 use Rattle.sheet.specs.declared.walk.CodeStep.the-variants.{Code, Refused as NoCode}
@@ -119,6 +126,25 @@ numberIn (refused r) = 0
 abbrev pub linesFrom : Template → ℕ → ℕ → List Line
 linesFrom template first last = take (suc last - first) (drop (first - 1) (linesOf template))
 
+-- Of Basic, and of a template's own fields behind the first block, the latest choice.
+abbrev pub basicChoice : Stream → Outcome (Parsed ℕ)
+basicChoice s = keeping (choiceOn basic 0) (parse s (fieldsOf basic 0) 0)
+
+abbrev pub ownStart : ℕ
+ownStart = firstSelector + blockBits
+
+abbrev pub ownChoice : Stream → Template → Outcome (Parsed ℕ)
+ownChoice s template = keeping (choiceOn (templateLines template) 0) (parse s (fieldsOf (templateLines template) 0) ownStart)
+
+abbrev pub layoutAt : Template → ℕ → Layout
+layoutAt template precision = record { template = template; precision = precision }
+
+-- The fields of a layout all lie in an image's stream, which has the layout's precision at its place.
+pub record Lies (z : Sizes) (image : List ℕ) (layout : Layout) : Type 0 where
+  pub whole : Whole z image
+  pub precise : layout .precision ≡ fieldAt (streamNumber z image) (fieldPlace layout 9) 2
+  pub inside : behindFields layout ≤ streamBits z
+
 -- Row 4: a code that has to be the one wanted, in the block whose selector stands at a place.
 abbrev pub markOf : ℕ → ℕ → ℕ → Format (Unit {0})
 markOf width wanted at = bits width >>= λ code. refuse wrongBlock at if not (eqb code wanted)
@@ -184,8 +210,13 @@ abbrev pub choiceSaid : ChoiceStep → Outcome (Parsed ℕ)
 choiceSaid (Chosen code cursor) = behind code cursor
 choiceSaid (NoChoice r) = refused r
 
+-- Fields that were judged at their places: the choice and the place behind them, where all stand.
+abbrev pub stoodTo : ℕ → ℕ → Judged → Outcome (Parsed ℕ)
+stoodTo choice end Stands = good (record { found = choice; next = end })
+stoodTo choice end (Turned r) = refused r
+
 abbrev pub templateStepSaid : TemplateStep → Outcome (Parsed Template)
-templateStepSaid (Named template cursor) = behind template cursor
+templateStepSaid (Named template) = good (record { found = template; next = ownStart })
 templateStepSaid (NoTemplate r) = refused r
 
 abbrev pub codesSaid : CodesStep → Outcome (Parsed Codes)

@@ -4,9 +4,10 @@ ghost use mathlib.Core.Path.{_≡_};
 ghost use Prim.Native.Nat.{ℕ, _≤_, _<_};
 ghost use lib.ListN.{getD};
 ghost use Rattle.memory.specs.Answers.{Whole};
-ghost use Rattle.fields.specs.Lines.{lastField};
+ghost use Rattle.fields.specs.Lines.{lastField, rowOf};
 ghost use Rattle.fields.specs.Stored.{Sound};
 ghost use Rattle.fields.specs.Calibration.{noPair};
+ghost use Rattle.coding.specs.Unscaled.{Unscaled};
 ghost use Rattle.layout.specs.Format.{parse};
 ghost use Rattle.layout.specs.Contents.{Contents, fieldOf};
 ghost use Rattle.layout.specs.Image.{streamIn, field as fieldIn, figure as figureOf, points};
@@ -31,6 +32,21 @@ pub fn value_at(sizes: Sizes, image: &[u8], at: usize, row: Row) -> Value
     match cursor.take(sizes, image, row.width as usize) {
         Taken::Refused(_) => Value::Missing,
         Taken::Field(code, _) => match coding::decode(row, at as u64, code) {
+            Decoded::Refused(_) => Value::Missing,
+            Decoded::Means(value) => value,
+        },
+    }
+}
+
+// The same of a row whose rule is not geometric.
+pub fn unscaled_at(sizes: Sizes, image: &[u8], at: usize, row: Row) -> Value
+    requires { ⌜ Whole sizes (now image) × Sound row × Unscaled (row .rule) ⌝ }
+    ensures { λ r. ⌜ r ≡ valueIn (parse (streamIn sizes (now (image .entry))) (fieldOf row) at) ⌝ }
+{
+    let cursor = Cursor { at };
+    match cursor.take(sizes, image, row.width as usize) {
+        Taken::Refused(_) => Value::Missing,
+        Taken::Field(code, _) => match coding::decode_unscaled(row, at as u64, code) {
             Decoded::Refused(_) => Value::Missing,
             Decoded::Means(value) => value,
         },
@@ -63,6 +79,22 @@ pub fn value_in(sheet: Opened, image: &[u8], field: u64) -> Value
     )
 }
 
+// The value of a field whose rule is not geometric.
+pub fn unscaled_in(sheet: Opened, image: &[u8], field: u64) -> Value
+    requires { ⌜ Held sheet (now image) × (1 ≤ field) × (field ≤ lastField (sheet .layout .template)) ⌝ }
+    requires { ⌜ Unscaled (rowOf (sheet .layout) field .rule) ⌝ }
+    ensures { λ r. ⌜ ((kind : ℕ) (c : Contents) → Opens kind (now (image .entry)) sheet c → r ≡ fieldIn c field .value) ⌝ }
+{
+    let sizes = sheet.sizes;
+    let layout = sheet.layout;
+    unscaled_at(
+        sizes,
+        image,
+        places::locate(layout, field),
+        fields::row_of(layout, field),
+    )
+}
+
 // A pair, counted from 0.
 pub fn pair_in(sheet: Opened, image: &[u8], index: u64) -> Pair
     requires { ⌜ Held sheet (now image) × (index < sheet .summary .points) ⌝ }
@@ -72,8 +104,8 @@ pub fn pair_in(sheet: Opened, image: &[u8], index: u64) -> Pair
     let layout = sheet.layout;
     let at = places::locate_pair(layout, index);
     let row = coding::cal_point();
-    let point = value_at(sizes, image, at, row);
-    let deviation = value_at(
+    let point = unscaled_at(sizes, image, at, row);
+    let deviation = unscaled_at(
         sizes,
         image,
         at + row.width as usize,

@@ -26,6 +26,7 @@ pub use fields::Term;
 use fields::Value;
 pub use held::character_in;
 pub use held::pair_in;
+pub use held::unscaled_in;
 pub use held::value_in;
 pub use opening::Opened;
 pub use opening::OpenedAnswer;

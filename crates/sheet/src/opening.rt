@@ -11,13 +11,12 @@ use crate::ending::EndStep;
 use crate::walk;
 use crate::walk::ChoiceStep;
 use crate::walk::TemplateStep;
+use fields::Judged;
 use fields::Layout;
-use fields::Template;
 use memory::Sizes;
 use memory::SizesAnswer;
 use memory::Sums;
 use refusal::Refusal;
-use stream::Cursor;
 
 // An accepted sheet: the sizes of its image, what its rows go by, and what a check gives.
 pub struct Opened {
@@ -31,24 +30,16 @@ pub enum OpenedAnswer {
     Refused(Refusal),
 }
 
-// The stream from its start. Basic has the same lines in every template.
+// The stream from its start.
 fn walk_sheet(sizes: Sizes, image: &[u8]) -> OpenedAnswer
     requires { ⌜ Whole sizes (now image) ⌝ }
     ensures { λ r. ⌜ openedSaid r ≡ walked sizes (now (image .entry)) ⌝ }
 {
-    let basics = fields::basic_fields();
-    match walk::take_fields(sizes, image, Cursor::start(), Template::Bridge, 1, basics) {
-        ChoiceStep::Refused(r) => OpenedAnswer::Refused(r),
-        ChoiceStep::Chosen(_, block) => match walk::take_template(sizes, image, block) {
+    match walk::judge_basic(sizes, image) {
+        Judged::Refused(r) => OpenedAnswer::Refused(r),
+        Judged::Stands => match walk::take_template(sizes, image) {
             TemplateStep::Refused(r) => OpenedAnswer::Refused(r),
-            TemplateStep::Named(template, own) => match walk::take_fields(
-                sizes,
-                image,
-                own,
-                template,
-                basics + 1,
-                fields::last_field(template),
-            ) {
+            TemplateStep::Named(template) => match walk::take_own(sizes, image, template) {
                 ChoiceStep::Refused(r) => OpenedAnswer::Refused(r),
                 ChoiceStep::Chosen(precision, fields_end) => match block::take_calibration(
                     sizes,

@@ -24,7 +24,7 @@ pub fn locate(layout: Layout, field: u64) -> usize
 }
 
 // The first bit behind the fields.
-fn fields_end(layout: Layout) -> usize
+pub fn fields_end(layout: Layout) -> usize
     ensures { λ r. ⌜ r ≡ behindFields layout ⌝ }
 {
     let template = layout.template;

@@ -54,7 +54,7 @@ pub fn segment_at(sizes: Sizes, image: &[u8], at: usize) -> Segment
     requires { ⌜ Whole sizes (now image) × (at < 2 ^ 40) ⌝ }
     ensures { λ r. ⌜ r ≡ segmentAt (streamIn sizes (now (image .entry))) at ⌝ }
 {
-    let start = held::value_at(sizes, image, at, coding::segment_start());
+    let start = held::unscaled_at(sizes, image, at, coding::segment_start());
     Segment {
         start: held::figure(start),
         terms: terms_at(sizes, image, at),
@@ -78,8 +78,8 @@ pub fn term_at(sizes: Sizes, image: &[u8], at: usize) -> Term
     ensures { λ r. ⌜ r ≡ termAt (streamIn sizes (now (image .entry))) at ⌝ }
 {
     let row = coding::term_exponent();
-    let tenths = held::value_at(sizes, image, at, row);
-    let coefficient = held::value_at(
+    let tenths = held::unscaled_at(sizes, image, at, row);
+    let coefficient = held::unscaled_at(
         sizes,
         image,
         at + row.width as usize,

@@ -1,24 +1,35 @@
 // Fields and blocks: what stands at a cursor, and the cursor behind it, or the first refusal.
 ghost use mathlib.Core.Path.{_≡_};
-ghost use Prim.Native.Nat.{_≤_};
+ghost use Prim.Native.Nat.{_+_, _≤_};
+ghost use Rattle.memory.specs.Bits.{fieldAt};
+ghost use Rattle.memory.specs.Image.{streamBits, streamNumber};
 ghost use Rattle.memory.specs.Answers.{Whole};
 ghost use Rattle.fields.specs.Lines.{chose, lastField, rowOf};
 ghost use Rattle.fields.specs.Stored.{Sound};
+ghost use Rattle.fields.specs.Judgement.{judge};
+ghost use Rattle.fields.specs.Answers.{judgedSaid};
 ghost use Rattle.layout.specs.Format.{parse};
 ghost use Rattle.layout.specs.Contents.{fieldOf, fieldsOf, firstBlock};
 ghost use Rattle.layout.specs.Image.{streamIn};
+ghost use Rattle.layout.specs.Places.{firstSelector, behindFields};
 ghost use Rattle.sheet.specs.Walk.{
   keeping,
   coded,
   choiceOn,
   linesFrom,
+  basicChoice,
+  ownChoice,
+  layoutAt,
+  Lies,
   markOf,
   judgedAt,
   codeSaid,
   markSaid,
   choiceSaid,
+  stoodTo,
   templateStepSaid,
 };
+use crate::places;
 use fields::Judged;
 use fields::Layout;
 use fields::Row;
@@ -49,7 +60,7 @@ pub enum ChoiceStep {
 
 // The template that the first block names.
 pub enum TemplateStep {
-    Named(Template, Cursor),
+    Named(Template),
     Refused(Refusal),
 }
 
@@ -57,6 +68,16 @@ pub enum TemplateStep {
 pub const SELECTOR_BITS: usize = 2;
 
 pub const NUMBER_BITS: usize = 8;
+
+// The first block stands behind Basic, and the fields of its template behind it. The precision is the fourth of them: measurand,
+// least and greatest physical stand before it.
+const FIRST_BLOCK: usize = 64;
+
+const OWN_FIELDS: usize = FIRST_BLOCK + SELECTOR_BITS + NUMBER_BITS;
+
+const PRECISION: usize = OWN_FIELDS + 6 + 32 + 32;
+
+const PRECISION_BITS: usize = 2;
 
 // The code that was taken at bit `at`: its refusal, or 5 or 6 as its row says.
 pub fn judged(row: Row, at: u64, taken: Taken) -> CodeStep
@@ -134,7 +155,7 @@ fn chosen(sets: bool, code: u64, latest: u64) -> u64
 }
 
 // The fields from number `first` to number `last` of a template: the latest choice behind them.
-pub fn take_fields(
+fn take_fields(
     sizes: Sizes,
     image: &[u8],
     start: Cursor,
@@ -168,20 +189,129 @@ pub fn take_fields(
     ChoiceStep::Chosen(precision, cursor)
 }
 
-// The first block: selector 0, and the number of a template; 4 at the selector's bit where they are others.
-pub fn take_template(sizes: Sizes, image: &[u8], cursor: Cursor) -> TemplateStep
-    requires { ⌜ Whole sizes (now image) ⌝ }
-    ensures { λ r. ⌜ templateStepSaid r ≡ parse (streamIn sizes (now (image .entry))) firstBlock (cursor .at) ⌝ }
+// ---- fields that lie in the stream
+
+// Whether the code of a row may stand at its place: 5 or 6.
+fn judge_at(sizes: Sizes, image: &[u8], row: Row, at: usize) -> Judged
+    requires { ⌜ Whole sizes (now image) × Sound row × (at + row .width ≤ streamBits sizes) ⌝ }
+    ensures { λ r. ⌜ judgedSaid r ≡ judge row at (fieldAt (streamNumber sizes (now (image .entry))) at (row .width)) ⌝ }
 {
-    let at = cursor.at as u64;
-    match take_mark(sizes, image, cursor, SELECTOR_BITS, 0, at) {
-        MarkStep::Refused(r) => TemplateStep::Refused(r),
-        MarkStep::Behind(next) => match next.take(sizes, image, NUMBER_BITS) {
-            Taken::Refused(r) => TemplateStep::Refused(r),
-            Taken::Field(number, own) => match fields::template_of(number) {
-                TemplateAnswer::Is(template) => TemplateStep::Named(template, own),
-                TemplateAnswer::Unknown => TemplateStep::Refused(refusal::wrong_block(at)),
-            },
-        },
+    coding::judge(
+        row,
+        at as u64,
+        stream::take(sizes, image, at, row.width as usize),
+    )
+}
+
+// Basic, which lies in every stream: its fields up to the last that can turn a code down. Each loop has rows of its own, and
+// an end that is known when it is compiled: so no row is picked at run time.
+pub fn judge_basic(sizes: Sizes, image: &[u8]) -> Judged
+    requires { ⌜ Whole sizes (now image) ⌝ }
+    ensures { λ r. ⌜ stoodTo 0 firstSelector r ≡ basicChoice (streamIn sizes (now (image .entry))) ⌝ }
+{
+    let last = fields::basic_closed();
+    let mut at: usize = 0;
+    let mut field: u64 = 1;
+    while field <= last {
+        let row = fields::basic_row(field);
+        if let Judged::Refused(r) = judge_at(sizes, image, row, at) {
+            return Judged::Refused(r);
+        }
+        at += row.width as usize;
+        field += 1;
+    }
+    Judged::Stands
+}
+
+// The fields of template 33 at a precision, up to the last that can turn a code down.
+fn judge_bridge(sizes: Sizes, image: &[u8], precision: u64) -> Judged
+    requires { ⌜ Lies sizes (now image) (layoutAt Template.Bridge precision) ⌝ }
+    ensures { λ r. ⌜ stoodTo precision (behindFields (layoutAt Template.Bridge precision)) r ≡ ownChoice (streamIn sizes (now (image .entry))) Template.Bridge ⌝ }
+{
+    let last = fields::last_closed(Template::Bridge);
+    let mut at = OWN_FIELDS;
+    let mut field = fields::basic_fields() + 1;
+    while field <= last {
+        let row = fields::bridge_row(precision, field);
+        if let Judged::Refused(r) = judge_at(sizes, image, row, at) {
+            return Judged::Refused(r);
+        }
+        at += row.width as usize;
+        field += 1;
+    }
+    Judged::Stands
+}
+
+// The same of template 32.
+fn judge_resistance(sizes: Sizes, image: &[u8], precision: u64) -> Judged
+    requires { ⌜ Lies sizes (now image) (layoutAt Template.Resistance precision) ⌝ }
+    ensures { λ r. ⌜ stoodTo precision (behindFields (layoutAt Template.Resistance precision)) r ≡ ownChoice (streamIn sizes (now (image .entry))) Template.Resistance ⌝ }
+{
+    let last = fields::last_closed(Template::Resistance);
+    let mut at = OWN_FIELDS;
+    let mut field = fields::basic_fields() + 1;
+    while field <= last {
+        let row = fields::resistance_row(precision, field);
+        if let Judged::Refused(r) = judge_at(sizes, image, row, at) {
+            return Judged::Refused(r);
+        }
+        at += row.width as usize;
+        field += 1;
+    }
+    Judged::Stands
+}
+
+fn judge_own(sizes: Sizes, image: &[u8], layout: Layout) -> Judged
+    requires { ⌜ Lies sizes (now image) layout ⌝ }
+    ensures { λ r. ⌜ stoodTo (layout .precision) (behindFields layout) r ≡ ownChoice (streamIn sizes (now (image .entry))) (layout .template) ⌝ }
+{
+    let template = layout.template;
+    match template {
+        Template::Bridge => judge_bridge(sizes, image, layout.precision),
+        Template::Resistance => judge_resistance(sizes, image, layout.precision),
+    }
+}
+
+// The first block, which lies in every stream: selector 0, in the lowest bits, and the number of a template; 4 at the
+// selector's bit where they are others.
+pub fn take_template(sizes: Sizes, image: &[u8]) -> TemplateStep
+    requires { ⌜ Whole sizes (now image) ⌝ }
+    ensures { λ r. ⌜ templateStepSaid r ≡ parse (streamIn sizes (now (image .entry))) firstBlock firstSelector ⌝ }
+{
+    let block = stream::take(sizes, image, FIRST_BLOCK, SELECTOR_BITS + NUMBER_BITS);
+    if block % 4 != 0 {
+        return TemplateStep::Refused(refusal::wrong_block(FIRST_BLOCK as u64));
+    }
+    match fields::template_of(block / 4) {
+        TemplateAnswer::Is(template) => TemplateStep::Named(template),
+        TemplateAnswer::Unknown => TemplateStep::Refused(refusal::wrong_block(FIRST_BLOCK as u64)),
+    }
+}
+
+// A template's own fields. Where they all lie in the stream at the precision that stands there, they are judged at their
+// places, else walked over.
+pub fn take_own(sizes: Sizes, image: &[u8], template: Template) -> ChoiceStep
+    requires { ⌜ Whole sizes (now image) ⌝ }
+    ensures { λ r. ⌜ choiceSaid r ≡ ownChoice (streamIn sizes (now (image .entry))) template ⌝ }
+{
+    let precision = stream::take(sizes, image, PRECISION, PRECISION_BITS);
+    let layout = Layout {
+        template,
+        precision,
+    };
+    let end = places::fields_end(layout);
+    if 8 * (image.len() - sizes.pages) < end {
+        return take_fields(
+            sizes,
+            image,
+            Cursor { at: OWN_FIELDS },
+            template,
+            fields::basic_fields() + 1,
+            fields::last_field(template),
+        );
+    }
+    match judge_own(sizes, image, layout) {
+        Judged::Refused(r) => ChoiceStep::Refused(r),
+        Judged::Stands => ChoiceStep::Chosen(precision, Cursor { at: end }),
     }
 }

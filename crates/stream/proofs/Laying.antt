@@ -1,28 +1,41 @@
--- Bytes of a word into an image: eight side by side, and some of the stream.
+-- Bytes of a word into an image: eight side by side, and a field of the stream.
 use mathlib.Core.Path.{_≡_, refl, sym, ap, ap₂, _∙_}
-use mathlib.Core.Bool.{cond}
 use mathlib.Core.List.{List}
 use Prim.Native.Nat.{ℕ, zero, suc, _+_, _-_, _*_, _/_, _%_, _^_, _≤_, _<_}
-use native.Mathlib.Nat.{mod-lt, mod-eq-of-lt}
+use native.Mathlib.Nat.{mod-lt, mod-one, mod-eq-of-lt, div-eq-of-lt, lt-of-lt-of-le, zero-mul}
 use native.Mathlib.Numerals.{add-one}
 use native.Mathlib.Omega.{arith}
-use lib.ListN.{length, set, length-set}
-use lib.Dec.{ltb, lit<}
-use lib.Pow.{pow-pos}
-use borrow.Author.Tests.{lt-ltb}
+use lib.ListN.{length, getD, set, length-set}
+use lib.Seq.{getD-set-other}
+use lib.Dec.{lit<}
+use lib.Bits.{bitOr, bitAnd, or-shifted-r}
+use lib.Pow.{pow-pos, pow-mono, mod-pow-add, split, shr-lt, shl-exact}
 use Rattle.memory.specs.declared.Sizes.{Sizes}
 use Rattle.memory.specs.Bits.{Bytes, number, bytesOf, fieldAt, putAt}
-use Rattle.memory.specs.Image.{imageBytes, streamBytes, streamBits, putIn}
+use Rattle.memory.specs.Image.{imageBytes, streamBytes, streamBits, pageAt, streamOf, streamNumber, withStream, putIn}
 use Rattle.memory.specs.Answers.{streamIndex}
-use Rattle.stream.specs.Answers.{runBytes}
-use Rattle.memory.proofs.FieldLaws.{put-in, put-mod}
-use Rattle.memory.proofs.Digits.{bytes-set, bytes-number}
-use Rattle.memory.proofs.Streams.{index-lt}
-use Rattle.memory.proofs.Written.{Put, put-is}
-use Rattle.stream.proofs.Turns.{put-none, put-code, number-turn, scatter-none, scatter-turn}
-use Rattle.stream.proofs.Runs.{eight-in, run-near, run-index, word-low, gather-near}
+use Rattle.memory.proofs.FieldLaws.{field-lt, low-lt, put-same, put-after, put-put, put-in, put-lt}
+use Rattle.memory.proofs.Digits.{bytes-set, bytes-length, bytes-number, number-bytes, number-lt, number-at, number-set}
+use Rattle.memory.proofs.Streams.{stream-length, stream-bytes, stream-set, index-check}
+use Rattle.memory.proofs.Written.{Put, put-is, put-whole, put-bytes, put-stream, put-checks}
+use Rattle.stream.proofs.Words.{low-bits}
+use Rattle.stream.proofs.Runs.{Side, side-stream, index-at, run-field, run-bits, eight-in}
 
 -- ---- a word into eight bytes
+
+put-none : (N n word : ℕ) → putAt N n 0 (word % 2 ^ 0) ≡ N
+put-none N n word = ap (λ (x : ℕ). putAt N n 0 x) (mod-one word ∙ sym (mod-one (N / 2 ^ n))) ∙ put-same N n 0
+
+-- One more byte above those laid.
+number-turn : (l : List ℕ) → Bytes l → (N f k word : ℕ) → f + k < length l → number l ≡ putAt N (8 * f) (8 * k) (word % 2 ^ (8 * k))
+    → number (set l (f + k) (word / 2 ^ (8 * k) % 256)) ≡ putAt N (8 * f) (8 * (k + 1)) (word % 2 ^ (8 * (k + 1)))
+number-turn l hb N f k word hi e =
+    let b : ℕ = word / 2 ^ (8 * k) % 256 in
+    number-set l hb (f + k) hi b
+    ∙ ap₂ (λ (x y : ℕ). putAt x y 8 b) e (omega arith)
+    ∙ put-put N (8 * f) 8 (8 * k) (word % 2 ^ (8 * k)) b (mod-lt word (pow-pos (8 * k)))
+    ∙ ap (λ (x : ℕ). putAt N (8 * f) (8 + 8 * k) x) (sym (mod-pow-add word 8 (8 * k)))
+    ∙ ap (λ (x : ℕ). putAt N (8 * f) x (word % 2 ^ x)) (omega arith)
 
 module _ (image : List ℕ) (f word : ℕ) where
   -- The k low bytes of the word stand in the image from byte f on.
@@ -70,60 +83,207 @@ module _ (image : List ℕ) (f word : ℕ) where
       let l8 = lay-turn 7 b7 _ (eight-in f 7 _ h (lit< tt)) e7 l7 in
       laid-eight hw l8
 
--- ---- bytes of a word into the stream
+-- A field of the eight replaced.
+pub eight-put : (image l : List ℕ) (f bit width code word new : ℕ) → 8 * f ≤ bit → bit + width ≤ 8 * f + 64 → code < 2 ^ width
+    → word ≡ fieldAt (number image) (8 * f) 64 → new ≡ putAt word (bit - 8 * f) width code → l ≡ bytesOf (length image) (putAt (number image) (8 * f) 64 new)
+    → l ≡ bytesOf (length image) (putAt (number image) bit width code)
+eight-put image l f bit width code word new from to hc ew en el =
+    let low : ℕ = bit - 8 * f in
+    el ∙ ap (bytesOf (length image))
+    (ap (putAt (number image) (8 * f) 64) (en ∙ ap (λ (x : ℕ). putAt x low width code) ew) ∙ put-in (number image) (8 * f) 64 low width code hc (omega arith)
+    ∙ ap (λ (x : ℕ). putAt (number image) x width code) (omega arith))
 
--- The image with the n low bytes of a word in it, those behind the run behind its check byte.
-abbrev pub laid : ℕ → ℕ → List ℕ → ℕ → ℕ → List ℕ
-laid at run image word zero = image
-laid at run image word (suc n) = set (laid at run image word n) (cond (ltb n run) (at + n) (at + n + 1)) (word / 2 ^ (8 * n) % 256)
+-- A code put where nothing stands.
+pub put-free : (N at w code : ℕ) → N < 2 ^ at → putAt N at w code ≡ code * 2 ^ at + N
+put-free N at w code h =
+    let below : N < 2 ^ (w + at) = lt-of-lt-of-le h (pow-mono {i = at} {j = w + at} (omega arith)) in
+    ap₂ (λ (q r : ℕ). q * 2 ^ (w + at) + (code * 2 ^ at + r)) (div-eq-of-lt below) (mod-eq-of-lt h)
+    ∙ omega (arith, zero-mul (2 ^ (w + at)))
 
-pub laid-length : (at run : ℕ) (image : List ℕ) (word n : ℕ) → length (laid at run image word n) ≡ length image
-laid-length at run image word zero = refl
-laid-length at run image word (suc n) =
-    length-set (laid at run image word n) (cond (ltb n run) (at + n) (at + n + 1)) (word / 2 ^ (8 * n) % 256) ∙ laid-length at run image word n
+-- ---- a field of the stream
 
-module _ (z : Sizes) (image : List ℕ) (whole : length image ≡ imageBytes z) (hb : Bytes image) (f at run word : ℕ) (ea : at ≡ streamIndex z f) (er : run ≡ runBytes z f) where
-  laid-put : (n : ℕ) → f + n ≤ streamBytes z → n ≤ 31 → Put z image (8 * f) (8 * n) (word % 2 ^ (8 * n)) (laid at run image word n)
-  laid-put zero h m = scatter-none z image hb (8 * f) word
-  laid-put (suc n) h m =
-      rw (run-index z f at run n ea er (omega arith), ← add-one n)
-      (scatter-turn z image (laid at run image word n) f n word whole (omega arith) (laid-put n (omega arith) (omega arith)))
+scatter-none : (z : Sizes) (image : List ℕ) → Bytes image → (n word : ℕ) → Put z image n 0 (word % 2 ^ 0) image
+scatter-none z image hb n word = record { long = refl; bytes = hb; stream = sym (put-none (streamNumber z image) n word); checks = λ q. refl }
 
-  pub scattered : (n : ℕ) → f + n ≤ streamBytes z → n ≤ 31 → laid at run image word n ≡ putIn z image (8 * f) (8 * n) (word % 2 ^ (8 * n))
-  scattered n h m = put-is z image (8 * f) (8 * n) (word % 2 ^ (8 * n)) whole (laid-put n h m)
+-- One more byte of the stream above those laid.
+scatter-turn : (z : Sizes) (image l : List ℕ) (f k word : ℕ) → length image ≡ imageBytes z → f + k < streamBytes z
+    → Put z image (8 * f) (8 * k) (word % 2 ^ (8 * k)) l
+    → Put z image (8 * f) (8 * (k + 1)) (word % 2 ^ (8 * (k + 1))) (set l (streamIndex z (f + k)) (word / 2 ^ (8 * k) % 256))
+scatter-turn z image l f k word whole hi p =
+    let i : ℕ = streamIndex z (f + k) in
+    let b : ℕ = word / 2 ^ (8 * k) % 256 in
+    let wl : length l ≡ imageBytes z = p .long ∙ whole in
+    record {
+      long = length-set l i b ∙ p .long;
+      bytes = bytes-set l i b (p .bytes) (mod-lt (word / 2 ^ (8 * k)) (pow-pos 8));
+      stream =
+          ap number (stream-set z l wl (f + k) hi b)
+          ∙ number-turn (streamOf z l) (stream-bytes z l wl (p .bytes)) (streamNumber z image) f k word (omega (arith, stream-length z l wl)) (p .stream);
+      checks = λ q. getD-set-other l i (pageAt z q) b 0 (λ e. index-check z (f + k) q (sym e)) ∙ p .checks q;
+    }
 
-  laid-stands : (n : ℕ) → n ≤ run → at + n ≤ length image → Lies image at word n (laid at run image word n)
-  laid-stands zero h l = lay-none image at word hb
-  laid-stands (suc n) h l =
-      rw (lt-ltb n run (omega arith), ← add-one n) (lay-turn image at word n (word / 2 ^ (8 * n) % 256) (laid at run image word n) (omega arith) refl (laid-stands n (omega arith) (omega arith)))
+-- The image with the n low bytes of a word in it.
+abbrev laid : ℕ → List ℕ → ℕ → ℕ → List ℕ
+laid from image word zero = image
+laid from image word (suc n) = set (laid from image word n) (from + n) (word / 2 ^ (8 * n) % 256)
 
-  -- Eight bytes with a field of the first n of them replaced are those n bytes laid.
-  laid-run : (n low width code old : ℕ) → n ≤ run → n ≤ 8 → at + n ≤ length image → low + width ≤ 8 * n → code < 2 ^ width
-      → old ≡ fieldAt (number image) (8 * at) 64 → word ≡ putAt old low width code
-      → bytesOf (length image) (putAt (number image) (8 * at) 64 word) ≡ laid at run image word n
-  laid-run n low width code old hr hn hi hl hc eo ew =
+module _ (z : Sizes) (image : List ℕ) (whole : length image ≡ imageBytes z) (hb : Bytes image) where
+  module _ (f from word : ℕ) where
+    laid-put : (n : ℕ) → f + n ≤ streamBytes z → ((k : ℕ) → k < n → streamIndex z (f + k) ≡ from + k)
+        → Put z image (8 * f) (8 * n) (word % 2 ^ (8 * n)) (laid from image word n)
+    laid-put zero h e = scatter-none z image hb (8 * f) word
+    laid-put (suc n) h e =
+        rw (← e n (omega arith), ← add-one n)
+        (scatter-turn z image (laid from image word n) f n word whole (omega arith) (laid-put n (omega arith) (λ k l. e k (omega arith))))
+
+    laid-stands : (n : ℕ) → from + n ≤ length image → Lies image from word n (laid from image word n)
+    laid-stands zero h = lay-none image from word hb
+    laid-stands (suc n) h =
+        rw (← add-one n) (lay-turn image from word n (word / 2 ^ (8 * n) % 256) (laid from image word n) (omega arith) refl (laid-stands n (omega arith)))
+
+  -- Bits that stand side by side: put into the image, they are put into its stream.
+  pub run-put : (c n w code : ℕ) (after : List ℕ) → Side z c n w → code < 2 ^ w → after ≡ bytesOf (length image) (putAt (number image) (n + 8 * c) w code)
+      → after ≡ putIn z image n w code
+  run-put c n w code after s hc e =
+      let f : ℕ = n / 8 in
+      let m : ℕ = (n % 8 + w + 7) / 8 in
+      let N : ℕ = streamNumber z image in
       let M : ℕ = number image in
-      let p = laid-stands n hr hi in
-      let w : word % 2 ^ (8 * n) ≡ putAt (fieldAt M (8 * at) (8 * n)) low width code =
-      ap (λ (x : ℕ). x % 2 ^ (8 * n)) ew
-      ∙ put-mod old low width code hc (8 * n) hl
-      ∙ ap (λ (x : ℕ). putAt x low width code) (word-low M (8 * at) old n hn eo) in
-      let e : putAt M (8 * at) 64 word ≡ number (laid at run image word n) =
-      ap (putAt M (8 * at) 64) (ew ∙ ap (λ (x : ℕ). putAt x low width code) eo)
-      ∙ put-in M (8 * at) 64 low width code hc (omega arith)
-      ∙ sym (p .stands ∙ ap (putAt M (8 * at) (8 * n)) w ∙ put-in M (8 * at) (8 * n) low width code hc (omega arith)) in
-      ap₂ bytesOf (sym (p .long)) e ∙ bytes-number (laid at run image word n) (p .bytes)
+      let word : ℕ = putAt (fieldAt M (8 * (f + c)) (8 * m)) (n % 8) w code in
+      let at : (k : ℕ) → k < m → streamIndex z (f + k) ≡ f + c + k = λ k h. omega (arith, index-at z c (f + k) (omega arith) (omega arith)) in
+      let p = laid-put f (f + c) word m (omega (arith, side-stream s)) at in
+      let l = laid-stands f (f + c) word m (omega arith) in
+      let ew : word % 2 ^ (8 * m) ≡ word =
+      mod-eq-of-lt (put-lt (fieldAt M (8 * (f + c)) (8 * m)) (n % 8) w code hc (8 * m) (field-lt M (8 * (f + c)) (8 * m)) (omega arith)) in
+      let em : putAt M (n + 8 * c) w code ≡ number (laid (f + c) image word m) =
+      ap (λ (x : ℕ). putAt M x w code) (omega arith) ∙ sym (put-in M (8 * (f + c)) (8 * m) (n % 8) w code hc (omega arith))
+      ∙ sym (l .stands ∙ ap (putAt M (8 * (f + c)) (8 * m)) ew) in
+      e ∙ ap₂ bytesOf (sym (l .long)) em ∙ bytes-number _ (l .bytes)
+      ∙ put-is z image (8 * f) (8 * m) (word % 2 ^ (8 * m)) whole p
+      ∙ ap (withStream z image)
+      (ap (putAt N (8 * f) (8 * m)) (ew ∙ ap (λ (x : ℕ). putAt x (n % 8) w code) (sym (run-field z image whole hb f (f + c) m (omega (arith, side-stream s)) at)))
+      ∙ put-in N (8 * f) (8 * m) (n % 8) w code hc (omega arith) ∙ ap (λ (x : ℕ). putAt N x w code) (omega arith))
 
--- Eight bytes with a field within one run replaced are the field put.
-pub put-run : (z : Sizes) (image l : List ℕ) → length image ≡ imageBytes z → Bytes image → (at width code from run old word : ℕ)
-    → at + width ≤ streamBits z → 1 ≤ width → width ≤ 32 → code < 2 ^ width
-    → from ≡ streamIndex z (at / 8) → run ≡ runBytes z (at / 8) → (at % 8 + width + 7) / 8 ≤ run
-    → old ≡ fieldAt (number image) (8 * from) 64 → word ≡ putAt old (at % 8) width code
-    → l ≡ bytesOf (length image) (putAt (number image) (8 * from) 64 word) → l ≡ putIn z image at width code
-put-run z image l whole hb at width code from run old word inside some most hc ef er hr eo ew el =
-    let f : ℕ = at / 8 in
-    let n : ℕ = (at % 8 + width + 7) / 8 in
-    let last : from + n ≤ length image = omega (arith, run-near z f (n - 1) (omega arith), index-lt z (f + (n - 1)) (omega arith)) in
-    put-code z image l at width code old word hc (gather-near z image whole hb f n from run old (omega arith) (omega arith) ef er eo hr) ew
-    (el ∙ laid-run z image whole hb f from run word ef er n (at % 8) width code old hr (omega arith) last (omega arith) hc eo ew
-    ∙ scattered z image whole hb f from run word ef er n (omega arith) (omega arith))
+  -- Two fields side by side in the stream are one.
+  pub put-two : (n s v c d : ℕ) → n + s + v ≤ streamBits z → c < 2 ^ s → d < 2 ^ v → putIn z (putIn z image n s c) (n + s) v d ≡ putIn z image n (v + s) (d * 2 ^ s + c)
+  put-two n s v c d h hc hd =
+      let l : List ℕ = putIn z image n s c in
+      let wl : length l ≡ imageBytes z = put-whole z image n s c whole in
+      let bl : Bytes l = put-bytes z image n s c whole hb in
+      put-is z image n (v + s) (d * 2 ^ s + c) whole
+      (record {
+        long = put-whole z l (n + s) v d wl ∙ sym whole;
+        bytes = put-bytes z l (n + s) v d wl bl;
+        stream =
+            put-stream z l (n + s) v d wl bl h hd
+            ∙ ap₂ (λ (x k : ℕ). putAt x k v d) (put-stream z image n s c whole hb (omega arith) hc) (omega arith)
+            ∙ put-put (streamNumber z image) n v s c d hc;
+        checks = λ q. put-checks z l (n + s) v d wl q ∙ put-checks z image n s c whole q;
+      })
+
+module _ (z : Sizes) (image : List ℕ) (whole : length image ≡ imageBytes z) (hb : Bytes image) where
+  -- A field put in two parts, with a check byte between them.
+  two-parts : (c n s v code : ℕ) (a b : List ℕ) → Side z c n s → Side z (c + 1) (n + s) v → code < 2 ^ (v + s)
+      → a ≡ bytesOf (length image) (putAt (number image) (n + 8 * c) s (code % 2 ^ s))
+      → b ≡ bytesOf (length a) (putAt (number a) (n + s + 8 * (c + 1)) v (code / 2 ^ s))
+      → b ≡ putIn z image n (v + s) code
+  two-parts c n s v code a b p q hc ea eb =
+      let lo : ℕ = code % 2 ^ s in
+      let hi : ℕ = code / 2 ^ s in
+      let l : List ℕ = putIn z image n s lo in
+      let hl : lo < 2 ^ s = mod-lt code (pow-pos s) in
+      let hh : hi < 2 ^ v = shr-lt v s hc in
+      let el : a ≡ l = run-put z image whole hb c n s lo a p hl ea in
+      run-put z l (put-whole z image n s lo whole) (put-bytes z image n s lo whole hb) (c + 1) (n + s) v hi b q hh
+      (eb ∙ ap (λ (x : List ℕ). bytesOf (length x) (putAt (number x) (n + s + 8 * (c + 1)) v hi)) el)
+      ∙ put-two z image whole hb n s v lo hi (side-stream q) hl hh
+      ∙ ap (putIn z image n (v + s)) (split code s)
+
+  pub put-far : (c at width edge code : ℕ) (a b : List ℕ) → Side z c at (edge - at) → Side z (c + 1) edge (width - (edge - at)) → at < edge → edge < at + width
+      → width ≤ 49 → code < 2 ^ width
+      → a ≡ bytesOf (length image) (putAt (number image) (at + 8 * c) (edge - at) (bitAnd code (1 * 2 ^ (edge - at) % 2 ^ 64 - 1)))
+      → b ≡ bytesOf (length a) (putAt (number a) (edge + 8 * c + 8) (width - (edge - at)) (code / 2 ^ (edge - at)))
+      → b ≡ putIn z image at width code
+  put-far c at width edge code a b p q before behind most hc ea eb =
+      let s : ℕ = edge - at in
+      let v : ℕ = width - s in
+      let e : v + s ≡ width = omega arith in
+      let f : edge ≡ at + s = omega arith in
+      two-parts c at s v code a b p (rw (← f) q) (rw e hc)
+      (ea ∙ ap (λ (x : ℕ). bytesOf (length image) (putAt (number image) (at + 8 * c) s x)) (low-bits code s (omega arith)))
+      (eb ∙ ap (λ (k : ℕ). bytesOf (length a) (putAt (number a) k v (code / 2 ^ s))) (omega arith))
+      ∙ ap (λ (x : ℕ). putIn z image at x code) e
+
+  -- A field put where nothing stands, in the bytes from its first on: that is all of them that is kept.
+  module _ (c at width code first : ℕ) (most : width ≤ 49) (hc : code < 2 ^ width) (below : streamNumber z image < 2 ^ at)
+      (here : Side z c (8 * (at / 8)) 8) (ef : first ≡ getD image (at / 8 + c) 0) where
+    abbrev N : ℕ
+    N = streamNumber z image
+
+    abbrev i : ℕ
+    i = at / 8
+
+    abbrev word : ℕ
+    word = bitOr first (code * 2 ^ (at % 8) % 2 ^ 64)
+
+    few : N / 2 ^ (8 * i) < 2 ^ (at % 8)
+    few =
+        let e : at ≡ at % 8 + 8 * i = omega arith in
+        shr-lt (at % 8) (8 * i) (rw (← e) below)
+
+    within : (w : ℕ) → 8 ≤ w → fieldAt N (8 * i) w ≡ N / 2 ^ (8 * i)
+    within w h = mod-eq-of-lt (lt-of-lt-of-le few (pow-mono {i = at % 8} {j = w} (omega arith)))
+
+    word-is : (w : ℕ) → 8 ≤ w → word ≡ putAt (fieldAt N (8 * i) w) (at % 8) width code
+    word-is w h =
+        let kept : first ≡ N / 2 ^ (8 * i) =
+        ef ∙ sym (number-at image hb (i + c) (omega arith)) ∙ ap (λ (x : ℕ). fieldAt (number image) x 8) (omega arith)
+        ∙ sym (run-bits z image whole hb c (8 * i) 8 here) ∙ within 8 (omega arith) in
+        ap₂ bitOr kept (shl-exact width (at % 8) 64 hc (omega arith)) ∙ or-shifted-r code (at % 8) (N / 2 ^ (8 * i)) few
+        ∙ sym (ap (λ (x : ℕ). putAt x (at % 8) width code) (within w h) ∙ put-free (N / 2 ^ (8 * i)) (at % 8) width code few)
+
+    word-put : (w : ℕ) → 56 ≤ w → putIn z image (8 * i) w word ≡ putIn z image at width code
+    word-put w h =
+        ap (withStream z image)
+        (ap (putAt N (8 * i) w) (word-is w (omega arith)) ∙ put-in N (8 * i) w (at % 8) width code hc (omega arith) ∙ ap (λ (x : ℕ). putAt N x width code) (omega arith))
+
+    pub word-lt : (w : ℕ) → 56 ≤ w → word < 2 ^ w
+    word-lt w h =
+        rw (word-is w (omega arith)) (put-lt (fieldAt N (8 * i) w) (at % 8) width code hc w (field-lt N (8 * i) w) (omega arith))
+
+    -- Before the next check byte, and with it among the bytes.
+    pub append-near : (after : List ℕ) → Side z c (8 * i) 64 → after ≡ bytesOf (length image) (putAt (number image) (8 * (i + c)) 64 word)
+        → after ≡ putIn z image at width code
+    append-near after s e =
+        run-put z image whole hb c (8 * i) 64 word after s (word-lt 64 (omega arith))
+        (e ∙ ap (λ (k : ℕ). bytesOf (length image) (putAt (number image) k 64 word)) (omega arith))
+        ∙ word-put 64 (omega arith)
+
+    pub append-over : (edge check new : ℕ) (after : List ℕ) → i ≤ edge → edge ≤ i + 7 → i + c + 8 ≤ length image
+        → Side z c (8 * i) (8 * (edge - i)) → Side z (c + 1) (8 * edge) (56 - 8 * (edge - i)) → check ≡ getD image (edge + c) 0
+        → new ≡ word / 2 ^ (8 * (edge - i)) * 2 ^ (8 + 8 * (edge - i)) + (check * 2 ^ (8 * (edge - i)) + word % 2 ^ (8 * (edge - i)))
+        → after ≡ bytesOf (length image) (putAt (number image) (8 * (i + c)) 64 new)
+        → after ≡ putIn z image at width code
+    append-over edge check new after from to inside p q ek en ea =
+        let M : ℕ = number image in
+        let g : ℕ = 8 * i + 8 * c in
+        let s : ℕ = 8 * (edge - i) in
+        let v : ℕ = 56 - s in
+        let lo : ℕ = word % 2 ^ s in
+        let hi : ℕ = word / 2 ^ s in
+        let P : ℕ = putAt M g s lo in
+        let hl : lo < 2 ^ s = mod-lt word (pow-pos s) in
+        let all : v + s ≡ 56 = omega arith in
+        let behind : 8 * edge ≡ 8 * i + s = omega arith in
+        let kept : check ≡ fieldAt P (s + g) 8 =
+        ek ∙ sym (number-at image hb (edge + c) (omega arith)) ∙ ap (λ (x : ℕ). fieldAt M x 8) (omega arith) ∙ sym (put-after M g s lo hl (s + g) 8 (omega arith)) in
+        let parts : putAt M (8 * (i + c)) 64 new ≡ putAt P (8 + s + g) v hi =
+        ap₂ (λ (x k : ℕ). putAt M x k new) (omega arith) (omega arith) ∙ ap (putAt M g (v + (8 + s))) en
+        ∙ sym (put-put M g v (8 + s) (check * 2 ^ s + lo) hi (low-lt word s 8 check (rw ek (hb (edge + c)))))
+        ∙ ap (λ (x : ℕ). putAt x (8 + s + g) v hi) (sym (put-put M g 8 s lo check hl) ∙ ap (putAt P (s + g) 8) kept ∙ put-same P (s + g) 8) in
+        let first-part : number (bytesOf (length image) P) ≡ P =
+        number-bytes (length image) P ∙ mod-eq-of-lt (put-lt M g s lo hl (8 * length image) (number-lt image hb) (omega arith)) in
+        two-parts c (8 * i) s v word (bytesOf (length image) P) after p (rw (← behind) q) (rw all (word-lt 56 (omega arith))) refl
+        (ea ∙ ap₂ bytesOf (sym (bytes-length (length image) P)) (parts ∙ ap₂ (λ (x k : ℕ). putAt x k v hi) (sym first-part) (omega arith)))
+        ∙ ap (λ (w : ℕ). putIn z image (8 * i) w word) all
+        ∙ word-put 56 (omega arith)

@@ -1,4 +1,4 @@
-pub mod Turns
+pub mod Words
 pub mod Runs
 pub mod Laying
 pub mod Taking

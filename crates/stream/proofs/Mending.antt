@@ -30,7 +30,7 @@ same-part l k S i n el ek hl hk h e =
     part m em = length-take-le n (drop i m) (omega (arith, length-drop i m))
 
 module _ (z : Sizes) (image : List ℕ) (whole : length image ≡ imageBytes z) (hb : Bytes image)
-    (at w code : ℕ) (inside : at + w ≤ streamBits z) (some : 1 ≤ w) (most : w ≤ 32) (hc : code < 2 ^ w) where
+    (at w code : ℕ) (inside : at + w ≤ streamBits z) (some : 1 ≤ w) (most : w ≤ 49) (hc : code < 2 ^ w) where
   kept-field : (m v : ℕ) → (at + w ≤ m) ⊎ (m + v ≤ at)
       → fieldAt (streamNumber z (putIn z image at w code)) m v ≡ fieldAt (streamNumber z image) m v
   kept-field m v (inl h) = ap (λ (N : ℕ). fieldAt N m v) (put-stream z image at w code whole hb inside hc) ∙ put-after (streamNumber z image) at w code hc m v h
@@ -100,6 +100,19 @@ module _ (z : Sizes) (image : List ℕ) (whole : length image ≡ imageBytes z) 
           (seal-number z first first-long (pageOf z (at + w - 1)) last-page ∙ seal-number z put put-long (pageOf z at) first-page
           ∙ put-stream z image at w code whole hb inside hc)
 
+      first-sum : pageOf z at ≡ pageOf z (at + w - 1) → (q : ℕ) → q < z .pages → Dec (q ≡ pageOf z at) → pageSum z first q ≡ 0
+      first-sum same q h (yes d) = ap (pageSum z first) d ∙ seal-sum z put put-long (pageOf z at) first-page
+      first-sum same q h (no d) =
+          seal-others z put put-long (pageOf z at) first-page q h d ∙ put-sum q h d (λ e. d (e ∙ sym same)) ∙ right q h
+
+      -- Once is enough where both bits have one page.
+      pub mended-once : pageOf z at ≡ pageOf z (at + w - 1) → sealed z (putIn z image at w code) (pageOf z at) ≡ imageOf z (putAt (streamNumber z image) at w code)
+      mended-once same =
+          image-is z (putAt (streamNumber z image) at w code) first first-long
+          (seal-bytes z put put-long (pageOf z at) first-page (put-bytes z image at w code whole hb))
+          (λ q h. first-sum same q h (ℕ-discrete q (pageOf z at)))
+          (seal-number z put put-long (pageOf z at) first-page ∙ put-stream z image at w code whole hb inside hc)
+
       -- The check byte of any other page is as it was.
       pub mended-check : (q : ℕ) → (q ≡ pageOf z at → ⊥) → (q ≡ pageOf z (at + w - 1) → ⊥)
           → getD (imageOf z (putAt (streamNumber z image) at w code)) (pageAt z q) 0 ≡ getD image (pageAt z q) 0
@@ -110,9 +123,15 @@ module _ (z : Sizes) (image : List ℕ) (whole : length image ≡ imageBytes z) 
           ∙ put-checks z image at w code whole q
 
 -- A field put and its pages sealed, one call after the other.
-pub rewritten : (z : Sizes) (image a b d : List ℕ) (at w code p q : ℕ) → Bytes image → InStream z image at w → code < 2 ^ w
-    → 1 ≤ z .pages → SumsRight z image → p ≡ pageOf z at → q ≡ pageOf z (at + w - 1)
-    → a ≡ putIn z image at w code → b ≡ sealed z a p → d ≡ sealed z b q → d ≡ imageOf z (putAt (streamNumber z image) at w code)
-rewritten z image a b d at w code p q bytes here fits paged right first last ea eb ed =
-    ed ∙ ap₂ (sealed z) (eb ∙ ap₂ (sealed z) ea first) last
-    ∙ mended z image (here .whole .long) bytes at w code (here .inside) (here .some) (here .most) fits paged right
+module _ (z : Sizes) (image : List ℕ) {a b : List ℕ} (at w code : ℕ) {p q : ℕ} (bytes : Bytes image) (here : InStream z image at w) (fits : code < 2 ^ w)
+    (paged : 1 ≤ z .pages) (right : SumsRight z image) (first : p ≡ pageOf z at) (last : q ≡ pageOf z (at + w - 1))
+    (ea : a ≡ putIn z image at w code) (eb : b ≡ sealed z a p) where
+  pub rewritten : {d : List ℕ} → d ≡ sealed z b q → d ≡ imageOf z (putAt (streamNumber z image) at w code)
+  rewritten ed =
+      ed ∙ ap₂ (sealed z) (eb ∙ ap₂ (sealed z) ea first) last
+      ∙ mended z image (here .whole .long) bytes at w code (here .inside) (here .some) (here .most) fits paged right
+
+  pub rewritten-once : p ≡ q → b ≡ imageOf z (putAt (streamNumber z image) at w code)
+  rewritten-once same =
+      eb ∙ ap₂ (sealed z) ea first
+      ∙ mended-once z image (here .whole .long) bytes at w code (here .inside) (here .some) (here .most) fits paged right (sym first ∙ same ∙ last)

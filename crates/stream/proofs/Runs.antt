@@ -1,75 +1,25 @@
--- Bytes of the stream that stand side by side in an image, and the stream's bytes out of eight of the image's.
+-- Where bits of the stream stand in an image, and its bytes as words of eight.
 use mathlib.Core.Path.{_≡_, sym, ap, ap₂, _∙_}
-use mathlib.Core.Bool.{cond}
 use mathlib.Core.List.{List}
 use Prim.Native.Nat.{ℕ, zero, suc, _+_, _-_, _*_, _/_, _%_, _^_, _≤_, _<_}
-use native.Mathlib.Nat.{mod-one, mod-lt, mod-eq-of-lt, lt-of-lt-of-le}
+use native.Mathlib.Nat.{mod-one, mod-lt, mod-eq-of-lt, lt-of-le-of-lt}
 use native.Mathlib.Omega.{arith}
 use native.Mathlib.Decide.{decLt}
 use mir.Syntax.{w64}
 use mir.Val.{Fits}
-use lib.ListN.{length, drop, getD, length-drop}
-use lib.Seq.{drop-cons}
-use lib.Dec.{ltb, lit<}
-use lib.Bits.{bitOr, bitAnd, or-shifted, or-shifted-r, and-mask}
-use lib.Pow.{pow-pos, pow-mono, high, low, mod-pow-add, mod-mod-pow, shr-lt, shl-exact}
-use borrow.Author.Tests.{lt-ltb, le-ltb}
+use lib.ListN.{length, getD}
+use lib.Dec.{lit<}
+use lib.Bits.{bitOr, bitAnd, or-shifted-r}
+use lib.Pow.{pow-pos, high, low, mod-pow-add, shr-shr, shr-lt, shr-le, shl-exact}
 use Rattle.memory.specs.declared.Sizes.{Sizes}
 use Rattle.memory.specs.Bits.{Bytes, number, fieldAt}
-use Rattle.memory.specs.Image.{imageBytes, streamBytes, streamOf, streamNumber}
-use Rattle.memory.specs.Answers.{streamIndex}
-use Rattle.stream.specs.Answers.{InBytes, runBytes}
+use Rattle.memory.specs.Image.{imageBytes, streamBytes, streamBits, streamOf, streamNumber}
+use Rattle.memory.specs.Answers.{Whole, streamIndex}
+use Rattle.stream.specs.Answers.{InStream}
 use Rattle.memory.proofs.FieldLaws.{field-lt, field-add, field-field}
-use Rattle.memory.proofs.Digits.{bytes-drop, number-lt, number-drop, number-at}
-use Rattle.stream.proofs.Turns.{one-shl}
+use Rattle.memory.proofs.Digits.{number-lt, number-at}
 use Rattle.memory.proofs.Streams.{index-register, index-page, index-lt, stream-length, stream-at, stream-bytes}
-
--- ---- where they stand
-
-module _ (z : Sizes) (i : ℕ) where
-  pub run-register : i < z .register → runBytes z i ≡ z .register - i
-  run-register h = simp (lt-ltb i (z .register) h)
-
-  pub run-page : z .register ≤ i → runBytes z i ≡ 31 - (i - z .register) % 31
-  run-page h = simp (le-ltb i (z .register) h)
-
-  -- Within the run, and behind its check byte.
-  pub run-near : (k : ℕ) → k < runBytes z i → streamIndex z (i + k) ≡ streamIndex z i + k
-  run-near k h = go (decLt i (z .register))
-    where
-      go : Dec (i < z .register) → streamIndex z (i + k) ≡ streamIndex z i + k
-      go (yes s) =
-          let r = run-register s in
-          omega (arith, index-register z i s, index-register z (i + k) (omega arith))
-      go (no s) =
-          let r = run-page (omega arith) in
-          omega (arith, index-page z i (omega arith), index-page z (i + k) (omega arith))
-
-  pub run-far : (k : ℕ) → runBytes z i ≤ k → k < runBytes z i + 31 → streamIndex z (i + k) ≡ streamIndex z i + k + 1
-  run-far k h l = go (decLt i (z .register))
-    where
-      go : Dec (i < z .register) → streamIndex z (i + k) ≡ streamIndex z i + k + 1
-      go (yes s) =
-          let r = run-register s in
-          omega (arith, index-register z i s, index-page z (i + k) (omega arith))
-      go (no s) =
-          let r = run-page (omega arith) in
-          omega (arith, index-page z i (omega arith), index-page z (i + k) (omega arith))
-
-  -- The index that the code takes.
-  pub run-index : (from bytes k : ℕ) → from ≡ streamIndex z i → bytes ≡ runBytes z i → k < 31
-      → cond (ltb k bytes) (from + k) (from + k + 1) ≡ streamIndex z (i + k)
-  run-index from bytes k e f h = go (decLt k bytes)
-    where
-      go : Dec (k < bytes) → cond (ltb k bytes) (from + k) (from + k + 1) ≡ streamIndex z (i + k)
-      go (yes s) = simp (lt-ltb k bytes s) (omega (arith, run-near k (omega arith)))
-      go (no s) = simp (le-ltb k bytes (omega arith)) (omega (arith, run-far k (omega arith) (omega arith)))
-
--- The first byte of a run stands within the image.
-pub run-in : {z : Sizes} {image : List ℕ} {first count from : ℕ} → InBytes z image first count → from ≡ streamIndex z first → (from ≤ length image) × (from < 2 ^ 32)
-run-in {z} {image} {first} p e =
-    let h = index-lt z first (omega arith) in
-    (omega arith, omega arith)
+use Rattle.stream.proofs.Words.{low-bits}
 
 -- ---- eight bytes as one word
 
@@ -111,37 +61,67 @@ module _ (bytes : List ℕ) (hb : Bytes bytes) (f : ℕ) where
       let w6 = join-turn 6 _ _ (eight-in f 6 _ h (lit< tt)) (lit< tt) w5 e6 in
       join-turn 7 _ _ (eight-in f 7 _ h (lit< tt)) (lit< tt) w6 e7
 
-  -- The last bytes, from the end on: one more below those joined.
-  pub tail-turn : (word b : ℕ) → f < length bytes → length bytes < f + 8 → word ≡ number (drop (suc f) bytes) → b ≡ getD bytes f 0
-      → bitOr (word * 2 ^ 8 % 2 ^ 64) b ≡ number (drop f bytes)
-  tail-turn word b hi hk e d =
-      let l : List ℕ = drop (suc f) bytes in
-      let hw : word < 2 ^ 56 =
-      rw e (lt-of-lt-of-le (number-lt l (bytes-drop (suc f) bytes hb)) (pow-mono {j = 56} (omega (arith, length-drop (suc f) bytes)))) in
-      let b256 : b < 2 ^ 8 = rw d (hb f) in
-      ap (λ (x : ℕ). bitOr x b) (shl-exact 56 8 64 hw (omega arith))
-      ∙ or-shifted word 8 b b256
-      ∙ ap₂ (λ (x y : ℕ). x * 256 + y) e d
-      ∙ sym (ap number (drop-cons bytes f 0 hi))
+  -- The last eight, and those of them from byte f on.
+  pub window-end : (last word : ℕ) → length bytes ≡ last + 8 → last ≤ f → word ≡ fieldAt (number bytes) (8 * last) 64 → word / 2 ^ (8 * (f - last)) ≡ fieldAt (number bytes) (8 * f) 64
+  window-end last word e h ew =
+      let N : ℕ = number bytes in
+      let n : 8 * length bytes ≡ 64 + 8 * last = omega arith in
+      let lt : N / 2 ^ (8 * last) < 2 ^ 64 = shr-lt 64 (8 * last) (rw (← n) (number-lt bytes hb)) in
+      let to : N / 2 ^ (8 * last) / 2 ^ (8 * (f - last)) ≡ N / 2 ^ (8 * f) =
+      shr-shr N (8 * last) (8 * (f - last)) ∙ ap (λ (x : ℕ). N / 2 ^ x) (omega arith) in
+      ap (λ (x : ℕ). x / 2 ^ (8 * (f - last))) (ew ∙ mod-eq-of-lt lt) ∙ to
+      ∙ sym (mod-eq-of-lt (rw (← to) (lt-of-le-of-lt (shr-le (N / 2 ^ (8 * last)) (8 * (f - last))) lt)))
 
-  pub tail-all : length bytes ≤ f + 8 → number (drop f bytes) ≡ fieldAt (number bytes) (8 * f) 64
-  tail-all h =
-      sym (mod-eq-of-lt (lt-of-lt-of-le (number-lt (drop f bytes) (bytes-drop f bytes hb)) (pow-mono {j = 64} (omega (arith, length-drop f bytes)))))
-      ∙ ap (λ (x : ℕ). x % 2 ^ 64) (number-drop bytes hb f)
+-- ---- where the stream stands
 
--- ---- bytes of the stream out of a word
+-- Behind c check bytes, and before the next.
+pub index-at : (z : Sizes) (c i : ℕ) → i < z .register + 31 * c → z .register + 31 * c ≤ i + 31 → streamIndex z i ≡ i + c
+index-at z c i h l = go (decLt i (z .register))
+  where
+    go : Dec (i < z .register) → streamIndex z i ≡ i + c
+    go (yes s) = omega (arith, index-register z i s)
+    go (no s) = omega (arith, index-page z i (omega arith))
 
--- The low bytes of a word of eight.
-pub word-low : (M n word k : ℕ) → k ≤ 8 → word ≡ fieldAt M n 64 → word % 2 ^ (8 * k) ≡ fieldAt M n (8 * k)
-word-low M n word k h ew =
-    let e : 64 ≡ (64 - 8 * k) + 8 * k = omega arith in
-    ap (λ (x : ℕ). x % 2 ^ (8 * k)) ew
-    ∙ ap (λ (x : ℕ). M / 2 ^ n % 2 ^ x % 2 ^ (8 * k)) e
-    ∙ mod-mod-pow (M / 2 ^ n) (64 - 8 * k) (8 * k)
+-- So stand the w bits of the stream from bit n on.
+pub record Side (z : Sizes) (c n w : ℕ) : Type 0 where
+  pub inside : n + 8 * c + w ≤ 8 * imageBytes z
+  pub behind : 8 * z .register + 248 * c ≤ n + 248
+  pub before : n + w ≤ 8 * z .register + 248 * c
+
+pub side-stream : {z : Sizes} {c n w : ℕ} → Side z c n w → n + w ≤ streamBits z
+side-stream s = omega arith
+
+pub side-image : {z : Sizes} {image : List ℕ} {c n w : ℕ} (l bit : ℕ) → Whole z image → Side z c n w → l ≡ length image → bit ≡ n + 8 * c
+    → (8 ≤ l) × (l < 2 ^ 32) × (bit + w ≤ 8 * l)
+side-image l bit p s e b = (omega arith, omega arith, omega arith)
+
+-- A field whose first byte stands behind c check bytes: before the next, or in two parts.
+module _ {z : Sizes} {image : List ℕ} {at width : ℕ} (c : ℕ) (p : InStream z image at width) (h : (at / 8 < z .register + 31 * c) × (z .register + 31 * c ≤ at / 8 + 31)) where
+  pub side : at + width ≤ 8 * z .register + 248 * c → Side z c at width
+  side l = record { inside = omega arith; behind = omega arith; before = l }
+
+  pub side-first : 8 * z .register + 248 * c < at + width → Side z c at (8 * z .register + 248 * c - at)
+  side-first l = record { inside = omega arith; behind = omega arith; before = omega arith }
+
+  pub side-rest : 8 * z .register + 248 * c < at + width → Side z (c + 1) (8 * z .register + 248 * c) (width - (8 * z .register + 248 * c - at))
+  side-rest l = record { inside = omega arith; behind = omega arith; before = omega arith }
+
+  -- Bytes from its first on: eight before the next check byte, or those before it, and of eight in the image those behind it.
+  pub side-eight : at / 8 + 8 ≤ z .register + 31 * c → Side z c (8 * (at / 8)) 64
+  side-eight l = record { inside = omega arith; behind = omega arith; before = omega arith }
+
+  pub side-byte : Side z c (8 * (at / 8)) 8
+  side-byte = record { inside = omega arith; behind = omega arith; before = omega arith }
+
+  pub side-run : Side z c (8 * (at / 8)) (8 * (z .register + 31 * c - at / 8))
+  side-run = record { inside = omega arith; behind = omega arith; before = omega arith }
+
+  pub side-over : z .register + 31 * c < at / 8 + 8 → at / 8 + c + 8 ≤ length image → Side z (c + 1) (8 * (z .register + 31 * c)) (56 - 8 * (z .register + 31 * c - at / 8))
+  side-over l m = record { inside = omega arith; behind = omega arith; before = omega arith }
 
 module _ (z : Sizes) (image : List ℕ) (whole : length image ≡ imageBytes z) (hb : Bytes image) where
   -- Bytes that stand side by side are a field of the stream and of the image.
-  run-field : (f at n : ℕ) → f + n ≤ streamBytes z → ((k : ℕ) → k < n → streamIndex z (f + k) ≡ at + k)
+  pub run-field : (f at n : ℕ) → f + n ≤ streamBytes z → ((k : ℕ) → k < n → streamIndex z (f + k) ≡ at + k)
       → fieldAt (streamNumber z image) (8 * f) (8 * n) ≡ fieldAt (number image) (8 * at) (8 * n)
   run-field f at zero h e = mod-one _ ∙ sym (mod-one _)
   run-field f at (suc n) h e =
@@ -162,49 +142,57 @@ module _ (z : Sizes) (image : List ℕ) (whole : length image ≡ imageBytes z) 
       ∙ sym (field-add M (8 * at) 8 (8 * n))
       ∙ ap (fieldAt M (8 * at)) (sym w)
 
-  module _ (f n at run word : ℕ) (inside : f + n ≤ streamBytes z) (most : n ≤ 5) (ea : at ≡ streamIndex z f) (er : run ≡ runBytes z f)
-      (ew : word ≡ fieldAt (number image) (8 * at) 64) where
-    -- The first m bytes of the word are the stream's.
-    near : (m : ℕ) → m ≤ n → m ≤ run → word % 2 ^ (8 * m) ≡ fieldAt (streamNumber z image) (8 * f) (8 * m)
-    near m h l =
-        word-low (number image) (8 * at) word m (omega arith) ew
-        ∙ sym (run-field f at m (omega arith) (λ k s. omega (arith, run-near z f k (omega arith))))
+  -- They are a field of the image.
+  pub run-bits : (c n w : ℕ) → Side z c n w → fieldAt (streamNumber z image) n w ≡ fieldAt (number image) (n + 8 * c) w
+  run-bits c n w s =
+      let f : ℕ = n / 8 in
+      let m : ℕ = (n % 8 + w + 7) / 8 in
+      let N : ℕ = streamNumber z image in
+      let M : ℕ = number image in
+      ap (λ (x : ℕ). fieldAt N x w) (omega arith)
+      ∙ sym (field-field N (8 * f) (8 * m) (n % 8) w (omega arith))
+      ∙ ap (λ (x : ℕ). fieldAt x (n % 8) w) (run-field f (f + c) m (omega (arith, side-stream s)) (λ k h. omega (arith, index-at z c (f + k) (omega arith) (omega arith))))
+      ∙ field-field M (8 * (f + c)) (8 * m) (n % 8) w (omega arith)
+      ∙ ap (λ (x : ℕ). fieldAt M x w) (omega arith)
 
-    pub gather-near : n ≤ run → word % 2 ^ (8 * n) ≡ fieldAt (streamNumber z image) (8 * f) (8 * n)
-    gather-near = near n (omega arith)
+  -- ---- a field out of a word
 
-    -- With the check byte behind the run left out.
-    pub gather-far : run < n → bitOr (word / 2 ^ (8 * run + 8) * 2 ^ (8 * run) % 2 ^ 64) (bitAnd word (1 * 2 ^ (8 * run) % 2 ^ 64 - 1)) % 2 ^ (8 * n)
-        ≡ fieldAt (streamNumber z image) (8 * f) (8 * n)
-    gather-far h =
-        let N : ℕ = streamNumber z image in
-        let M : ℕ = number image in
-        let s : ℕ = 8 * run in
-        let v : ℕ = 8 * (n - run) in
-        let hi : ℕ = word / 2 ^ (s + 8) in
-        let lo : ℕ = word % 2 ^ s in
-        let hw : word < 2 ^ (56 - s + (s + 8)) =
-        rw ew (lt-of-lt-of-le (field-lt M (8 * at) 64) (pow-mono {i = 64} (omega arith))) in
-        let e : 8 * n ≡ v + s = omega arith in
-        let l : lo < 2 ^ s = mod-lt word (pow-pos s) in
-        let far : hi % 2 ^ v ≡ fieldAt N (8 * f + s) v =
-        ap (λ (x : ℕ). fieldAt x (s + 8) v) ew
-        ∙ field-field M (8 * at) 64 (s + 8) v (omega arith)
-        ∙ ap (λ (x : ℕ). fieldAt M x v) (omega arith)
-        ∙ sym (run-field (f + run) (at + run + 1) (n - run) (omega arith) behind)
-        ∙ ap (λ (x : ℕ). fieldAt N x v) (omega arith) in
-        ap (λ (x : ℕ). x % 2 ^ (8 * n))
-        (ap₂ bitOr (shl-exact (56 - s) s 64 (shr-lt (56 - s) (s + 8) hw) (omega arith))
-        (ap (λ (x : ℕ). bitAnd word (x - 1)) (one-shl s (omega arith)) ∙ and-mask word s)
-        ∙ or-shifted hi s lo l)
-        ∙ ap (λ (k : ℕ). (hi * 2 ^ s + lo) % 2 ^ k) e
-        ∙ mod-pow-add (hi * 2 ^ s + lo) v s
-        ∙ ap₂ (λ (x y : ℕ). x % 2 ^ v * 2 ^ s + y) (high hi s l) (low hi s l)
-        ∙ ap₂ (λ (x y : ℕ). x * 2 ^ s + y) far (near run (omega arith) (omega arith))
-        ∙ sym (field-add N (8 * f) v s)
-        ∙ ap (fieldAt N (8 * f)) (sym e)
-      where
-        behind : (k : ℕ) → k < n - run → streamIndex z (f + run + k) ≡ at + run + 1 + k
-        behind k h =
-            let g : streamIndex z (f + run + k) ≡ streamIndex z (f + (run + k)) = ap (streamIndex z) (omega arith) in
-            g ∙ run-far z f (run + k) (omega arith) (omega arith) ∙ omega arith
+  module _ (c at width word : ℕ) (most : width ≤ 49) (ew : word ≡ fieldAt (number image) (8 * (at / 8 + c)) 64) where
+    -- A part of the word, from its bit for `at` on.
+    part : (m v : ℕ) → v + (at % 8 + m) ≤ 64 → fieldAt (word / 2 ^ (at % 8)) m v ≡ fieldAt (number image) (at + 8 * c + m) v
+    part m v h =
+        ap (λ (x : ℕ). x % 2 ^ v) (shr-shr word (at % 8) m)
+        ∙ ap (λ (x : ℕ). fieldAt x (at % 8 + m) v) ew
+        ∙ field-field (number image) (8 * (at / 8 + c)) 64 (at % 8 + m) v h
+        ∙ ap (λ (x : ℕ). fieldAt (number image) x v) (omega arith)
+
+    first : (v : ℕ) → v ≤ 49 → Side z c at v → word / 2 ^ (at % 8) % 2 ^ v ≡ fieldAt (streamNumber z image) at v
+    first v h s =
+        ap (λ (x : ℕ). fieldAt x (at % 8) v) ew
+        ∙ field-field (number image) (8 * (at / 8 + c)) 64 (at % 8) v (omega arith)
+        ∙ ap (λ (x : ℕ). fieldAt (number image) x v) (omega arith)
+        ∙ sym (run-bits c at v s)
+
+    pub take-near : Side z c at width → bitAnd (word / 2 ^ (at % 8)) (1 * 2 ^ width % 2 ^ 64 - 1) ≡ fieldAt (streamNumber z image) at width
+    take-near s = low-bits (word / 2 ^ (at % 8)) width (omega arith) ∙ first width most s
+
+    -- With a check byte before bit `edge` of the stream, left out of the word.
+    pub take-far : (edge near : ℕ) → at < edge → edge < at + width → Side z c at (edge - at) → Side z (c + 1) edge (width - (edge - at))
+        → near ≡ word / 2 ^ (at % 8) / 2 ^ (8 + (edge - at)) * 2 ^ (edge - at) + word / 2 ^ (at % 8) % 2 ^ (edge - at)
+        → bitAnd near (1 * 2 ^ width % 2 ^ 64 - 1) ≡ fieldAt (streamNumber z image) at width
+    take-far edge near before behind a b en =
+        let s : ℕ = edge - at in
+        let v : ℕ = width - s in
+        let e : width ≡ v + s = omega arith in
+        let W : ℕ = word / 2 ^ (at % 8) in
+        let hi : ℕ = W / 2 ^ (8 + s) in
+        let lt : W % 2 ^ s < 2 ^ s = mod-lt W (pow-pos s) in
+        low-bits near width (omega arith)
+        ∙ ap₂ (λ (x k : ℕ). x % 2 ^ k) en e
+        ∙ mod-pow-add (hi * 2 ^ s + W % 2 ^ s) v s
+        ∙ ap₂ (λ (x y : ℕ). x % 2 ^ v * 2 ^ s + y) (high hi s lt) (low hi s lt)
+        ∙ ap₂ (λ (x y : ℕ). x * 2 ^ s + y)
+        (part (8 + s) v (omega arith) ∙ ap (λ (x : ℕ). fieldAt (number image) x v) (omega arith) ∙ sym (run-bits (c + 1) edge v b) ∙ ap (λ (x : ℕ). fieldAt (streamNumber z image) x v) (omega arith))
+        (first s (omega arith) a)
+        ∙ sym (field-add (streamNumber z image) at v s)
+        ∙ ap (fieldAt (streamNumber z image) at) (sym e)

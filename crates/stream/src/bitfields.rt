@@ -1,65 +1,16 @@
-// Fields of 1 to 32 bits at any bit of the stream, straight in the image.
+// Fields of 1 to 49 bits at any bit of the stream, straight in the image.
 ghost use mathlib.Core.Path.{_≡_};
-ghost use mathlib.Core.Bool.{cond};
 ghost use Prim.Native.Nat.{_+_, _-_, _*_, _/_, _%_, _^_, _≤_, _<_};
 ghost use lib.ListN.{length};
-ghost use lib.Dec.{ltb};
 ghost use Rattle.memory.specs.Bits.{number, bytesOf, fieldAt, putAt};
 ghost use Rattle.memory.specs.Image.{streamNumber, putIn};
-ghost use Rattle.memory.specs.Answers.{streamIndex};
-ghost use Rattle.stream.specs.Answers.{InBytes, InStream, runBytes};
+ghost use Rattle.stream.specs.Answers.{InStream};
 use memory::Sizes;
 
 fn wide(x: u8) -> u64
     ensures { λ r. ⌜ (r ≡ x) × (r < 256) ⌝ }
 {
     x as u64
-}
-
-// Bytes of the stream that stand side by side in the image.
-struct Run {
-    from: usize,
-    bytes: usize,
-}
-
-// How many whole pages stand before the `nth` byte of the pages: a division by 31, as a product with (2^35 - 1) / 31.
-fn pages_before(nth: usize) -> usize
-    requires { ⌜ (1 ≤ nth) × (nth ≤ 2 ^ 32) ⌝ }
-    ensures { λ r. ⌜ r ≡ (nth - 1) / 31 ⌝ }
-{
-    (nth * 0x4210_8421) >> 35
-}
-
-// Where byte `i` of the stream stands in the image, and how many stand side by side from there to the next check byte.
-fn run_from(sizes: Sizes, i: usize) -> Run
-    requires { ⌜ i < 2 ^ 32 ⌝ }
-    ensures { λ r. ⌜ (r .from ≡ streamIndex sizes i) × (r .bytes ≡ runBytes sizes i) ⌝ }
-{
-    let register = sizes.register;
-    if i < register {
-        return Run {
-            from: i,
-            bytes: register - i,
-        };
-    }
-    let nth = i - register + 1;
-    let place = nth + pages_before(nth);
-    Run {
-        from: register + place,
-        bytes: 32 - place % 32,
-    }
-}
-
-// Where byte `k` from a run's first on stands: one behind the run stands behind a check byte.
-fn index(run: Run, k: usize) -> usize
-    requires { ⌜ run .from + k < 2 ^ 33 ⌝ }
-    ensures { λ r. ⌜ r ≡ cond (ltb k (run .bytes)) (run .from + k) (run .from + k + 1) ⌝ }
-{
-    if k < run.bytes {
-        run.from + k
-    } else {
-        run.from + k + 1
-    }
 }
 
 // The 8 bytes of the image from byte `from` on, as one number.
@@ -77,35 +28,33 @@ fn eight(image: &[u8], from: usize) -> u64
         | (wide(image[from + 7]) << 56)
 }
 
-// The same, with zeros behind the image's end.
+// The same, with zeros behind the image's end: where fewer than 8 bytes are left, the last 8 shifted.
 fn window(image: &[u8], from: usize) -> u64
-    requires { ⌜ (from ≤ length (now image)) × (from < 2 ^ 32) ⌝ }
+    requires { ⌜ (8 ≤ length (now image)) × (from < length (now image)) ⌝ }
     ensures { λ r. ⌜ r ≡ fieldAt (number (now (image .entry))) (8 * from) 64 ⌝ }
 {
-    let mut i = image.len();
-    if from + 8 <= i {
+    let last = image.len() - 8;
+    if from <= last {
         return eight(image, from);
     }
-    let mut word: u64 = 0;
-    while from < i {
-        i -= 1;
-        word = (word << 8) | wide(image[i]);
-    }
-    word
+    eight(image, last) >> (8 * (from - last))
 }
 
-// `count` bytes of the stream from byte `first` on, as the low bytes of a number.
-fn gather(sizes: Sizes, image: &[u8], first: usize, count: usize) -> u64
-    requires { ⌜ InBytes sizes (now image) first count ⌝ }
-    ensures { λ r. ⌜ r % 2 ^ (8 * count) ≡ fieldAt (streamNumber sizes (now (image .entry))) (8 * first) (8 * count) ⌝ }
+// How many check bytes stand before byte `i` of the stream: a division by 31, as a product with (2^35 - 1) / 31.
+fn checks_before(sizes: Sizes, i: usize) -> usize
+    requires { ⌜ (sizes .register ≤ 8) × (i < 2 ^ 32 - 32) ⌝ }
+    ensures { λ r. ⌜ (i < sizes .register + 31 * r) × (sizes .register + 31 * r ≤ i + 31) ⌝ }
 {
-    let run = run_from(sizes, first);
-    let word = window(image, run.from);
-    if count <= run.bytes {
-        return word;
-    }
-    let low = 8 * run.bytes;
-    ((word >> (low + 8)) << low) | (word & ((1u64 << low) - 1))
+    ((i + 32 - sizes.register) * 0x4210_8421) >> 35
+}
+
+// A number with the 8 bits behind its first `bits` left out.
+fn over_check(word: u64, bits: usize) -> u64
+    requires { ⌜ bits < 64 ⌝ }
+    ensures { λ r. ⌜ r ≡ word / 2 ^ (8 + bits) * 2 ^ bits + word % 2 ^ bits ⌝ }
+{
+    let near = (1u64 << bits) - 1;
+    (word & near) | ((word >> 8) & (0xffff_ffff_ffff_ffff - near))
 }
 
 // The field of `width` bits at bit `at` of the stream.
@@ -113,9 +62,17 @@ pub fn take(sizes: Sizes, image: &[u8], at: usize, width: usize) -> u64
     requires { ⌜ InStream sizes (now image) at width ⌝ }
     ensures { λ r. ⌜ r ≡ fieldAt (streamNumber sizes (now (image .entry))) at width ⌝ }
 {
-    let low = at % 8;
-    let word = gather(sizes, image, at / 8, (low + width + 7) / 8);
-    (word >> low) & ((1u64 << width) - 1)
+    let i = at / 8;
+    let checks = checks_before(sizes, i);
+    let from = i + checks;
+    let word = window(image, from) >> (at % 8);
+    // The bit of the stream that stands behind the next check byte.
+    let edge = 8 * sizes.register + 248 * checks;
+    let mask = (1u64 << width) - 1;
+    if at + width <= edge {
+        return word & mask;
+    }
+    over_check(word, edge - at) & mask
 }
 
 // The lowest byte of a number.
@@ -140,27 +97,47 @@ fn lay_eight(image: &mut [u8], from: usize, word: u64)
     image[from + 7] = byte(word >> 56);
 }
 
-// Writes the `count` low bytes of a number into the stream from byte `first` on.
-fn scatter(sizes: Sizes, image: &mut [u8], first: usize, count: usize, word: u64)
-    requires { ⌜ InBytes sizes (now image) first count ⌝ }
-    ensures { λ _. ⌜ now (image .exit) ≡ putIn sizes (now (image .entry)) (8 * first) (8 * count) (word % 2 ^ (8 * count)) ⌝ }
+// A number with a check byte put in behind its first `bits` bits.
+fn with_check(word: u64, bits: usize, check: u64) -> u64
+    requires { ⌜ (word < 2 ^ 56) × (bits ≤ 56) × (check < 2 ^ 8) ⌝ }
+    ensures { λ r. ⌜ r ≡ word / 2 ^ bits * 2 ^ (8 + bits) + (check * 2 ^ bits + word % 2 ^ bits) ⌝ }
 {
-    let run = run_from(sizes, first);
-    let mut k: usize = 0;
-    while k < count {
-        let i = index(run, k);
-        image[i] = byte(word >> (8 * k));
-        k += 1;
-    }
+    let near = (1u64 << bits) - 1;
+    (word & near) | (check << bits) | ((word & (0xffff_ffff_ffff_ffff - near)) << 8)
 }
 
 // A number with its field of `width` bits at bit `low` replaced by a code.
 fn replaced(word: u64, low: usize, width: usize, code: u64) -> u64
-    requires { ⌜ (width + low ≤ 39) × (low < 8) × (code < 2 ^ width) ⌝ }
+    requires { ⌜ (low < 64) × (width < 64) × (width + low ≤ 64) × (code < 2 ^ width) ⌝ }
     ensures { λ r. ⌜ r ≡ putAt word low width code ⌝ }
 {
-    let top = width + low;
-    ((word >> top) << top) | ((code << low) | (word & ((1u64 << low) - 1)))
+    let old = (word >> low) & ((1u64 << width) - 1);
+    word - (old << low) + (code << low)
+}
+
+// Writes a code into the field of `width` bits at bit `bit` of the image, in the 8 bytes from byte `from` on.
+fn put_eight(image: &mut [u8], from: usize, bit: usize, width: usize, code: u64)
+    requires { ⌜ (from + 8 ≤ length (now image)) × (length (now image) < 2 ^ 32) × (8 * from ≤ bit) × (bit + width ≤ 8 * from + 64) ⌝ }
+    requires { ⌜ (1 ≤ width) × (width ≤ 49) × (code < 2 ^ width) ⌝ }
+    ensures { λ _. ⌜ now (image .exit) ≡ bytesOf (length (now (image .entry))) (putAt (number (now (image .entry))) bit width code) ⌝ }
+{
+    let word = eight(image, from);
+    lay_eight(image, from, replaced(word, bit - 8 * from, width, code));
+}
+
+// The same in 8 bytes that hold it: in the last where fewer are left.
+fn put_bits(image: &mut [u8], bit: usize, width: usize, code: u64)
+    requires { ⌜ (8 ≤ length (now image)) × (length (now image) < 2 ^ 32) × (bit + width ≤ 8 * length (now image)) ⌝ }
+    requires { ⌜ (1 ≤ width) × (width ≤ 49) × (code < 2 ^ width) ⌝ }
+    ensures { λ _. ⌜ now (image .exit) ≡ bytesOf (length (now (image .entry))) (putAt (number (now (image .entry))) bit width code) ⌝ }
+{
+    let from = bit / 8;
+    let last = image.len() - 8;
+    if from <= last {
+        put_eight(image, from, bit, width, code);
+        return;
+    }
+    put_eight(image, last, bit, width, code);
 }
 
 // Writes a code into the field of `width` bits at bit `at` of the stream. Its neighbours keep their state, and so does
@@ -169,19 +146,38 @@ pub fn put(sizes: Sizes, image: &mut [u8], at: usize, width: usize, code: u64)
     requires { ⌜ InStream sizes (now image) at width × (code < 2 ^ width) ⌝ }
     ensures { λ _. ⌜ now (image .exit) ≡ putIn sizes (now (image .entry)) at width code ⌝ }
 {
-    let low = at % 8;
-    let first = at / 8;
-    let count = (low + width + 7) / 8;
-    let run = run_from(sizes, first);
-    let from = run.from;
-    // A field within the run lies in one number.
-    if count <= run.bytes {
-        if from + 8 <= image.len() {
-            let word = eight(image, from);
-            lay_eight(image, from, replaced(word, low, width, code));
-            return;
-        }
+    let checks = checks_before(sizes, at / 8);
+    let edge = 8 * sizes.register + 248 * checks;
+    if at + width <= edge {
+        put_bits(image, at + 8 * checks, width, code);
+        return;
     }
-    let word = gather(sizes, image, first, count);
-    scatter(sizes, image, first, count, replaced(word, low, width, code));
+    // What goes before the check byte, and what goes behind it.
+    let near = edge - at;
+    put_bits(image, at + 8 * checks, near, code & ((1u64 << near) - 1));
+    put_bits(image, edge + 8 * checks + 8, width - near, code >> near);
+}
+
+// The same where every bit of the stream from `at` on is 0.
+pub fn append(sizes: Sizes, image: &mut [u8], at: usize, width: usize, code: u64)
+    requires { ⌜ InStream sizes (now image) at width × (code < 2 ^ width) ⌝ }
+    requires { ⌜ streamNumber sizes (now image) < 2 ^ at ⌝ }
+    ensures { λ _. ⌜ now (image .exit) ≡ putIn sizes (now (image .entry)) at width code ⌝ }
+{
+    let i = at / 8;
+    let checks = checks_before(sizes, i);
+    let from = i + checks;
+    let word = wide(image[from]) | (code << (at % 8));
+    // The byte of the stream that stands behind the next check byte.
+    let edge = sizes.register + 31 * checks;
+    if i + 8 <= edge {
+        lay_eight(image, from, word);
+        return;
+    }
+    if from + 8 <= image.len() {
+        let check = wide(image[edge + checks]);
+        lay_eight(image, from, with_check(word, 8 * (edge - i), check));
+        return;
+    }
+    put(sizes, image, at, width, code);
 }

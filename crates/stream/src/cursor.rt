@@ -1,7 +1,7 @@
 // A place in the stream, carried by value and handed back moved on.
 ghost use mathlib.Core.Path.{_≡_};
 ghost use Prim.Native.Nat.{_+_, _^_, _≤_, _<_};
-ghost use Rattle.memory.specs.Image.{putIn};
+ghost use Rattle.memory.specs.Image.{streamNumber, putIn};
 ghost use Rattle.memory.specs.Answers.{Whole};
 ghost use Rattle.stream.specs.Answers.{InStream, takenSaid, takenAt};
 use crate::bitfields;
@@ -29,7 +29,7 @@ impl Cursor {
 
     // The field of `width` bits at the cursor, and the cursor behind it, or 3 where the field would pass the end.
     pub fn take(self, sizes: Sizes, image: &[u8], width: usize) -> Taken
-        requires { ⌜ Whole sizes (now image) × (1 ≤ width) × (width ≤ 32) ⌝ }
+        requires { ⌜ Whole sizes (now image) × (1 ≤ width) × (width ≤ 49) ⌝ }
         ensures { λ r. ⌜ takenSaid r ≡ takenAt sizes (now (image .entry)) (self .at) width ⌝ }
     {
         let at = self.at;
@@ -47,12 +47,14 @@ impl Cursor {
         )
     }
 
-    // Writes a code into the field of `width` bits at the cursor, and hands back the cursor behind it.
-    pub fn put(self, sizes: Sizes, image: &mut [u8], width: usize, code: u64) -> Self
+    // Writes a code into the field of `width` bits at the cursor, where every bit of the stream from there on is 0, and hands back
+    // the cursor behind it.
+    pub fn append(self, sizes: Sizes, image: &mut [u8], width: usize, code: u64) -> Self
         requires { ⌜ InStream sizes (now image) (self .at) width × (code < 2 ^ width) ⌝ }
+        requires { ⌜ streamNumber sizes (now image) < 2 ^ self .at ⌝ }
         ensures { λ r. ⌜ (now (image .exit) ≡ putIn sizes (now (image .entry)) (self .at) width code) × (r .at ≡ self .at + width) ⌝ }
     {
-        bitfields::put(sizes, image, self.at, width, code);
+        bitfields::append(sizes, image, self.at, width, code);
         Cursor {
             at: self.at + width,
         }

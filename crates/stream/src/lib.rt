@@ -6,6 +6,7 @@ mod bitfields;
 mod cursor;
 mod writing;
 
+pub use bitfields::take;
 pub use cursor::Cursor;
 pub use cursor::Taken;
 pub use writing::clear;

@@ -43,7 +43,9 @@ pub fn rewrite(sizes: Sizes, image: &mut [u8], at: usize, width: usize, code: u6
     let last = page_of(sizes, at + width - 1);
     bitfields::put(sizes, image, at, width, code);
     memory::seal(sizes, image, first);
-    memory::seal(sizes, image, last);
+    if first != last {
+        memory::seal(sizes, image, last);
+    }
 }
 
 // Writes every check byte. The stream stays as it is.

@@ -1,38 +1,15 @@
 -- `plan::code_of` meets its contract.
-use mathlib.Core.Path.{_∙_}
 use borrow.Author.Needs.{needs}
-use Rattle.fields.specs.Lines.{rowOf}
-use Rattle.fields.proofs.RowLaws.{row-sound}
-use Rattle.build.proofs.Coding.{encodes, seen}
+use Rattle.coding.proofs.Lent.{lent-real}
+use Rattle.build.proofs.Coding.{encodes}
 use Rattle.build.proofs.plan.code_of.Statement.{statement}
 use Rattle.build.proofs.plan.code_of.Tie as tie
 
 returns : tie.Need-returns
 returns c =
-    let s = c .before .before .before .before in
-    let row = rowOf (s .args .layout) (s .args .field) in
-    encodes row (s .args .field) _ (c .encode-whole .result) (row-sound _ _ (s .pre .0) (s .pre .1)) (c .before .before .value .given .1) tt (c .encode-whole .ensures ∙ seen row (s .args .field) (search needs))
-
-returns-2 : tie.Need-returns-2
-returns-2 c =
-    let s = c .before .before .before .before in
-    encodes _ (s .args .field) _ (c .encode-single .result) (row-sound _ _ (s .pre .0) (s .pre .1)) (c .before .before .value2 .given .1) (search needs) (c .encode-single .ensures)
-
-returns-3 : tie.Need-returns-3
-returns-3 c =
-    let s = c .before .before .before in
-    encodes _ (s .args .field) _ (c .encode-missing .result) (row-sound _ _ (s .pre .0) (s .pre .1)) (c .before .enum-told .given .1) tt (c .encode-missing .ensures)
+    let s = c .before in
+    let a = s .args in
+    encodes (a .row) (a .field) (a .value) (c .encode-by .result) (s .pre) (lent-real (a .value) (s .good .1 .1 .0)) (c .encode-by .ensures)
 
 pub code-of-spec : {M : Type 1} → statement M
-code-of-spec =
-    tie.close
-    (tie.spec
-    (λ c. search needs)
-    (λ c κs. search needs)
-    (λ c. search needs)
-    (λ c κs. search needs)
-    (λ c. search needs)
-    (λ c κs. search needs)
-    returns
-    returns-2
-    returns-3)
+code-of-spec = tie.close (tie.spec (λ c κs. search needs) returns)

@@ -22,6 +22,9 @@ abbrev μ-loop : tie.MeasureT-loop
 loop-holds : tie.Need-loop-holds Inv-loop μ-loop
 loop-holds c = (omega (arith, c .last-field .ensures, ap lastField (c .before .template-in .ensures), last-most (templateIn (c .before .before .args .t1))), done-none _)
 
+code-of-requires : tie.Need-code-of-requires Inv-loop μ-loop
+code-of-requires c κs = rw (c .row-of .ensures) (row-sound _ _ (omega arith) (omega (arith, c .before .before .before .before .last-field .ensures)))
+
 returns : tie.Need-returns Inv-loop μ-loop
 returns c =
     let s = c .before .before .before .before .before .before .before .before .before .before in
@@ -31,7 +34,7 @@ returns c =
     let template = c .before .before .before .before .before .before .before .before .before .template-in .ensures in
     let h : l .i < lastField (templateIn sheet) = omega (arith, c .before .before .before .before .before .before .loop-test .taken, c .before .before .before .before .before .before .before .before .last-field .ensures, ap lastField template) in
     let full : length (sheet .fields) ≡ 21 = simp length-map at (s .good .0 .1 .1 .1 .0 .1 .0 .1) in
-    turn-refused sheet (l .inv .1) h _ (row .result) _ full (rw template at (row .ensures)) (rw (← row .ensures) at (c .before .before .before .code-of .ensures)) (c .before .r .given .1)
+    turn-refused sheet (l .inv .1) h _ (row .result) _ full (rw template at (row .ensures)) (c .before .before .before .code-of .ensures) (c .before .r .given .1)
 
 add-bits : tie.Need-add-bits Inv-loop μ-loop
 add-bits c =
@@ -48,7 +51,7 @@ loop-again c =
     let h : l .i < lastField (templateIn sheet) = omega (arith, c .before .before .before .before .before .before .before .before .loop-test .taken, c .before .before .before .before .before .before .before .before .before .before .last-field .ensures, ap lastField template) in
     let full : length (sheet .fields) ≡ 21 = simp length-map at (s .good .0 .1 .1 .1 .0 .1 .0 .1) in (
       l .inv .0,
-      turn-coded sheet (l .inv .1) h _ (row .result) _ full (rw template at (row .ensures)) (rw (← row .ensures) at (c .before .before .before .before .before .code-of .ensures)) (c .before .before .before .code .given .1) (rw template at (c .before .choice-behind .ensures))
+      turn-coded sheet (l .inv .1) h _ (row .result) _ full (rw template at (row .ensures)) (c .before .before .before .before .before .code-of .ensures) (c .before .before .before .code .given .1) (rw template at (c .before .choice-behind .ensures))
           (rw (c .before .before .before .before .before .before .row-of .ensures) (row-sound _ _ (omega arith) (omega (arith, c .before .before .before .before .before .before .before .before .before .before .last-field .ensures)))),
     )
 
@@ -68,7 +71,7 @@ plan-fields-spec =
     (λ c. omega arith)
     (λ c. omega arith)
     (λ c κs. omega (arith, c .before .before .before .last-field .ensures))
-    (λ c κs. omega (arith, c .before .before .before .before .last-field .ensures))
+    code-of-requires
     (λ c. search needs)
     returns
     (λ c. search needs)

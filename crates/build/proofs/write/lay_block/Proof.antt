@@ -3,28 +3,22 @@ use mathlib.Core.Path.{refl}
 use mathlib.Core.List.{[]}
 use borrow.Author.Needs.{needs}
 use native.Mathlib.Omega.{arith}
-use Rattle.build.proofs.Filling.{filling-none, code-inside, code-more, filled}
+use Rattle.layout.specs.Pieces.{blockPieces}
+use Rattle.build.proofs.Filling.{filling-none, joined-inside, joined-more, filled}
 use Rattle.build.proofs.write.lay_block.Statement.{statement}
 use Rattle.build.proofs.write.lay_block.Tie as tie
 
-put-requires : tie.Need-put-requires
-put-requires c κs =
+append-requires : tie.Need-append-requires
+append-requires c κs =
     let s = c .before .before in
-    (code-inside (s .args .sizes) 2 0 _ refl (filling-none _ (s .pre .0)) (omega arith) (omega arith), omega arith)
-
-put-requires-2 : tie.Need-put-requires-2
-put-requires-2 c κs =
-    let s = c .before .before .before .before .before .before in
     let z = s .args .sizes in
-    let f = code-more z 2 0 _ refl (filling-none z (s .pre .0)) (omega arith) (c .before .before .before .put .ensures) in
-    (code-inside z 8 (s .args .number) [] refl f (omega arith) (omega arith), s .pre .1)
+    ((joined-inside z (blockPieces (s .args .number)) [] refl (filling-none z (s .pre .0)) (omega arith) (omega arith), omega (arith, s .pre .1)), s .pre .0 .free .below)
 
 returns : tie.Need-returns
 returns c =
-    let s = c .before .before .before .before .before .before .before .before .before in
+    let s = c .before .before .before .before .before in
     let z = s .args .sizes in
-    let f = code-more z 2 0 _ refl (filling-none z (s .pre .0)) (omega arith) (c .before .before .before .before .before .before .put .ensures) in
-    filled z (code-more z 8 (s .args .number) [] refl f (s .pre .1) (c .before .before .put2 .ensures))
+    filled z (joined-more z (blockPieces (s .args .number)) [] refl (filling-none z (s .pre .0)) (omega arith, (s .pre .1, tt)) (c .before .before .append .ensures) (omega arith))
 
 pub lay-block-spec : {M : Type 1} → statement M
-lay-block-spec = tie.close (tie.spec put-requires put-requires-2 (λ c. search needs) returns)
+lay-block-spec = tie.close (tie.spec (λ c. omega (arith, c .before .before .pre .1)) append-requires (λ c. search needs) returns)

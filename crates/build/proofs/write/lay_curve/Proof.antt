@@ -19,14 +19,15 @@ Inv-loop sizes image₀ count codes cursor₀ i₀ image cursor i =
 abbrev μ-loop : tie.MeasureT-loop
 μ-loop sizes image₀ count codes cursor₀ i₀ image cursor i = count - i
 
-put-requires : tie.Need-put-requires Inv-loop μ-loop
-put-requires c κs =
+append-requires : tie.Need-append-requires Inv-loop μ-loop
+append-requires c κs =
     let s = c .before .before .before .before .before in
     let l = c .before .before .before .loop in
     let fit = s .pre .1 .1 in
     let few : l .i < 104 = omega arith in
     let turn = fields-left (s .args .t4) (l .i) (s .args .count) _ (c .before .before .loop-test .taken) (omega (arith, fit .long)) in
-    (code-inside (s .args .sizes) _ _ _ turn (l .inv .1 .1) (fit .each (l .i) _ few .some) (fit .each (l .i) _ few .most), fit .each (l .i) _ few .fits)
+    let fits = fit .each (l .i) _ few in
+    ((code-inside (s .args .sizes) _ _ _ turn (l .inv .1 .1) (fits .some) (omega (arith, fits .most)), fits .fits), l .inv .1 .1 .room .free .below)
 
 loop-again : tie.Need-loop-again Inv-loop μ-loop
 loop-again c =
@@ -35,7 +36,7 @@ loop-again c =
     let fit = s .pre .1 .1 in
     let few : l .i < 104 = omega arith in
     let turn = fields-left (s .args .t4) (l .i) (s .args .count) _ (c .before .before .before .before .before .loop-test .taken) (omega (arith, fit .long)) in
-    (omega arith, (omega (arith, c .before .before .put .kept), code-more (s .args .sizes) _ _ _ turn (l .inv .1 .1) (fit .each (l .i) _ few .fits) (c .before .before .put .ensures)))
+    (omega arith, (omega (arith, c .before .before .append .kept), code-more (s .args .sizes) _ _ _ turn (l .inv .1 .1) (fit .each (l .i) _ few .fits) (c .before .before .append .ensures)))
 
 returns : tie.Need-returns Inv-loop μ-loop
 returns c =
@@ -52,7 +53,7 @@ lay-curve-spec =
     (λ c. (search needs, (refl, filling-none _ (c .before .pre .0))))
     (λ c. omega arith)
     (λ c. omega arith)
-    put-requires
+    append-requires
     (λ c. omega arith)
     (λ c. omega arith)
     loop-again

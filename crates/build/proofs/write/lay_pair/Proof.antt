@@ -5,9 +5,11 @@ use borrow.Author.Needs.{needs}
 use native.Mathlib.Omega.{arith}
 use Rattle.refusal.specs.Outcome.{good}
 use Rattle.refusal.proofs.Outcomes.{told}
+use Rattle.fields.specs.Calibration.{calPoint, calDeviation}
 use Rattle.build.specs.Build.{codesFor}
-use Rattle.build.specs.Tested.{codesSaid, pairAt}
-use Rattle.build.proofs.Filling.{filling-none, code-inside, code-more, filled}
+use Rattle.build.specs.Tested.{codesSaid, Fitting, pairAt}
+use Rattle.build.specs.Filled.{codedPair}
+use Rattle.build.proofs.Filling.{Filling, filling-none, joined-inside, joined-more, filled}
 use Rattle.build.proofs.PairTurns.{pair-fits}
 use Rattle.build.proofs.write.lay_pair.Statement.{statement}
 use Rattle.build.proofs.write.lay_pair.Tie as tie
@@ -16,23 +18,23 @@ use Rattle.build.proofs.write.lay_pair.Tie as tie
 coded : (c : tie.After-codes) → let a = c .before .before .before .before .args in codesFor (a .i) (pairAt (a .points .now) (a .i)) ≡ good (c .codes .given .0 .0)
 coded c = sym (told codesSaid (c .codes .given .1) (c .before .before .code-pair .ensures))
 
-put-requires : tie.Need-put-requires
-put-requires c κs =
-    let k = c .before .before .before .before .before in
-    let s = k .before .before .before .before in
-    let a = s .args in
-    let fits = pair-fits (a .i) (pairAt (a .points .now) (a .i)) _ (coded k) in
-    rw (c .before .before .before .cal-point .ensures) (code-inside (a .sizes) 16 _ _ refl (filling-none _ (rw (coded k) at (s .pre .0))) (omega arith) (omega arith), omega (arith, fits .0 .fits))
+fits : (c : tie.After-codes) → let codes = c .codes .given .0 .0 in Fitting (calPoint .width) (codes .point) × Fitting (calDeviation .width) (codes .deviation)
+fits c = let a = c .before .before .before .before .args in pair-fits (a .i) (pairAt (a .points .now) (a .i)) _ (coded c)
 
-put-requires-2 : tie.Need-put-requires-2
-put-requires-2 c κs =
-    let p = c .before .before .before .before in
-    let k = p .before .before .before .before .before .before in
+-- Nothing of it is laid.
+start : (c : tie.After-codes) →
+    let a = c .before .before .before .before .args in
+    Filling (a .sizes) (a .image .now) (a .cursor) (codedPair (good (c .codes .given .0 .0))) (a .image .now) (a .cursor) (codedPair (good (c .codes .given .0 .0)))
+start c = filling-none _ (rw (coded c) at (c .before .before .before .before .pre .0))
+
+add-code : tie.Need-add-code
+add-code c = let k = c .before .before .before in omega (arith, fits k .0 .fits, fits k .1 .fits)
+
+append-requires : tie.Need-append-requires
+append-requires c κs =
+    let k = c .before .before .before .before in
     let s = k .before .before .before .before in
-    let a = s .args in
-    let fits = pair-fits (a .i) (pairAt (a .points .now) (a .i)) _ (coded k) in
-    let point = code-more (a .sizes) 16 _ _ refl (filling-none _ (rw (coded k) at (s .pre .0))) (fits .0 .fits) (rw (p .before .before .before .before .cal-point .ensures) at (p .put .ensures)) in
-    rw (p .before .before .before .cal-deviation .ensures) (code-inside (a .sizes) 21 _ [] refl point (omega arith) (omega arith), omega (arith, fits .0 .fits, fits .1 .fits))
+    ((joined-inside (s .args .sizes) (codedPair (good (k .codes .given .0 .0))) [] refl (start k) (omega arith) (omega arith), omega (arith, fits k .0 .fits, fits k .1 .fits)), s .pre .0 .free .below)
 
 returns : tie.Need-returns
 returns c =
@@ -42,13 +44,9 @@ returns c =
 
 returns-2 : tie.Need-returns-2
 returns-2 c =
-    let p = c .before .before .before .before .before .before .before in
-    let k = p .before .before .before .before .before .before in
-    let s = k .before .before .before .before in
-    let a = s .args in
-    let fits = pair-fits (a .i) (pairAt (a .points .now) (a .i)) _ (coded k) in
-    let point = code-more (a .sizes) 16 _ _ refl (filling-none _ (rw (coded k) at (s .pre .0))) (fits .0 .fits) (rw (p .before .before .before .before .cal-point .ensures) at (p .put .ensures)) in
-    rw (coded k) (filled (a .sizes) (code-more (a .sizes) 21 _ [] refl point (fits .1 .fits) (rw (p .before .before .before .cal-deviation .ensures) at (c .before .before .put2 .ensures))))
+    let k = c .before .before .before .before .before .before .before in
+    let z = k .before .before .before .before .args .sizes in
+    rw (coded k) (filled z (joined-more z (codedPair (good (k .codes .given .0 .0))) [] refl (start k) (fits k .0 .fits, (fits k .1 .fits, tt)) (c .before .before .append .ensures) (omega (arith, fits k .1 .fits))))
 
 pub lay-pair-spec : {M : Type 1} → statement M
 lay-pair-spec =
@@ -57,12 +55,10 @@ lay-pair-spec =
     (λ c κs. search needs)
     (λ c. search needs)
     (λ c. search needs)
-    (λ c κs. search needs)
-    (λ c κs. search needs)
     (λ c. search needs)
-    put-requires
     (λ c. search needs)
-    put-requires-2
+    add-code
+    append-requires
     returns
     (λ c. search needs)
     returns-2)

@@ -11,7 +11,7 @@ use Rattle.layout.specs.Pieces.{blockPieces}
 use Rattle.build.specs.Build.{pairsLent, tablePieces}
 use Rattle.build.specs.Tested.{piecesOf}
 use Rattle.build.specs.Filled.{codedPairs}
-use Rattle.build.proofs.Filling.{filling-none, room-first, filling-more, code-inside, code-more, filled}
+use Rattle.build.proofs.Filling.{filling-none, room-first, filling-more, joined-inside, joined-more, filled}
 use Rattle.build.proofs.PairTurns.{table-none, table-some}
 use Rattle.build.proofs.write.lay_table.Statement.{statement}
 use Rattle.build.proofs.write.lay_table.Tie as tie
@@ -35,49 +35,40 @@ lay-block-requires c κs =
     let s = c .before .before .before .before in
     (room-first (s .args .sizes) (blockPieces 40) _ (pieces (c .before)) (filling-none _ (s .pre .0)), omega arith)
 
-put-requires : tie.Need-put-requires
-put-requires c κs =
+add-append : tie.Need-add-append
+add-append c =
+    let d = c .before .before .before .before .before in
+    let s = d .before .before .before in
+    omega (arith, d .domain-code .ensures, domain-most (s .args .domain), s .pre .1 .1)
+
+append-requires : tie.Need-append-requires
+append-requires c κs =
     let b = c .before .before .before in
     let d = b .before .before in
     let s = d .before .before .before in
     let z = s .args .sizes in
     let start = filling-more z (blockPieces 40) _ (pieces d) (filling-none z (s .pre .0)) (b .lay-block .ensures) in
-    (code-inside z 1 _ _ refl start (omega arith) (omega arith), omega (arith, d .domain-code .ensures, domain-most (s .args .domain)))
+    ((joined-inside z (piece 1 _ ∷ piece 7 _ ∷ []) _ refl start (omega arith) (omega arith), omega (arith, d .domain-code .ensures, domain-most (s .args .domain), s .pre .1 .1)), start .room .free .below)
 
-put-requires-2 : tie.Need-put-requires-2
-put-requires-2 c κs =
+lay-pairs-requires : tie.Need-lay-pairs-requires
+lay-pairs-requires c κs =
     let p = c .before .before .before in
     let b = p .before .before .before .before in
     let d = b .before .before in
     let s = d .before .before .before in
     let z = s .args .sizes in
     let start = filling-more z (blockPieces 40) _ (pieces d) (filling-none z (s .pre .0)) (b .lay-block .ensures) in
-    let domain = code-more z 1 _ _ refl start (omega (arith, d .domain-code .ensures, domain-most (s .args .domain))) (p .put .ensures) in
-    (code-inside z 7 (length (s .args .points .now) / 2) _ refl domain (omega arith) (omega arith), omega (arith, s .pre .1 .1))
-
-lay-pairs-requires : tie.Need-lay-pairs-requires
-lay-pairs-requires c κs =
-    let q = c .before .before .before in
-    let p = q .before .before .before .before in
-    let b = p .before .before .before .before in
-    let d = b .before .before in
-    let s = d .before .before .before in
-    let z = s .args .sizes in
-    let start = filling-more z (blockPieces 40) _ (pieces d) (filling-none z (s .pre .0)) (b .lay-block .ensures) in
-    let domain = code-more z 1 _ _ refl start (omega (arith, d .domain-code .ensures, domain-most (s .args .domain))) (p .put .ensures) in
-    code-more z 7 (length (s .args .points .now) / 2) _ refl domain (omega (arith, s .pre .1 .1)) (q .put2 .ensures) .room
+    joined-more z (piece 1 _ ∷ piece 7 _ ∷ []) _ refl start (omega (arith, d .domain-code .ensures, domain-most (s .args .domain)), (omega (arith, s .pre .1 .1), tt)) (p .append .ensures) (omega arith) .room
 
 returns-2 : tie.Need-returns-2
 returns-2 c =
-    let q = c .before .before .before .before .before .before in
-    let p = q .before .before .before .before in
+    let p = c .before .before .before .before .before .before in
     let b = p .before .before .before .before in
     let d = b .before .before in
     let s = d .before .before .before in
     let z = s .args .sizes in
     let start = filling-more z (blockPieces 40) _ (pieces d) (filling-none z (s .pre .0)) (b .lay-block .ensures) in
-    let domain = code-more z 1 _ _ refl start (omega (arith, d .domain-code .ensures, domain-most (s .args .domain))) (p .put .ensures) in
-    let count = code-more z 7 (length (s .args .points .now) / 2) _ refl domain (omega (arith, s .pre .1 .1)) (q .put2 .ensures) in
+    let count = joined-more z (piece 1 _ ∷ piece 7 _ ∷ []) _ refl start (omega (arith, d .domain-code .ensures, domain-most (s .args .domain)), (omega (arith, s .pre .1 .1), tt)) (p .append .ensures) (omega arith) in
     filled z (filling-more z _ [] (sym (append-nil _)) count (c .before .before .lay-pairs .ensures))
 
 pub lay-table-spec : {M : Type 1} → statement M
@@ -87,8 +78,9 @@ lay-table-spec =
     returns
     (λ c κs. search needs)
     lay-block-requires
-    put-requires
-    put-requires-2
+    (λ c. omega (arith, c .before .before .before .before .before .before .before .before .pre .1 .1))
+    add-append
+    append-requires
     lay-pairs-requires
     (λ c. search needs)
     returns-2)

@@ -1,9 +1,6 @@
 use borrow.Author.Needs.{needs}
-use mir.Syntax.{w64}
-use mir.Facts.{toZ-ofZ}
 use Rattle.fields.specs.Rules.{decode}
 use Rattle.fields.proofs.RowLaws.{sound-rule}
-use Rattle.fields.proofs.CodeLaws.{below-2^32, product}
 use Rattle.coding.proofs.decoding.decode.Statement.{statement}
 use Rattle.coding.proofs.decoding.decode.Tie as tie
 
@@ -12,32 +9,19 @@ unfolding decode
 decode-spec =
     tie.close
     (tie.spec
+    (λ c. search needs)
+    (λ c κs. let p = c .before .before .pre in (p .0, rw (c .enum-told .given .1) tt, p .1))
+    (λ c. search needs)
+    (λ c κs. let p = c .before .before .pre in (p .0, rw (c .enum-told2 .given .1) tt, p .1))
+    (λ c. search needs)
     (λ c κs. search needs)
     (λ c. rw (← (c .before .is-missing .ensures), c .if1 .taken))
-    (λ c. search needs)
-    (λ c κs. let p = c .before .before .before .before .before .pre in below-2^32 (p .0 .most) (p .1))
-    (λ c. search needs)
     (λ c κs.
     let p = c .before .before .before .before .before .pre in
-    let sound = sound-rule (p .0) (c .before .rule2 .given .1) in
-    rw (toZ-ofZ {w = w64} {z = c .before .rule2 .given .0 .0} (search needs))
-    ((p .0 .some, p .0 .most), (sound .2, product _ _ (p .1) (sound .3))))
+    ((p .0 .some, p .0 .most), sound-rule (p .0) (c .before .before .before .rule .given .1)))
     (λ c. search needs)
-    (λ c κs.
-    let p = c .before .before .before .before .before .pre in
-    ((p .0 .some, p .0 .most), sound-rule (p .0) (c .before .rule3 .given .1)))
-    (λ c. search needs)
-    (λ c κs. let p = c .before .before .before .before .pre in below-2^32 (p .0 .most) (p .1))
-    (λ c.
-    let n = c .before .before .before .before in
-    rw (← (n .before .is-missing .ensures), n .if1 .left, c .before .before .rule .given .1) (c .plain .ensures))
-    (λ c.
-    let n = c .before .before .before .before in
-    rw (← (n .before .is-missing .ensures), n .if1 .left, c .before .before .rule2 .given .1)
-    (rw (toZ-ofZ {w = w64} {z = c .before .before .rule2 .given .0 .0} (search needs)) at (c .stepped .ensures)))
-    (λ c.
-    let n = c .before .before .before .before in
-    rw (← (n .before .is-missing .ensures), n .if1 .left, c .before .before .rule3 .given .1) (c .geometric .ensures))
-    (λ c.
-    let n = c .before .before .before in
-    rw (← (n .before .is-missing .ensures), n .if1 .left, c .before .enum-told .given .1, sound-rule (n .before .before .pre .0) (c .before .enum-told .given .1)) (c .single .ensures)))
+    (λ c κs. let p = c .before .before .pre in (p .0, rw (c .enum-told3 .given .1) tt, p .1))
+    (λ c. c .decode-unscaled .ensures)
+    (λ c. c .decode-unscaled2 .ensures)
+    (λ c. rw (← (c .before .before .is-missing .ensures), c .before .if1 .left, c .before .before .before .before .rule .given .1) (c .geometric .ensures))
+    (λ c. c .decode-unscaled3 .ensures))

@@ -1,6 +1,5 @@
 use borrow.Author.Needs.{needs}
-use mir.Syntax.{w64}
-use mir.Facts.{toZ-ofZ}
+use Rattle.fields.proofs.RowLaws.{row-sound}
 use Rattle.coding.proofs.encoding.encode.Statement.{statement}
 use Rattle.coding.proofs.encoding.encode.Tie as tie
 
@@ -8,14 +7,6 @@ pub encode-spec : {M : Type 1} → statement M
 encode-spec =
     tie.close
     (tie.spec
-    (λ c. search needs)
     (λ c κs. search needs)
-    (λ c. search needs)
-    (λ c κs. search needs)
-    (λ c. search needs)
-    (λ c κs. search needs)
-    (λ c.
-    let figure = toZ-ofZ {w = w64} {z = c .before .before .value .given .0 .0} (search needs) in
-    rw (c .before .before .value .given .1) (rw figure at (c .encode-whole .ensures)))
-    (λ c. rw (c .before .before .value2 .given .1) (c .encode-single .ensures))
-    (λ c. rw (c .before .enum-told .given .1) (c .encode-missing .ensures)))
+    (λ c κs. rw (c .row-of .ensures) (row-sound _ _ (c .before .pre .0) (c .before .pre .1)))
+    (λ c. rw (c .before .row-of .ensures) at (c .encode-by .ensures)))

@@ -1,81 +1,55 @@
 -- `share::powers_of` meets its contract. The loop's invariant: what was taken and what is left give all powers.
 use borrow.Author.Needs.{needs}
-use mathlib.Core.Path.{_≡_, sym, ap, _∙_, subst}
+use mathlib.Core.Path.{_≡_, refl, _∙_, subst}
 use mathlib.Core.List.{[], _∷_}
-use Prim.Native.Nat.{ℕ, _+_, _-_, _≤_}
-use native.Mathlib.Numerals.{add-one}
+use Prim.Native.Nat.{_+_, _-_, _*_, _≤_}
 use native.Mathlib.Omega.{arith}
 use lib.IntN.{pos, natAbs}
-use lib.ListN.{length-map}
-use lib.Seq.{slice, slice-cons, slice-empty}
 use mir.Syntax.{w64}
 use mir.Val.{SFits}
 use mir.Facts.{toZ-ofZ}
-use Rattle.fields.specs.Curves.{noTerm}
-use Rattle.layout.specs.Contents.{Contents}
-use Rattle.layout.specs.Image.{segmentsIn, allTerms, termIn, terms}
-use Rattle.sheet.specs.Opened.{Opens}
-use Rattle.sheet.proofs.HeldLaws.{terms-are, holding}
-use Rattle.sheet.proofs.CurvePlaces.{curve-few}
+use Rattle.layout.specs.Image.{streamIn}
 use Rattle.curve.specs.Powers.{noPowers, withTerm, taken}
 use Rattle.curve.proofs.PowerLaws.{few-powers}
-use Rattle.reading.proofs.Terms.{exponent-natural}
+use Rattle.reading.specs.Steps.{ownTerms}
+use Rattle.reading.proofs.Terms.{all-left, one-taken, none-left}
 use Rattle.reading.proofs.share.powers_of.Statement.{statement}
 use Rattle.reading.proofs.share.powers_of.Tie as tie
 
 abbrev Inv-loop : tie.InvT-loop
-Inv-loop sheet image run powers₀ index₀ powers index =
-    (run .first ≤ index) × (index ≤ run .end) × (powers .count ≤ 6)
-    × ((kind : ℕ) (x : Contents) → Opens kind image sheet x → taken powers (slice index (run .end) (terms x)) ≡ taken noPowers (slice (run .first) (run .end) (terms x)))
+Inv-loop sizes image run powers₀ index₀ powers index =
+    (index ≤ run .terms) × (powers .count ≤ 6)
+    × (taken powers (ownTerms (streamIn sizes image) (run .at + 39 * index) (run .terms - index)) ≡ taken noPowers (ownTerms (streamIn sizes image) (run .at) (run .terms)))
 
 abbrev μ-loop : tie.MeasureT-loop
-μ-loop sheet image run powers₀ index₀ powers index = run .end - index
+μ-loop sizes image run powers₀ index₀ powers index = run .terms - index
 
 -- The exponent as it is handed on.
-natural : (c : tie.After-struct-told Inv-loop μ-loop) → c .before .before .term-in .result .exponent ≡ pos (natAbs (c .before .before .term-in .result .exponent))
-natural c =
-    let t = c .before .before in
-    let s = t .before .before .before .before .before .before in
-    let k = s .pre .0 in
-    rw (t .term-in .ensures _ _ (k .opens)) (exponent-natural (allTerms (segmentsIn (k .holds .calibration))) (t .before .before .before .loop .index))
+natural : (c : tie.After-struct-told Inv-loop μ-loop) → c .before .before .term-at .result .exponent ≡ pos (natAbs (c .before .before .term-at .result .exponent))
+natural c = rw (c .before .before .term-at .ensures) refl
 
 cast-with : tie.Need-cast-with Inv-loop μ-loop
 cast-with c =
-    let fits : SFits w64 (c .before .before .term-in .result .exponent) = search needs in
-    let small : SFits w64 (pos (natAbs (c .before .before .term-in .result .exponent))) = subst (SFits w64) (natural c) fits in
+    let fits : SFits w64 (c .before .before .term-at .result .exponent) = search needs in
+    let small : SFits w64 (pos (natAbs (c .before .before .term-at .result .exponent))) = subst (SFits w64) (natural c) fits in
     rw (toZ-ofZ fits, natural c) (tt, omega (arith, small .sfits))
 
-add-index : tie.Need-add-index Inv-loop μ-loop
-add-index c =
-    let s = c .before .before .before .before .before .before .before .before .before in
-    let k = s .pre .0 in
-    let few = curve-few _ (k .holds .calibration) (holding (k .opens) .formed .calibrated) in
-    omega (
-      arith,
-      c .before .before .before .before .if1 .taken,
-      s .pre .2,
-      terms-are (k .opens),
-      length-map (allTerms (segmentsIn (k .holds .calibration))) termIn,
-      few .1,
-    )
-
 -- One term more.
-one-more : (c : tie.After-with Inv-loop μ-loop) → c .with .result ≡ withTerm (c .before .before .before .before .before .before .loop .powers) (c .before .before .before .term-in .result)
-one-more c = rw (toZ-ofZ {w = w64} {z = c .before .before .before .term-in .result .exponent} (search needs)) at (c .with .ensures)
+one-more : (c : tie.After-with Inv-loop μ-loop) → c .with .result ≡ withTerm (c .before .before .before .before .before .before .before .loop .powers) (c .before .before .before .term-at .result)
+one-more c = rw (toZ-ofZ {w = w64} {z = c .before .before .before .term-at .result .exponent} (search needs)) at (c .with .ensures)
 
 loop-again : tie.Need-loop-again Inv-loop μ-loop
 loop-again c =
     let t = c .before .before .before in
-    let l = t .before .before .before in
+    let e = t .before in
+    let l = e .before .before .before in
     let s = l .before .before .before in
     let i = l .loop .inv in
-    let taken-lt = t .before .if1 .taken in (
-      omega (arith, i .0),
+    let taken-lt = e .before .if1 .taken in (
       omega (arith, taken-lt),
-      rw (one-more c) (few-powers (t .term-in .result ∷ []) (l .loop .powers) (i .2)),
-      λ kind x h.
-          rw (one-more c, t .term-in .ensures kind x h, add-one (l .loop .index))
-          (sym (ap (taken (l .loop .powers)) (slice-cons (l .loop .index) (s .args .run .end) (terms x) noTerm taken-lt (omega (arith, s .pre .2, terms-are h)))) ∙ i .3 kind x h),
+      rw (one-more c) (few-powers (t .term-at .result ∷ []) (l .loop .powers) (i .1)),
+      rw (one-more c)
+          (one-taken (streamIn (s .args .sizes) (s .args .image .now)) (s .args .run .at) (s .args .run .terms) (l .loop .index) (l .loop .powers) taken-lt (t .term-at .result) (t .term-at .ensures) (e .segment-end .ensures) ∙ i .2),
     )
 
 returns : tie.Need-returns Inv-loop μ-loop
@@ -83,12 +57,7 @@ returns c =
     let l = c .before .before in
     let s = l .before .before .before in
     let i = l .loop .inv in
-    let e : l .loop .index ≡ s .args .run .end = omega (arith, i .1, c .if1 .left) in (
-      i .2,
-      λ kind x h.
-          sym (ap (λ (n : ℕ). taken (l .loop .powers) (slice n (s .args .run .end) (terms x))) e ∙ ap (taken (l .loop .powers)) (slice-empty (s .args .run .end) (terms x)))
-          ∙ i .3 kind x h,
-    )
+    (i .1, none-left (streamIn (s .args .sizes) (s .args .image .now)) (s .args .run .at) (s .args .run .terms) (l .loop .index) (l .loop .powers) (c .if1 .left) ∙ i .2)
 
 pub powers-of-spec : {M : Type 1} → statement M
 powers-of-spec =
@@ -97,11 +66,12 @@ powers-of-spec =
     Inv-loop
     μ-loop
     (λ c κs. tt)
-    (λ c. let s = c .before .before in (omega arith, s .pre .1, rw (c .none .ensures) (omega arith), λ kind x h. rw (c .none .ensures)))
-    (λ c κs. let s = c .before .before .before .before .before in (s .pre .0, omega (arith, c .if1 .taken, s .pre .2)))
+    (λ c. (omega arith, rw (c .none .ensures) (omega arith), rw (c .none .ensures) (all-left _ (c .before .before .args .run .at) (c .before .before .args .run .terms) noPowers)))
+    (λ c κs. let s = c .before .before .before .before .before in (omega (arith, s .pre .1), omega (arith, c .if1 .taken, s .pre .2)))
+    (λ c κs. let s = c .before .before .before .before .before .before in (s .pre .0, omega (arith, c .segment-end .ensures, c .before .if1 .taken, s .pre .1, s .pre .2)))
     cast-with
     (λ c κs. tt)
-    add-index
-    (λ c. omega (arith, c .before .before .before .before .if1 .taken))
+    (λ c. omega (arith, c .before .before .before .before .before .if1 .taken, c .before .before .before .before .before .before .before .before .before .before .pre .2))
+    (λ c. omega (arith, c .before .before .before .before .before .if1 .taken))
     loop-again
     returns)

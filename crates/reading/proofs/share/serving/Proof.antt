@@ -1,91 +1,101 @@
 -- `share::serving` meets its contract. The loop's invariant: the last segment that was looked at serves as far as is known.
 use borrow.Author.Needs.{needs}
-use mathlib.Core.Path.{_≡_, sym, ap, _∙_}
-use Prim.Native.Nat.{ℕ, _+_, _-_, _≤_, _<_}
+use mathlib.Core.Path.{_≡_, sym, ap, subst, _∙_}
+use mathlib.Core.List.{List}
+use Prim.Native.Nat.{ℕ, _+_, _-_, _*_, _^_, _≤_, _<_}
 use native.Mathlib.Omega.{arith}
 use lib.ListN.{length, length-map}
 use mir.Syntax.{w64}
-use mir.Val.{toZ}
+use mir.Val.{toZ, ofZ}
 use mir.Facts.{toZ-ofZ}
-use Rattle.layout.specs.Contents.{Contents}
-use Rattle.layout.specs.Image.{segmentsIn, segmentIn, allTerms, termIn}
+use Rattle.layout.specs.Contents.{FoundSegment, Contents}
+use Rattle.layout.specs.Image.{streamIn, segmentsIn, segmentIn}
+use Rattle.layout.proofs.CurvePlaces.{CurveStands}
+use Rattle.sheet.specs.declared.opening.Opened.{Opened}
 use Rattle.sheet.specs.Opened.{Opens}
-use Rattle.sheet.proofs.HeldLaws.{segments-are, terms-are, segments-few, holding}
-use Rattle.sheet.proofs.CurvePlaces.{curve-few}
-use Rattle.reading.proofs.Serving.{Walked, walked-first, walked-on, walked-inside, served-here, served-last}
+use Rattle.sheet.specs.Walk.{segmentAt}
+use Rattle.sheet.proofs.PlaceSteps.{end-few}
+use Rattle.sheet.proofs.HeldLaws.{segments-are, segments-few, held-whole, held-curve}
+use Rattle.sheet.proofs.CurvePlaces.{terms-lt}
+use Rattle.reading.proofs.Serving.{Walked, walked-first, walked-on, served-here, served-last}
 use Rattle.reading.proofs.share.serving.Statement.{statement}
 use Rattle.reading.proofs.share.serving.Tie as tie
 
+-- A segment takes 4,973 bits at most.
 abbrev Inv-loop : tie.InvT-loop
-Inv-loop sheet image p summary first₀ end₀ index₀ first end index =
-    (index ≤ sheet .summary .segments) × ((kind : ℕ) (x : Contents) → Opens kind image sheet x → Walked (toZ w64 p) (segmentsIn (x .calibration)) first end index)
+Inv-loop image p sizes at₀ terms₀ left₀ at terms left =
+    (at + 4_973 * left ≤ at₀ + 4_973 * left₀) × (terms < 2 ^ 7)
+    × ((segments : List FoundSegment) → CurveStands (streamIn sizes image) at₀ segments → left₀ ≡ length segments → Walked (toZ w64 p) (streamIn sizes image) segments at terms left)
 
 abbrev μ-loop : tie.MeasureT-loop
-μ-loop sheet image p summary first₀ end₀ index₀ first end index = sheet .summary .segments - index
+μ-loop image p sizes at₀ terms₀ left₀ at terms left = left
+
+-- The curve of the sheet, where its first segment stands.
+curve-is : (c : tie.After-curve-place Inv-loop μ-loop) →
+    let a = c .before .before .before .before .before .args in
+    (kind : ℕ) (x : Contents) → Opens kind (a .image .now) (a .sheet) x → CurveStands (streamIn (a .sheet .sizes) (a .image .now)) (c .curve-place .result) (segmentsIn (x .calibration))
+curve-is c kind x h =
+    let a = c .before .before .before .before .before .args in
+    subst (λ (n : ℕ). CurveStands (streamIn (a .sheet .sizes) (a .image .now)) n (segmentsIn (x .calibration))) (sym (c .curve-place .ensures)) (held-curve h)
+
+counted : {kind : ℕ} {image : List ℕ} {o : Opened} {x : Contents} → Opens kind image o x → o .summary .segments ≡ length (segmentsIn (x .calibration))
+counted {x = x} h = segments-are h ∙ length-map (segmentsIn (x .calibration)) segmentIn
+
+-- It ends before bit 2 ^ 32.
+few : (c : tie.After-curve-place Inv-loop μ-loop) → c .curve-place .result + 4_973 * c .before .before .before .before .before .args .sheet .summary .segments < 2 ^ 32
+few c =
+    let s = c .before .before .before .before .before in
+    omega (arith, c .curve-place .ensures, end-few (s .args .sheet .layout), segments-few (s .pre .0 .opens))
 
 loop-holds : tie.Need-loop-holds Inv-loop μ-loop
 loop-holds c =
-    let s = c .before .before .before in (
-      omega (arith, s .pre .1),
-      λ kind x h.
-          walked-first _ (segmentsIn (x .calibration)) (omega (arith, s .pre .1, segments-are h, length-map (segmentsIn (x .calibration)) segmentIn)) (c .segment-in .result) (c .segment-in .ensures kind x h),
+    let s = c .before .before .before .before .before .before in
+    let stream = streamIn (s .args .sheet .sizes) (s .args .image .now) in (
+      omega arith,
+      rw (c .segment-at .ensures) (terms-lt stream _),
+      λ segments h e. walked-first _ stream segments h e (s .pre .1) (c .segment-at .result) (c .segment-at .ensures),
     )
-
--- The segment at the index is among them.
-here : (c : tie.After-segment-in2 Inv-loop μ-loop) →
-    let s = c .before .before .before .before .before .before .before in
-    (kind : ℕ) (x : Contents) → Opens kind (s .args .image .now) (s .args .sheet) x → c .before .before .before .loop .index < length (segmentsIn (x .calibration))
-here c kind x h = omega (arith, c .before .if1 .taken, segments-are h, length-map (segmentsIn (x .calibration)) segmentIn)
 
 returns : tie.Need-returns Inv-loop μ-loop
 returns c =
     let g = c .before .before .before in
-    let l = g .before .before .before in
-    let s = l .before .before .before .before in
-    let start = toZ-ofZ {w = w64} {z = g .segment-in2 .result .start} (search needs) in
-    let p = toZ-ofZ (s .fits .p) in
-    let k = s .pre .0 in
-    let w = l .loop .inv .1 _ _ (k .opens) in (
-      walked-inside _ _ w .0,
-      omega (arith, walked-inside _ _ w .1, terms-are (k .opens)),
-      λ kind x h. rw p at (served-here _ (segmentsIn (x .calibration)) (l .loop .inv .1 kind x h) (here g kind x h) (g .segment-in2 .result) (g .segment-in2 .ensures kind x h) (rw start at (c .if2 .taken)) .are),
+    let e = g .before in
+    let l = e .before .before in
+    let k = l .before .before in
+    let s = k .before .before .before .before .before in
+    let stream = streamIn (s .args .sheet .sizes) (s .args .image .now) in
+    let start = toZ-ofZ {w = w64} {z = g .segment-at2 .result .start} (search needs) in (
+      omega (arith, l .loop .inv .0, few k),
+      l .loop .inv .1,
+      λ kind x h.
+          rw (toZ-ofZ (s .fits .p)) at (served-here _ stream (segmentsIn (x .calibration)) (l .loop .inv .2 _ (curve-is k kind x h) (counted h)) (e .before .loop-test .taken) (g .segment-at2 .result)
+          (g .segment-at2 .ensures ∙ ap (segmentAt stream) (e .segment-end .ensures)) (rw start at (c .if1 .taken))),
     )
 
--- One segment more.
-on : (c : tie.After-struct-known3 Inv-loop μ-loop) →
-    let g = c .before .before .before .before in
-    let l = g .before .before .before in
-    let s = l .before .before .before .before in
-    (kind : ℕ) (x : Contents) → Opens kind (s .args .image .now) (s .args .sheet) x →
-    Walked (toZ w64 (mir.Val.ofZ w64 (s .args .p))) (segmentsIn (x .calibration)) (l .loop .end) (l .loop .end + g .segment-in2 .result .terms) (l .loop .index + 1)
-on c kind x h =
-    let g = c .before .before .before .before in
-    let l = g .before .before .before in
-    let start = toZ-ofZ {w = w64} {z = g .segment-in2 .result .start} (search needs) in
-    walked-on _ (segmentsIn (x .calibration)) (l .loop .inv .1 kind x h) (here g kind x h) (g .segment-in2 .result) (g .segment-in2 .ensures kind x h) (rw start at (c .before .if2 .left))
-
-add-end : tie.Need-add-end Inv-loop μ-loop
-add-end c =
-    let s = c .before .before .before .before .before .before .before .before .before .before .before in
-    let k = s .pre .0 in
-    let few = curve-few _ (k .holds .calibration) (holding (k .opens) .formed .calibrated) in
-    omega (arith, walked-inside _ _ (on c _ _ (k .opens)) .1, length-map (allTerms (segmentsIn (k .holds .calibration))) termIn, few .1)
-
-add-index : tie.Need-add-index Inv-loop μ-loop
-add-index c =
-    let s = c .before .before .before .before .before .before .before .before .before .before .before in
-    omega (arith, c .before .before .before .before .before .if1 .taken, segments-few (s .pre .0 .opens))
+loop-again : tie.Need-loop-again Inv-loop μ-loop
+loop-again c =
+    let g = c .before .before .before in
+    let e = g .before in
+    let l = e .before .before in
+    let s = l .before .before .before .before .before .before .before in
+    let stream = streamIn (s .args .sheet .sizes) (s .args .image .now) in
+    let start = toZ-ofZ {w = w64} {z = g .segment-at2 .result .start} (search needs) in (
+      omega (arith, l .loop .inv .0, l .loop .inv .1, e .segment-end .ensures, e .before .loop-test .taken),
+      rw (g .segment-at2 .ensures) (terms-lt stream _),
+      λ segments h n.
+          subst (λ (k : ℕ). Walked (toZ w64 (ofZ w64 (s .args .p))) stream segments k (g .segment-at2 .result .terms) (l .loop .left - 1)) (sym (e .segment-end .ensures))
+          (walked-on _ stream segments (l .loop .inv .2 segments h n) (e .before .loop-test .taken) (g .segment-at2 .result)
+          (g .segment-at2 .ensures ∙ ap (segmentAt stream) (e .segment-end .ensures)) (rw start at (c .if1 .left))),
+    )
 
 returns-2 : tie.Need-returns-2 Inv-loop μ-loop
 returns-2 c =
-    let l = c .before .before in
-    let s = l .before .before .before .before in
-    let p = toZ-ofZ (s .fits .p) in
-    let k = s .pre .0 in
-    let w = l .loop .inv .1 _ _ (k .opens) in (
-      walked-inside _ _ w .0,
-      omega (arith, walked-inside _ _ w .1, terms-are (k .opens)),
-      λ kind x h. rw p at (served-last _ (segmentsIn (x .calibration)) (l .loop .inv .1 kind x h) (omega (arith, c .if1 .left, segments-are h, length-map (segmentsIn (x .calibration)) segmentIn)) .are),
+    let l = c .before in
+    let k = l .before .before in
+    let s = k .before .before .before .before .before in (
+      omega (arith, l .loop .inv .0, few k),
+      l .loop .inv .1,
+      λ kind x h. rw (toZ-ofZ (s .fits .p)) at (served-last _ _ (segmentsIn (x .calibration)) (l .loop .inv .2 _ (curve-is k kind x h) (counted h)) (c .loop-test .left)),
     )
 
 pub serving-spec : {M : Type 1} → statement M
@@ -94,12 +104,16 @@ serving-spec =
     (tie.spec
     Inv-loop
     μ-loop
-    (λ c κs. c .before .before .pre)
+    (λ c κs. search needs)
+    (λ c κs. (held-whole (c .before .before .before .before .before .pre .0 .opens), omega (arith, few c)))
     loop-holds
-    (λ c κs. (c .before .before .before .before .before .before .pre .0, c .if1 .taken))
+    (λ c κs. let l = c .before in (omega (arith, l .loop .inv .0, few (l .before .before)), omega (arith, l .loop .inv .1)))
+    (λ c κs.
+    let l = c .before .before in
+    let k = l .before .before in
+    (held-whole (k .before .before .before .before .before .pre .0 .opens), omega (arith, c .segment-end .ensures, l .loop .inv .0, l .loop .inv .1, few k)))
     returns
-    add-end
-    add-index
-    (λ c. omega (arith, c .before .before .before .before .before .if1 .taken))
-    (λ c. (omega (arith, c .before .before .before .before .before .if1 .taken), on c))
+    (λ c. omega (arith, c .before .before .before .before .before .loop-test .taken))
+    (λ c. omega (arith, c .before .before .before .before .before .loop-test .taken))
+    loop-again
     returns-2)

@@ -9,7 +9,7 @@ use Rattle.layout.specs.Contents.{Contents}
 use Rattle.layout.specs.Image.{segmentsIn, segmentIn}
 use Rattle.fields.specs.Figure.{floatFraction}
 use Rattle.sheet.specs.Opened.{Opens}
-use Rattle.sheet.proofs.HeldLaws.{segments-are, holding}
+use Rattle.sheet.proofs.HeldLaws.{segments-are, held-whole, holding}
 use Rattle.reading.proofs.Terms.{by-curve, by-fraction}
 use Rattle.reading.proofs.share.share.Statement.{statement}
 use Rattle.reading.proofs.share.share.Tie as tie
@@ -24,11 +24,11 @@ returns c =
 returns-2 : tie.Need-returns-2
 returns-2 c =
     let v = c .before .before in
-    let s = v .before .before .before .before .before in
+    let s = v .before .before .before .before .before .before in
     let p = toZ-ofZ (s .fits .p) in
     λ kind x h e.
-    rw (c .before .powers-of .ensures .1 kind x h, rw p at (v .serving .ensures .2 kind x h), p) at (c .float-fraction2 .ensures)
-    ∙ by-curve (s .args .p) _ (x .calibration) (holding h .formed .calibrated) (omega (arith, v .before .if1 .left, segments-are h, length-map (segmentsIn (x .calibration)) segmentIn))
+    rw (c .before .powers-of .ensures .1, rw p at (v .serving .ensures .2 kind x h), p) at (c .float-fraction2 .ensures)
+    ∙ by-curve (s .args .p) _ (x .calibration) (holding h .formed .calibrated) (omega (arith, v .before .before .if1 .left, segments-are h, length-map (segmentsIn (x .calibration)) segmentIn))
 
 pub share-spec : {M : Type 1} → statement M
 share-spec =
@@ -36,7 +36,7 @@ share-spec =
     (tie.spec
     (λ c κs. let s = c .before .before .before .before in rw (toZ-ofZ (s .fits .q)) (s .pre .1))
     returns
-    (λ c κs. (c .before .before .before .before .pre .0, omega (arith, c .if1 .left)))
-    (λ c κs. (c .before .before .before .before .before .pre .0, c .serving .ensures .0, c .serving .ensures .1))
+    (λ c κs. (c .before .before .before .before .before .pre .0, omega (arith, c .before .if1 .left)))
+    (λ c κs. (held-whole (c .before .before .before .before .before .before .pre .0 .opens), c .serving .ensures .0, c .serving .ensures .1))
     (λ c κs. c .powers-of .ensures .0)
     returns-2)

@@ -18,16 +18,16 @@ use Rattle.sheet.proofs.held.pair_in.Tie as tie
 locate-pair-requires : tie.Need-locate-pair-requires
 locate-pair-requires c κs = let b = c .before .before .before in index-few (b .pre .0 .opens) (b .args .index) (b .pre .1)
 
-value-at-requires : tie.Need-value-at-requires
-value-at-requires c κs = (held-whole (c .before .before .before .before .before .pre .0 .opens), rw (c .cal-point .ensures) point-sound)
+unscaled-at-requires : tie.Need-unscaled-at-requires
+unscaled-at-requires c κs = (held-whole (c .before .before .before .before .before .pre .0 .opens), rw (c .cal-point .ensures) point-sound, rw (c .cal-point .ensures) tt)
 
-add-value-at : tie.Need-add-value-at
-add-value-at c =
+add-unscaled-at : tie.Need-add-unscaled-at
+add-unscaled-at c =
     let a = c .before .before .before .before .before .before .args in
     omega (arith, end-few (a .sheet .layout), c .before .before .locate-pair .ensures, ap (λ (r : Row). r .width) (c .before .cal-point .ensures), index-few (c .before .before .before .before .before .before .pre .0 .opens) (a .index) (c .before .before .before .before .before .before .pre .1))
 
-value-at-requires-2 : tie.Need-value-at-requires-2
-value-at-requires-2 c κs = (held-whole (c .before .before .before .before .before .before .before .pre .0 .opens), rw (c .cal-deviation .ensures) deviation-sound)
+unscaled-at-requires-2 : tie.Need-unscaled-at-requires-2
+unscaled-at-requires-2 c κs = (held-whole (c .before .before .before .before .before .before .before .pre .0 .opens), rw (c .cal-deviation .ensures) deviation-sound, rw (c .cal-deviation .ensures) tt)
 
 returns : tie.Need-returns
 returns c =
@@ -37,8 +37,8 @@ returns c =
     let value : Row → ℕ → ℤ = λ (r : Row) (n : ℕ). figure (valueIn (parse (streamIn (a .sheet .sizes) (a .image .now)) (fieldOf r) n)) in
     λ kind x h.
     ap₂ (λ (y z : ℤ). record { point = y; deviation = z })
-    (toZ-ofZ (record { sfits = c .before .figure .ok }) ∙ c .before .figure .ensures ∙ ap figure (p .value-at .ensures) ∙ ap₂ value (p .before .cal-point .ensures) (p .before .before .locate-pair .ensures))
-    (toZ-ofZ (record { sfits = c .figure2 .ok }) ∙ c .figure2 .ensures ∙ ap figure (c .before .before .value-at2 .ensures)
+    (toZ-ofZ (record { sfits = c .before .figure .ok }) ∙ c .before .figure .ensures ∙ ap figure (p .unscaled-at .ensures) ∙ ap₂ value (p .before .cal-point .ensures) (p .before .before .locate-pair .ensures))
+    (toZ-ofZ (record { sfits = c .figure2 .ok }) ∙ c .figure2 .ensures ∙ ap figure (c .before .before .unscaled-at2 .ensures)
     ∙ ap₂ value (c .before .before .before .cal-deviation .ensures) (ap₂ (λ (n : ℕ) (r : Row). n + r .width) (p .before .before .locate-pair .ensures) (p .before .cal-point .ensures)))
     ∙ held-pair h (a .index) (b .pre .1)
 
@@ -48,10 +48,10 @@ pair-in-spec =
     (tie.spec
     locate-pair-requires
     (λ c κs. search needs)
-    value-at-requires
-    add-value-at
+    unscaled-at-requires
+    add-unscaled-at
     (λ c κs. search needs)
-    value-at-requires-2
+    unscaled-at-requires-2
     (λ c κs. search needs)
     (λ c κs. search needs)
     returns)

@@ -17,7 +17,7 @@ returns c =
     let v = c .before .before in
     let a = v .before .before .before .args in
     ap₂ (λ (z : ℤ) (n : ℕ). record { start = z; terms = n })
-    (toZ-ofZ (record { sfits = c .before .figure .ok }) ∙ c .before .figure .ensures ∙ ap figure (v .value-at .ensures)
+    (toZ-ofZ (record { sfits = c .before .figure .ok }) ∙ c .before .figure .ensures ∙ ap figure (v .unscaled-at .ensures)
     ∙ ap (λ (r : Row). figure (valueIn (parse (streamIn (a .sizes) (a .image .now)) (fieldOf r) (a .at)))) (v .before .segment-start .ensures))
     (c .terms-at .ensures .0)
 
@@ -26,7 +26,7 @@ segment-at-spec =
     tie.close
     (tie.spec
     (λ c κs. search needs)
-    (λ c κs. (c .before .before .pre .0, rw (c .segment-start .ensures) start-sound))
+    (λ c κs. (c .before .before .pre .0, rw (c .segment-start .ensures) start-sound, rw (c .segment-start .ensures) tt))
     (λ c κs. search needs)
     (λ c κs. search needs)
     returns)

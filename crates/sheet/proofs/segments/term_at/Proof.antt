@@ -14,8 +14,8 @@ use Rattle.sheet.specs.Walk.{valueIn}
 use Rattle.sheet.proofs.segments.term_at.Statement.{statement}
 use Rattle.sheet.proofs.segments.term_at.Tie as tie
 
-add-value-at : tie.Need-add-value-at
-add-value-at c =
+add-unscaled-at : tie.Need-add-unscaled-at
+add-unscaled-at c =
     omega (arith, c .before .before .before .pre .1, ap (λ (r : Row). r .width) (c .before .term-exponent .ensures))
 
 returns : tie.Need-returns
@@ -25,9 +25,9 @@ returns c =
     ap₂ (λ (z : ℤ) (x : Float). record { exponent = z; coefficient = x })
     (toZ-ofZ (record { sfits = c .before .exponent-of .ok }) ∙ c .before .exponent-of .ensures
     ∙ ap (λ (z : ℤ). pos (natAbs z / 10))
-    (toZ-ofZ (record { sfits = c .before .before .figure .ok }) ∙ c .before .before .figure .ensures ∙ ap figure (v .value-at .ensures)
+    (toZ-ofZ (record { sfits = c .before .before .figure .ok }) ∙ c .before .before .figure .ensures ∙ ap figure (v .unscaled-at .ensures)
     ∙ ap (λ (r : Row). figure (valueIn (parse (streamIn (a .sizes) (a .image .now)) (fieldOf r) (a .at)))) (v .before .term-exponent .ensures)))
-    (c .float .ensures ∙ ap float (c .before .before .before .value-at2 .ensures)
+    (c .float .ensures ∙ ap float (c .before .before .before .unscaled-at2 .ensures)
     ∙ ap₂ (λ (r : Row) (n : ℕ). float (valueIn (parse (streamIn (a .sizes) (a .image .now)) (fieldOf r) n))) (c .before .before .before .before .term-coefficient .ensures)
     (ap (λ (r : Row). a .at + r .width) (v .before .term-exponent .ensures)))
 
@@ -36,10 +36,10 @@ term-at-spec =
     tie.close
     (tie.spec
     (λ c κs. search needs)
-    (λ c κs. (c .before .before .pre .0, rw (c .term-exponent .ensures) exponent-sound))
-    add-value-at
+    (λ c κs. (c .before .before .pre .0, rw (c .term-exponent .ensures) exponent-sound, rw (c .term-exponent .ensures) tt))
+    add-unscaled-at
     (λ c κs. search needs)
-    (λ c κs. (c .before .before .before .before .pre .0, rw (c .term-coefficient .ensures) coefficient-sound))
+    (λ c κs. (c .before .before .before .before .pre .0, rw (c .term-coefficient .ensures) coefficient-sound, rw (c .term-coefficient .ensures) tt))
     (λ c κs. search needs)
     (λ c κs. search needs)
     (λ c κs. search needs)

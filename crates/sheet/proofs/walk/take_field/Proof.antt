@@ -1,4 +1,5 @@
 use borrow.Author.Needs.{needs}
+use native.Mathlib.Omega.{arith}
 use mathlib.Core.Path.{refl, sym, ap, subst, _∙_}
 use Rattle.fields.specs.Stored.{Sound}
 use Rattle.fields.specs.Lines.{rowOf}
@@ -14,7 +15,7 @@ take-requires : tie.Need-take-requires
 take-requires c κs =
     let b = c .before .before in
     let s = row-sound (b .args .layout) (b .args .field) (b .pre .1) (b .pre .2) in
-    (b .pre .0, rw (c .row-of .ensures) (s .some), rw (c .row-of .ensures) (s .most))
+    (b .pre .0, rw (c .row-of .ensures) (s .some), rw (c .row-of .ensures) (omega (arith, s .most)))
 
 judge-requires : tie.Need-judge-requires
 judge-requires c κs =

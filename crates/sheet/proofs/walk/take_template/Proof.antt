@@ -1,58 +1,53 @@
 use borrow.Author.Needs.{needs}
 use mathlib.Core.Path.{ap, _∙_}
+use native.Mathlib.Omega.{arith}
 use Rattle.refusal.specs.Outcome.{refused}
 use Rattle.layout.specs.Image.{streamIn}
-use Rattle.sheet.proofs.Steps.{got, past}
-use Rattle.sheet.proofs.WalkSteps.{selector-halts, number-past, number-names, number-unknown}
+use Rattle.layout.specs.Places.{firstSelector}
+use Rattle.layout.proofs.Judging.{wrong-selector, block-named, block-unknown}
+use Rattle.sheet.proofs.WalkSteps.{stream-holds}
 use Rattle.sheet.proofs.walk.take_template.Statement.{statement}
 use Rattle.sheet.proofs.walk.take_template.Tie as tie
 
+take-requires : tie.Need-take-requires
+take-requires c κs =
+    record { whole = c .before .pre; inside = stream-holds (c .before .pre) (omega arith); some = search needs; most = search needs }
+
 returns : tie.Need-returns
 returns c =
-    let m = c .before .before .before in
-    let a = m .before .before .args in
-    selector-halts (streamIn (a .sizes) (a .image .now)) (a .cursor .at) _ (m .take-mark .ensures) (c .before .r .given .1)
+    let t = c .before .before in
+    let b = t .before .before in
+    ap refused (c .wrong-block .ensures)
+    ∙ wrong-selector (streamIn (b .args .sizes) (b .args .image .now)) firstSelector (stream-holds (b .pre) (omega arith)) (t .take .ensures) (λ e. omega (arith, c .before .if1 .taken))
 
 returns-2 : tie.Need-returns-2
 returns-2 c =
-    let t = c .before .before .before in
-    let m = t .before .before .before .before in
-    let a = m .before .before .args in
-    number-past (streamIn (a .sizes) (a .image .now)) (a .cursor .at) _ (m .take-mark .ensures) (t .before .before .next .given .1)
-    (past (a .sizes) (a .image .now) _ 8 _ (t .take .ensures) (c .before .r2 .given .1))
+    let n = c .before .before .before in
+    let t = n .before .before in
+    let b = t .before .before in
+    block-named (streamIn (b .args .sizes) (b .args .image .now)) firstSelector (stream-holds (b .pre) (omega arith)) (t .take .ensures) (omega (arith, n .before .if1 .left)) _
+    (n .template-of .ensures) (c .before .template .given .1)
 
 returns-3 : tie.Need-returns-3
 returns-3 c =
-    let t = c .before .before .before .before .before .before .before in
-    let m = t .before .before .before .before in
-    let a = m .before .before .args in
-    number-names (streamIn (a .sizes) (a .image .now)) (a .cursor .at) _ (m .take-mark .ensures) (t .before .before .next .given .1)
-    (got (a .sizes) (a .image .now) _ 8 _ (t .take .ensures) (c .before .before .before .before .before .number .given .1)) _ (c .before .before .before .template-of .ensures) (c .before .template .given .1)
-
-returns-4 : tie.Need-returns-4
-returns-4 c =
-    let t = c .before .before .before .before .before .before .before in
-    let m = t .before .before .before .before in
-    let a = m .before .before .args in
-    ap refused (c .wrong-block .ensures)
-    ∙ number-unknown (streamIn (a .sizes) (a .image .now)) (a .cursor .at) _ (m .take-mark .ensures) (t .before .before .next .given .1)
-    (got (a .sizes) (a .image .now) _ 8 _ (t .take .ensures) (c .before .before .before .before .before .number .given .1)) _ (c .before .before .before .template-of .ensures) (c .before .enum-told .given .1)
+    let n = c .before .before .before in
+    let t = n .before .before in
+    let b = t .before .before in
+    ap refused (c .wrong-block2 .ensures)
+    ∙ block-unknown (streamIn (b .args .sizes) (b .args .image .now)) firstSelector (stream-holds (b .pre) (omega arith)) (t .take .ensures) (omega (arith, n .before .if1 .left)) _
+    (n .template-of .ensures) (c .before .enum-told .given .1)
 
 pub take-template-spec : {M : Type 1} → statement M
 take-template-spec =
     tie.close
     (tie.spec
-    (λ c κs. search needs)
     (λ c. search needs)
-    (λ c. search needs)
-    (λ c κs. search needs)
-    (λ c. search needs)
-    (λ c. search needs)
-    (λ c κs. search needs)
-    (λ c. search needs)
-    (λ c. search needs)
+    take-requires
     (λ c κs. search needs)
     returns
+    (λ c κs. search needs)
+    (λ c. search needs)
+    (λ c. search needs)
+    (λ c κs. search needs)
     returns-2
-    returns-3
-    returns-4)
+    returns-3)

@@ -1,83 +1,133 @@
 -- `bitfields::put` meets its contract.
 use borrow.Author.Needs.{needs}
-use mathlib.Core.Path.{_∙_}
-use Prim.Native.Nat.{_/_}
-use native.Mathlib.Nat.{mod-lt}
+use mathlib.Core.Path.{refl}
 use native.Mathlib.Omega.{arith}
-use lib.Dec.{lit≤}
-use Rattle.memory.proofs.Streams.{index-lt}
-use Rattle.stream.proofs.Turns.{touched, first-small, low-fits, low-fits-on, low-most, put-code}
-use Rattle.stream.proofs.Laying.{put-run}
+use Rattle.stream.proofs.Words.{one-shl-pos, low-bits-lt, high-bits-lt}
+use Rattle.stream.proofs.Runs.{side-image, side, side-first, side-rest}
+use Rattle.stream.proofs.Laying.{run-put, put-far}
 use Rattle.stream.proofs.bitfields.put.Statement.{statement}
 use Rattle.stream.proofs.bitfields.put.Tie as tie
 
-add-count : tie.Need-add-count
-add-count c = low-fits _ _ (c .before .pre .0 .most)
+checks-before-requires : tie.Need-checks-before-requires
+checks-before-requires c κs = omega arith
 
-add-count-2 : tie.Need-add-count-2
-add-count-2 c = low-fits-on _ _ (c .before .pre .0 .most)
+mul-edge : tie.Need-mul-edge
+mul-edge c = omega arith
 
-run-from-requires : tie.Need-run-from-requires
-run-from-requires c κs = first-small (touched (c .before .pre .0))
+mul-edge-2 : tie.Need-mul-edge-2
+mul-edge-2 c = omega arith
 
-add-if2 : tie.Need-add-if2
-add-if2 c =
-    let a = c .before .before .before .before .args in
-    omega (arith, c .before .before .run-from .ensures .0, index-lt (a .sizes) (a .at / 8) (omega arith))
+add-edge : tie.Need-add-edge
+add-edge c = omega arith
 
-eight-requires : tie.Need-eight-requires
-eight-requires c κs = c .before .if2 .taken
+add-if1 : tie.Need-add-if1
+add-if1 c = omega arith
 
-replaced-requires : tie.Need-replaced-requires
-replaced-requires c κs = (low-most _ _ (c .before .before .before .before .before .before .before .before .pre .0 .most), mod-lt _ (lit≤ tt), c .before .before .before .before .before .before .before .before .pre .1)
+mul-put-bits : tie.Need-mul-put-bits
+mul-put-bits c = omega arith
 
-lay-eight-requires : tie.Need-lay-eight-requires
-lay-eight-requires c κs = c .before .before .before .before .if2 .taken
+add-put-bits : tie.Need-add-put-bits
+add-put-bits c = omega arith
+
+put-bits-requires : tie.Need-put-bits-requires
+put-bits-requires c κs =
+    let s = c .before .before .before .before .before in
+    let k = c .before .before .before .checks-before in
+    (side-image _ _ (s .pre .0 .whole) (side _ (s .pre .0) (k .ensures) (c .before .if1 .taken)) refl refl, (s .pre .0 .some, s .pre .0 .most, s .pre .1))
 
 same-length : tie.Need-same-length
-same-length c = c .before .before .lay-eight .kept .0
+same-length c = c .before .before .put-bits .kept .0
 
 returns : tie.Need-returns
 returns c =
-    let s = c .before .before .before .before .before .before .before .before .before .before .before .before in
+    let s = c .before .before .before .before .before .before .before .before in
     let a = s .args in
-    let r = c .before .before .before .before .before .before .before .before .before .before .run-from .ensures in
-    put-run (a .sizes) (a .image .now) _ (s .pre .0 .whole .long) (λ i. c .before .before .before .before .before .before .before .before .before .before .before .slice-known .given i .fits) (a .at) (a .width) (a .code) _ _ _ _ (s .pre .0 .inside) (s .pre .0 .some) (s .pre .0 .most) (s .pre .1)
-    (r .0) (r .1) (c .before .before .before .before .before .before .before .before .if1 .taken) (c .before .before .before .before .before .eight .ensures) (c .before .before .before .replaced .ensures) (c .before .before .lay-eight .ensures)
+    let k = c .before .before .before .before .before .before .checks-before in
+    run-put (a .sizes) (a .image .now) (s .pre .0 .whole .long) (λ i. c .before .before .before .before .before .before .before .slice-known .given i .fits) _ (a .at) (a .width) (a .code) _
+    (side _ (s .pre .0) (k .ensures) (c .before .before .before .before .if1 .taken)) (s .pre .1) (c .before .before .put-bits .ensures)
 
-gather-requires : tie.Need-gather-requires
-gather-requires c κs = touched (c .before .before .before .before .before .pre .0)
+sub-near : tie.Need-sub-near
+sub-near c = omega arith
 
-replaced-requires-2 : tie.Need-replaced-requires-2
-replaced-requires-2 c κs = (low-most _ _ (c .before .before .before .before .before .before .before .pre .0 .most), mod-lt _ (lit≤ tt), c .before .before .before .before .before .before .before .pre .1)
+mul-put-bits-2 : tie.Need-mul-put-bits-2
+mul-put-bits-2 c = omega arith
 
-scatter-requires : tie.Need-scatter-requires
-scatter-requires c κs = touched (c .before .before .before .before .before .before .before .before .pre .0)
+add-put-bits-2 : tie.Need-add-put-bits-2
+add-put-bits-2 c = omega arith
+
+shl-put-bits : tie.Need-shl-put-bits
+shl-put-bits c = omega arith
+
+sub-put-bits : tie.Need-sub-put-bits
+sub-put-bits c = one-shl-pos _ (omega arith)
+
+put-bits-requires-2 : tie.Need-put-bits-requires-2
+put-bits-requires-2 c κs =
+    let s = c .before .before .before .before .before in
+    let k = c .before .before .before .checks-before in
+    let first = side-first _ (s .pre .0) (k .ensures) (c .before .if1 .left) in
+    (side-image _ _ (s .pre .0 .whole) first refl refl, (omega arith, omega arith, low-bits-lt (s .args .code) _ (omega arith)))
+
+mul-put-bits-3 : tie.Need-mul-put-bits-3
+mul-put-bits-3 c = omega arith
+
+add-put-bits-3 : tie.Need-add-put-bits-3
+add-put-bits-3 c = omega arith
+
+add-put-bits-4 : tie.Need-add-put-bits-4
+add-put-bits-4 c = omega arith
+
+sub-put-bits-2 : tie.Need-sub-put-bits-2
+sub-put-bits-2 c = omega arith
+
+shr-put-bits : tie.Need-shr-put-bits
+shr-put-bits c = omega arith
+
+put-bits-requires-3 : tie.Need-put-bits-requires-3
+put-bits-requires-3 c κs =
+    let s = c .before .before .before .before .before .before .before .before .before in
+    let k = c .before .before .before .before .before .before .before .checks-before in
+    let rest = side-rest _ (s .pre .0) (k .ensures) (c .before .before .before .before .before .if1 .left) in
+    (side-image _ _ (s .pre .0 .whole) rest (c .before .before .before .put-bits2 .kept .0) (omega arith), (omega arith, omega arith, high-bits-lt _ _ _ (omega arith) (s .pre .1)))
 
 same-length-2 : tie.Need-same-length-2
-same-length-2 c = c .before .before .scatter .kept .1 .0
+same-length-2 c = search needs
 
 returns-2 : tie.Need-returns-2
 returns-2 c =
-    let s = c .before .before .before .before .before .before .before .before .before .before .before in
+    let s = c .before .before .before .before .before .before .before .before .before .before .before .before in
     let a = s .args in
-    put-code (a .sizes) (a .image .now) _ (a .at) (a .width) (a .code) _ _ (s .pre .1) (c .before .before .before .before .before .gather .ensures) (c .before .before .before .replaced2 .ensures) (c .before .before .scatter .ensures)
+    let k = c .before .before .before .before .before .before .before .before .before .before .checks-before in
+    let over = c .before .before .before .before .before .before .before .before .if1 .left in
+    put-far (a .sizes) (a .image .now) (s .pre .0 .whole .long) (λ i. c .before .before .before .before .before .before .before .before .before .before .before .slice-known .given i .fits) _ (a .at) (a .width) _ (a .code) _ _
+    (side-first _ (s .pre .0) (k .ensures) over) (side-rest _ (s .pre .0) (k .ensures) over) (omega arith) (omega arith) (s .pre .0 .most) (s .pre .1)
+    (c .before .before .before .before .before .before .put-bits2 .ensures) (c .before .before .put-bits3 .ensures)
 
 pub put-spec : {M : Type 1} → statement M
 put-spec =
     tie.close
     (tie.spec
-    add-count
-    add-count-2
-    run-from-requires
-    add-if2
-    eight-requires
-    replaced-requires
-    lay-eight-requires
+    checks-before-requires
+    mul-edge
+    mul-edge-2
+    add-edge
+    add-if1
+    mul-put-bits
+    add-put-bits
+    put-bits-requires
     same-length
     returns
-    gather-requires
-    replaced-requires-2
-    scatter-requires
+    sub-near
+    mul-put-bits-2
+    add-put-bits-2
+    shl-put-bits
+    sub-put-bits
+    put-bits-requires-2
+    mul-put-bits-3
+    add-put-bits-3
+    add-put-bits-4
+    sub-put-bits-2
+    shr-put-bits
+    put-bits-requires-3
     same-length-2
     returns-2)

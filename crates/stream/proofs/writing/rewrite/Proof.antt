@@ -1,7 +1,7 @@
 -- `writing::rewrite` meets its contract.
 use borrow.Author.Needs.{needs}
 use native.Mathlib.Omega.{arith}
-use Rattle.stream.proofs.Mending.{rewritten}
+use Rattle.stream.proofs.Mending.{rewritten, rewritten-once}
 use Rattle.stream.proofs.writing.rewrite.Statement.{statement}
 use Rattle.stream.proofs.writing.rewrite.Tie as tie
 
@@ -32,13 +32,26 @@ same-length c = search needs
 returns : tie.Need-returns
 returns c =
     let calls = c .before .before in
-    let paged = calls .before .before .before .before .before .before .before .before .before .before in
+    let once = calls .before .before .before .before .before in
+    let paged = once .before .before .before .before .before .before in
     let s = paged .before .before .before in
     let a = s .args in
-    rewritten (a .sizes) (a .image .now) _ _ _ (a .at) (a .width) (a .code) _ _ (λ i. omega (arith, paged .before .before .slice-known .given i))
+    rewritten (a .sizes) (a .image .now) (a .at) (a .width) (a .code) (λ i. omega (arith, paged .before .before .slice-known .given i))
     (s .pre .0 .0) (s .pre .0 .1) (s .pre .1 .0) (s .pre .1 .1) (paged .before .page-of .ensures) (paged .page-of2 .ensures)
-    (calls .before .before .before .before .before .before .before .before .put .ensures)
-    (calls .before .before .before .before .seal .ensures) (calls .seal2 .ensures)
+    (once .before .before .before .before .put .ensures) (once .seal .ensures) (calls .seal2 .ensures)
+
+same-length-2 : tie.Need-same-length-2
+same-length-2 c = search needs
+
+returns-2 : tie.Need-returns-2
+returns-2 c =
+    let once = c .before .before .before in
+    let paged = once .before .before .before .before .before .before in
+    let s = paged .before .before .before in
+    let a = s .args in
+    rewritten-once (a .sizes) (a .image .now) (a .at) (a .width) (a .code) (λ i. omega (arith, paged .before .before .slice-known .given i))
+    (s .pre .0 .0) (s .pre .0 .1) (s .pre .1 .0) (s .pre .1 .1) (paged .before .page-of .ensures) (paged .page-of2 .ensures)
+    (once .before .before .before .before .put .ensures) (once .seal .ensures) (c .if1 .left)
 
 pub rewrite-spec : {M : Type 1} → statement M
 rewrite-spec =
@@ -52,4 +65,6 @@ rewrite-spec =
     seal-requires
     seal-requires-2
     same-length
-    returns)
+    returns
+    same-length-2
+    returns-2)

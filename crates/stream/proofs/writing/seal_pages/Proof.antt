@@ -18,7 +18,9 @@ loop-holds : tie.Need-loop-holds Inv-loop μ-loop
 loop-holds c = (search needs, (refl, sealed-none (c .before .pre) (λ i. omega (arith, c .slice-known .given i))))
 
 seal-requires : tie.Need-seal-requires Inv-loop μ-loop
-seal-requires c κs = (record { long = c .before .before .loop .inv .1 .1 .whole; small = c .before .before .before .before .pre .small }, c .before .loop-test .taken)
+seal-requires c κs =
+    let whole = c .before .before .before .before .pre in
+    (record { long = c .before .before .loop .inv .1 .1 .whole; small = whole .small; paged = whole .paged; few = whole .few }, c .before .loop-test .taken)
 
 add-page : tie.Need-add-page Inv-loop μ-loop
 add-page c = omega arith

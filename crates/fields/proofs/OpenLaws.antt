@@ -1,0 +1,68 @@
+-- Rows in which every code stands, by one computed test of a run of fields.
+use mathlib.Core.Path.{_≡_, refl, subst}
+use mathlib.Core.Bool.{Bool, true, false, _&&_, cond}
+use Prim.Native.Nat.{ℕ, _+_, _-_, _^_, _≤_, _<_}
+use native.Mathlib.Omega.{arith}
+use borrow.Author.Tests.{eqb-false, le-ltb}
+use lib.Dec.{T, eqb, leb, eqb→eq, leb→le}
+use mir.Facts.{and-yes}
+use Rattle.refusal.specs.Outcome.{good, _>>_}
+use Rattle.fields.specs.declared.Value.the-variants.{Missing}
+use Rattle.fields.specs.declared.Rule.{Rule}
+use Rattle.fields.specs.declared.Rule.the-variants.{Plain, Stepped, Geometric, Single as Ieee}
+use Rattle.fields.specs.declared.Row.{Row}
+use Rattle.fields.specs.declared.Template.{Template}
+use Rattle.fields.specs.Rules.{allOnes, topCode, meaning, decode}
+use Rattle.fields.specs.Lines.{lineOf}
+use Rattle.fields.specs.Judgement.{Open, OpenBehind}
+use Rattle.fields.proofs.Table.{each, at}
+
+-- Plain, from 0 up to all ones; any but a Single, up to all ones less one where all ones is missing.
+abbrev opens : Rule → ℕ → Bool → Bool
+opens (Plain least greatest) w missing = eqb least 0 && leb (allOnes w) (greatest + cond missing 1 0)
+opens (Stepped start step) w missing = missing
+opens (Geometric scale) w missing = missing
+opens Ieee w missing = false
+
+abbrev pub isOpen : Row → Bool
+isOpen row = opens (row .rule) (row .width) (row .missing)
+
+module _ (w at code : ℕ) (h : code < 2 ^ w) where
+  abbrev Stood : Rule → Bool → Type 0
+  Stood rule missing = (cond (missing && eqb code (allOnes w)) (good Missing) (meaning rule w at code) >> good (tt {0})) ≡ good tt
+
+  -- All ones is missing, and the others stand.
+  optional : (rule : Rule) → ((code ≡ allOnes w → ⊥) → (meaning rule w at code >> good (tt {0})) ≡ good tt) → Stood rule true
+  optional rule others = go (eqb code (allOnes w)) refl
+    where
+      go : (b : Bool) → eqb code (allOnes w) ≡ b → (cond b (good Missing) (meaning rule w at code) >> good (tt {0})) ≡ good tt
+      go true e = refl
+      go false e = others (eqb-false code (allOnes w) e)
+
+  plain : (least greatest : ℕ) → least ≡ 0 → code ≤ greatest → (meaning (Plain least greatest) w at code >> good (tt {0})) ≡ good tt
+  plain least greatest l g = rw (l, le-ltb code 0 (omega arith), le-ltb greatest code g)
+
+  stood : (rule : Rule) (missing : Bool) → T (opens rule w missing) → Stood rule missing
+  stood (Plain least greatest) true t =
+      let (l, g) = and-yes (eqb least 0) (leb (allOnes w) (greatest + 1)) t in
+      optional (Plain least greatest) (λ n. plain least greatest (eqb→eq least 0 l) (omega (arith, leb→le (allOnes w) (greatest + 1) g, n)))
+  stood (Plain least greatest) false t =
+      let (l, g) = and-yes (eqb least 0) (leb (allOnes w) (greatest + 0)) t in
+      plain least greatest (eqb→eq least 0 l) (omega (arith, leb→le (allOnes w) (greatest + 0) g))
+  stood (Stepped start step) true t = optional (Stepped start step) (λ n. rw (le-ltb (topCode w) code (omega (arith, n))))
+  stood (Geometric scale) true t = optional (Geometric scale) (λ n. rw (le-ltb (topCode w) code (omega (arith, n))))
+  stood (Stepped start step) false t = absurd t
+  stood (Geometric scale) false t = absurd t
+  stood Ieee missing t = absurd t
+
+pub row-open : (row : Row) → T (isOpen row) → Open row
+unfolding decode
+row-open row t at code h = stood (row .width) at code h (row .rule) (row .missing) t
+
+-- Fields `first` to `first + n` are, if the test says so.
+pub open-in : (t : Template) (first n : ℕ) → ((latest : ℕ) → T (each (λ k. isOpen (lineOf t (first + k) .rowAt latest)) n)) →
+    (latest f : ℕ) → first ≤ f → f ≤ first + n → Open (lineOf t f .rowAt latest)
+open-in t first n test latest f lo hi =
+    let e : first + (f - first) ≡ f = omega arith in
+    subst (λ (g : ℕ). Open (lineOf t g .rowAt latest)) e
+    (row-open _ (at (λ k. isOpen (lineOf t (first + k) .rowAt latest)) n (f - first) (test latest) (omega arith)))

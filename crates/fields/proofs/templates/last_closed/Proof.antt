@@ -1,0 +1,18 @@
+-- `templates::last_closed` meets its contract: the fields behind the twelfth or the eleventh are open, by one computed test.
+use borrow.Author.Needs.{needs}
+use native.Mathlib.Omega.{arith}
+use Rattle.fields.specs.declared.Template.the-variants.{Bridge, Resistance}
+use Rattle.fields.specs.Lines.{basic, template33, template32, linesOf}
+use Rattle.fields.proofs.OpenLaws.{open-in}
+use Rattle.fields.proofs.templates.last_closed.Statement.{statement}
+use Rattle.fields.proofs.templates.last_closed.Tie as tie
+
+pub last-closed-spec : {M : Type 1} → statement M
+unfolding basic template33 template32 linesOf
+last-closed-spec =
+    tie.close
+    (tie.spec
+    (λ c. search needs)
+    (λ c. search needs)
+    (λ c. rw (c .enum-told .given .1) (omega arith, λ latest f lo hi. open-in Bridge 13 8 (λ latest. tt) latest f (omega arith) (omega arith)))
+    (λ c. rw (c .enum-told2 .given .1) (omega arith, λ latest f lo hi. open-in Resistance 12 7 (λ latest. tt) latest f (omega arith) (omega arith))))

@@ -1,0 +1,20 @@
+use borrow.Author.Needs.{needs}
+use mathlib.Core.Path.{ap, _∙_}
+use Prim.Native.Nat.{ℕ}
+use native.Mathlib.Omega.{arith}
+use Rattle.fields.specs.Judgement.{judge}
+use Rattle.sheet.proofs.walk.judge_at.Statement.{statement}
+use Rattle.sheet.proofs.walk.judge_at.Tie as tie
+
+take-requires : tie.Need-take-requires
+take-requires c κs =
+    let p = c .before .pre in
+    record { whole = p .0; inside = p .2; some = p .1 .some; most = omega (arith, p .1 .most) }
+
+returns : tie.Need-returns
+returns c =
+    let a = c .before .before .before .args in
+    c .judge .ensures ∙ ap (λ (code : ℕ). judge (a .row) (a .at) code) (c .before .take .ensures)
+
+pub judge-at-spec : {M : Type 1} → statement M
+judge-at-spec = tie.close (tie.spec take-requires (λ c κs. search needs) returns)

@@ -1,0 +1,79 @@
+-- The code's shifts and masks.
+use mathlib.Core.Path.{_≡_, sym, ap, ap₂, _∙_}
+use Prim.Native.Nat.{ℕ, _+_, _-_, _*_, _/_, _%_, _^_, _≤_, _<_}
+use native.Mathlib.Nat.{mod-lt, le-refl, one-mul, lt-trans, lt-of-le-of-lt, div-mul-le-self, mul-assoc, add-comm}
+use native.Mathlib.Omega.{arith}
+use lib.Dec.{lit<}
+use lib.Bits.{bitOr, bitAnd, or-shifted-r, and-mask, and-high}
+use lib.Pow.{pow-pos, pow-add, split, mod-pow-add, shr-shr, shr-lt, shr-le, shr-mod, shl-exact}
+use Rattle.memory.specs.Bits.{fieldAt, putAt}
+use Rattle.memory.proofs.FieldLaws.{field-lt, low-lt}
+
+-- `1 << width`
+pub one-shl : (width : ℕ) → width < 64 → 1 * 2 ^ width % 2 ^ 64 ≡ 2 ^ width
+one-shl width h = shl-exact 1 width 64 (le-refl 2) (omega arith) ∙ one-mul (2 ^ width)
+
+pub one-shl-pos : (width : ℕ) → width < 64 → 1 ≤ 1 * 2 ^ width % 2 ^ 64
+one-shl-pos width h = omega (arith, one-shl width h, pow-pos width)
+
+-- `word & ((1 << width) - 1)`
+pub low-bits : (word width : ℕ) → width < 64 → bitAnd word (1 * 2 ^ width % 2 ^ 64 - 1) ≡ word % 2 ^ width
+low-bits word width h = ap (λ (x : ℕ). bitAnd word (x - 1)) (one-shl width h) ∙ and-mask word width
+
+pub low-bits-lt : (word width : ℕ) → width < 64 → bitAnd word (1 * 2 ^ width % 2 ^ 64 - 1) < 2 ^ width
+low-bits-lt word width h = rw (low-bits word width h) (mod-lt word (pow-pos width))
+
+-- `word >> low`
+pub high-bits-lt : (word width low : ℕ) → low ≤ width → word < 2 ^ width → word / 2 ^ low < 2 ^ (width - low)
+high-bits-lt word width low h lt =
+    let e : width - low + low ≡ width = omega arith in
+    shr-lt (width - low) low (rw e lt)
+
+-- `word` with its first `bits` cleared
+high-bits : (word bits : ℕ) → word < 2 ^ 64 → bits < 64 → bitAnd word (0xffff_ffff_ffff_ffff - (1 * 2 ^ bits % 2 ^ 64 - 1)) ≡ word / 2 ^ bits * 2 ^ bits
+high-bits word bits hw h =
+    let j : ℕ = 64 - bits in
+    let e : 64 ≡ j + bits = omega arith in
+    let mask : 0xffff_ffff_ffff_ffff - (1 * 2 ^ bits % 2 ^ 64 - 1) ≡ 2 ^ (j + bits) - 2 ^ bits =
+    rw (← e) (omega (arith, one-shl bits h, pow-pos bits)) in
+    ap (bitAnd word) mask ∙ and-high word j bits ∙ ap (λ (x : ℕ). x * 2 ^ bits) (shr-mod j bits (rw (← e) hw))
+
+-- A word with the 8 bits behind its first `bits` left out.
+pub left-out : (word bits : ℕ) → word < 2 ^ 64 → bits < 64
+    → bitOr (bitAnd word (1 * 2 ^ bits % 2 ^ 64 - 1)) (bitAnd (word / 2 ^ 8) (0xffff_ffff_ffff_ffff - (1 * 2 ^ bits % 2 ^ 64 - 1)))
+    ≡ word / 2 ^ (8 + bits) * 2 ^ bits + word % 2 ^ bits
+left-out word bits hw h =
+    ap₂ bitOr (low-bits word bits h)
+    (high-bits (word / 2 ^ 8) bits (lt-of-le-of-lt (shr-le word 8) hw) h ∙ ap (λ (x : ℕ). x * 2 ^ bits) (shr-shr word 8 bits))
+    ∙ or-shifted-r (word / 2 ^ (8 + bits)) bits (word % 2 ^ bits) (mod-lt word (pow-pos bits))
+
+-- And with a byte put in there.
+pub put-between : (word bits check : ℕ) → word < 2 ^ 56 → bits ≤ 56 → check < 2 ^ 8
+    → bitOr (bitOr (bitAnd word (1 * 2 ^ bits % 2 ^ 64 - 1)) (check * 2 ^ bits % 2 ^ 64)) (bitAnd word (0xffff_ffff_ffff_ffff - (1 * 2 ^ bits % 2 ^ 64 - 1)) * 2 ^ 8 % 2 ^ 64)
+    ≡ word / 2 ^ bits * 2 ^ (8 + bits) + (check * 2 ^ bits + word % 2 ^ bits)
+put-between word bits check hw h hc =
+    let hi : ℕ = word / 2 ^ bits in
+    let few : bits < 64 = omega arith in
+    let lt : hi * 2 ^ bits < 2 ^ 56 = lt-of-le-of-lt (div-mul-le-self word (2 ^ bits)) hw in
+    ap₂ bitOr
+    (ap₂ bitOr (low-bits word bits few) (shl-exact 8 bits 64 hc (omega arith)) ∙ or-shifted-r check bits (word % 2 ^ bits) (mod-lt word (pow-pos bits)))
+    (ap (λ (x : ℕ). x * 2 ^ 8 % 2 ^ 64) (high-bits word bits (lt-trans hw (lit< tt)) few) ∙ shl-exact 56 8 64 lt (omega arith)
+    ∙ mul-assoc hi (2 ^ bits) (2 ^ 8) ∙ ap (λ (x : ℕ). hi * x) (sym (pow-add 2 bits 8) ∙ ap (λ (x : ℕ). 2 ^ x) (add-comm bits 8)))
+    ∙ or-shifted-r hi (8 + bits) (check * 2 ^ bits + word % 2 ^ bits) (low-lt word bits 8 check hc)
+
+-- A word with the field of `width` bits at bit `low` taken out, and another code added there.
+module _ (word low width code : ℕ) (hw : width < 64) (h : width + low ≤ 64) (hc : code < 2 ^ width) where
+  abbrev old : ℕ
+  old = bitAnd (word / 2 ^ low) (1 * 2 ^ width % 2 ^ 64 - 1) * 2 ^ low % 2 ^ 64
+
+  old-is : old ≡ fieldAt word low width * 2 ^ low
+  old-is = ap (λ (x : ℕ). x * 2 ^ low % 2 ^ 64) (low-bits (word / 2 ^ low) width hw) ∙ shl-exact width low 64 (field-lt word low width) h
+
+  word-is : word / 2 ^ (width + low) * 2 ^ (width + low) + (fieldAt word low width * 2 ^ low + word % 2 ^ low) ≡ word
+  word-is = ap (λ (x : ℕ). word / 2 ^ (width + low) * 2 ^ (width + low) + x) (sym (mod-pow-add word width low)) ∙ split word (width + low)
+
+  pub old-le : old ≤ word
+  old-le = omega (arith, old-is, word-is)
+
+  pub put-word : word - old + code * 2 ^ low % 2 ^ 64 ≡ putAt word low width code
+  put-word = omega (arith, old-is, word-is, shl-exact width low 64 hc h)

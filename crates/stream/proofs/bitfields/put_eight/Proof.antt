@@ -1,0 +1,42 @@
+-- `bitfields::put_eight` meets its contract.
+use native.Mathlib.Omega.{arith}
+use Rattle.stream.proofs.Laying.{eight-put}
+use Rattle.stream.proofs.bitfields.put_eight.Statement.{statement}
+use Rattle.stream.proofs.bitfields.put_eight.Tie as tie
+
+eight-requires : tie.Need-eight-requires
+eight-requires c κs = omega arith
+
+mul-replaced : tie.Need-mul-replaced
+mul-replaced c = omega arith
+
+sub-replaced : tie.Need-sub-replaced
+sub-replaced c = omega arith
+
+replaced-requires : tie.Need-replaced-requires
+replaced-requires c κs = omega arith
+
+lay-eight-requires : tie.Need-lay-eight-requires
+lay-eight-requires c κs = omega arith
+
+same-length : tie.Need-same-length
+same-length c = c .before .before .lay-eight .kept .0
+
+returns : tie.Need-returns
+returns c =
+    let s = c .before .before .before .before .before .before .before .before in
+    let a = s .args in
+    eight-put (a .image .now) _ (a .from) (a .bit) (a .width) (a .code) _ _ (s .pre .0 .2) (s .pre .0 .3) (s .pre .1 .2)
+    (c .before .before .before .before .before .eight .ensures) (c .before .before .before .replaced .ensures) (c .before .before .lay-eight .ensures)
+
+pub put-eight-spec : {M : Type 1} → statement M
+put-eight-spec =
+    tie.close
+    (tie.spec
+    eight-requires
+    mul-replaced
+    sub-replaced
+    replaced-requires
+    lay-eight-requires
+    same-length
+    returns)
