@@ -20,6 +20,7 @@ use Rattle.memory.proofs.SumLaws.{sums-right}
 use Rattle.fields.specs.declared.Value.{Value}
 use Rattle.fields.specs.declared.Template.{Template}
 use Rattle.fields.specs.declared.Layout.{Layout}
+use Rattle.fields.specs.declared.Row.{Row}
 use Rattle.fields.specs.declared.Level.{Level}
 use Rattle.fields.specs.Rules.{encode}
 use Rattle.fields.specs.Stored.{Real}
@@ -125,6 +126,10 @@ module _ (layout : Layout) (level : Level) (f : ℕ) (v : Value) where
   pub code-allowed : good tt ≡ allowedIn (layout .template) level f → {o : Outcome ℕ} → o ≡ encode (rowOf layout f) f v → o ≡ codeIn layout level f v
   unfolding codeIn
   code-allowed e k = k ∙ sym (then-good (encode (rowOf layout f) f v) (sym e))
+
+  -- The same, by the row that was found.
+  pub code-by : good tt ≡ allowedIn (layout .template) level f → {row : Row} → row ≡ rowOf layout f → {o : Outcome ℕ} → o ≡ encode row f v → codeIn layout level f v ≡ o
+  code-by e r k = sym (code-allowed e (k ∙ ap (λ x. encode x f v) r))
 
 -- ---- a field of an opened sheet
 

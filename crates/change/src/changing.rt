@@ -1,13 +1,11 @@
 // Document 01: change one field; document 02, Note 6: by a writer of a level. Order: check, 8, 12, 20, 9, 10.
 ghost use mathlib.Core.Path.{_≡_};
 ghost use Rattle.refusal.specs.Written.{writtenSaid, afterwards};
-ghost use Rattle.fields.specs.Answers.{encodedSaid};
 ghost use Rattle.change.specs.Change.{change as changeOf};
 ghost use Prim.Native.Nat.{_≤_};
 ghost use Rattle.fields.specs.Lines.{lastField};
-ghost use Rattle.change.specs.Parts.{writableIn, allowedIn, codeIn, allowedSaid};
+ghost use Rattle.change.specs.Parts.{writableIn, allowedIn, allowedSaid};
 use fields::Encoded;
-use fields::Layout;
 use fields::Level;
 use fields::Template;
 use fields::Value;
@@ -48,18 +46,6 @@ pub fn may_change(template: Template, level: Level, field: u64) -> Allowed
     may_write(template, level, field)
 }
 
-// The code that a value is to be stored at in a field; or 8, 12, 20, 9 where the field takes no value of this sort, 10 where it
-// has no code for it.
-pub fn code_for(layout: Layout, level: Level, field: u64, value: Value) -> Encoded
-    ensures { λ r. ⌜ encodedSaid r ≡ codeIn layout level field value ⌝ }
-{
-    let template = layout.template;
-    match may_change(template, level, field) {
-        Allowed::Refused(r) => Encoded::Refused(r),
-        Allowed::Free => coding::encode(layout, field, value),
-    }
-}
-
 // Stores a value in a field, counted from 1, of an image: the field's bits and the check bytes of its pages are
 // rewritten, and no other bit. Or the check's refusal; 8 where the template has no such field; 12 for a field that sets the
 // widths of others; 20 where a writer of the level may not write it; 9 where the field takes no value of this sort; 10 where it
@@ -72,19 +58,25 @@ pub fn change(kind: u8, image: &mut [u8], level: Level, field: u64, value: Value
         OpenedAnswer::Refused(r) => Written::Refused(r),
         OpenedAnswer::Sheet(opened) => {
             let layout = opened.layout;
-            match code_for(layout, level, field, value) {
-                Encoded::Refused(r) => Written::Refused(r),
-                Encoded::Code(code) => {
-                    let sizes = opened.sizes;
+            let template = layout.template;
+            match may_change(template, level, field) {
+                Allowed::Refused(r) => Written::Refused(r),
+                Allowed::Free => {
                     let row = fields::row_of(layout, field);
-                    stream::rewrite(
-                        sizes,
-                        image,
-                        sheet::locate(layout, field),
-                        row.width as usize,
-                        code,
-                    );
-                    Written::Done
+                    match coding::encode_by(row, field, value) {
+                        Encoded::Refused(r) => Written::Refused(r),
+                        Encoded::Code(code) => {
+                            let sizes = opened.sizes;
+                            stream::rewrite(
+                                sizes,
+                                image,
+                                sheet::locate(layout, field),
+                                row.width as usize,
+                                code,
+                            );
+                            Written::Done
+                        }
+                    }
                 }
             }
         }

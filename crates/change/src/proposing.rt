@@ -1,13 +1,15 @@
 // Document 02, Note 5: what a field would become. A proposal is refused as the change would be, and writes nothing.
 ghost use mathlib.Core.Path.{_≡_};
 ghost use Prim.Native.Nat.{_^_, _≤_, _<_};
+ghost use Rattle.fields.specs.Answers.{encodedSaid};
 ghost use Rattle.fields.specs.Lines.{lastField, rowOf};
 ghost use Rattle.layout.specs.Places.{fieldPlace};
 ghost use Rattle.change.specs.Change.{propose as proposeOf, proposalSaid};
-ghost use Rattle.change.specs.Parts.{proposedAt};
+ghost use Rattle.change.specs.Parts.{codeIn, proposedAt};
 use crate::Proposal;
 use crate::ProposalAnswer;
 use crate::changing;
+use crate::changing::Allowed;
 use crate::standing;
 use fields::Decoded;
 use fields::Encoded;
@@ -15,6 +17,18 @@ use fields::Layout;
 use fields::Level;
 use fields::Value;
 use sheet::OpenedAnswer;
+
+// The code that a value is to be stored at in a field; or 8, 12, 20, 9 where the field takes no value of this sort, 10 where it
+// has no code for it.
+fn code_for(layout: Layout, level: Level, field: u64, value: Value) -> Encoded
+    ensures { λ r. ⌜ encodedSaid r ≡ codeIn layout level field value ⌝ }
+{
+    let template = layout.template;
+    match changing::may_change(template, level, field) {
+        Allowed::Refused(r) => Encoded::Refused(r),
+        Allowed::Free => coding::encode(layout, field, value),
+    }
+}
 
 // The proposal of a code for a field that holds the present one.
 fn proposed(layout: Layout, field: u64, present: u64, new: u64) -> ProposalAnswer
@@ -41,7 +55,7 @@ pub fn propose(kind: u8, image: &[u8], level: Level, field: u64, value: Value) -
         OpenedAnswer::Refused(r) => ProposalAnswer::Refused(r),
         OpenedAnswer::Sheet(opened) => {
             let layout = opened.layout;
-            match changing::code_for(layout, level, field, value) {
+            match code_for(layout, level, field, value) {
                 Encoded::Refused(r) => ProposalAnswer::Refused(r),
                 Encoded::Code(new) => proposed(
                     layout,

@@ -2,13 +2,15 @@
 use mathlib.Core.Path.{_≡_, refl, sym, ap, ap₂, _∙_}
 use mathlib.Core.List.{List, [], _∷_, _++_, map}
 use Prim.Native.Nat.{ℕ, zero, suc, _+_, _-_, _≤_, _<_}
+use native.Mathlib.Numerals.{add-one}
 use native.Mathlib.Omega.{arith}
 use native.Mathlib.Decide.{decLt}
 use lib.ListN.{length, getD, length-append, length-map, List·getD-map}
 use lib.Seq.{ext-getD, getD-at}
 use borrow.Author.Tests.{lt-ltb, le-ltb}
+use Rattle.fields.specs.declared.Row.{Row}
 use Rattle.fields.specs.declared.Layout.{Layout}
-use Rattle.fields.specs.Lines.{Line, line, basic, linesOf, lastField, rowOf, bitsBefore, noLine}
+use Rattle.fields.specs.Lines.{Line, line, basic, templateLines, linesOf, lastField, rowOf, bitsBefore, noLine}
 use Rattle.fields.proofs.RowLaws.{row-sound}
 use Rattle.layout.specs.Format.{Stream}
 use Rattle.layout.specs.Contents.{FoundPair, Contents}
@@ -20,6 +22,7 @@ use Rattle.layout.proofs.Places.{get-front, get-back, fields-count}
 use Rattle.layout.proofs.Accepted.{Holding}
 use Rattle.layout.proofs.Standing.{field-stands, pair-here}
 use Rattle.sheet.proofs.PlaceSteps.{in-basic, behind-basic}
+use Rattle.sheet.proofs.WalkSteps.{basic-most}
 use Rattle.index.specs.declared.Entry.{Entry}
 use Rattle.index.specs.Index.{entry, fieldEntry, pairEntry, entries}
 use Rattle.index.specs.Laid.{entryOf, firstEntries}
@@ -142,14 +145,53 @@ bits-next (l ∷ lines) p zero h = omega (arith, bits-front [] lines p 0 (omega 
 bits-next (l ∷ lines) p (suc i) h = omega (arith, bits-next lines p i (omega arith))
 
 module _ (layout : Layout) where
+  abbrev before : ℕ → ℕ
+  before i = bitsBefore (linesOf (layout .template)) (layout .precision) i
+
+  pub none-before : 0 ≡ before 0
+  none-before = sym (bits-front [] (linesOf (layout .template)) (layout .precision) 0 (omega arith))
+
+  -- A field's bits stand before the next.
+  pub field-next : (i : ℕ) {row : Row} → i < lastField (layout .template) → row ≡ rowOf layout (i + 1) → before i + row .width ≡ before (i + 1)
+  field-next i {row} h e =
+      let n : i + 1 - 1 ≡ i = omega arith in
+      ap (λ (w : ℕ). before i + w) (ap (λ (r : Row). r .width) e ∙ ap (λ (k : ℕ). getD (linesOf (layout .template)) k noLine .rowAt (layout .precision) .width) n)
+      ∙ sym (bits-next (linesOf (layout .template)) (layout .precision) i h) ∙ ap before (sym (add-one i))
+
+  -- An entry by its row and the bits before it: of Basic, and behind the first block.
+  by-row : (i : ℕ) {at : ℕ} {row : Row} → i < lastField (layout .template) → row ≡ rowOf layout (i + 1) → at ≡ fieldPlace layout (suc i) → entry at (row .width) ≡ entryOf layout i
+  by-row i {at} {row} h e place =
+      ap₂ entry place (ap (λ (r : Row). r .width) e ∙ ap (λ (k : ℕ). rowOf layout k .width) (add-one i)) ∙ sym (of-field layout i h)
+
+  pub basic-entry : (i : ℕ) {at : ℕ} {row : Row} → i < length basic → row ≡ rowOf layout (i + 1) → at ≡ before i → entry at (row .width) ≡ entryOf layout i
+  basic-entry i {at} {row} h e place =
+      let n : suc i - 1 ≡ i = omega arith in
+      by-row i (omega (arith, basic-most (layout .template))) e (place ∙ ap before (sym n) ∙ sym (in-basic layout (suc i) h))
+
+  pub own-entry : (i : ℕ) {at : ℕ} {row : Row} → length basic ≤ i → i < lastField (layout .template) → row ≡ rowOf layout (i + 1) → at ≡ before i + 10 →
+      entry at (row .width) ≡ entryOf layout i
+  own-entry i {at} {row} l h e place =
+      let n : suc i - 1 ≡ i = omega arith in
+      by-row i h e (place ∙ ap (λ (k : ℕ). before k + 10) (sym n) ∙ sym (behind-basic layout (suc i) (omega arith)))
+
+  -- The first of a template's own fields.
+  pub own-first : {n : ℕ} → n ≡ length basic → 74 ≡ before n + 10
+  unfolding linesOf basic
+  own-first {n} e = omega (arith, ap before e, bits-front basic (templateLines (layout .template)) (layout .precision) (length basic) (omega arith))
+
+  pub pair-entry : (i last : ℕ) {at : ℕ} → last ≡ lastField (layout .template) → last ≤ i → at ≡ pairPlace layout (i - last) → entry at pairBits ≡ entryOf layout i
+  pair-entry i last {at} e h place =
+      ap (λ (k : ℕ). entry k pairBits) (place ∙ ap (λ (k : ℕ). pairPlace layout (i - k)) e) ∙ sym (of-pair layout i (omega arith))
+
   -- A field ends where the next one begins, or the first block stands between them.
   place-rises : (f : ℕ) → 1 ≤ f → f ≤ lastField (layout .template) → fieldPlace layout f + rowOf layout f .width ≤ fieldPlace layout (suc f)
   place-rises f lo hi = go (decLt f (length basic)) (decLt (length basic) f)
     where
-      next : bitsBefore (linesOf (layout .template)) (layout .precision) (f - 1) + rowOf layout f .width ≡ bitsBefore (linesOf (layout .template)) (layout .precision) (suc f - 1)
+      next : before (f - 1) + rowOf layout f .width ≡ before (suc f - 1)
       next =
-          let n : suc (f - 1) ≡ suc f - 1 = omega arith in
-          sym (bits-next (linesOf (layout .template)) (layout .precision) (f - 1) (omega arith)) ∙ ap (bitsBefore (linesOf (layout .template)) (layout .precision)) n
+          let n : f - 1 + 1 ≡ f = omega arith in
+          let m : f - 1 + 1 ≡ suc f - 1 = omega arith in
+          field-next (f - 1) (omega arith) (ap (rowOf layout) (sym n)) ∙ ap before m
 
       go : Dec (f < length basic) → Dec (length basic < f) → fieldPlace layout f + rowOf layout f .width ≤ fieldPlace layout (suc f)
       go (yes l) k = omega (arith, next, in-basic layout f (omega arith), in-basic layout (suc f) l)

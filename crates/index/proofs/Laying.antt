@@ -1,8 +1,9 @@
 -- Bytes laid into a buffer, one behind the other, and the bytes of entries.
 use mathlib.Core.Path.{_≡_, refl, sym, ap, ap₂, _∙_}
 use mathlib.Core.List.{List, [], _∷_, _++_, append-assoc}
-use Prim.Native.Nat.{ℕ, zero, suc, _+_, _*_, _/_, _%_, _≤_}
+use Prim.Native.Nat.{ℕ, zero, suc, _+_, _-_, _*_, _/_, _%_, _≤_}
 use native.Mathlib.Nat.{zero-add}
+use native.Mathlib.Numerals.{add-one}
 use native.Mathlib.Omega.{arith}
 use lib.ListN.{length, take, drop, set, length-append, length-drop}
 use lib.Seq.{length-take-le, take-at, drop-at, drop-drop, sets-eq}
@@ -33,6 +34,17 @@ module _ (buffer : List ℕ) (at : ℕ) (xs : List ℕ) (inside : at + length xs
 pub laid-start : (buffer bytes : List ℕ) → laid buffer 0 bytes ≡ bytes ++ drop (length bytes) buffer
 laid-start buffer bytes = ap (λ (n : ℕ). bytes ++ drop n buffer) (zero-add (length bytes))
 
+-- Over what was laid there before.
+laid-over : (buffer xs ys : List ℕ) → length xs ≤ length ys → laid (laid buffer 0 xs) 0 ys ≡ laid buffer 0 ys
+laid-over buffer xs ys h =
+    let k : ℕ = length ys - length xs in
+    let n : 0 + length ys ≡ 0 + length xs + k = omega arith in
+    ap (λ (l : List ℕ). ys ++ l)
+    (ap (λ (m : ℕ). drop m (laid buffer 0 xs)) n
+    ∙ sym (drop-drop k (0 + length xs) (laid buffer 0 xs))
+    ∙ ap (drop k) (drop-at xs (drop (0 + length xs) buffer) (0 + length xs) (omega arith))
+    ∙ drop-drop k (0 + length xs) buffer ∙ ap (λ (m : ℕ). drop m buffer) (sym n))
+
 -- ---- entries
 
 pub bytes-count : (es : List Entry) → length (entryBytes es) ≡ 4 * length es
@@ -57,12 +69,32 @@ pub first-length : (layout : Layout) (n : ℕ) → length (firstEntries layout n
 first-length layout zero = refl
 first-length layout (suc n) = omega (arith, length-append (firstEntries layout n) (entryOf layout n ∷ []), first-length layout n)
 
-pub first-more : (layout : Layout) (buffer index : List ℕ) (i : ℕ) → 4 * i ≤ length buffer → index ≡ laid buffer 0 (entryBytes (firstEntries layout i)) →
-    laid index (4 * i) (entryBytes (entryOf layout i ∷ [])) ≡ laid buffer 0 (entryBytes (firstEntries layout (suc i)))
-first-more layout buffer index i inside e =
-    let before : List ℕ = entryBytes (firstEntries layout i) in
-    let new : List ℕ = entryBytes (entryOf layout i ∷ []) in
-    let n : 4 * i ≡ 0 + length before = omega (arith, bytes-count (firstEntries layout i), first-length layout i) in
-    ap₂ (λ (l : List ℕ) (k : ℕ). laid l k new) e n
-    ∙ laid-more buffer 0 before (omega arith) new
-    ∙ ap (laid buffer 0) (sym (bytes-append (firstEntries layout i) (entryOf layout i ∷ [])))
+module _ (layout : Layout) where
+  abbrev bytes : ℕ → List ℕ
+  bytes n = entryBytes (firstEntries layout n)
+
+  bytes-length : (n : ℕ) → length (bytes n) ≡ 4 * n
+  bytes-length n = omega (arith, bytes-count (firstEntries layout n), first-length layout n)
+
+  pub first-long : (buffer : List ℕ) (n : ℕ) → 4 * n ≤ length buffer → length (laid buffer 0 (bytes n)) ≡ length buffer
+  first-long buffer n inside = laid-length buffer 0 (bytes n) (omega (arith, bytes-length n))
+
+  -- More of them over some.
+  pub first-over : (buffer : List ℕ) (m n : ℕ) → m ≤ n → laid (laid buffer 0 (bytes m)) 0 (bytes n) ≡ laid buffer 0 (bytes n)
+  first-over buffer m n h = laid-over buffer (bytes m) (bytes n) (omega (arith, bytes-length m, bytes-length n))
+
+  -- A buffer with the first of them laid begins with them.
+  pub first-begun : (buffer index : List ℕ) (n : ℕ) → index ≡ laid buffer 0 (bytes n) → index ≡ laid index 0 (bytes n)
+  first-begun buffer index n e = e ∙ sym (first-over buffer n n (omega arith)) ∙ ap (λ (l : List ℕ). laid l 0 (bytes n)) (sym e)
+
+  -- One more, laid behind them.
+  pub first-more : (buffer : List ℕ) {index after : List ℕ} {e : Entry} (i : ℕ) → 4 * i ≤ length buffer → index ≡ laid buffer 0 (bytes i) → e ≡ entryOf layout i →
+      after ≡ laid index (4 * i) (entryBytes (e ∷ [])) → after ≡ laid buffer 0 (bytes (i + 1))
+  first-more buffer {index} {after} {e} i inside before here step =
+      let n : 4 * i ≡ 0 + length (bytes i) = omega (arith, bytes-length i) in
+      let new : List ℕ = entryBytes (entryOf layout i ∷ []) in
+      step ∙ ap (λ (x : Entry). laid index (4 * i) (entryBytes (x ∷ []))) here
+      ∙ ap₂ (λ (l : List ℕ) (k : ℕ). laid l k new) before n
+      ∙ laid-more buffer 0 (bytes i) (omega arith) new
+      ∙ ap (laid buffer 0) (sym (bytes-append (firstEntries layout i) (entryOf layout i ∷ [])))
+      ∙ ap (λ (k : ℕ). laid buffer 0 (bytes k)) (sym (add-one i))

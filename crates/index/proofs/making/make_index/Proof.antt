@@ -43,7 +43,8 @@ write-entries-requires c κs =
     let s = c .before .before .before .before .before .before .before in
     let a = s .before .before .before .before .before .args in
     let (x, h) = opens (a .kind) (a .image .now) _ (s .before .before .«open» .ensures) (s .opened .given .1) in
-    (omega arith, omega (arith, opened-few h (c .before .before .before .last-field .ensures)))
+    let e = c .before .before .before .last-field .ensures in
+    (omega arith, omega (arith, opened-few h e), omega (arith, e))
 
 returns-2 : tie.Need-returns-2
 returns-2 c =

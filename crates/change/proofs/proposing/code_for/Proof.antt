@@ -2,8 +2,8 @@ use borrow.Author.Needs.{needs}
 use Rattle.refusal.proofs.Outcomes.{told}
 use Rattle.change.specs.Parts.{allowedSaid}
 use Rattle.change.proofs.PartLaws.{allowed-known, code-refused, code-allowed}
-use Rattle.change.proofs.changing.code_for.Statement.{statement}
-use Rattle.change.proofs.changing.code_for.Tie as tie
+use Rattle.change.proofs.proposing.code_for.Statement.{statement}
+use Rattle.change.proofs.proposing.code_for.Tie as tie
 
 encode-requires : tie.Need-encode-requires
 encode-requires c κs =
