@@ -1,39 +1,46 @@
 -- The codes of fields, one after the other.
-use mathlib.Core.Path.{_≡_, refl, sym, ap, ap₂, _∙_}
+use mathlib.Core.Path.{_≡_, refl, sym, ap, ap₂, _∙_, subst}
+use mathlib.Core.Bool.{false, true≢false}
 use mathlib.Core.List.{List, [], _∷_, _++_, map, append-assoc, append-nil}
-use Prim.Native.Nat.{ℕ, zero, suc, _+_, _-_, _*_, _≤_, _<_}
+use Prim.Native.Nat.{ℕ, zero, suc, _+_, _-_, _*_, _^_, _≤_, _<_}
 use native.Mathlib.Numerals.{add-one}
 use native.Mathlib.Omega.{arith}
 use native.Mathlib.Decide.{ℕ-discrete}
-use lib.IntN.{ℤ}
+use borrow.Author.Tests.{ne-eqb, ltb-false}
+use lib.Dec.{T, ltb}
+use lib.IntN.{ℤ, pos, negsuc, natAbs}
+use lib.Signed.{nonNeg}
 use mir.Syntax.{w64}
-use mir.Val.{SFits, toZ, ofZ}
+use mir.Val.{Fits, SFits, toZ, ofZ}
 use mir.Facts.{toZ-ofZ}
 use lib.ListN.{length, take, drop, getD, set, replicate, length-replicate, getD-replicate, length-append, length-set, length-map, List·getD-map, drop-of-length-le}
 use lib.Seq.{slice, slice-cons, slice-empty, drop-cons, getD-set-same, getD-set-other, take-take}
 use Rattle.refusal.specs.declared.Refusal.{Refusal}
 use Rattle.refusal.specs.Outcome.{Outcome, good, refused, _>>=_}
-use Rattle.refusal.proofs.Outcomes.{bind-good, bind-refused, bind-assoc, bind-same}
+use Rattle.refusal.proofs.Outcomes.{neither, bind-good, bind-refused, bind-assoc, bind-same}
 use Rattle.memory.specs.Pieces.{Piece, piece, needed}
 use Rattle.memory.proofs.PieceLaws.{needed-append}
 use Rattle.fields.specs.declared.Value.{Value}
 use Rattle.fields.specs.declared.Value.the-variants.{Whole, Missing}
+use Rattle.fields.specs.declared.Rule.the-variants.{Plain}
 use Rattle.fields.specs.declared.Row.{Row}
 use Rattle.fields.specs.declared.Encoded.{Encoded}
 use Rattle.fields.specs.declared.Encoded.the-variants.{Code, Refused as NoCode}
 use Rattle.fields.specs.declared.Judged.the-variants.{Stands, Refused}
 use Rattle.fields.specs.declared.Template.{Template}
-use Rattle.fields.specs.Rules.{encode}
+use Rattle.fields.specs.declared.Layout.{Layout}
+use Rattle.fields.specs.Rules.{outside, encode}
 use Rattle.fields.specs.Lines.{Line, line, chose, basic, templateLines, linesOf, numberOf, lastField, lineOf, rowOf, noLine}
 use Rattle.fields.specs.Stored.{Sound, Real}
 use Rattle.fields.specs.Answers.{encodedSaid}
 use Rattle.fields.proofs.StoredLaws.{reads-back}
+use Rattle.fields.proofs.RowLaws.{sets-at, row-sound}
 use Rattle.layout.specs.Pieces.{blockPieces}
 use Rattle.build.specs.declared.Slot.{Slot}
 use Rattle.build.specs.declared.Sheet.{Sheet}
 use Rattle.build.specs.declared.plan.CodedField.{CodedField}
 use Rattle.build.specs.Build.{slot, lent, templateIn, linePieces}
-use Rattle.build.specs.Tested.{Encodes, Fitting, Fit, blank, fieldPiece, codedFields, FieldsPlanned}
+use Rattle.build.specs.Tested.{Encodes, Fitting, Fit, blank, fieldPiece, codedFields, FieldsPlanned, fromHere, FieldsDone, BasicPlanned}
 use Rattle.build.proofs.LinePlans.{bind-good-last}
 use Rattle.fields.proofs.TemplateFacts.{last-most}
 use Rattle.build.proofs.FieldPlans.{withBlock, block-needed, fields-listed}
@@ -43,6 +50,16 @@ use Rattle.build.proofs.FieldPlans.{withBlock, block-needed, fields-lis
 -- The answer for a value that a caller can lend.
 pub encodes : (row : Row) (place : ℕ) (v : Value) (e : Encoded) → Sound row → Real v → encodedSaid e ≡ encode row place v → Encodes row place v e
 encodes row place v e s real said = record { said = said; fits = λ code h. reads-back row place 0 code v s real (sym said ∙ ap encodedSaid h) .0 }
+
+-- A figure in the table of a plain row: it is not negative, and its own code.
+pub plain-figure : (least greatest : ℕ) (z : ℤ) → (least ≤ greatest) × (greatest < 2 ^ 32) → outside (pos least) (pos greatest) z ≡ false → T (nonNeg z) × Fits w64 (natAbs z)
+plain-figure least greatest (pos n) small e = (tt, record { fits = omega (arith, ltb-false greatest n (neither (ltb n least) (ltb greatest n) e .1), small) })
+plain-figure least greatest (negsuc n) small e = absurd (true≢false e)
+
+pub plain-code : (row : Row) (place : ℕ) {least greatest : ℕ} {v : Value} {z : ℤ} → row .rule ≡ Plain least greatest → v ≡ Whole z → outside (pos least) (pos greatest) z ≡ false →
+    encode row place v ≡ good (natAbs z)
+unfolding encode
+plain-code row place er ev e = rw (ev, er, e)
 
 -- A figure that is handed to a callee.
 pub seen : (row : Row) (place : ℕ) {figure : ℤ} → SFits w64 figure → encode row place (Whole (toZ w64 (ofZ w64 figure))) ≡ encode row place (Whole figure)
@@ -95,14 +112,10 @@ module _ (sheet : Sheet) where
   abbrev lines : List Line
   lines = linesOf t
 
-  -- What the lines come to, with the first i of them done.
-  abbrev pub fromHere : List CodedField → ℕ → ℕ → Outcome (List Piece)
-  fromHere fields latest i = linePieces sheet (drop i lines) latest (suc i) >>= λ rest. good (take i (map fieldPiece fields) ++ rest)
-
-  pub from-start : (fields : List CodedField) → fromHere fields 0 0 ≡ linePieces sheet lines 0 1
+  pub from-start : (fields : List CodedField) → fromHere sheet fields 0 0 ≡ linePieces sheet lines 0 1
   from-start fields = bind-good-last (linePieces sheet lines 0 1)
 
-  pub from-end : (fields : List CodedField) (latest i : ℕ) → lastField t ≤ i → fromHere fields latest i ≡ good (take i (map fieldPiece fields))
+  pub from-end : (fields : List CodedField) (latest i : ℕ) → lastField t ≤ i → fromHere sheet fields latest i ≡ good (take i (map fieldPiece fields))
   unfolding linePieces
   from-end fields latest i h =
       ap (λ l. linePieces sheet l latest (suc i) >>= λ rest. good (take i (map fieldPiece fields) ++ rest)) (drop-of-length-le lines h)
@@ -117,11 +130,11 @@ module _ (sheet : Sheet) where
     unfolding linePieces
     step = ap (λ l. linePieces sheet l latest (suc i)) (drop-cons lines i noLine h)
 
-    pub field-refused : {r : Refusal} → encode (here .rowAt latest) (suc i) (lent sheet (suc i)) ≡ refused r → fromHere fields latest i ≡ refused r
+    pub field-refused : {r : Refusal} → encode (here .rowAt latest) (suc i) (lent sheet (suc i)) ≡ refused r → fromHere sheet fields latest i ≡ refused r
     field-refused e = ap (λ o. o >>= λ rest. good (take i (map fieldPiece fields) ++ rest)) (step ∙ bind-refused _ e)
 
     pub field-coded : {code : ℕ} → i < length fields → encode (here .rowAt latest) (suc i) (lent sheet (suc i)) ≡ good code →
-        fromHere fields latest i ≡ fromHere (set fields i (record { width = here .rowAt latest .width; code = code })) (chose (here .sets) code latest) (suc i)
+        fromHere sheet fields latest i ≡ fromHere sheet (set fields i (record { width = here .rowAt latest .width; code = code })) (chose (here .sets) code latest) (suc i)
     field-coded {code} k e =
         let x : CodedField = record { width = here .rowAt latest .width; code = code } in
         let others = linePieces sheet (drop (suc i) lines) (chose (here .sets) code latest) (suc (suc i)) in
@@ -131,14 +144,7 @@ module _ (sheet : Sheet) where
 
   -- ---- the loop over the fields
 
-  pub record FieldsDone (fields : List CodedField) (latest bits i : ℕ) : Type 0 where
-    pub inside : i ≤ lastField t
-    pub fit : Fit 21 fields
-    pub rest : fromHere fields latest i ≡ linePieces sheet lines 0 1
-    pub count : bits ≡ needed (take i (map fieldPiece fields)) + 10
-    pub few : bits ≤ 10 + 32 * i
-
-  pub done-none : FieldsDone (replicate 21 blank) 0 10 0
+  pub done-none : FieldsDone sheet (replicate 21 blank) 0 10 0
   done-none = record {
     inside = omega arith;
     fit = fit-none 21;
@@ -147,7 +153,7 @@ module _ (sheet : Sheet) where
     few = omega arith;
   }
 
-  pub done-all : {fields : List CodedField} {latest bits i : ℕ} → FieldsDone fields latest bits i → lastField t ≤ i →
+  pub done-all : {fields : List CodedField} {latest bits i : ℕ} → FieldsDone sheet fields latest bits i → lastField t ≤ i →
       FieldsPlanned sheet (record { answer = Stands; fields = fields; bits = bits })
   done-all {fields} {latest} {bits} {i} d h =
       let last : i ≡ lastField t = omega (arith, d .inside) in
@@ -163,7 +169,7 @@ module _ (sheet : Sheet) where
       }
 
   -- A turn, in the words of the code.
-  module _ {fields : List CodedField} {latest bits i : ℕ} (d : FieldsDone fields latest bits i) (h : i < lastField t) (none : Slot) (row : Row) (e : Encoded) (full : length (sheet .fields) ≡ 21)
+  module _ {fields : List CodedField} {latest bits i : ℕ} (d : FieldsDone sheet fields latest bits i) (h : i < lastField t) (none : Slot) (row : Row) (e : Encoded) (full : length (sheet .fields) ≡ 21)
       (er : row ≡ rowOf (record { template = t; precision = latest }) (i + 1)) (c : Encodes row (i + 1) (getD (sheet .fields) i none .value) e) where
     is-here : lineOf t (i + 1) ≡ getD lines i noLine
     is-here = let k : i + 1 - 1 ≡ i = omega arith in ap (λ (n : ℕ). getD lines n noLine) k
@@ -187,7 +193,7 @@ module _ (sheet : Sheet) where
     }
 
     pub turn-coded : {code next : ℕ} → e ≡ Code code → next ≡ chose (lineOf t (i + 1) .sets) code latest → Sound row →
-        FieldsDone (set fields i (record { width = row .width; code = code })) next (bits + row .width) (i + 1)
+        FieldsDone sheet (set fields i (record { width = row .width; code = code })) next (bits + row .width) (i + 1)
     turn-coded {code} {next} a n s =
         let x : CodedField = record { width = row .width; code = code } in
         let k : i < length fields = omega (arith, d .fit .long, last-most t) in
@@ -201,3 +207,35 @@ module _ (sheet : Sheet) where
           count = omega (arith, d .count, more);
           few = omega (arith, d .few, s .most);
         }
+
+  -- ---- Basic, then the template's own
+
+  -- Basic sets no widths.
+  pub basic-choice : (f code : ℕ) → f ≤ length basic → 0 ≡ chose (lineOf t f .sets) code 0
+  unfolding basic
+  basic-choice f code h = ap (λ b. chose b code 0) (sym (ne-eqb f 9 (λ e. omega (arith, e))) ∙ sets-at t f (omega (arith, basic-fewer t)))
+
+  pub basic-down : {because : Refusal} {fields : List CodedField} {bits : ℕ} → FieldsPlanned sheet (record { answer = Refused because; fields = fields; bits = bits }) →
+      BasicPlanned sheet (record { answer = Refused because; fields = fields; bits = bits })
+  basic-down f = record { done = λ s. absurd (let z : _≡_ {A = ℕ} 0 1 = cc in omega arith); down = λ e. f }
+
+  pub basic-done : {fields : List CodedField} {bits i : ℕ} → FieldsDone sheet fields 0 bits i → i ≡ length basic →
+      BasicPlanned sheet (record { answer = Stands; fields = fields; bits = bits })
+  basic-done {fields} {bits} d e = record {
+    done = λ s. rw (← e) d;
+    down = λ s. absurd (let z : _≡_ {A = ℕ} 0 1 = cc in omega arith);
+  }
+
+  pub basic-sound : {row : Row} (f : ℕ) → ((layout : Layout) → row ≡ rowOf layout f) → 1 ≤ f → f ≤ length basic → Sound row
+  basic-sound f e lo hi = let l : Layout = record { template = t; precision = 0 } in subst Sound (sym (e l)) (row-sound l f lo (omega (arith, basic-fewer t)))
+
+  -- In a template that is known.
+  module _ {own : Template} (is : t ≡ own) {row : Row} (f latest : ℕ) (e : row ≡ lineOf own f .rowAt latest) where
+    pub own-row : row ≡ rowOf (record { template = t; precision = latest }) f
+    own-row = e ∙ ap (λ x. lineOf x f .rowAt latest) (sym is)
+
+    pub own-sound : 1 ≤ f → f ≤ lastField own → Sound row
+    own-sound lo hi = subst Sound (sym e) (row-sound (record { template = own; precision = latest }) f lo hi)
+
+  pub own-choice : {own : Template} → t ≡ own → {next : ℕ} (f code latest : ℕ) → next ≡ chose (lineOf own f .sets) code latest → next ≡ chose (lineOf t f .sets) code latest
+  own-choice is f code latest e = e ∙ ap (λ x. chose (lineOf x f .sets) code latest) (sym is)

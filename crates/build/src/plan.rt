@@ -4,24 +4,26 @@ use fields::Codes;
 use fields::Domain;
 use fields::Encoded;
 use fields::Judged;
-use fields::Layout;
 use fields::Previous;
 use fields::Row;
+use fields::Rule;
 use fields::Template;
 use fields::Value;
 use refusal::Refusal;
 ghost use mathlib.Core.Path.{_≡_};
 ghost use mathlib.Core.Bool.{_||_};
-ghost use Prim.Native.Nat.{_*_, _+_, _%_, _<_, _≤_};
+ghost use Prim.Native.Nat.{_*_, _+_, _^_, _%_, _<_, _≤_};
 ghost use lib.Dec.{eqb, ltb};
+ghost use lib.IntN.{pos};
 ghost use lib.ListN.{length};
 ghost use Rattle.refusal.specs.Outcome.{refuse_if_};
 ghost use Rattle.refusal.specs.Rows.{outOfRange};
-ghost use Rattle.fields.specs.Lines.{chose, lineOf, lastField, ending};
+ghost use Rattle.fields.specs.Rules.{outside};
+ghost use Rattle.fields.specs.Lines.{chose, basic as basicLines, lineOf, lastField, ending};
 ghost use Rattle.fields.specs.Stored.{Sound};
 ghost use Rattle.fields.specs.Answers.{judgedSaid, previousSaid};
 ghost use Rattle.build.specs.Build.{templateIn, unfit, endingPieces, pairsLent, codesFor, pairCodes, tablePieces};
-ghost use Rattle.build.specs.Tested.{tested, pairAt, codesSaid, Encodes, FieldsPlanned};
+ghost use Rattle.build.specs.Tested.{tested, pairAt, codesSaid, Encodes, FieldsPlanned, FieldsDone, BasicPlanned};
 
 // A field that is to be written: its bits and its code.
 pub struct CodedField {
@@ -49,11 +51,32 @@ pub fn template_in(sheet: Sheet) -> Template
     sheet.template
 }
 
-// The code of a field's value, which fits its row's bits: a Single that is lent has 32.
+// Whether a figure is below the least or above the greatest.
+fn is_outside(least: u64, greatest: u64, figure: i64) -> bool
+    requires { ⌜ (least ≤ greatest) × (greatest < 2 ^ 32) ⌝ }
+    ensures { λ r. ⌜ r ≡ outside (pos least) (pos greatest) figure ⌝ }
+{
+    if figure < least as i64 {
+        return true;
+    }
+    (greatest as i64) < figure
+}
+
+// The code of a field's value, which fits its row's bits: a Single that is lent has 32. Most rows are plain, and a figure in
+// their table is its own code: that is told here, where the row is a constant to the compiler.
 fn code_of(row: Row, field: u64, value: Value) -> Encoded
     requires { ⌜ Sound row ⌝ }
     ensures { λ r. ⌜ Encodes row field value r ⌝ }
 {
+    let rule = row.rule;
+    if let Rule::Plain(least, greatest) = rule {
+        if let Value::Whole(figure) = value {
+            if is_outside(least, greatest, figure) {
+                return coding::encode_by(row, field, value);
+            }
+            return Encoded::Code(figure as u64);
+        }
+    }
     coding::encode_by(row, field, value)
 }
 
@@ -68,25 +91,20 @@ fn choice_behind(template: Template, field: u64, code: u64, latest: u64) -> u64
     latest
 }
 
-// 9 or 10, field by field, each by the latest choice before it.
-pub fn plan_fields(sheet: Sheet) -> Plan
-    ensures { λ r. ⌜ FieldsPlanned sheet r ⌝ }
+// The fields of Basic. Each loop has rows of its own, and an end that is known when it is compiled: so no row is picked at run
+// time.
+fn plan_basic(sheet: Sheet) -> Plan
+    ensures { λ r. ⌜ BasicPlanned sheet r ⌝ }
 {
-    let template = template_in(sheet);
-    let last = fields::last_field(template) as usize;
+    let last = fields::basic_fields() as usize;
     let mut fields = [CodedField { width: 1, code: 0 }; 21];
-    let mut precision: u64 = 0;
     let mut bits: u64 = 10;
     let mut i: usize = 0;
     while i < last {
         let field = i as u64 + 1;
         let slot = sheet.fields[i];
         let value = slot.value;
-        let layout = Layout {
-            template,
-            precision,
-        };
-        let row = fields::row_of(layout, field);
+        let row = fields::basic_row(field);
         match code_of(row, field, value) {
             Encoded::Refused(r) => {
                 return Plan {
@@ -100,7 +118,6 @@ pub fn plan_fields(sheet: Sheet) -> Plan
                     width: row.width,
                     code,
                 };
-                precision = choice_behind(template, field, code, precision);
             }
         }
         bits += row.width;
@@ -110,6 +127,104 @@ pub fn plan_fields(sheet: Sheet) -> Plan
         answer: Judged::Stands,
         fields,
         bits,
+    }
+}
+
+// The fields of template 33 behind Basic, each by the latest choice before it.
+fn plan_bridge(sheet: Sheet, basic: Plan) -> Plan
+    requires { ⌜ (templateIn sheet ≡ Template.Bridge) × FieldsDone sheet (basic .fields) 0 (basic .bits) (length basicLines) ⌝ }
+    ensures { λ r. ⌜ FieldsPlanned sheet r ⌝ }
+{
+    let last = fields::last_field(Template::Bridge) as usize;
+    let mut fields = basic.fields;
+    let mut precision: u64 = 0;
+    let mut bits = basic.bits;
+    let mut i = fields::basic_fields() as usize;
+    while i < last {
+        let field = i as u64 + 1;
+        let slot = sheet.fields[i];
+        let value = slot.value;
+        let row = fields::bridge_row(precision, field);
+        match code_of(row, field, value) {
+            Encoded::Refused(r) => {
+                return Plan {
+                    answer: Judged::Refused(r),
+                    fields,
+                    bits,
+                };
+            }
+            Encoded::Code(code) => {
+                fields[i] = CodedField {
+                    width: row.width,
+                    code,
+                };
+                precision = choice_behind(Template::Bridge, field, code, precision);
+            }
+        }
+        bits += row.width;
+        i += 1;
+    }
+    Plan {
+        answer: Judged::Stands,
+        fields,
+        bits,
+    }
+}
+
+// The fields of template 32 behind Basic, each by the latest choice before it.
+fn plan_resistance(sheet: Sheet, basic: Plan) -> Plan
+    requires { ⌜ (templateIn sheet ≡ Template.Resistance) × FieldsDone sheet (basic .fields) 0 (basic .bits) (length basicLines) ⌝ }
+    ensures { λ r. ⌜ FieldsPlanned sheet r ⌝ }
+{
+    let last = fields::last_field(Template::Resistance) as usize;
+    let mut fields = basic.fields;
+    let mut precision: u64 = 0;
+    let mut bits = basic.bits;
+    let mut i = fields::basic_fields() as usize;
+    while i < last {
+        let field = i as u64 + 1;
+        let slot = sheet.fields[i];
+        let value = slot.value;
+        let row = fields::resistance_row(precision, field);
+        match code_of(row, field, value) {
+            Encoded::Refused(r) => {
+                return Plan {
+                    answer: Judged::Refused(r),
+                    fields,
+                    bits,
+                };
+            }
+            Encoded::Code(code) => {
+                fields[i] = CodedField {
+                    width: row.width,
+                    code,
+                };
+                precision = choice_behind(Template::Resistance, field, code, precision);
+            }
+        }
+        bits += row.width;
+        i += 1;
+    }
+    Plan {
+        answer: Judged::Stands,
+        fields,
+        bits,
+    }
+}
+
+// 9 or 10, field by field.
+pub fn plan_fields(sheet: Sheet) -> Plan
+    ensures { λ r. ⌜ FieldsPlanned sheet r ⌝ }
+{
+    let basic = plan_basic(sheet);
+    let answer = basic.answer;
+    if let Judged::Refused(_) = answer {
+        return basic;
+    }
+    let template = template_in(sheet);
+    match template {
+        Template::Bridge => plan_bridge(sheet, basic),
+        Template::Resistance => plan_resistance(sheet, basic),
     }
 }
 
