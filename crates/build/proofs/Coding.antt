@@ -2,7 +2,7 @@
 use mathlib.Core.Path.{_≡_, refl, sym, ap, ap₂, _∙_, subst}
 use mathlib.Core.Bool.{false, true≢false}
 use mathlib.Core.List.{List, [], _∷_, _++_, map, append-assoc, append-nil}
-use Prim.Native.Nat.{ℕ, zero, suc, _+_, _-_, _*_, _^_, _≤_, _<_}
+use Prim.Native.Nat.{ℕ, zero, suc, _+_, _-_, _*_, _/_, _%_, _^_, _≤_, _<_}
 use native.Mathlib.Numerals.{add-one}
 use native.Mathlib.Omega.{arith}
 use native.Mathlib.Decide.{ℕ-discrete}
@@ -26,7 +26,6 @@ use Rattle.fields.specs.declared.Rule.the-variants.{Plain}
 use Rattle.fields.specs.declared.Row.{Row}
 use Rattle.fields.specs.declared.Encoded.{Encoded}
 use Rattle.fields.specs.declared.Encoded.the-variants.{Code, Refused as NoCode}
-use Rattle.fields.specs.declared.Judged.the-variants.{Stands, Refused}
 use Rattle.fields.specs.declared.Template.{Template}
 use Rattle.fields.specs.declared.Layout.{Layout}
 use Rattle.fields.specs.Rules.{outside, encode}
@@ -39,8 +38,9 @@ use Rattle.layout.specs.Pieces.{blockPieces}
 use Rattle.build.specs.declared.Slot.{Slot}
 use Rattle.build.specs.declared.Sheet.{Sheet}
 use Rattle.build.specs.declared.plan.CodedField.{CodedField}
+use Rattle.build.specs.declared.plan.Planned.the-variants.{Bits, Refused as NotPlanned}
 use Rattle.build.specs.Build.{slot, lent, templateIn, linePieces}
-use Rattle.build.specs.Tested.{Encodes, Fitting, Fit, blank, fieldPiece, codedFields, FieldsPlanned, fromHere, FieldsDone, BasicPlanned}
+use Rattle.build.specs.Tested.{Encodes, Fitting, Fit, blank, fieldPiece, unpack, unpacked, codedFields, FieldsPlanned}
 use Rattle.build.proofs.LinePlans.{bind-good-last}
 use Rattle.fields.proofs.TemplateFacts.{last-most}
 use Rattle.build.proofs.FieldPlans.{withBlock, block-needed, fields-listed}
@@ -60,6 +60,9 @@ pub plain-code : (row : Row) (place : ℕ) {least greatest : ℕ} {v : Value} {z
     encode row place v ≡ good (natAbs z)
 unfolding encode
 plain-code row place er ev e = rw (ev, er, e)
+
+pub coded-fits : {row : Row} {place : ℕ} {v : Value} {e : Encoded} {code : ℕ} → Sound row → Encodes row place v e → e ≡ Code code → Fitting (row .width) code
+coded-fits s c a = record { some = s .some; most = s .most; fits = c .fits _ a }
 
 -- A figure that is handed to a callee.
 pub seen : (row : Row) (place : ℕ) {figure : ℤ} → SFits w64 figure → encode row place (Whole (toZ w64 (ofZ w64 figure))) ≡ encode row place (Whole figure)
@@ -98,6 +101,35 @@ module _ (fields : List CodedField) (i end : ℕ) where
   pub fields-end : i ≤ end → end ≤ i → slice i end (map fieldPiece fields) ≡ []
   fields-end h k = let e : i ≡ end = omega arith in ap (λ (n : ℕ). slice n end (map fieldPiece fields)) e ∙ slice-empty end (map fieldPiece fields)
 
+-- The same of fields as numbers.
+pub packed-set : (codes : List ℕ) (i p : ℕ) {width code : ℕ} → p / 2 ^ 32 ≡ width → p % 2 ^ 32 ≡ code → unpacked (set codes i p) ≡ set (unpacked codes) i (record { width = width; code = code })
+packed-set [] i p w c = refl
+packed-set (y ∷ codes) zero p w c = ap₂ (λ (n m : ℕ). record { width = n; code = m } ∷ unpacked codes) w c
+packed-set (y ∷ codes) (suc i) p w c = ap (λ l. unpack y ∷ l) (packed-set codes i p w c)
+
+module _ (codes : List ℕ) (i none : ℕ) where
+  packed-at : getD (unpacked codes) i (unpack none) ≡ unpack (getD codes i none)
+  packed-at = List·getD-map unpack codes i none
+
+  pub packed-left : (end : ℕ) → i < end → end ≤ length codes →
+      slice i end (map fieldPiece (unpacked codes)) ≡ fieldPiece (unpack (getD codes i none)) ∷ slice (i + 1) end (map fieldPiece (unpacked codes))
+  packed-left end h k =
+      fields-left (unpacked codes) i end (unpack none) h (omega (arith, length-map codes unpack)) ∙ ap (λ x. fieldPiece x ∷ slice (i + 1) end (map fieldPiece (unpacked codes))) packed-at
+
+  pub packed-fits : {n : ℕ} → Fit n (unpacked codes) → i < n → Fitting (getD codes i none / 2 ^ 32) (getD codes i none % 2 ^ 32)
+  packed-fits fit h = subst (λ x. Fitting (x .width) (x .code)) packed-at (fit .each i (unpack none) h)
+
+pub packed-long : {n : ℕ} (codes : List ℕ) → Fit n (unpacked codes) → length codes ≡ n
+packed-long codes fit = sym (length-map codes unpack) ∙ fit .long
+
+-- Room for n fields.
+pub packed-none : (n : ℕ) → Fit n (unpacked (replicate n (2 ^ 32)))
+packed-none n = subst (Fit n) (sym (go n)) (fit-none n)
+  where
+    go : (n : ℕ) → unpacked (replicate n (2 ^ 32)) ≡ replicate n blank
+    go zero = refl
+    go (suc n) = ap (λ l. blank ∷ l) (go n)
+
 inside-same : {X : Type 0} (l : List X) (i : ℕ) (d d' : X) → i < length l → getD l i d ≡ getD l i d'
 inside-same [] i d d' h = absurd (omega arith)
 inside-same (x ∷ l) zero d d' h = refl
@@ -112,10 +144,14 @@ module _ (sheet : Sheet) where
   abbrev lines : List Line
   lines = linesOf t
 
-  pub from-start : (fields : List CodedField) → fromHere sheet fields 0 0 ≡ linePieces sheet lines 0 1
+  -- What the lines come to, with the first i of them done.
+  abbrev pub fromHere : List CodedField → ℕ → ℕ → Outcome (List Piece)
+  fromHere fields latest i = linePieces sheet (drop i lines) latest (suc i) >>= λ rest. good (take i (map fieldPiece fields) ++ rest)
+
+  pub from-start : (fields : List CodedField) → fromHere fields 0 0 ≡ linePieces sheet lines 0 1
   from-start fields = bind-good-last (linePieces sheet lines 0 1)
 
-  pub from-end : (fields : List CodedField) (latest i : ℕ) → lastField t ≤ i → fromHere sheet fields latest i ≡ good (take i (map fieldPiece fields))
+  pub from-end : (fields : List CodedField) (latest i : ℕ) → lastField t ≤ i → fromHere fields latest i ≡ good (take i (map fieldPiece fields))
   unfolding linePieces
   from-end fields latest i h =
       ap (λ l. linePieces sheet l latest (suc i) >>= λ rest. good (take i (map fieldPiece fields) ++ rest)) (drop-of-length-le lines h)
@@ -130,11 +166,11 @@ module _ (sheet : Sheet) where
     unfolding linePieces
     step = ap (λ l. linePieces sheet l latest (suc i)) (drop-cons lines i noLine h)
 
-    pub field-refused : {r : Refusal} → encode (here .rowAt latest) (suc i) (lent sheet (suc i)) ≡ refused r → fromHere sheet fields latest i ≡ refused r
+    pub field-refused : {r : Refusal} → encode (here .rowAt latest) (suc i) (lent sheet (suc i)) ≡ refused r → fromHere fields latest i ≡ refused r
     field-refused e = ap (λ o. o >>= λ rest. good (take i (map fieldPiece fields) ++ rest)) (step ∙ bind-refused _ e)
 
     pub field-coded : {code : ℕ} → i < length fields → encode (here .rowAt latest) (suc i) (lent sheet (suc i)) ≡ good code →
-        fromHere sheet fields latest i ≡ fromHere sheet (set fields i (record { width = here .rowAt latest .width; code = code })) (chose (here .sets) code latest) (suc i)
+        fromHere fields latest i ≡ fromHere (set fields i (record { width = here .rowAt latest .width; code = code })) (chose (here .sets) code latest) (suc i)
     field-coded {code} k e =
         let x : CodedField = record { width = here .rowAt latest .width; code = code } in
         let others = linePieces sheet (drop (suc i) lines) (chose (here .sets) code latest) (suc (suc i)) in
@@ -144,32 +180,40 @@ module _ (sheet : Sheet) where
 
   -- ---- the loop over the fields
 
-  pub done-none : FieldsDone sheet (replicate 21 blank) 0 10 0
-  done-none = record {
+  -- The first i fields have their codes, which need so many bits with the block; `latest` is the choice behind them.
+  pub record FieldsDone (fields : List CodedField) (latest bits i : ℕ) : Type 0 where
+    pub inside : i ≤ lastField t
+    pub fit : Fit 21 fields
+    pub rest : fromHere fields latest i ≡ linePieces sheet lines 0 1
+    pub count : bits ≡ needed (take i (map fieldPiece fields)) + 10
+    pub few : bits ≤ 10 + 32 * i
+
+  pub done-none : (fields : List CodedField) → Fit 21 fields → FieldsDone fields 0 10 0
+  done-none fields fit = record {
     inside = omega arith;
-    fit = fit-none 21;
-    rest = from-start (replicate 21 blank);
+    fit = fit;
+    rest = from-start fields;
     count = refl;
     few = omega arith;
   }
 
-  pub done-all : {fields : List CodedField} {latest bits i : ℕ} → FieldsDone sheet fields latest bits i → lastField t ≤ i →
-      FieldsPlanned sheet (record { answer = Stands; fields = fields; bits = bits })
+  pub done-all : {fields : List CodedField} {latest bits i : ℕ} → FieldsDone fields latest bits i → lastField t ≤ i →
+      FieldsPlanned sheet fields (Bits bits)
   done-all {fields} {latest} {bits} {i} d h =
       let last : i ≡ lastField t = omega (arith, d .inside) in
       let all : List Piece = take (lastField t) (map fieldPiece fields) in
       let planned : linePieces sheet lines 0 1 ≡ good all = sym (d .rest) ∙ from-end fields latest i h ∙ ap (λ (n : ℕ). good (take n (map fieldPiece fields))) last in
       let are : withBlock t all ≡ codedFields t fields =
       ap (λ q. q ++ (blockPieces (numberOf t) ++ drop (length basic) all)) (take-take (length basic) (lastField t) (map fieldPiece fields) (basic-fewer t)) in
+      let counted : bits ≡ needed (codedFields t fields) = d .count ∙ omega (arith, block-needed t all, ap needed are, ap (λ (n : ℕ). needed (take n (map fieldPiece fields))) last) in
       record {
         said = sym (fields-listed sheet ∙ bind-good _ planned ∙ ap good are);
         fit = d .fit;
-        count = λ a. d .count ∙ omega (arith, block-needed t all, ap needed are, ap (λ (n : ℕ). needed (take n (map fieldPiece fields))) last);
-        small = omega (arith, d .few, d .inside, last-most t);
+        count = λ b a. let same : bits ≡ b = cc in (sym same ∙ counted, omega (arith, same, d .few, d .inside, last-most t));
       }
 
   -- A turn, in the words of the code.
-  module _ {fields : List CodedField} {latest bits i : ℕ} (d : FieldsDone sheet fields latest bits i) (h : i < lastField t) (none : Slot) (row : Row) (e : Encoded) (full : length (sheet .fields) ≡ 21)
+  module _ {fields : List CodedField} {latest bits i : ℕ} (d : FieldsDone fields latest bits i) (h : i < lastField t) (none : Slot) (row : Row) (e : Encoded) (full : length (sheet .fields) ≡ 21)
       (er : row ≡ rowOf (record { template = t; precision = latest }) (i + 1)) (c : Encodes row (i + 1) (getD (sheet .fields) i none .value) e) where
     is-here : lineOf t (i + 1) ≡ getD lines i noLine
     is-here = let k : i + 1 - 1 ≡ i = omega arith in ap (λ (n : ℕ). getD lines n noLine) k
@@ -184,16 +228,15 @@ module _ (sheet : Sheet) where
         ∙ ap₂ (λ (v : Slot) (n : ℕ). encode row n (v .value)) (inside-same (sheet .fields) i none (slot Missing) (omega (arith, last-most t)) ∙ ap (λ (n : ℕ). getD (sheet .fields) n (slot Missing)) k) (add-one i)
         ∙ ap (λ r. encode r (suc i) (lent sheet (suc i))) row-here
 
-    pub turn-refused : {r : Refusal} → e ≡ NoCode r → FieldsPlanned sheet (record { answer = Refused r; fields = fields; bits = bits })
+    pub turn-refused : {r : Refusal} → e ≡ NoCode r → FieldsPlanned sheet fields (NotPlanned r)
     turn-refused {r} a = record {
       said = sym (fields-listed sheet ∙ bind-refused _ (sym (d .rest) ∙ field-refused fields latest i h (sym heard ∙ ap encodedSaid a)));
       fit = d .fit;
-      count = λ s. absurd (let z : _≡_ {A = ℕ} 0 1 = cc in omega arith);
-      small = omega (arith, d .few, d .inside, last-most t);
+      count = λ b s. absurd (let z : _≡_ {A = ℕ} 0 1 = cc in omega arith);
     }
 
     pub turn-coded : {code next : ℕ} → e ≡ Code code → next ≡ chose (lineOf t (i + 1) .sets) code latest → Sound row →
-        FieldsDone sheet (set fields i (record { width = row .width; code = code })) next (bits + row .width) (i + 1)
+        FieldsDone (set fields i (record { width = row .width; code = code })) next (bits + row .width) (i + 1)
     turn-coded {code} {next} a n s =
         let x : CodedField = record { width = row .width; code = code } in
         let k : i < length fields = omega (arith, d .fit .long, last-most t) in
@@ -208,23 +251,17 @@ module _ (sheet : Sheet) where
           few = omega (arith, d .few, s .most);
         }
 
+    pub turn-packed : (codes : List ℕ) (p : ℕ) → fields ≡ unpacked codes → {code next : ℕ} → e ≡ Code code → next ≡ chose (lineOf t (i + 1) .sets) code latest → Sound row →
+        (p / 2 ^ 32 ≡ row .width) × (p % 2 ^ 32 ≡ code) → FieldsDone (unpacked (set codes i p)) next (bits + row .width) (i + 1)
+    turn-packed codes p is {code} {next} a n s are =
+        subst (λ fs. FieldsDone fs next (bits + row .width) (i + 1)) (ap (λ fs. set fs i (record { width = row .width; code = code })) is ∙ sym (packed-set codes i p (are .0) (are .1))) (turn-coded a n s)
+
   -- ---- Basic, then the template's own
 
   -- Basic sets no widths.
   pub basic-choice : (f code : ℕ) → f ≤ length basic → 0 ≡ chose (lineOf t f .sets) code 0
   unfolding basic
   basic-choice f code h = ap (λ b. chose b code 0) (sym (ne-eqb f 9 (λ e. omega (arith, e))) ∙ sets-at t f (omega (arith, basic-fewer t)))
-
-  pub basic-down : {because : Refusal} {fields : List CodedField} {bits : ℕ} → FieldsPlanned sheet (record { answer = Refused because; fields = fields; bits = bits }) →
-      BasicPlanned sheet (record { answer = Refused because; fields = fields; bits = bits })
-  basic-down f = record { done = λ s. absurd (let z : _≡_ {A = ℕ} 0 1 = cc in omega arith); down = λ e. f }
-
-  pub basic-done : {fields : List CodedField} {bits i : ℕ} → FieldsDone sheet fields 0 bits i → i ≡ length basic →
-      BasicPlanned sheet (record { answer = Stands; fields = fields; bits = bits })
-  basic-done {fields} {bits} d e = record {
-    done = λ s. rw (← e) d;
-    down = λ s. absurd (let z : _≡_ {A = ℕ} 0 1 = cc in omega arith);
-  }
 
   pub basic-sound : {row : Row} (f : ℕ) → ((layout : Layout) → row ≡ rowOf layout f) → 1 ≤ f → f ≤ length basic → Sound row
   basic-sound f e lo hi = let l : Layout = record { template = t; precision = 0 } in subst Sound (sym (e l)) (row-sound l f lo (omega (arith, basic-fewer t)))

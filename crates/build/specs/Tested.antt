@@ -2,9 +2,9 @@
 use mathlib.Core.Path.{_≡_}
 use mathlib.Core.List.{List, [], _∷_, _++_, map}
 use mathlib.Core.Option.{Option}
-use Prim.Native.Nat.{ℕ, suc, _+_, _*_, _^_, _≤_, _<_}
+use Prim.Native.Nat.{ℕ, _+_, _*_, _/_, _%_, _^_, _≤_, _<_}
 use lib.IntN.{ℤ, pos, _*ℤ_}
-use lib.ListN.{length, getD, take, drop, set, replicate}
+use lib.ListN.{length, getD, take, set, replicate}
 use lib.Seq.{slice}
 use Rattle.refusal.specs.declared.Refusal.{Refusal}
 use Rattle.refusal.specs.Outcome.{Outcome, good, refused, _>>_, _>>=_}
@@ -22,19 +22,20 @@ use Rattle.fields.specs.declared.Encoded.the-variants.{Code}
 use Rattle.fields.specs.declared.Judged.the-variants.{Stands, Refused as TurnedDown}
 use Rattle.fields.specs.declared.Template.{Template}
 use Rattle.fields.specs.Rules.{encode}
-use Rattle.fields.specs.Lines.{basic, linesOf, numberOf, lastField}
+use Rattle.fields.specs.Lines.{basic, numberOf, lastField}
 use Rattle.fields.specs.Curves.{segmentStart, termCount, exponent, coefficient, exponentCode}
 use Rattle.fields.specs.Answers.{encodedSaid, judgedSaid}
 use Rattle.layout.specs.Pieces.{blockPieces}
 use Rattle.build.specs.declared.Sheet.{Sheet}
 use Rattle.build.specs.declared.plan.CodedField.{CodedField}
-use Rattle.build.specs.declared.plan.Plan.{Plan}
+use Rattle.build.specs.declared.plan.Planned.{Planned}
+use Rattle.build.specs.declared.plan.Planned.the-variants.{Bits, Refused as NotPlanned}
 use Rattle.build.specs.declared.plan.PairAnswer.{PairAnswer}
 use Rattle.build.specs.declared.plan.PairAnswer.the-variants.{Are, Refused}
 use Rattle.build.specs.declared.drawing.TwoAnswer.{TwoAnswer}
 use Rattle.build.specs.declared.drawing.TwoAnswer.the-variants.{Are as Both, Refused as Neither}
 use Rattle.build.specs.declared.drawing.CurvePlan.{CurvePlan}
-use Rattle.build.specs.Build.{templateIn, linePieces, fieldPieces, startCode, curvePieces}
+use Rattle.build.specs.Build.{templateIn, fieldPieces, startCode, curvePieces}
 
 -- What a test says: nothing but the refusal.
 abbrev pub tested : {A : Type 0} → Outcome A → Outcome (Unit {0})
@@ -76,28 +77,21 @@ codedFields template fields =
     slice 0 (length basic) (map fieldPiece fields) ++
     (blockPieces (numberOf template) ++ slice (length basic) (lastField template) (map fieldPiece fields))
 
-pub record FieldsPlanned (sheet : Sheet) (r : Plan) : Type 0 where
-  pub said : (judgedSaid (r .answer) >> good (codedFields (templateIn sheet) (r .fields))) ≡ fieldPieces sheet
-  pub fit : Fit 21 (r .fields)
-  pub count : r .answer ≡ Stands → r .bits ≡ needed (codedFields (templateIn sheet) (r .fields))
-  pub small : r .bits < 2 ^ 16
+-- A field as a number that can be lent.
+abbrev pub unpack : ℕ → CodedField
+unpack n = record { width = n / 2 ^ 32; code = n % 2 ^ 32 }
 
--- What the lines come to, with the first i of them done.
-abbrev pub fromHere : Sheet → List CodedField → ℕ → ℕ → Outcome (List Piece)
-fromHere sheet fields latest i = linePieces sheet (drop i (linesOf (templateIn sheet))) latest (suc i) >>= λ rest. good (take i (map fieldPiece fields) ++ rest)
+abbrev pub unpacked : List ℕ → List CodedField
+unpacked codes = map unpack codes
 
--- The first i fields have their codes, which need so many bits with the block; `latest` is the choice behind them.
-pub record FieldsDone (sheet : Sheet) (fields : List CodedField) (latest bits i : ℕ) : Type 0 where
-  pub inside : i ≤ lastField (templateIn sheet)
+abbrev pub plannedSaid : Planned → Outcome (Unit {0})
+plannedSaid (Bits bits) = good tt
+plannedSaid (NotPlanned r) = refused r
+
+pub record FieldsPlanned (sheet : Sheet) (fields : List CodedField) (r : Planned) : Type 0 where
+  pub said : (plannedSaid r >> good (codedFields (templateIn sheet) fields)) ≡ fieldPieces sheet
   pub fit : Fit 21 fields
-  pub rest : fromHere sheet fields latest i ≡ linePieces sheet (linesOf (templateIn sheet)) 0 1
-  pub count : bits ≡ needed (take i (map fieldPiece fields)) + 10
-  pub few : bits ≤ 10 + 32 * i
-
--- Basic has its codes, or its refusal is the sheet's.
-pub record BasicPlanned (sheet : Sheet) (r : Plan) : Type 0 where
-  pub done : r .answer ≡ Stands → FieldsDone sheet (r .fields) 0 (r .bits) (length basic)
-  pub down : {because : Refusal} → r .answer ≡ TurnedDown because → FieldsPlanned sheet r
+  pub count : (bits : ℕ) → r ≡ Bits bits → (bits ≡ needed (codedFields (templateIn sheet) fields)) × (bits < 2 ^ 16)
 
 -- ---- the points
 

@@ -2,7 +2,8 @@
 use crate::Sheet;
 use crate::drawing::CurvePlan;
 use crate::drawing::plan_curve;
-use crate::plan::Plan;
+use crate::plan::Planned;
+use crate::plan::WIDTHS;
 use crate::plan::check_ending;
 use crate::plan::check_points;
 use crate::plan::is_wrong_list;
@@ -27,7 +28,7 @@ ghost use Rattle.memory.specs.Answers.{Whole};
 ghost use Rattle.memory.specs.Pieces.{needed};
 ghost use Rattle.layout.specs.Places.{tableBits};
 ghost use Rattle.build.specs.Build.{pairsLent, tablePieces, listed, drawn, builtIn, build as buildOf, buildCurve};
-ghost use Rattle.build.specs.Tested.{piecesOf, Accepted, Fit, codedFields, codedCurve, Tested};
+ghost use Rattle.build.specs.Tested.{piecesOf, Accepted, Fit, unpacked, codedFields, codedCurve, Tested};
 ghost use Rattle.build.specs.Filled.{codedSheet, fitted};
 
 // The bits of a table of n pairs: none without one.
@@ -66,24 +67,24 @@ fn finish_table(
     sizes: Sizes,
     image: &mut [u8],
     template: Template,
-    plan: Plan,
+    fields: &[u64],
+    field_bits: u64,
     end_bit: bool,
     text: &[u8],
     domain: Domain,
     points: &[i64],
 ) -> Written
     requires { ⌜ Whole sizes (now image) × (imageBytes sizes ≤ 512) ⌝ }
-    requires { ⌜ Tested (plan .fields) (now text) × (plan .bits ≡ needed (codedFields template (plan .fields))) × (plan .bits < 2 ^ 16) ⌝ }
+    requires { ⌜ Tested (unpacked (now fields)) (now text) × («field_bits» ≡ needed (codedFields template (unpacked (now fields)))) × («field_bits» < 2 ^ 16) ⌝ }
     requires { ⌜ Accepted (tablePieces domain (pairsLent (now points))) × (length (now points) ≤ 254) ⌝ }
-    ensures { λ r. ⌜ (let outcome = fitted sizes (codedSheet template (plan .fields) «end_bit» (now (text .entry)) (piecesOf (tablePieces domain (pairsLent (now (points .entry)))))) in
+    ensures { λ r. ⌜ (let outcome = fitted sizes (codedSheet template (unpacked (now (fields .entry))) «end_bit» (now (text .entry)) (piecesOf (tablePieces domain (pairsLent (now (points .entry)))))) in
         (writtenSaid r (now (image .exit)) ≡ outcome) × (now (image .exit) ≡ afterwards (now (image .entry)) outcome)) ⌝ }
 {
     let behind = table_bits(points.len() as u64 / 2);
-    let bits = bits_needed(plan.bits, behind, text.len() as u64);
+    let bits = bits_needed(field_bits, behind, text.len() as u64);
     if is_too_long(sizes, bits) {
         return Written::Refused(refusal::too_long(bits));
     }
-    let fields = plan.fields;
     write_table(
         sizes,
         image,
@@ -102,22 +103,22 @@ fn finish_curve(
     sizes: Sizes,
     image: &mut [u8],
     template: Template,
-    plan: Plan,
+    fields: &[u64],
+    field_bits: u64,
     end_bit: bool,
     text: &[u8],
     curve: CurvePlan,
 ) -> Written
     requires { ⌜ Whole sizes (now image) × (imageBytes sizes ≤ 512) ⌝ }
-    requires { ⌜ Tested (plan .fields) (now text) × (plan .bits ≡ needed (codedFields template (plan .fields))) × (plan .bits < 2 ^ 16) ⌝ }
+    requires { ⌜ Tested (unpacked (now fields)) (now text) × («field_bits» ≡ needed (codedFields template (unpacked (now fields)))) × («field_bits» < 2 ^ 16) ⌝ }
     requires { ⌜ Fit 104 (curve .codes) × (curve .count ≤ 104) × (curve .bits ≡ needed (codedCurve curve)) × (curve .bits < 2 ^ 16) ⌝ }
-    ensures { λ r. ⌜ (let outcome = fitted sizes (codedSheet template (plan .fields) «end_bit» (now (text .entry)) (codedCurve curve)) in
+    ensures { λ r. ⌜ (let outcome = fitted sizes (codedSheet template (unpacked (now (fields .entry))) «end_bit» (now (text .entry)) (codedCurve curve)) in
         (writtenSaid r (now (image .exit)) ≡ outcome) × (now (image .exit) ≡ afterwards (now (image .entry)) outcome)) ⌝ }
 {
-    let bits = bits_needed(plan.bits, curve.bits, text.len() as u64);
+    let bits = bits_needed(field_bits, curve.bits, text.len() as u64);
     if is_too_long(sizes, bits) {
         return Written::Refused(refusal::too_long(bits));
     }
-    let fields = plan.fields;
     write_curve(sizes, image, template, fields, end_bit, text, curve);
     Written::Done
 }
@@ -139,28 +140,30 @@ fn build_in(
     if is_wrong_list(n) {
         return Written::Refused(refusal::wrong_list(n as u64));
     }
-    let plan = plan_fields(sheet);
-    let answer = plan.answer;
-    if let Judged::Refused(r) = answer {
-        return Written::Refused(r);
+    let mut fields = [WIDTHS; 21];
+    match plan_fields(sheet, &mut fields) {
+        Planned::Refused(r) => Written::Refused(r),
+        Planned::Bits(bits) => {
+            let template = template_in(sheet);
+            if let Judged::Refused(r) = check_ending(template, sheet.end_bit, text) {
+                return Written::Refused(r);
+            }
+            if let Judged::Refused(r) = check_points(domain, points) {
+                return Written::Refused(r);
+            }
+            finish_table(
+                sizes,
+                image,
+                template,
+                &fields,
+                bits,
+                sheet.end_bit,
+                text,
+                domain,
+                points,
+            )
+        }
     }
-    let template = template_in(sheet);
-    if let Judged::Refused(r) = check_ending(template, sheet.end_bit, text) {
-        return Written::Refused(r);
-    }
-    if let Judged::Refused(r) = check_points(domain, points) {
-        return Written::Refused(r);
-    }
-    finish_table(
-        sizes,
-        image,
-        template,
-        plan,
-        sheet.end_bit,
-        text,
-        domain,
-        points,
-    )
 }
 
 // The same with a curve, which has no list.
@@ -175,21 +178,31 @@ fn build_curve_in(
     ensures { λ r. ⌜ (let outcome = builtIn sizes sheet (now (text .entry)) (drawn curve) in
         (writtenSaid r (now (image .exit)) ≡ outcome) × (now (image .exit) ≡ afterwards (now (image .entry)) outcome)) ⌝ }
 {
-    let plan = plan_fields(sheet);
-    let answer = plan.answer;
-    if let Judged::Refused(r) = answer {
-        return Written::Refused(r);
+    let mut fields = [WIDTHS; 21];
+    match plan_fields(sheet, &mut fields) {
+        Planned::Refused(r) => Written::Refused(r),
+        Planned::Bits(bits) => {
+            let template = template_in(sheet);
+            if let Judged::Refused(r) = check_ending(template, sheet.end_bit, text) {
+                return Written::Refused(r);
+            }
+            let block = plan_curve(curve);
+            let drawn = block.answer;
+            if let Judged::Refused(r) = drawn {
+                return Written::Refused(r);
+            }
+            finish_curve(
+                sizes,
+                image,
+                template,
+                &fields,
+                bits,
+                sheet.end_bit,
+                text,
+                block,
+            )
+        }
     }
-    let template = template_in(sheet);
-    if let Judged::Refused(r) = check_ending(template, sheet.end_bit, text) {
-        return Written::Refused(r);
-    }
-    let block = plan_curve(curve);
-    let drawn = block.answer;
-    if let Judged::Refused(r) = drawn {
-        return Written::Refused(r);
-    }
-    finish_curve(sizes, image, template, plan, sheet.end_bit, text, block)
 }
 
 // Writes the image of a sheet: the fields and the end bit by value, the closing text, and the points and deviations by turns,

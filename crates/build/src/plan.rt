@@ -12,18 +12,18 @@ use fields::Value;
 use refusal::Refusal;
 ghost use mathlib.Core.Path.{_≡_};
 ghost use mathlib.Core.Bool.{_||_};
-ghost use Prim.Native.Nat.{_*_, _+_, _^_, _%_, _<_, _≤_};
+ghost use Prim.Native.Nat.{_*_, _+_, _^_, _/_, _%_, _<_, _≤_};
 ghost use lib.Dec.{eqb, ltb};
 ghost use lib.IntN.{pos};
 ghost use lib.ListN.{length};
 ghost use Rattle.refusal.specs.Outcome.{refuse_if_};
 ghost use Rattle.refusal.specs.Rows.{outOfRange};
 ghost use Rattle.fields.specs.Rules.{outside};
-ghost use Rattle.fields.specs.Lines.{chose, basic as basicLines, lineOf, lastField, ending};
+ghost use Rattle.fields.specs.Lines.{chose, lineOf, lastField, ending};
 ghost use Rattle.fields.specs.Stored.{Sound};
 ghost use Rattle.fields.specs.Answers.{judgedSaid, previousSaid};
 ghost use Rattle.build.specs.Build.{templateIn, unfit, endingPieces, pairsLent, codesFor, pairCodes, tablePieces};
-ghost use Rattle.build.specs.Tested.{tested, pairAt, codesSaid, Encodes, FieldsPlanned, FieldsDone, BasicPlanned};
+ghost use Rattle.build.specs.Tested.{tested, pairAt, codesSaid, Encodes, Fitting, Fit, unpacked, FieldsPlanned};
 
 // A field that is to be written: its bits and its code.
 pub struct CodedField {
@@ -31,12 +31,14 @@ pub struct CodedField {
     pub code: u64,
 }
 
-// The fields of a sheet, and the bits that they need with their block, where nothing is refused.
-pub struct Plan {
-    pub answer: Judged,
-    pub fields: [CodedField; 21],
-    pub bits: u64,
+// The bits that the fields of a sheet need with their block, or 9 or 10.
+pub enum Planned {
+    Bits(u64),
+    Refused(Refusal),
 }
+
+// A field that is to be written, as a number that can be lent: its bits times this, and its code.
+pub const WIDTHS: u64 = 0x1_0000_0000;
 
 // The codes of a pair, or 10, 7 or 22.
 pub enum PairAnswer {
@@ -91,140 +93,84 @@ fn choice_behind(template: Template, field: u64, code: u64, latest: u64) -> u64
     latest
 }
 
-// The fields of Basic. Each loop has rows of its own, and an end that is known when it is compiled: so no row is picked at run
-// time.
-fn plan_basic(sheet: Sheet) -> Plan
-    ensures { λ r. ⌜ BasicPlanned sheet r ⌝ }
+// The number of a field.
+fn packed(width: u64, code: u64) -> u64
+    requires { ⌜ Fitting width code ⌝ }
+    ensures { λ r. ⌜ (r / 2 ^ 32 ≡ width) × (r % 2 ^ 32 ≡ code) ⌝ }
 {
-    let last = fields::basic_fields() as usize;
-    let mut fields = [CodedField { width: 1, code: 0 }; 21];
+    width * WIDTHS + code
+}
+
+// 9 or 10, field by field, each by the latest choice before it; the fields go into `codes`. Each loop has rows of its own, and
+// an end that is known when it is compiled: so no row is picked at run time.
+pub fn plan_fields(sheet: Sheet, codes: &mut [u64]) -> Planned
+    requires { ⌜ Fit 21 (unpacked (now codes)) ⌝ }
+    ensures { λ r. ⌜ FieldsPlanned sheet (unpacked (now (codes .exit))) r ⌝ }
+{
+    let basic = fields::basic_fields() as usize;
+    let mut precision: u64 = 0;
     let mut bits: u64 = 10;
     let mut i: usize = 0;
-    while i < last {
+    while i < basic {
         let field = i as u64 + 1;
         let slot = sheet.fields[i];
         let value = slot.value;
         let row = fields::basic_row(field);
         match code_of(row, field, value) {
             Encoded::Refused(r) => {
-                return Plan {
-                    answer: Judged::Refused(r),
-                    fields,
-                    bits,
-                };
+                return Planned::Refused(r);
             }
             Encoded::Code(code) => {
-                fields[i] = CodedField {
-                    width: row.width,
-                    code,
-                };
+                codes[i] = packed(row.width, code);
             }
         }
         bits += row.width;
         i += 1;
     }
-    Plan {
-        answer: Judged::Stands,
-        fields,
-        bits,
-    }
-}
-
-// The fields of template 33 behind Basic, each by the latest choice before it.
-fn plan_bridge(sheet: Sheet, basic: Plan) -> Plan
-    requires { ⌜ (templateIn sheet ≡ Template.Bridge) × FieldsDone sheet (basic .fields) 0 (basic .bits) (length basicLines) ⌝ }
-    ensures { λ r. ⌜ FieldsPlanned sheet r ⌝ }
-{
-    let last = fields::last_field(Template::Bridge) as usize;
-    let mut fields = basic.fields;
-    let mut precision: u64 = 0;
-    let mut bits = basic.bits;
-    let mut i = fields::basic_fields() as usize;
-    while i < last {
-        let field = i as u64 + 1;
-        let slot = sheet.fields[i];
-        let value = slot.value;
-        let row = fields::bridge_row(precision, field);
-        match code_of(row, field, value) {
-            Encoded::Refused(r) => {
-                return Plan {
-                    answer: Judged::Refused(r),
-                    fields,
-                    bits,
-                };
-            }
-            Encoded::Code(code) => {
-                fields[i] = CodedField {
-                    width: row.width,
-                    code,
-                };
-                precision = choice_behind(Template::Bridge, field, code, precision);
-            }
-        }
-        bits += row.width;
-        i += 1;
-    }
-    Plan {
-        answer: Judged::Stands,
-        fields,
-        bits,
-    }
-}
-
-// The fields of template 32 behind Basic, each by the latest choice before it.
-fn plan_resistance(sheet: Sheet, basic: Plan) -> Plan
-    requires { ⌜ (templateIn sheet ≡ Template.Resistance) × FieldsDone sheet (basic .fields) 0 (basic .bits) (length basicLines) ⌝ }
-    ensures { λ r. ⌜ FieldsPlanned sheet r ⌝ }
-{
-    let last = fields::last_field(Template::Resistance) as usize;
-    let mut fields = basic.fields;
-    let mut precision: u64 = 0;
-    let mut bits = basic.bits;
-    let mut i = fields::basic_fields() as usize;
-    while i < last {
-        let field = i as u64 + 1;
-        let slot = sheet.fields[i];
-        let value = slot.value;
-        let row = fields::resistance_row(precision, field);
-        match code_of(row, field, value) {
-            Encoded::Refused(r) => {
-                return Plan {
-                    answer: Judged::Refused(r),
-                    fields,
-                    bits,
-                };
-            }
-            Encoded::Code(code) => {
-                fields[i] = CodedField {
-                    width: row.width,
-                    code,
-                };
-                precision = choice_behind(Template::Resistance, field, code, precision);
-            }
-        }
-        bits += row.width;
-        i += 1;
-    }
-    Plan {
-        answer: Judged::Stands,
-        fields,
-        bits,
-    }
-}
-
-// 9 or 10, field by field.
-pub fn plan_fields(sheet: Sheet) -> Plan
-    ensures { λ r. ⌜ FieldsPlanned sheet r ⌝ }
-{
-    let basic = plan_basic(sheet);
-    let answer = basic.answer;
-    if let Judged::Refused(_) = answer {
-        return basic;
-    }
-    let template = template_in(sheet);
+    let template = sheet.template;
     match template {
-        Template::Bridge => plan_bridge(sheet, basic),
-        Template::Resistance => plan_resistance(sheet, basic),
+        Template::Bridge => {
+            let last = fields::last_field(Template::Bridge) as usize;
+            while i < last {
+                let field = i as u64 + 1;
+                let slot = sheet.fields[i];
+                let value = slot.value;
+                let row = fields::bridge_row(precision, field);
+                match code_of(row, field, value) {
+                    Encoded::Refused(r) => {
+                        return Planned::Refused(r);
+                    }
+                    Encoded::Code(code) => {
+                        codes[i] = packed(row.width, code);
+                        precision = choice_behind(Template::Bridge, field, code, precision);
+                    }
+                }
+                bits += row.width;
+                i += 1;
+            }
+            Planned::Bits(bits)
+        }
+        Template::Resistance => {
+            let last = fields::last_field(Template::Resistance) as usize;
+            while i < last {
+                let field = i as u64 + 1;
+                let slot = sheet.fields[i];
+                let value = slot.value;
+                let row = fields::resistance_row(precision, field);
+                match code_of(row, field, value) {
+                    Encoded::Refused(r) => {
+                        return Planned::Refused(r);
+                    }
+                    Encoded::Code(code) => {
+                        codes[i] = packed(row.width, code);
+                        precision = choice_behind(Template::Resistance, field, code, precision);
+                    }
+                }
+                bits += row.width;
+                i += 1;
+            }
+            Planned::Bits(bits)
+        }
     }
 }
 

@@ -4,6 +4,7 @@
 use crate::drawing::CurvePlan;
 use crate::plan::CodedField;
 use crate::plan::PairAnswer;
+use crate::plan::WIDTHS;
 use crate::plan::code_pair;
 use fields::Domain;
 use fields::Template;
@@ -19,7 +20,7 @@ ghost use Rattle.memory.specs.Answers.{Whole};
 ghost use Rattle.memory.specs.Pieces.{piece, pack, needed};
 ghost use Rattle.layout.specs.Pieces.{blockPieces};
 ghost use Rattle.build.specs.Build.{pairsLent, codesFor, tablePieces};
-ghost use Rattle.build.specs.Tested.{piecesOf, Accepted, fieldPiece, Fit, pairAt, codedFields, codedCurve, Tested};
+ghost use Rattle.build.specs.Tested.{piecesOf, Accepted, fieldPiece, unpacked, Fit, pairAt, codedFields, codedCurve, Tested};
 ghost use Rattle.build.specs.Filled.{Room, Filled, Begun, codedPair, codedPairs, sevenPieces, codedEnding, codedSheet};
 
 // The bits of a point, and of a pair.
@@ -32,19 +33,19 @@ fn lay_fields(
     sizes: Sizes,
     image: &mut [u8],
     start: Cursor,
-    fields: [CodedField; 21],
+    fields: &[u64],
     first: usize,
     end: usize,
 ) -> Cursor
-    requires { ⌜ Room sizes (now image) start (slice first end (map fieldPiece fields)) ⌝ }
-    requires { ⌜ (first ≤ end) × (end ≤ 21) × Fit 21 fields ⌝ }
-    ensures { λ r. ⌜ Filled sizes (now (image .entry)) start (slice first end (map fieldPiece fields)) (now (image .exit)) r ⌝ }
+    requires { ⌜ Room sizes (now image) start (slice first end (map fieldPiece (unpacked (now fields)))) ⌝ }
+    requires { ⌜ (first ≤ end) × (end ≤ 21) × Fit 21 (unpacked (now fields)) ⌝ }
+    ensures { λ r. ⌜ Filled sizes (now (image .entry)) start (slice first end (map fieldPiece (unpacked (now (fields .entry))))) (now (image .exit)) r ⌝ }
 {
     let mut cursor = start;
     let mut i = first;
     while i < end {
         let field = fields[i];
-        cursor = cursor.append(sizes, image, field.width as usize, field.code);
+        cursor = cursor.append(sizes, image, (field / WIDTHS) as usize, field % WIDTHS);
         i += 1;
     }
     cursor
@@ -184,10 +185,10 @@ fn lay_ending(sizes: Sizes, image: &mut [u8], cursor: Cursor, end_bit: bool, tex
 }
 
 // Basic, the first block and the template's own fields, into a cleared image. What stood there before is gone.
-fn lay_front(sizes: Sizes, image: &mut [u8], template: Template, fields: [CodedField; 21]) -> Cursor
-    requires { ⌜ Whole sizes (now image) × Fit 21 fields ⌝ }
-    requires { ⌜ needed (codedFields template fields) ≤ streamBits sizes ⌝ }
-    ensures { λ r. ⌜ Begun sizes (codedFields template fields) (now (image .exit)) r ⌝ }
+fn lay_front(sizes: Sizes, image: &mut [u8], template: Template, fields: &[u64]) -> Cursor
+    requires { ⌜ Whole sizes (now image) × Fit 21 (unpacked (now fields)) ⌝ }
+    requires { ⌜ needed (codedFields template (unpacked (now fields))) ≤ streamBits sizes ⌝ }
+    ensures { λ r. ⌜ Begun sizes (codedFields template (unpacked (now (fields .entry)))) (now (image .exit)) r ⌝ }
 {
     stream::clear(image);
     let basic = fields::basic_fields() as usize;
@@ -212,16 +213,16 @@ pub fn write_table(
     sizes: Sizes,
     image: &mut [u8],
     template: Template,
-    fields: [CodedField; 21],
+    fields: &[u64],
     end_bit: bool,
     text: &[u8],
     domain: Domain,
     points: &[i64],
 )
-    requires { ⌜ Whole sizes (now image) × Tested fields (now text) ⌝ }
+    requires { ⌜ Whole sizes (now image) × Tested (unpacked (now fields)) (now text) ⌝ }
     requires { ⌜ Accepted (tablePieces domain (pairsLent (now points))) × (length (now points) ≤ 254) ⌝ }
-    requires { ⌜ needed (codedSheet template fields «end_bit» (now text) (piecesOf (tablePieces domain (pairsLent (now points))))) ≤ streamBits sizes ⌝ }
-    ensures { λ _. ⌜ now (image .exit) ≡ imageOf sizes (pack (codedSheet template fields «end_bit» (now (text .entry)) (piecesOf (tablePieces domain (pairsLent (now (points .entry))))))) ⌝ }
+    requires { ⌜ needed (codedSheet template (unpacked (now fields)) «end_bit» (now text) (piecesOf (tablePieces domain (pairsLent (now points))))) ≤ streamBits sizes ⌝ }
+    ensures { λ _. ⌜ now (image .exit) ≡ imageOf sizes (pack (codedSheet template (unpacked (now (fields .entry))) «end_bit» (now (text .entry)) (piecesOf (tablePieces domain (pairsLent (now (points .entry))))))) ⌝ }
 {
     let table = lay_front(sizes, image, template, fields);
     let ending = lay_table(sizes, image, table, domain, points);
@@ -233,15 +234,15 @@ pub fn write_curve(
     sizes: Sizes,
     image: &mut [u8],
     template: Template,
-    fields: [CodedField; 21],
+    fields: &[u64],
     end_bit: bool,
     text: &[u8],
     curve: CurvePlan,
 )
-    requires { ⌜ Whole sizes (now image) × Tested fields (now text) ⌝ }
+    requires { ⌜ Whole sizes (now image) × Tested (unpacked (now fields)) (now text) ⌝ }
     requires { ⌜ Fit 104 (curve .codes) × (curve .count ≤ 104) ⌝ }
-    requires { ⌜ needed (codedSheet template fields «end_bit» (now text) (codedCurve curve)) ≤ streamBits sizes ⌝ }
-    ensures { λ _. ⌜ now (image .exit) ≡ imageOf sizes (pack (codedSheet template fields «end_bit» (now (text .entry)) (codedCurve curve))) ⌝ }
+    requires { ⌜ needed (codedSheet template (unpacked (now fields)) «end_bit» (now text) (codedCurve curve)) ≤ streamBits sizes ⌝ }
+    ensures { λ _. ⌜ now (image .exit) ≡ imageOf sizes (pack (codedSheet template (unpacked (now (fields .entry))) «end_bit» (now (text .entry)) (codedCurve curve))) ⌝ }
 {
     let codes = curve.codes;
     let block = lay_front(sizes, image, template, fields);

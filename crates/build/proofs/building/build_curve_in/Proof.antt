@@ -1,71 +1,103 @@
--- `building::build_curve_in` meets its contract.
-use mathlib.Core.Path.{refl}
 use borrow.Author.Needs.{needs}
-use Rattle.refusal.proofs.WrittenLaws.{written-refused}
-use Rattle.build.specs.Build.{drawn}
-use Rattle.build.proofs.Tests.{turned-down, accepted}
-use Rattle.build.proofs.CurveTurns.{curve-down, curve-good}
-use Rattle.build.proofs.BuiltIn.{fields-down, fields-good, text-fits, built-fields, built-ending, built-behind, built-fitted}
 use Rattle.build.proofs.building.build_curve_in.Statement.{statement}
 use Rattle.build.proofs.building.build_curve_in.Tie as tie
+use Rattle.build.proofs.building.build_curve_in.Reads as reads
+use Rattle.build.proofs.building.build_curve_in.Lts as lts
+use Rattle.build.proofs.building.finish_curve.Reads as finish-curve-reads
+use Rattle.build.proofs.drawing.plan_curve.Reads as plan-curve-reads
+use Rattle.build.proofs.plan.check_ending.Reads as check-ending-reads
+use Rattle.build.proofs.plan.plan_fields.Reads as plan-fields-reads
+use Rattle.build.proofs.plan.template_in.Reads as template-in-reads
 
+-- src/building.rt:182:30
+slice-aggregate-plan-fields : tie.Need-slice-aggregate-plan-fields
+slice-aggregate-plan-fields c = search needs
+
+-- src/building.rt:182:11
+plan-fields-requires : tie.Need-plan-fields-requires
+plan-fields-requires c κs = search needs
+
+-- src/building.rt:183:26
+enum-known-r : tie.Need-enum-known-r
+enum-known-r c = search needs
+
+-- src/building.rt:184:23
+enum-known-bits : tie.Need-enum-known-bits
+enum-known-bits c = search needs
+
+-- src/building.rt:185:17
+template-in-requires : tie.Need-template-in-requires
+template-in-requires c κs = search needs
+
+-- src/building.rt:186:41
+check-ending-requires : tie.Need-check-ending-requires
+check-ending-requires c κs = search needs
+
+-- src/building.rt:186:36
+enum-known-r-2 : tie.Need-enum-known-r-2
+enum-known-r-2 c = search needs
+
+-- src/building.rt:187:17
 returns : tie.Need-returns
-returns c =
-    let a = c .before .before .before .before .before .before .args in
-    written-refused _ refl (built-fields (a .sizes) (a .sheet) (a .text .now) (drawn (a .curve)) refl (fields-down (c .before .before .before .plan-fields .ensures) (c .before .answer .given .1)))
+returns c = search needs
 
+enum-told : tie.Need-enum-told
+enum-told c = search needs
+
+-- src/building.rt:189:17
+plan-curve-requires : tie.Need-plan-curve-requires
+plan-curve-requires c κs = search needs
+
+-- src/building.rt:191:36
+enum-known-drawn : tie.Need-enum-known-drawn
+enum-known-drawn c = search needs
+
+-- src/building.rt:192:17
 returns-2 : tie.Need-returns-2
-returns-2 c =
-    let a = c .before .before .before .before .before .before .before .before .before .before .args in
-    let fields = fields-good (c .before .before .before .before .before .before .before .plan-fields .ensures) (c .before .before .before .before .before .enum-told .given .1) in
-    let down = turned-down _ (rw (c .before .before .before .before .template-in .ensures) at (c .before .before .before .check-ending .ensures)) (c .before .r .given .1) in
-    written-refused _ refl (built-ending (a .sizes) (a .sheet) (a .text .now) (drawn (a .curve)) refl fields down)
+returns-2 c = search needs
 
-returns-3 : tie.Need-returns-3
-returns-3 c =
-    let a = c .before .before .before .before .before .before .before .before .before .before .before .before .before .args in
-    let fields = fields-good (c .before .before .before .before .before .before .before .before .before .before .plan-fields .ensures) (c .before .before .before .before .before .before .before .before .enum-told .given .1) in
-    let ends = accepted _ (rw (c .before .before .before .before .before .before .before .template-in .ensures) at (c .before .before .before .before .before .before .check-ending .ensures)) (c .before .before .before .before .enum-told2 .given .1) in
-    written-refused _ refl (built-behind (a .sizes) (a .sheet) (a .text .now) (drawn (a .curve)) refl fields ends (curve-down (c .before .before .before .plan-curve .ensures) (c .before .drawn .given .1)))
+enum-told-2 : tie.Need-enum-told-2
+enum-told-2 c = search needs
 
+-- src/building.rt:198:17
+slice-aggregate-finish-curve : tie.Need-slice-aggregate-finish-curve
+slice-aggregate-finish-curve c = search needs
+
+-- src/building.rt:194:13
 finish-curve-requires : tie.Need-finish-curve-requires
-finish-curve-requires c κs =
-    let ends = accepted _ (rw (c .before .before .before .before .before .before .before .template-in .ensures) at (c .before .before .before .before .before .before .check-ending .ensures)) (c .before .before .before .before .enum-told2 .given .1) in
-    let curve = c .before .before .before .plan-curve .ensures in
-    let stands = c .before .enum-told3 .given .1 in
-    let plan = c .before .before .before .before .before .before .before .before .before .before .plan-fields .ensures in (
-      c .before .before .before .before .before .before .before .before .before .before .before .before .before .pre,
-      (
-        (record { fit = plan .fit; characters = text-fits _ _ _ ends }, rw (c .before .before .before .before .before .before .before .template-in .ensures) (plan .count (c .before .before .before .before .before .before .before .before .enum-told .given .1)), plan .small),
-        (curve .fit stands, curve .most, curve .count stands, curve .small),
-      ),
-    )
+finish-curve-requires c κs = search needs
 
+-- src/building.rt:170:1
+returns-3 : tie.Need-returns-3
+returns-3 c = search needs
+
+-- src/building.rt:170:1
+same-length : tie.Need-same-length
+same-length c = search needs
+
+-- src/building.rt:170:1
 returns-4 : tie.Need-returns-4
-returns-4 c =
-    let a = c .before .before .before .before .before .before .before .before .before .before .before .before .before .before .before .before .args in
-    let fields = fields-good (c .before .before .before .before .before .before .before .before .before .before .before .before .before .plan-fields .ensures) (c .before .before .before .before .before .before .before .before .before .before .before .enum-told .given .1) in
-    let ends = accepted _ (rw (c .before .before .before .before .before .before .before .before .before .before .template-in .ensures) at (c .before .before .before .before .before .before .before .before .before .check-ending .ensures)) (c .before .before .before .before .before .before .before .enum-told2 .given .1) in
-    let curve = curve-good (c .before .before .before .before .before .before .plan-curve .ensures) (c .before .before .before .before .enum-told3 .given .1) in
-    rw (built-fitted (a .sizes) (a .sheet) (a .text .now) (drawn (a .curve)) refl fields ends curve) (rw (c .before .before .before .before .before .before .before .before .before .before .template-in .ensures) at (c .before .before .finish-curve .ensures))
+returns-4 c = search needs
 
 pub build-curve-in-spec : {M : Type 1} → statement M
 build-curve-in-spec =
     tie.close
     (tie.spec
-    (λ c κs. search needs)
-    (λ c. search needs)
+    slice-aggregate-plan-fields
+    plan-fields-requires
+    enum-known-r
+    enum-known-bits
+    template-in-requires
+    check-ending-requires
+    enum-known-r-2
     returns
-    (λ c. search needs)
-    (λ c κs. search needs)
-    (λ c κs. search needs)
-    (λ c. search needs)
+    enum-told
+    plan-curve-requires
+    enum-known-drawn
     returns-2
-    (λ c. search needs)
-    (λ c κs. search needs)
-    (λ c. search needs)
-    returns-3
-    (λ c. search needs)
+    enum-told-2
+    slice-aggregate-finish-curve
     finish-curve-requires
-    (λ c. search needs)
+    returns-3
+    same-length
     returns-4)
