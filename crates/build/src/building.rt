@@ -1,8 +1,9 @@
 // Build an image in the caller's buffer.
 use crate::Sheet;
-use crate::drawing::CurvePlan;
+use crate::Slot;
+use crate::drawing::Drawn;
 use crate::drawing::plan_curve;
-use crate::plan::Plan;
+use crate::plan::Planned;
 use crate::plan::check_ending;
 use crate::plan::check_points;
 use crate::plan::is_wrong_list;
@@ -14,6 +15,7 @@ use fields::Curve;
 use fields::Domain;
 use fields::Judged;
 use fields::Template;
+use fields::Value;
 use memory::Sizes;
 use memory::SizesAnswer;
 use refusal::Written;
@@ -66,7 +68,8 @@ fn finish_table(
     sizes: Sizes,
     image: &mut [u8],
     template: Template,
-    plan: Plan,
+    fields: &[u64],
+    field_bits: u64,
     end_bit: bool,
     text: &[u8],
     domain: Domain,
@@ -79,11 +82,10 @@ fn finish_table(
         (writtenSaid r (now (image .exit)) ≡ outcome) × (now (image .exit) ≡ afterwards (now (image .entry)) outcome)) ⌝ }
 {
     let behind = table_bits(points.len() as u64 / 2);
-    let bits = bits_needed(plan.bits, behind, text.len() as u64);
+    let bits = bits_needed(field_bits, behind, text.len() as u64);
     if is_too_long(sizes, bits) {
         return Written::Refused(refusal::too_long(bits));
     }
-    let fields = plan.fields;
     write_table(
         sizes,
         image,
@@ -102,10 +104,13 @@ fn finish_curve(
     sizes: Sizes,
     image: &mut [u8],
     template: Template,
-    plan: Plan,
+    fields: &[u64],
+    field_bits: u64,
     end_bit: bool,
     text: &[u8],
-    curve: CurvePlan,
+    codes: &[u64],
+    count: u64,
+    curve_bits: u64,
 ) -> Written
     requires { ⌜ Whole sizes (now image) × (imageBytes sizes ≤ 512) ⌝ }
     requires { ⌜ Tested (plan .fields) (now text) × (plan .bits ≡ needed (codedFields template (plan .fields))) × (plan .bits < 2 ^ 16) ⌝ }
@@ -113,12 +118,20 @@ fn finish_curve(
     ensures { λ r. ⌜ (let outcome = fitted sizes (codedSheet template (plan .fields) «end_bit» (now (text .entry)) (codedCurve curve)) in
         (writtenSaid r (now (image .exit)) ≡ outcome) × (now (image .exit) ≡ afterwards (now (image .entry)) outcome)) ⌝ }
 {
-    let bits = bits_needed(plan.bits, curve.bits, text.len() as u64);
+    let bits = bits_needed(field_bits, curve_bits, text.len() as u64);
     if is_too_long(sizes, bits) {
         return Written::Refused(refusal::too_long(bits));
     }
-    let fields = plan.fields;
-    write_curve(sizes, image, template, fields, end_bit, text, curve);
+    write_curve(
+        sizes,
+        image,
+        template,
+        fields,
+        end_bit,
+        text,
+        codes,
+        count as usize,
+    );
     Written::Done
 }
 
@@ -126,7 +139,10 @@ fn finish_curve(
 fn build_in(
     sizes: Sizes,
     image: &mut [u8],
-    sheet: Sheet,
+    template: Template,
+    end_bit: bool,
+    planned: Planned,
+    fields: &[u64],
     text: &[u8],
     domain: Domain,
     points: &[i64],
@@ -139,13 +155,35 @@ fn build_in(
     if is_wrong_list(n) {
         return Written::Refused(refusal::wrong_list(n as u64));
     }
-    let plan = plan_fields(sheet);
-    let answer = plan.answer;
-    if let Judged::Refused(r) = answer {
-        return Written::Refused(r);
+    match planned {
+        Planned::Refused(r) => Written::Refused(r),
+        Planned::Bits(bits) => build_coded(
+            sizes,
+            image,
+            template,
+            end_bit,
+            text,
+            domain,
+            points,
+            fields,
+            bits,
+        ),
     }
-    let template = template_in(sheet);
-    if let Judged::Refused(r) = check_ending(template, sheet.end_bit, text) {
+}
+
+// The same behind the fields.
+fn build_coded(
+    sizes: Sizes,
+    image: &mut [u8],
+    template: Template,
+    end_bit: bool,
+    text: &[u8],
+    domain: Domain,
+    points: &[i64],
+    fields: &[u64],
+    bits: u64,
+) -> Written {
+    if let Judged::Refused(r) = check_ending(template, end_bit, text) {
         return Written::Refused(r);
     }
     if let Judged::Refused(r) = check_points(domain, points) {
@@ -155,8 +193,9 @@ fn build_in(
         sizes,
         image,
         template,
-        plan,
-        sheet.end_bit,
+        fields,
+        bits,
+        end_bit,
         text,
         domain,
         points,
@@ -167,7 +206,10 @@ fn build_in(
 fn build_curve_in(
     sizes: Sizes,
     image: &mut [u8],
-    sheet: Sheet,
+    template: Template,
+    end_bit: bool,
+    planned: Planned,
+    fields: &[u64],
     text: &[u8],
     curve: Curve,
 ) -> Written
@@ -175,21 +217,51 @@ fn build_curve_in(
     ensures { λ r. ⌜ (let outcome = builtIn sizes sheet (now (text .entry)) (drawn curve) in
         (writtenSaid r (now (image .exit)) ≡ outcome) × (now (image .exit) ≡ afterwards (now (image .entry)) outcome)) ⌝ }
 {
-    let plan = plan_fields(sheet);
-    let answer = plan.answer;
-    if let Judged::Refused(r) = answer {
+    match planned {
+        Planned::Refused(r) => Written::Refused(r),
+        Planned::Bits(bits) => build_curve_coded(
+            sizes,
+            image,
+            template,
+            end_bit,
+            text,
+            curve,
+            fields,
+            bits,
+        ),
+    }
+}
+
+// The same behind the fields.
+fn build_curve_coded(
+    sizes: Sizes,
+    image: &mut [u8],
+    template: Template,
+    end_bit: bool,
+    text: &[u8],
+    curve: Curve,
+    fields: &[u64],
+    bits: u64,
+) -> Written {
+    if let Judged::Refused(r) = check_ending(template, end_bit, text) {
         return Written::Refused(r);
     }
-    let template = template_in(sheet);
-    if let Judged::Refused(r) = check_ending(template, sheet.end_bit, text) {
-        return Written::Refused(r);
+    let mut codes = [0u64; 104];
+    match plan_curve(curve, &mut codes) {
+        Drawn::Refused(r) => Written::Refused(r),
+        Drawn::Pieces(count, curve_bits) => finish_curve(
+            sizes,
+            image,
+            template,
+            fields,
+            bits,
+            end_bit,
+            text,
+            &codes,
+            count,
+            curve_bits,
+        ),
     }
-    let block = plan_curve(curve);
-    let drawn = block.answer;
-    if let Judged::Refused(r) = drawn {
-        return Written::Refused(r);
-    }
-    finish_curve(sizes, image, template, plan, sheet.end_bit, text, block)
 }
 
 // Writes the image of a sheet: the fields and the end bit by value, the closing text, and the points and deviations by turns,
@@ -208,9 +280,74 @@ pub fn build(
     ensures { λ r. ⌜ (let outcome = buildOf kind (now (image .entry)) sheet (now (text .entry)) domain (now (points .entry)) in
         (writtenSaid r (now (image .exit)) ≡ outcome) × (now (image .exit) ≡ afterwards (now (image .entry)) outcome)) ⌝ }
 {
+    let mut sorts = [2u8; 21];
+    let mut wholes = [0i64; 21];
+    let mut singles = [0.0f32; 21];
+    spread(sheet.fields, &mut sorts, &mut wholes, &mut singles);
+    build_lent(
+        kind,
+        image,
+        sheet.template,
+        sheet.end_bit,
+        &sorts,
+        &wholes,
+        &singles,
+        text,
+        domain,
+        points,
+    )
+}
+
+// The values of a sheet by sorts, whole numbers and Singles.
+fn spread(slots: [Slot; 21], sorts: &mut [u8], wholes: &mut [i64], singles: &mut [f32]) {
+    let mut i: usize = 0;
+    while i < 21 {
+        let slot = slots[i];
+        let value = slot.value;
+        match value {
+            Value::Whole(figure) => {
+                sorts[i] = 0;
+                wholes[i] = figure;
+            }
+            Value::Single(x) => {
+                sorts[i] = 1;
+                singles[i] = x;
+            }
+            Value::Missing => {
+                sorts[i] = 2;
+            }
+        }
+        i += 1;
+    }
+}
+
+pub fn build_lent(
+    kind: u8,
+    image: &mut [u8],
+    template: Template,
+    end_bit: bool,
+    sorts: &[u8],
+    wholes: &[i64],
+    singles: &[f32],
+    text: &[u8],
+    domain: Domain,
+    points: &[i64],
+) -> Written {
+    let mut fields = [0u64; 22];
+    let planned = plan_fields(template, sorts, wholes, singles, &mut fields);
     match memory::image_sizes(kind, image.len()) {
         SizesAnswer::Refused(r) => Written::Refused(r),
-        SizesAnswer::Are(sizes) => build_in(sizes, image, sheet, text, domain, points),
+        SizesAnswer::Are(sizes) => build_in(
+            sizes,
+            image,
+            template,
+            end_bit,
+            planned,
+            &fields,
+            text,
+            domain,
+            points,
+        ),
     }
 }
 
@@ -223,8 +360,47 @@ pub fn build_curve(kind: u8, image: &mut [u8], sheet: Sheet, text: &[u8], curve:
     ensures { λ r. ⌜ (let outcome = buildCurve kind (now (image .entry)) sheet (now (text .entry)) curve in
         (writtenSaid r (now (image .exit)) ≡ outcome) × (now (image .exit) ≡ afterwards (now (image .entry)) outcome)) ⌝ }
 {
+    let mut sorts = [2u8; 21];
+    let mut wholes = [0i64; 21];
+    let mut singles = [0.0f32; 21];
+    spread(sheet.fields, &mut sorts, &mut wholes, &mut singles);
+    build_curve_lent(
+        kind,
+        image,
+        sheet.template,
+        sheet.end_bit,
+        &sorts,
+        &wholes,
+        &singles,
+        text,
+        curve,
+    )
+}
+
+pub fn build_curve_lent(
+    kind: u8,
+    image: &mut [u8],
+    template: Template,
+    end_bit: bool,
+    sorts: &[u8],
+    wholes: &[i64],
+    singles: &[f32],
+    text: &[u8],
+    curve: Curve,
+) -> Written {
+    let mut fields = [0u64; 22];
+    let planned = plan_fields(template, sorts, wholes, singles, &mut fields);
     match memory::image_sizes(kind, image.len()) {
         SizesAnswer::Refused(r) => Written::Refused(r),
-        SizesAnswer::Are(sizes) => build_curve_in(sizes, image, sheet, text, curve),
+        SizesAnswer::Are(sizes) => build_curve_in(
+            sizes,
+            image,
+            template,
+            end_bit,
+            planned,
+            &fields,
+            text,
+            curve,
+        ),
     }
 }

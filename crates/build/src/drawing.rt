@@ -1,5 +1,5 @@
 // What a build tests of a curve before it writes, and the pieces of its block.
-use crate::plan::CodedField;
+use crate::plan::coded;
 use fields::Curve;
 use fields::Earlier;
 use fields::Encoded;
@@ -17,16 +17,14 @@ ghost use Rattle.build.specs.Tested.{segmentTwo, termTwo, TwoCoded, firs
 
 // Two pieces, or 10, 24 or 25.
 pub enum TwoAnswer {
-    Are(CodedField, CodedField),
+    Are(u64, u64),
     Refused(Refusal),
 }
 
-// The pieces of a curve's block, how many they are, and the bits that they need, where nothing is refused.
-pub struct CurvePlan {
-    pub answer: Judged,
-    pub codes: [CodedField; 104],
-    pub count: u64,
-    pub bits: u64,
+// How many pieces a curve's block has, and the bits that they need, or 10, 24 or 25.
+pub enum Drawn {
+    Pieces(u64, u64),
+    Refused(Refusal),
 }
 
 // 24 for a segment's term count, then 25 with the terms before it.
@@ -72,14 +70,8 @@ fn code_segment(before: Earlier, i: u64, total: u64, segment: Segment) -> TwoAns
     match code_start(before, i, total, segment) {
         Encoded::Refused(r) => TwoAnswer::Refused(r),
         Encoded::Code(start) => TwoAnswer::Are(
-            CodedField {
-                width: coding::segment_start().width,
-                code: start,
-            },
-            CodedField {
-                width: coding::term_count().width,
-                code: segment.terms,
-            },
+            coded(coding::segment_start().width, start),
+            coded(coding::term_count().width, segment.terms),
         ),
     }
 }
@@ -94,54 +86,25 @@ fn code_term(before: Earlier, i: u64, term: Term) -> TwoAnswer
         Encoded::Code(power) => match coding::encode_coefficient(i, term.coefficient) {
             Encoded::Refused(r) => TwoAnswer::Refused(r),
             Encoded::Code(factor) => TwoAnswer::Are(
-                CodedField {
-                    width: coding::term_exponent().width,
-                    code: power,
-                },
-                CodedField {
-                    width: coding::term_coefficient().width,
-                    code: factor,
-                },
+                coded(coding::term_exponent().width, power),
+                coded(coding::term_coefficient().width, factor),
             ),
         },
     }
 }
 
-// Room for the pieces of a curve, with those before the first segment: selector 0, template 41, domain 0 and the segment count.
-fn first_four(count: u64) -> [CodedField; 104]
-    ensures { λ r. ⌜ r ≡ firstFour count ⌝ }
-{
-    let mut codes = [CodedField { width: 1, code: 0 }; 104];
-    codes[0] = CodedField { width: 2, code: 0 };
-    codes[1] = CodedField { width: 8, code: 41 };
-    codes[3] = CodedField {
-        width: 8,
-        code: count,
-    };
-    codes
-}
-
-// A curve that is turned down, whatever was coded of it.
-fn no_curve(because: Refusal, codes: [CodedField; 104]) -> CurvePlan
-    ensures { λ r. ⌜ r ≡ noCurve because codes ⌝ }
-{
-    CurvePlan {
-        answer: Judged::Refused(because),
-        codes,
-        count: 0,
-        bits: 0,
-    }
-}
-
 // Behind the first four pieces, segment by segment its own two and those of its terms.
-fn plan_segments(curve: Curve) -> CurvePlan
+fn plan_segments(curve: Curve, codes: &mut [u64]) -> Drawn
     requires { ⌜ isSegmentCount (curve .count) ≡ true ⌝ }
     ensures { λ r. ⌜ CurvePlanned curve r ⌝ }
 {
     let count = curve.count as usize;
     let segments = curve.segments;
     let terms = curve.terms;
-    let mut codes = first_four(curve.count);
+    codes[0] = coded(2, 0);
+    codes[1] = coded(8, 41);
+    codes[2] = coded(1, 0);
+    codes[3] = coded(8, curve.count);
     let mut before = Earlier::Nothing;
     let mut total: usize = 0;
     let mut i: usize = 0;
@@ -150,12 +113,12 @@ fn plan_segments(curve: Curve) -> CurvePlan
         let at = 4 + 2 * (i + total);
         match code_segment(before, i as u64, total as u64, segment) {
             TwoAnswer::Refused(r) => {
-                return no_curve(r, codes);
+                return Drawn::Refused(r);
             }
             TwoAnswer::Are(first, second) => {
                 codes[at] = first;
                 codes[at + 1] = second;
-                before = Earlier::Code(first.code);
+                before = Earlier::Code(first % 0x1_0000_0000);
             }
         }
         i += 1;
@@ -166,31 +129,29 @@ fn plan_segments(curve: Curve) -> CurvePlan
             let next = 4 + 2 * (i + total);
             match code_term(last, total as u64, term) {
                 TwoAnswer::Refused(r) => {
-                    return no_curve(r, codes);
+                    return Drawn::Refused(r);
                 }
                 TwoAnswer::Are(first, second) => {
                     codes[next] = first;
                     codes[next + 1] = second;
-                    last = Earlier::Code(first.code);
+                    last = Earlier::Code(first % 0x1_0000_0000);
                 }
             }
             total += 1;
         }
     }
-    CurvePlan {
-        answer: Judged::Stands,
-        codes,
-        count: 4 + 2 * (count + total) as u64,
-        bits: 19 + 20 * count as u64 + 39 * total as u64,
-    }
+    Drawn::Pieces(
+        4 + 2 * (count + total) as u64,
+        19 + 20 * count as u64 + 39 * total as u64,
+    )
 }
 
 // 24 for the segment count, then 10, 24 and 25 segment by segment.
-pub fn plan_curve(curve: Curve) -> CurvePlan
+pub fn plan_curve(curve: Curve, codes: &mut [u64]) -> Drawn
     ensures { λ r. ⌜ CurvePlanned curve r ⌝ }
 {
     if coding::is_segment_count(curve.count) {
-        return plan_segments(curve);
+        return plan_segments(curve, codes);
     }
-    no_curve(refusal::wrong_curve(curve.count), first_four(curve.count))
+    Drawn::Refused(refusal::wrong_curve(curve.count))
 }

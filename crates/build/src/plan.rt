@@ -17,23 +17,20 @@ ghost use lib.Dec.{eqb, ltb};
 ghost use lib.ListN.{length};
 ghost use Rattle.refusal.specs.Outcome.{refuse_if_};
 ghost use Rattle.refusal.specs.Rows.{outOfRange};
-ghost use Rattle.fields.specs.Lines.{chose, lineOf, lastField, ending};
-ghost use Rattle.fields.specs.Stored.{Sound};
+ghost use Rattle.fields.specs.Lines.{chose, lineOf, rowOf, lastField, ending};
 ghost use Rattle.fields.specs.Answers.{judgedSaid, previousSaid};
 ghost use Rattle.build.specs.Build.{templateIn, unfit, endingPieces, pairsLent, codesFor, pairCodes, tablePieces};
 ghost use Rattle.build.specs.Tested.{tested, pairAt, codesSaid, Encodes, FieldsPlanned};
 
-// A field that is to be written: its bits and its code.
-pub struct CodedField {
-    pub width: u64,
-    pub code: u64,
+// The bits of what is to be written, or 9 or 10.
+pub enum Planned {
+    Bits(u64),
+    Refused(Refusal),
 }
 
-// The fields of a sheet, and the bits that they need with their block, where nothing is refused.
-pub struct Plan {
-    pub answer: Judged,
-    pub fields: [CodedField; 21],
-    pub bits: u64,
+// A field that is to be written: its bits above bit 32, its code below.
+pub fn coded(width: u64, code: u64) -> u64 {
+    (width << 32) | code
 }
 
 // The codes of a pair, or 10, 7 or 22.
@@ -49,14 +46,6 @@ pub fn template_in(sheet: Sheet) -> Template
     sheet.template
 }
 
-// The code of a field's value, which fits its row's bits: a Single that is lent has 32.
-fn code_of(row: Row, field: u64, value: Value) -> Encoded
-    requires { ⌜ Sound row ⌝ }
-    ensures { λ r. ⌜ Encodes row field value r ⌝ }
-{
-    coding::encode_by(row, field, value)
-}
-
 // The latest choice behind a field.
 fn choice_behind(template: Template, field: u64, code: u64, latest: u64) -> u64
     requires { ⌜ (1 ≤ field) × (field ≤ lastField template) ⌝ }
@@ -68,49 +57,144 @@ fn choice_behind(template: Template, field: u64, code: u64, latest: u64) -> u64
     latest
 }
 
-// 9 or 10, field by field, each by the latest choice before it.
-pub fn plan_fields(sheet: Sheet) -> Plan
-    ensures { λ r. ⌜ FieldsPlanned sheet r ⌝ }
-{
-    let template = template_in(sheet);
-    let last = fields::last_field(template) as usize;
-    let mut fields = [CodedField { width: 1, code: 0 }; 21];
-    let mut precision: u64 = 0;
-    let mut bits: u64 = 10;
-    let mut i: usize = 0;
-    while i < last {
-        let field = i as u64 + 1;
-        let slot = sheet.fields[i];
-        let value = slot.value;
-        let layout = Layout {
-            template,
-            precision,
-        };
-        let row = fields::row_of(layout, field);
-        match code_of(row, field, value) {
-            Encoded::Refused(r) => {
-                return Plan {
-                    answer: Judged::Refused(r),
-                    fields,
-                    bits,
-                };
-            }
-            Encoded::Code(code) => {
-                fields[i] = CodedField {
-                    width: row.width,
-                    code,
-                };
-                precision = choice_behind(template, field, code, precision);
+// The value at an index of lent values: a sort 0 is a whole number, 1 a Single, any other missing.
+fn value_at(sorts: &[u8], wholes: &[i64], singles: &[f32], i: usize) -> Value {
+    match sorts[i] {
+        0 => Value::Whole(wholes[i]),
+        1 => Value::Single(singles[i]),
+        _ => Value::Missing,
+    }
+}
+
+// The code of the value at an index, told at once: none where it needs a search, or has no code.
+fn swift_at(row: Row, sorts: &[u8], wholes: &[i64], singles: &[f32], i: usize) -> u64 {
+    match sorts[i] {
+        0 => coding::swift_whole(row, wholes[i]),
+        1 => coding::single_code(row, singles[i]),
+        _ => coding::missing_code(row),
+    }
+}
+
+// The code of a field's value, or none.
+fn code_at(
+    template: Template,
+    precision: u64,
+    field: u64,
+    sorts: &[u8],
+    wholes: &[i64],
+    singles: &[f32],
+) -> u64 {
+    let layout = Layout {
+        template,
+        precision,
+    };
+    coding::code_by(
+        fields::row_of(layout, field),
+        value_at(sorts, wholes, singles, field as usize - 1),
+    )
+}
+
+// The fields of Basic: the first that has no code, or 0.
+fn plan_basic(sorts: &[u8], wholes: &[i64], singles: &[f32], codes: &mut [u64]) -> u64 {
+    let mut field: u64 = 1;
+    while field <= 5 {
+        let row = fields::basic_row(field);
+        let mut code = swift_at(row, sorts, wholes, singles, field as usize - 1);
+        if coding::NONE <= code {
+            code = code_at(Template::Bridge, 0, field, sorts, wholes, singles);
+            if coding::NONE <= code {
+                return field;
             }
         }
-        bits += row.width;
-        i += 1;
+        codes[field as usize - 1] = coded(row.width, code);
+        field += 1;
     }
-    Plan {
-        answer: Judged::Stands,
-        fields,
-        bits,
+    0
+}
+
+// The same of template 33.
+fn plan_bridge(sorts: &[u8], wholes: &[i64], singles: &[f32], codes: &mut [u64]) -> u64 {
+    let mut precision: u64 = 0;
+    let mut field: u64 = 6;
+    while field <= 21 {
+        let row = fields::bridge_row(precision, field);
+        let mut code = swift_at(row, sorts, wholes, singles, field as usize - 1);
+        if coding::NONE <= code {
+            code = code_at(Template::Bridge, precision, field, sorts, wholes, singles);
+            if coding::NONE <= code {
+                return field;
+            }
+        }
+        codes[field as usize] = coded(row.width, code);
+        precision = choice_behind(Template::Bridge, field, code, precision);
+        field += 1;
     }
+    0
+}
+
+// The same of template 32.
+fn plan_resistance(sorts: &[u8], wholes: &[i64], singles: &[f32], codes: &mut [u64]) -> u64 {
+    let mut precision: u64 = 0;
+    let mut field: u64 = 6;
+    while field <= 19 {
+        let row = fields::resistance_row(precision, field);
+        let mut code = swift_at(row, sorts, wholes, singles, field as usize - 1);
+        if coding::NONE <= code {
+            code = code_at(
+                Template::Resistance,
+                precision,
+                field,
+                sorts,
+                wholes,
+                singles,
+            );
+            if coding::NONE <= code {
+                return field;
+            }
+        }
+        codes[field as usize] = coded(row.width, code);
+        precision = choice_behind(Template::Resistance, field, code, precision);
+        field += 1;
+    }
+    0
+}
+
+fn plan_own(
+    template: Template,
+    sorts: &[u8],
+    wholes: &[i64],
+    singles: &[f32],
+    codes: &mut [u64],
+) -> u64 {
+    match template {
+        Template::Bridge => plan_bridge(sorts, wholes, singles, codes),
+        Template::Resistance => plan_resistance(sorts, wholes, singles, codes),
+    }
+}
+
+// 9 or 10, field by field, each by the latest choice before it: the fields in the lent codes, and the bits that they need with
+// their block.
+pub fn plan_fields(
+    template: Template,
+    sorts: &[u8],
+    wholes: &[i64],
+    singles: &[f32],
+    codes: &mut [u64],
+) -> Planned {
+    codes[5] = coded(10, 4 * fields::template_number(template));
+    let mut field = plan_basic(sorts, wholes, singles, codes);
+    if field == 0 {
+        field = plan_own(template, sorts, wholes, singles, codes);
+    }
+    let layout = Layout {
+        template,
+        precision: codes[9] % 0x1_0000_0000,
+    };
+    if 0 < field {
+        let wrong = value_at(sorts, wholes, singles, field as usize - 1);
+        return Planned::Refused(coding::no_code(fields::row_of(layout, field), field, wrong));
+    }
+    Planned::Bits(fields::bits_before(layout, fields::last_field(template) + 1) + 10)
 }
 
 // 10 for a character 0 or above 127.

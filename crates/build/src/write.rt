@@ -1,8 +1,5 @@
 // What a build writes, once nothing turns it down: pieces one behind the other into a cleared image, then every check byte.
-// A function that lays pieces takes the cursor to lay them at, and hands back the cursor behind them. Neighbours go in as one
-// field, the first in its lowest bits, which is faster.
-use crate::drawing::CurvePlan;
-use crate::plan::CodedField;
+// A function that lays pieces takes the cursor to lay them at, and hands back the cursor behind them.
 use crate::plan::PairAnswer;
 use crate::plan::code_pair;
 use fields::Domain;
@@ -20,19 +17,14 @@ ghost use Rattle.memory.specs.Pieces.{piece, pack, needed};
 ghost use Rattle.layout.specs.Pieces.{blockPieces};
 ghost use Rattle.build.specs.Build.{pairsLent, codesFor, tablePieces};
 ghost use Rattle.build.specs.Tested.{piecesOf, Accepted, fieldPiece, Fit, pairAt, codedFields, codedCurve, Tested};
-ghost use Rattle.build.specs.Filled.{Room, Filled, Begun, codedPair, codedPairs, sevenPieces, codedEnding, codedSheet};
-
-// The bits of a point, and of a pair.
-const POINT_BITS: u64 = 16;
-
-const PAIR_BITS: usize = 37;
+ghost use Rattle.build.specs.Filled.{Room, Filled, Begun, codedPair, codedPairs, codedEnding, codedSheet};
 
 // The fields from index `first` up to `end`.
 fn lay_fields(
     sizes: Sizes,
     image: &mut [u8],
     start: Cursor,
-    fields: [CodedField; 21],
+    fields: &[u64],
     first: usize,
     end: usize,
 ) -> Cursor
@@ -41,13 +33,22 @@ fn lay_fields(
     ensures { λ r. ⌜ Filled sizes (now (image .entry)) start (slice first end (map fieldPiece fields)) (now (image .exit)) r ⌝ }
 {
     let mut cursor = start;
+    let mut word: u64 = 0;
+    let mut bits: usize = 0;
     let mut i = first;
     while i < end {
-        let field = fields[i];
-        cursor = cursor.append(sizes, image, field.width as usize, field.code);
+        let coded = fields[i];
+        let width = (coded >> 32) as usize;
+        if 49 < bits + width {
+            cursor = cursor.append(sizes, image, bits, word);
+            word = 0;
+            bits = 0;
+        }
+        word = word | ((coded % 0x1_0000_0000) << bits);
+        bits += width;
         i += 1;
     }
-    cursor
+    cursor.append(sizes, image, bits, word)
 }
 
 // A block's selector 0 and its template number.
@@ -68,9 +69,8 @@ fn lay_pair(sizes: Sizes, image: &mut [u8], cursor: Cursor, points: &[i64], i: u
     match code_pair(points, i) {
         PairAnswer::Refused(_) => cursor,
         PairAnswer::Are(codes) => {
-            let deviation = codes.deviation as u64;
-            let code = codes.point as u64 + (deviation << POINT_BITS);
-            cursor.append(sizes, image, PAIR_BITS, code)
+            let both = codes.point as u64 | ((codes.deviation as u64) << 16);
+            cursor.append(sizes, image, 37, both)
         }
     }
 }
@@ -113,64 +113,35 @@ fn lay_table(
 }
 
 // Block 41, whose pieces have their codes.
-fn lay_curve(
-    sizes: Sizes,
-    image: &mut [u8],
-    start: Cursor,
-    codes: [CodedField; 104],
-    count: usize,
-) -> Cursor
+fn lay_curve(sizes: Sizes, image: &mut [u8], start: Cursor, codes: &[u64], count: usize) -> Cursor
     requires { ⌜ Room sizes (now image) start (take count (map fieldPiece codes)) ⌝ }
     requires { ⌜ (count ≤ 104) × Fit 104 codes ⌝ }
     ensures { λ r. ⌜ Filled sizes (now (image .entry)) start (take count (map fieldPiece codes)) (now (image .exit)) r ⌝ }
 {
-    let mut cursor = start;
-    let mut i: usize = 0;
-    while i < count {
-        let code = codes[i];
-        cursor = cursor.append(sizes, image, code.width as usize, code.code);
-        i += 1;
-    }
-    cursor
+    lay_fields(sizes, image, start, codes, 0, count)
 }
 
-// A character of the text.
-fn character(text: &[u8], i: usize) -> u64
-    requires { ⌜ (i < length (now text)) × ((j : ℕ) → getD (now text) j 0 < 128) ⌝ }
-    ensures { λ r. ⌜ (r ≡ getD (now (text .entry)) i 0) × (r < 128) ⌝ }
-{
-    text[i] as u64
-}
-
-// Seven characters from index i on, as one code.
-fn seven(text: &[u8], i: usize) -> u64
-    requires { ⌜ (i + 7 ≤ length (now text)) × ((j : ℕ) → getD (now text) j 0 < 128) ⌝ }
-    ensures { λ r. ⌜ (r ≡ pack (sevenPieces (now (text .entry)) i)) × (r < 2 ^ 49) ⌝ }
-{
-    let last = 128 * character(text, i + 6) + character(text, i + 5);
-    let four = 128 * (128 * last + character(text, i + 4)) + character(text, i + 3);
-    let six = 128 * (128 * four + character(text, i + 2)) + character(text, i + 1);
-    128 * six + character(text, i)
-}
-
-// The text in 7-bit characters, seven at a time while they last. The zero that ends it needs no writing.
-fn lay_text(sizes: Sizes, image: &mut [u8], start: Cursor, text: &[u8]) -> Cursor
+// The text in 7-bit characters. The zero that ends it needs no writing.
+fn lay_text(sizes: Sizes, image: &mut [u8], start: Cursor, begun: u64, text: &[u8]) -> Cursor
     requires { ⌜ Room sizes (now image) start (map (piece 7) (now text)) ⌝ }
     requires { ⌜ ((i : ℕ) → getD (now text) i 0 < 128) ⌝ }
     ensures { λ r. ⌜ Filled sizes (now (image .entry)) start (map (piece 7) (now (text .entry))) (now (image .exit)) r ⌝ }
 {
     let mut cursor = start;
+    let mut word = begun;
+    let mut bits: usize = 3;
     let mut i: usize = 0;
-    let n = text.len();
-    while 7 <= n - i {
-        cursor = cursor.append(sizes, image, 49, seven(text, i));
-        i += 7;
-    }
-    while i < n {
-        cursor = cursor.append(sizes, image, 7, character(text, i));
+    while i < text.len() {
+        if 49 < bits + 7 {
+            cursor = cursor.append(sizes, image, bits, word);
+            word = 0;
+            bits = 0;
+        }
+        word = word | ((text[i] as u64) << bits);
+        bits += 7;
         i += 1;
     }
-    cursor
+    cursor.append(sizes, image, bits, word)
 }
 
 // Selector 3, the end bit and the text.
@@ -179,22 +150,18 @@ fn lay_ending(sizes: Sizes, image: &mut [u8], cursor: Cursor, end_bit: bool, tex
     requires { ⌜ ((i : ℕ) → getD (now text) i 0 < 128) ⌝ }
     ensures { λ r. ⌜ Filled sizes (now (image .entry)) cursor (codedEnding «end_bit» (now (text .entry))) (now (image .exit)) r ⌝ }
 {
-    let characters = cursor.append(sizes, image, 3, 3 + 4 * end_bit as u64);
-    lay_text(sizes, image, characters, text)
+    lay_text(sizes, image, cursor, 3 + 4 * end_bit as u64, text)
 }
 
 // Basic, the first block and the template's own fields, into a cleared image. What stood there before is gone.
-fn lay_front(sizes: Sizes, image: &mut [u8], template: Template, fields: [CodedField; 21]) -> Cursor
+fn lay_front(sizes: Sizes, image: &mut [u8], template: Template, fields: &[u64]) -> Cursor
     requires { ⌜ Whole sizes (now image) × Fit 21 fields ⌝ }
     requires { ⌜ needed (codedFields template fields) ≤ streamBits sizes ⌝ }
     ensures { λ r. ⌜ Begun sizes (codedFields template fields) (now (image .exit)) r ⌝ }
 {
     stream::clear(image);
-    let basic = fields::basic_fields() as usize;
     let last = fields::last_field(template) as usize;
-    let block = lay_fields(sizes, image, Cursor::start(), fields, 0, basic);
-    let own = lay_block(sizes, image, block, fields::template_number(template));
-    lay_fields(sizes, image, own, fields, basic, last)
+    lay_fields(sizes, image, Cursor::start(), fields, 0, last + 1)
 }
 
 // The ending, then every check byte.
@@ -212,7 +179,7 @@ pub fn write_table(
     sizes: Sizes,
     image: &mut [u8],
     template: Template,
-    fields: [CodedField; 21],
+    fields: &[u64],
     end_bit: bool,
     text: &[u8],
     domain: Domain,
@@ -233,18 +200,18 @@ pub fn write_curve(
     sizes: Sizes,
     image: &mut [u8],
     template: Template,
-    fields: [CodedField; 21],
+    fields: &[u64],
     end_bit: bool,
     text: &[u8],
-    curve: CurvePlan,
+    codes: &[u64],
+    count: usize,
 )
     requires { ⌜ Whole sizes (now image) × Tested fields (now text) ⌝ }
     requires { ⌜ Fit 104 (curve .codes) × (curve .count ≤ 104) ⌝ }
     requires { ⌜ needed (codedSheet template fields «end_bit» (now text) (codedCurve curve)) ≤ streamBits sizes ⌝ }
     ensures { λ _. ⌜ now (image .exit) ≡ imageOf sizes (pack (codedSheet template fields «end_bit» (now (text .entry)) (codedCurve curve))) ⌝ }
 {
-    let codes = curve.codes;
     let block = lay_front(sizes, image, template, fields);
-    let ending = lay_curve(sizes, image, block, codes, curve.count as usize);
+    let ending = lay_curve(sizes, image, block, codes, count);
     lay_back(sizes, image, ending, end_bit, text);
 }

@@ -1,6 +1,6 @@
 // Document 01, "Layout", and document 02, Note 9: the calibration table, template 40. The rows of its fields, the codes of a
 // pair, and the rules between neighbouring pairs. Figures are in billionths of the span.
-use crate::encoding::stepped;
+use crate::encoding::encode_stepped;
 use fields::Codes;
 use fields::Domain;
 use fields::Encoded;
@@ -79,18 +79,18 @@ pub fn cal_deviation() -> Row
 pub fn encode_point(place: u64, figure: i64) -> Encoded
     ensures { λ r. ⌜ encodedSaid r ≡ encodeOf spec.calPoint place (Value.Whole figure) ⌝ }
 {
-    stepped(0, D, POINT_BITS, place, figure)
+    encode_stepped(0, D, POINT_BITS, place, figure)
 }
 
 // The same of its deviation.
 pub fn encode_deviation(place: u64, figure: i64) -> Encoded
     ensures { λ r. ⌜ encodedSaid r ≡ encodeOf spec.calDeviation place (Value.Whole figure) ⌝ }
 {
-    stepped(LEAST_DEVIATION, R, DEVIATION_BITS, place, figure)
+    encode_stepped(LEAST_DEVIATION, R, DEVIATION_BITS, place, figure)
 }
 
 // A pair's point plus its deviation, in billionths of the span above the least deviation.
-pub fn sum_above(codes: Codes) -> u64
+fn sum_above(codes: Codes) -> u64
     ensures { λ r. ⌜ r ≡ spec.D * codes .point + spec.R * codes .deviation ⌝ }
 {
     D * codes.point as u64 + R * codes.deviation as u64

@@ -1,7 +1,7 @@
 // Document 02, Note 11: curves, template 41. The rows of its fields, the codes of a start, an exponent and a coefficient, and
 // the rules of a curve, which a check and a build share.
-use crate::encoding::bits;
-use crate::encoding::stepped;
+use crate::encoding::encode_float;
+use crate::encoding::encode_stepped;
 use fields::Earlier;
 use fields::Encoded;
 use fields::Row;
@@ -91,14 +91,14 @@ fn wrong_curve(place: u64) -> Encoded
 pub fn encode_start(place: u64, figure: i64) -> Encoded
     ensures { λ r. ⌜ encodedSaid r ≡ encodeOf spec.segmentStart place (Value.Whole figure) ⌝ }
 {
-    stepped(0, START_STEP, START_BITS, place, figure)
+    encode_stepped(0, START_STEP, START_BITS, place, figure)
 }
 
 // The same of a coefficient.
 pub fn encode_coefficient(place: u64, x: f32) -> Encoded
     ensures { λ r. ⌜ encodedSaid r ≡ encodeOf spec.coefficient place (Value.Single x) ⌝ }
 {
-    bits(place, x)
+    encode_float(place, x)
 }
 
 // Whether the exponent of a code is a whole number 0 to 5.

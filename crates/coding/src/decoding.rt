@@ -17,7 +17,6 @@ ghost use lib.IntN.{natAbs};
 ghost use Rattle.fields.specs.Rules.{scaleWidth, meaning, decode as decodeOf};
 ghost use Rattle.fields.specs.Stored.{Sound};
 ghost use Rattle.fields.specs.Answers.{decodedSaid};
-ghost use Rattle.coding.specs.Unscaled.{Unscaled};
 
 // The code itself, or 5 outside the table.
 fn plain(least: u64, greatest: u64, at: u64, code: u64) -> Decoded
@@ -65,11 +64,10 @@ fn single(at: u64, code: u64) -> Decoded
     Decoded::Means(Value::Single(f32::from_bits(code as u32)))
 }
 
-// The value of the code of a field whose first bit is `at`, under a rule that is not geometric: missing where the row says so,
-// else what the rule says of it, which may be refusal 5 or 6 at that bit. It has no need of the scales' tables, which take more
-// of the stack than all else.
-pub fn decode_unscaled(row: Row, at: u64, code: u64) -> Decoded
-    requires { ⌜ Sound row × Unscaled (row .rule) × (code < 2 ^ row .width) ⌝ }
+// The value of the code of a field whose first bit is `at`: missing where the row says so, else what the rule says of it,
+// which may be refusal 5 or 6 at that bit.
+pub fn decode(row: Row, at: u64, code: u64) -> Decoded
+    requires { ⌜ Sound row × (code < 2 ^ row .width) ⌝ }
     ensures { λ r. ⌜ decodedSaid r ≡ decodeOf row at code ⌝ }
 {
     if is_missing(row, code) {
@@ -80,26 +78,7 @@ pub fn decode_unscaled(row: Row, at: u64, code: u64) -> Decoded
     match rule {
         Rule::Plain(least, greatest) => plain(least, greatest, at, code),
         Rule::Stepped(start, step) => stepped(start, step, width, at, code),
-        Rule::Geometric(_) => Decoded::Means(Value::Missing),
+        Rule::Geometric(scale) => geometric(scale, width, at, code),
         Rule::Single => single(at, code),
-    }
-}
-
-// The same under any rule.
-pub fn decode(row: Row, at: u64, code: u64) -> Decoded
-    requires { ⌜ Sound row × (code < 2 ^ row .width) ⌝ }
-    ensures { λ r. ⌜ decodedSaid r ≡ decodeOf row at code ⌝ }
-{
-    let rule = row.rule;
-    match rule {
-        Rule::Plain(_, _) => decode_unscaled(row, at, code),
-        Rule::Stepped(_, _) => decode_unscaled(row, at, code),
-        Rule::Geometric(scale) => {
-            if is_missing(row, code) {
-                return Decoded::Means(Value::Missing);
-            }
-            geometric(scale, row.width, at, code)
-        }
-        Rule::Single => decode_unscaled(row, at, code),
     }
 }

@@ -24,16 +24,7 @@ ghost use Rattle.fields.specs.Lines.{lastField, rowOf};
 ghost use Rattle.fields.specs.Stored.{Sound};
 ghost use Rattle.fields.specs.Answers.{encodedSaid};
 
-// Row 9 of "Turning down", and row 10.
-fn wrong_sort(place: u64) -> Encoded
-    ensures { λ r. ⌜ encodedSaid r ≡ refused (wrongSort place) ⌝ }
-{
-    Encoded::Refused(Refusal {
-        number: refusal::WRONG_SORT,
-        place,
-    })
-}
-
+// Row 10 of "Turning down".
 fn out_of_range(place: u64) -> Encoded
     ensures { λ r. ⌜ encodedSaid r ≡ refused (outOfRange place) ⌝ }
 {
@@ -43,147 +34,163 @@ fn out_of_range(place: u64) -> Encoded
     })
 }
 
-// Whether the figure is below the lowest or above the highest.
-fn is_outside(lowest: i64, highest: i64, figure: i64) -> bool
-    ensures { λ r. ⌜ r ≡ outside lowest highest figure ⌝ }
-{
-    if figure < lowest {
-        return true;
+// No code: a row has 32 bits at most.
+pub const NONE: u64 = 0x1_0000_0000;
+
+// The figure itself, or none outside the table.
+fn plain(least: u64, greatest: u64, figure: i64) -> u64 {
+    if figure < least as i64 {
+        return NONE;
     }
-    highest < figure
+    if (greatest as i64) < figure {
+        return NONE;
+    }
+    figure as u64
 }
 
-// The figure itself, or 10 outside the table.
-fn plain(least: u64, greatest: u64, place: u64, figure: i64) -> Encoded
-    requires { ⌜ (least ≤ greatest) × (greatest < 2 ^ 32) ⌝ }
-    ensures { λ r. ⌜ encodedSaid r ≡ wholeCode (Rule.Plain least greatest) 0 place figure ⌝ }
-{
-    if is_outside(least as i64, greatest as i64, figure) {
-        return out_of_range(place);
+// The nearest step, halves upward, or none outside the lowest to the highest value.
+fn stepped(start: i64, step: u64, width: u64, figure: i64) -> u64 {
+    if figure < start {
+        return NONE;
     }
-    Encoded::Code(plus(figure))
+    if step_value(start, step, top_code(width)) < figure {
+        return NONE;
+    }
+    ((figure - start) as u64 + step / 2) / step
 }
 
-// The nearest step, halves upward, or 10 outside the lowest to the highest value.
-pub fn stepped(start: i64, step: u64, width: u64, place: u64, figure: i64) -> Encoded
-    requires { ⌜ (1 ≤ width) × (width ≤ 32) ⌝ }
-    requires { ⌜ (0 < step) × ((natAbs start < 2 ^ 62) × (step * 2 ^ width < 2 ^ 62)) ⌝ }
-    ensures { λ r. ⌜ encodedSaid r ≡ wholeCode (Rule.Stepped start step) width place figure ⌝ }
-{
-    let highest = step_value(start, step, top_code(width));
-    if is_outside(start, highest, figure) {
-        return out_of_range(place);
+// The code that the storing rule gives, or none outside the lowest to the highest value.
+fn geometric(scale: Scale, width: u64, figure: i64) -> u64 {
+    if figure < scale_value(scale, 0) {
+        return NONE;
     }
-    Encoded::Code(step_code(start, step, figure))
+    if scale_value(scale, top_code(width)) < figure {
+        return NONE;
+    }
+    stored_code(scale, plus(figure))
 }
 
-// The code that the storing rule gives, or 10 outside the lowest to the highest value.
-fn geometric(scale: Scale, width: u64, place: u64, figure: i64) -> Encoded
-    requires { ⌜ (1 ≤ width) × (width ≤ 32) ⌝ }
-    requires { ⌜ width ≡ scaleWidth scale ⌝ }
-    ensures { λ r. ⌜ encodedSaid r ≡ wholeCode (Rule.Geometric scale) width place figure ⌝ }
-{
-    if is_outside(
-        scale_value(scale, 0),
-        scale_value(scale, top_code(width)),
-        figure,
-    ) {
-        return out_of_range(place);
+// The code of a whole figure, or none.
+fn whole(row: Row, figure: i64) -> u64 {
+    let rule = row.rule;
+    match rule {
+        Rule::Plain(least, greatest) => plain(least, greatest, figure),
+        Rule::Stepped(start, step) => stepped(start, step, row.width, figure),
+        Rule::Geometric(scale) => geometric(scale, row.width, figure),
+        Rule::Single => NONE,
     }
-    Encoded::Code(stored_code(scale, plus(figure)))
 }
 
-// The bits of a Single, or 10 where it is not finite. A NaN is turned down before its bits are asked for; an exponent of
+// The bits of a Single, or none where it is not finite. A NaN is turned down before its bits are asked for; an exponent of
 // all ones is then an infinity's.
-pub fn bits(place: u64, x: f32) -> Encoded
-    ensures { λ r. ⌜ encodedSaid r ≡ singleCode Rule.Single place x ⌝ }
-{
+fn bits(x: f32) -> u64 {
     if x != x {
-        return out_of_range(place);
+        return NONE;
     }
     let code = f32::to_bits(x);
     if code % 0x8000_0000 < 0x7f80_0000 {
-        return Encoded::Code(code as u64);
+        return code as u64;
     }
-    out_of_range(place)
+    NONE
 }
 
-// All ones, or 9 where the row has no missing.
-fn missing_code(row: Row, place: u64) -> Encoded
-    requires { ⌜ Sound row ⌝ }
-    ensures { λ r. ⌜ encodedSaid r ≡ encodeOf row place Value.Missing ⌝ }
-{
+fn is_single(row: Row) -> bool {
+    let rule = row.rule;
+    match rule {
+        Rule::Plain(_, _) => false,
+        Rule::Stepped(_, _) => false,
+        Rule::Geometric(_) => false,
+        Rule::Single => true,
+    }
+}
+
+// The code of a Single, or none.
+pub fn single_code(row: Row, x: f32) -> u64 {
+    if is_single(row) {
+        return bits(x);
+    }
+    NONE
+}
+
+// All ones where the row has missing, or none.
+pub fn missing_code(row: Row) -> u64 {
     if row.missing {
-        return Encoded::Code(all_ones(row.width));
+        return all_ones(row.width);
     }
-    wrong_sort(place)
+    NONE
 }
 
-// The code of a value by each rule: 9 where the rule takes no value of its sort.
-fn encode_plain(row: Row, least: u64, greatest: u64, place: u64, value: Value) -> Encoded
-    requires { ⌜ Sound row × (row .rule ≡ Rule.Plain least greatest) ⌝ }
-    ensures { λ r. ⌜ encodedSaid r ≡ encodeOf row place value ⌝ }
-{
+// The code of a value, or none.
+pub fn code_by(row: Row, value: Value) -> u64 {
     match value {
-        Value::Whole(figure) => plain(least, greatest, place, figure),
-        Value::Single(_) => wrong_sort(place),
-        Value::Missing => missing_code(row, place),
+        Value::Whole(figure) => whole(row, figure),
+        Value::Single(x) => single_code(row, x),
+        Value::Missing => missing_code(row),
     }
 }
 
-fn encode_stepped(row: Row, start: i64, step: u64, place: u64, value: Value) -> Encoded
-    requires { ⌜ Sound row × (row .rule ≡ Rule.Stepped start step) ⌝ }
-    ensures { λ r. ⌜ encodedSaid r ≡ encodeOf row place value ⌝ }
-{
-    match value {
-        Value::Whole(figure) => stepped(start, step, row.width, place, figure),
-        Value::Single(_) => wrong_sort(place),
-        Value::Missing => missing_code(row, place),
+// The code of a whole figure of a plain row or of one of steps, which most are; or none, where another row or no code is meant.
+pub fn swift_whole(row: Row, figure: i64) -> u64 {
+    let rule = row.rule;
+    if let Rule::Plain(least, greatest) = rule {
+        return plain(least, greatest, figure);
     }
+    if let Rule::Stepped(start, step) = rule {
+        return stepped(start, step, row.width, figure);
+    }
+    NONE
 }
 
-fn encode_geometric(row: Row, scale: Scale, place: u64, value: Value) -> Encoded
-    requires { ⌜ Sound row × (row .rule ≡ Rule.Geometric scale) ⌝ }
-    ensures { λ r. ⌜ encodedSaid r ≡ encodeOf row place value ⌝ }
-{
+// Why a value has no code in a row: 9 where the row takes no value of its sort, else 10.
+pub fn no_code(row: Row, place: u64, value: Value) -> Refusal {
     match value {
-        Value::Whole(figure) => geometric(scale, row.width, place, figure),
-        Value::Single(_) => wrong_sort(place),
-        Value::Missing => missing_code(row, place),
-    }
-}
-
-fn encode_single(row: Row, place: u64, value: Value) -> Encoded
-    requires { ⌜ Sound row × (row .rule ≡ Rule.Single) ⌝ }
-    ensures { λ r. ⌜ encodedSaid r ≡ encodeOf row place value ⌝ }
-{
-    match value {
-        Value::Whole(_) => wrong_sort(place),
-        Value::Single(x) => bits(place, x),
-        Value::Missing => missing_code(row, place),
+        Value::Whole(_) => {
+            if is_single(row) {
+                return refusal::wrong_sort(place);
+            }
+            refusal::out_of_range(place)
+        }
+        Value::Single(_) => {
+            if is_single(row) {
+                return refusal::out_of_range(place);
+            }
+            refusal::wrong_sort(place)
+        }
+        Value::Missing => refusal::wrong_sort(place),
     }
 }
 
 // The code of a value, whatever i64 or f32 it holds: refusal 9 where the row takes no value of its sort, 10 where it has no
-// code for it, each with the place that the call gives. The rule is asked before the value: it is a constant to the compiler
-// where the row is.
-pub fn encode_by(row: Row, place: u64, value: Value) -> Encoded
-    requires { ⌜ Sound row ⌝ }
-    ensures { λ r. ⌜ encodedSaid r ≡ encodeOf row place value ⌝ }
-{
-    let rule = row.rule;
-    match rule {
-        Rule::Plain(least, greatest) => encode_plain(row, least, greatest, place, value),
-        Rule::Stepped(start, step) => encode_stepped(row, start, step, place, value),
-        Rule::Geometric(scale) => encode_geometric(row, scale, place, value),
-        Rule::Single => encode_single(row, place, value),
+// code for it, each with the place that the call gives.
+pub fn encode_by(row: Row, place: u64, value: Value) -> Encoded {
+    let code = code_by(row, value);
+    if code < NONE {
+        return Encoded::Code(code);
     }
+    Encoded::Refused(no_code(row, place, value))
 }
 
-// The code of a field's value, each refusal at the field.
 pub fn encode(layout: Layout, field: u64, value: Value) -> Encoded
     requires { ⌜ (1 ≤ field) × (field ≤ lastField (layout .template)) ⌝ }
     ensures { λ r. ⌜ encodedSaid r ≡ encodeOf (rowOf layout field) field value ⌝ }
 {
     encode_by(row_of(layout, field), field, value)
+}
+
+// The code of a Single of a row of Singles, or 10.
+pub fn encode_float(place: u64, x: f32) -> Encoded {
+    let code = bits(x);
+    if code < NONE {
+        return Encoded::Code(code);
+    }
+    out_of_range(place)
+}
+
+// The code of a whole figure of a stepped row, or 10.
+pub fn encode_stepped(start: i64, step: u64, width: u64, place: u64, figure: i64) -> Encoded {
+    let code = stepped(start, step, width, figure);
+    if code < NONE {
+        return Encoded::Code(code);
+    }
+    out_of_range(place)
 }

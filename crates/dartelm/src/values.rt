@@ -149,17 +149,34 @@ pub fn no_value() -> DartelmValue
     }
 }
 
+// The values that C hands in, by sorts, whole numbers and Singles.
+pub fn spread(given: DartelmFields, sorts: &mut [u8], wholes: &mut [i64], singles: &mut [f32]) {
+    let mut i: usize = 0;
+    while i < 21 {
+        let value = given.values[i];
+        if value.is_missing != 0 {
+            sorts[i] = 2;
+        } else if value.is_single != 0 {
+            sorts[i] = 1;
+            singles[i] = value.single;
+        } else {
+            sorts[i] = 0;
+            wholes[i] = value.whole;
+        }
+        i += 1;
+    }
+}
+
 // The sheet record that C hands in.
 pub fn sheet_of(given: DartelmFields) -> Sheet
     ensures { λ r. ⌜ r ≡ sheetOf given ⌝ }
 {
-    let values = given.values;
     let mut fields = [Slot {
         value: Value::Missing,
     }; 21];
     let mut at: usize = 0;
     while at < 21 {
-        let value = values[at];
+        let value = given.values[at];
         fields[at] = Slot {
             value: value_of(value),
         };
