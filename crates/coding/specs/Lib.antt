@@ -1,1 +1,2 @@
 pub mod Unscaled
+pub mod Swift

@@ -5,6 +5,7 @@ use fields::Codes;
 use fields::Domain;
 use fields::Encoded;
 use fields::Judged;
+use fields::Pair;
 use fields::Previous;
 use fields::Row;
 use fields::Rule;
@@ -13,11 +14,12 @@ use fields::always;
 use refusal::Refusal;
 ghost use mathlib.Core.Path.{_≡_};
 ghost use mathlib.Core.Bool.{_&&_};
-ghost use Prim.Native.Nat.{_+_, _*_};
+ghost use Prim.Native.Nat.{_+_, _*_, _/_, _%_, _^_, _<_};
+ghost use lib.IntN.{pos};
 ghost use lib.Signed.{leZ};
 ghost use Rattle.refusal.specs.Outcome.{refuse_if_};
 ghost use Rattle.refusal.specs.Rows.{sumsNotRising};
-ghost use Rattle.fields.specs.Rules.{encode as encodeOf};
+ghost use Rattle.fields.specs.Rules.{steppedValue, encode as encodeOf};
 ghost use Rattle.fields.specs.Calibration as spec;
 ghost use Rattle.fields.specs.Answers.{encodedSaid, judgedSaid, previousSaid};
 
@@ -87,6 +89,17 @@ pub fn encode_deviation(place: u64, figure: i64) -> Encoded
     ensures { λ r. ⌜ encodedSaid r ≡ encodeOf spec.calDeviation place (Value.Whole figure) ⌝ }
 {
     stepped(LEAST_DEVIATION, R, DEVIATION_BITS, place, figure)
+}
+
+// The pair of a point's code and, behind it, a deviation's, as one number of 37 bits.
+pub fn pair_of(code: u64) -> Pair
+    requires { ⌜ code < 2 ^ 37 ⌝ }
+    ensures { λ r. ⌜ r ≡ record { point = steppedValue (pos 0) spec.D (code % 2 ^ 16); deviation = steppedValue spec.leastDeviation spec.R (code / 2 ^ 16) } ⌝ }
+{
+    Pair {
+        point: (D * (code % 0x1_0000)) as i64,
+        deviation: LEAST_DEVIATION + (R * (code / 0x1_0000)) as i64,
+    }
 }
 
 // A pair's point plus its deviation, in billionths of the span above the least deviation.

@@ -10,19 +10,22 @@ use fields::row_of;
 use fields::top_code;
 use integers::plus;
 use refusal::Refusal;
+use scales::greatest_value;
+use scales::least_value;
 use scales::scale_value;
 use scales::step_code;
 use scales::step_value;
 use scales::stored_code;
 ghost use mathlib.Core.Path.{_≡_};
 ghost use Prim.Native.Nat.{_*_, _^_, _<_, _≤_};
-ghost use lib.IntN.{natAbs};
+ghost use lib.IntN.{pos, natAbs};
 ghost use Rattle.refusal.specs.Outcome.{refused};
 ghost use Rattle.refusal.specs.Rows.{wrongSort, outOfRange};
-ghost use Rattle.fields.specs.Rules.{scaleWidth, outside, wholeCode, singleCode, encode as encodeOf};
+ghost use Rattle.fields.specs.Rules.{topCode, progression, geometricValue, scaleWidth, outside, wholeCode, singleCode, encode as encodeOf};
 ghost use Rattle.fields.specs.Lines.{lastField, rowOf};
 ghost use Rattle.fields.specs.Stored.{Sound};
 ghost use Rattle.fields.specs.Answers.{encodedSaid};
+ghost use Rattle.coding.specs.Swift.{Told};
 
 // Row 9 of "Turning down", and row 10.
 fn wrong_sort(place: u64) -> Encoded
@@ -77,17 +80,27 @@ pub fn stepped(start: i64, step: u64, width: u64, place: u64, figure: i64) -> En
     Encoded::Code(step_code(start, step, figure))
 }
 
+// The greatest value, which the table is asked for where the figure is above it: with a second reader the compiler takes the
+// table into neither, and whoever decodes no progression has no part in it.
+fn highest(scale: Scale, width: u64, figure: i64) -> i64
+    requires { ⌜ (1 ≤ width) × (width ≤ 32) ⌝ }
+    requires { ⌜ width ≡ scaleWidth scale ⌝ }
+    ensures { λ r. ⌜ r ≡ pos (geometricValue (progression scale) (topCode width)) ⌝ }
+{
+    let greatest = greatest_value(scale);
+    if figure <= greatest {
+        return greatest;
+    }
+    scale_value(scale, top_code(width))
+}
+
 // The code that the storing rule gives, or 10 outside the lowest to the highest value.
 fn geometric(scale: Scale, width: u64, place: u64, figure: i64) -> Encoded
     requires { ⌜ (1 ≤ width) × (width ≤ 32) ⌝ }
     requires { ⌜ width ≡ scaleWidth scale ⌝ }
     ensures { λ r. ⌜ encodedSaid r ≡ wholeCode (Rule.Geometric scale) width place figure ⌝ }
 {
-    if is_outside(
-        scale_value(scale, 0),
-        scale_value(scale, top_code(width)),
-        figure,
-    ) {
+    if is_outside(least_value(scale), highest(scale, width, figure), figure) {
         return out_of_range(place);
     }
     Encoded::Code(stored_code(scale, plus(figure)))
@@ -117,6 +130,65 @@ fn missing_code(row: Row, place: u64) -> Encoded
         return Encoded::Code(all_ones(row.width));
     }
     wrong_sort(place)
+}
+
+// Stands for no code: a row has 32 bits at most.
+pub const NONE: u64 = 0x1_0000_0000;
+
+// The code of an answer, or none.
+fn code_or_none(answer: Encoded) -> u64
+    ensures { λ r. ⌜ (r < 2 ^ 32 → answer ≡ Encoded.Code r) ⌝ }
+{
+    match answer {
+        Encoded::Code(code) => code,
+        Encoded::Refused(_) => NONE,
+    }
+}
+
+// The code of a value where it is told at once, or none: where a progression has to be searched, and where it is refused. Small
+// enough to be taken into a loop over rows that are constants.
+fn swift_whole(row: Row, figure: i64) -> u64
+    requires { ⌜ Sound row ⌝ }
+    ensures { λ r. ⌜ Told row (Value.Whole figure) r ⌝ }
+{
+    let rule = row.rule;
+    match rule {
+        Rule::Plain(least, greatest) => code_or_none(plain(least, greatest, 0, figure)),
+        Rule::Stepped(start, step) => code_or_none(stepped(start, step, row.width, 0, figure)),
+        Rule::Geometric(_) => NONE,
+        Rule::Single => NONE,
+    }
+}
+
+fn swift_single(row: Row, x: f32) -> u64
+    requires { ⌜ Sound row ⌝ }
+    ensures { λ r. ⌜ Told row (Value.Single x) r ⌝ }
+{
+    let rule = row.rule;
+    match rule {
+        Rule::Plain(_, _) => NONE,
+        Rule::Stepped(_, _) => NONE,
+        Rule::Geometric(_) => NONE,
+        Rule::Single => code_or_none(bits(0, x)),
+    }
+}
+
+fn swift_missing(row: Row) -> u64
+    requires { ⌜ Sound row ⌝ }
+    ensures { λ r. ⌜ Told row Value.Missing r ⌝ }
+{
+    code_or_none(missing_code(row, 0))
+}
+
+pub fn swift(row: Row, value: Value) -> u64
+    requires { ⌜ Sound row ⌝ }
+    ensures { λ r. ⌜ Told row value r ⌝ }
+{
+    match value {
+        Value::Whole(figure) => swift_whole(row, figure),
+        Value::Single(x) => swift_single(row, x),
+        Value::Missing => swift_missing(row),
+    }
 }
 
 // The code of a value by each rule: 9 where the rule takes no value of its sort.

@@ -1,7 +1,7 @@
 // Document 01, "Layout": what a code means, whether it may stand, and the code that a value is stored at. The definitions are
 // those of `fields`. No call faults, whatever i64 or f32 it is given. `decode`, `judge` and `encode_by` ask that the row is sound
 // (`Sound` in fields/specs/Stored.antt), which every row of the table is, `decode` that the code has no more bits than the row,
-// and `encode` that the template has the field.
+// `pair_of` that it has no more than a pair, and `encode` that the template has the field.
 
 mod calibration; // calibration.rt: the calibration table
 mod curves; // curves.rt: curves
@@ -17,6 +17,7 @@ pub use calibration::domain_of;
 pub use calibration::encode_deviation;
 pub use calibration::encode_point;
 pub use calibration::follows;
+pub use calibration::pair_of;
 pub use calibration::point_count;
 pub use calibration::sum_above;
 pub use curves::curve_domain;
@@ -36,6 +37,8 @@ pub use curves::term_exponent;
 pub use curves::too_many;
 pub use decoding::decode;
 pub use decoding::decode_unscaled;
+pub use encoding::NONE;
 pub use encoding::encode;
 pub use encoding::encode_by;
+pub use encoding::swift;
 pub use judging::judge;

@@ -5,6 +5,8 @@ mod scales; // scales.rt: geometric codes
 mod singles; // singles.rt: a Single in V/V to the nearest nV/V
 mod steps; // steps.rt: stepped codes
 
+pub use scales::greatest_value;
+pub use scales::least_value;
 pub use scales::scale_value;
 pub use scales::stored_code;
 pub use singles::nanovolts;

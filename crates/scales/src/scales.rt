@@ -392,6 +392,25 @@ pub fn scale_value(scale: Scale, code: u64) -> i64
     }
 }
 
+// The least value and the greatest, with no need of a table.
+pub fn least_value(scale: Scale) -> i64
+    ensures { λ r. ⌜ r ≡ pos (geometricValue (progression scale) 0) ⌝ }
+{
+    match scale {
+        Scale::ResponseTime => RESPONSE_TIMES[0] as i64,
+        Scale::Current => CURRENTS[0] as i64,
+    }
+}
+
+pub fn greatest_value(scale: Scale) -> i64
+    ensures { λ r. ⌜ r ≡ pos (geometricValue (progression scale) (topCode (scaleWidth scale))) ⌝ }
+{
+    match scale {
+        Scale::ResponseTime => RESPONSE_TIMES[62] as i64,
+        Scale::Current => CURRENTS[254] as i64,
+    }
+}
+
 // The code that a figure is stored at, of a figure that is not above the greatest value.
 pub fn stored_code(scale: Scale, figure: u64) -> u64
     requires { ⌜ figure ≤ geometricValue (progression scale) (topCode (scaleWidth scale)) ⌝ }

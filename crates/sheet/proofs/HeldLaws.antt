@@ -2,34 +2,37 @@
 use mathlib.Core.Path.{_≡_, refl, sym, ap, ap₂, _∙_, subst}
 use mathlib.Core.Bool.{Bool, cond}
 use mathlib.Core.List.{List, [], _∷_, map}
-use Prim.Native.Nat.{ℕ, zero, suc, _+_, _*_, _^_, _≤_, _<_}
+use Prim.Native.Nat.{ℕ, zero, suc, _+_, _*_, _/_, _%_, _^_, _≤_, _<_}
 use native.Mathlib.Omega.{arith}
 use lib.ListN.{length, getD, length-map, List·getD-map}
+use lib.IntN.{ℤ, pos}
 use borrow.Author.Tests.{le-ltb}
 use Rattle.refusal.specs.Outcome.{good, refused}
 use Rattle.refusal.specs.Rows.{pastEnd}
 use Rattle.memory.specs.Bits.{fieldAt}
-use Rattle.memory.specs.Image.{streamBits, streamNumber}
 use Rattle.memory.specs.Answers.{Whole}
+use Rattle.memory.proofs.FieldLaws.{field-lt, field-add}
 use Rattle.memory.proofs.Chips.{sizes-whole, sizes-chip}
-use Rattle.fields.specs.declared.Value.{Value}
 use Rattle.fields.specs.declared.Layout.{Layout}
-use Rattle.fields.specs.declared.Pair.{Pair}
 use Rattle.fields.specs.declared.Template.{Template}
 use Rattle.fields.specs.declared.Template.the-variants.{Bridge}
-use Rattle.fields.specs.Rows.{bridgeEnd}
+use Rattle.fields.specs.declared.Rule.the-variants.{Stepped}
+use Rattle.fields.specs.Rules.{steppedValue}
+use Rattle.fields.specs.Rows.{always, bridgeEnd}
 use Rattle.fields.specs.Lines.{Line, lastField, lineOf, rowOf}
-use Rattle.fields.specs.Calibration.{calPoint, calDeviation, noPair}
+use Rattle.fields.specs.Calibration.{D, R, leastDeviation, noPair}
 use Rattle.fields.specs.Curves.{noSegment, noTerm}
+use Rattle.fields.proofs.RuleLaws.{stepped-whole}
 use Rattle.fields.proofs.TemplateFacts.{span-lines}
 use Rattle.coding.specs.Unscaled.{Unscaled}
 use Rattle.layout.specs.Format.{bits, Stream, parse}
-use Rattle.layout.specs.Contents.{Contents, FoundPair, FoundTerm, FoundSegment, fieldOf}
+use Rattle.layout.specs.Contents.{Found, Contents, FoundPair, FoundTerm, FoundSegment, fieldOf}
 use Rattle.layout.specs.Image.{streamIn, nothing, field, layoutOf, pairsIn, pairIn, segmentsIn, segmentIn, allTerms, termIn, figure, points, segments, terms}
-use Rattle.layout.specs.Places.{fieldPlace, behindFields, pairPlace, behindBlock, characterPlace}
+use Rattle.layout.specs.Places.{fieldPlace, behindFields, pairBits, pairPlace, behindBlock, characterPlace}
 use Rattle.layout.proofs.Formats.{parsed}
 use Rattle.layout.proofs.Accepted.{Holding, accepted-at}
-use Rattle.layout.proofs.Standing.{field-stands, stands-parse, PairStands, pair-here, character-here}
+use Rattle.layout.proofs.Standing.{Stands, field-stands, stands-parse, PairStands, pair-here, character-here}
+use Rattle.layout.proofs.Rising.{pairFrom}
 use Rattle.layout.proofs.CurvePlaces.{CurveStands, curve-here}
 use Rattle.sheet.specs.declared.opening.Opened.{Opened}
 use Rattle.sheet.specs.Check.{domainIn}
@@ -58,6 +61,21 @@ pub span-unscaled : (layout : Layout) → layout .template ≡ Bridge →
 span-unscaled layout e =
     let ends = end-unscaled (layout .precision) in
     (line-unscaled layout 7 e (span-lines .0) tt, line-unscaled layout 8 e (span-lines .1) tt, line-unscaled layout 10 e (span-lines .3) ends, line-unscaled layout 11 e (span-lines .4) ends)
+
+-- The figure of a stepped field that stands.
+stepped-figure : {s : Stream} {w : ℕ} {start : ℤ} {step at : ℕ} {x : Found} → Stands s (always w (Stepped start step)) at x →
+    steppedValue start step (fieldAt (s .number) at w) ≡ figure (x .value)
+stepped-figure {s} {w} {start} {step} {at} {x} h =
+    ap (steppedValue start step) (h .code) ∙ sym (ap figure (stepped-whole w start step at (x .code) (x .value) (h .field .means)))
+
+-- A pair that stands, as one field.
+pair-from : {s : Stream} {at : ℕ} {p : FoundPair} → PairStands s at p → pairIn (pairFrom at (fieldAt (s .number) at pairBits)) ≡ pairIn p
+pair-from {s} {at} {p} h =
+    let N : ℕ = s .number in
+    let point : fieldAt N at pairBits % 2 ^ 16 ≡ fieldAt N at 16 = omega (arith, field-add N at 21 16, field-lt N at 16) in
+    let deviation : fieldAt N at pairBits / 2 ^ 16 ≡ fieldAt N (at + 16) 21 = omega (arith, field-add N at 21 16, field-lt N at 16) in
+    ap₂ (λ (y z : ℤ). record { point = y; deviation = z })
+    (ap (steppedValue (pos 0) D) point ∙ stepped-figure (h .point)) (ap (steppedValue leastDeviation R) deviation ∙ stepped-figure (h .deviation))
 
 module _ {kind : ℕ} {image : List ℕ} {o : Opened} {c : Contents} (h : Opens kind image o c) where
   abbrev s : Stream
@@ -111,15 +129,13 @@ module _ {kind : ℕ} {image : List ℕ} {o : Opened} {c : Contents} (h : Opens 
   pub index-few : (i : ℕ) → i < o .summary .points → i < 2 ^ 32
   index-few i l = omega (arith, pair-stands i l .point .inside, bits-few)
 
-  pub held-pair : (i : ℕ) → i < o .summary .points →
-      record {
-        point = figure (valueIn (parse s (fieldOf calPoint) (pairPlace (o .layout) i)));
-        deviation = figure (valueIn (parse s (fieldOf calDeviation) (pairPlace (o .layout) i + 16)));
-      } ≡ getD (points c) i noPair
-  held-pair i l =
-      let p = pair-stands i l in
-      ap₂ (λ x y. record { point = figure (valueIn x); deviation = figure (valueIn y) }) (stands-parse (p .point)) (stands-parse (p .deviation))
-      ∙ sym (List·getD-map pairIn (pairsIn (c .calibration)) i noFound)
+  pub held-pair : (i : ℕ) → i < o .summary .points → {at : ℕ} → at ≡ pairPlace (o .layout) i →
+      (parse s (bits pairBits) at ≡ good (parsed (fieldAt (s .number) at pairBits) (at + pairBits))) × (pairIn (pairFrom at (fieldAt (s .number) at pairBits)) ≡ getD (points c) i noPair)
+  held-pair i l {at} e =
+      let p = pair-stands i l in (
+        ap (λ (b : Bool). cond b (refused (pastEnd at)) (good (parsed (fieldAt (s .number) at pairBits) (at + pairBits)))) (le-ltb (s .bits) (at + pairBits) (omega (arith, e, p .deviation .inside))),
+        pair-from (subst (λ (n : ℕ). PairStands s n (getD (pairsIn (c .calibration)) i noFound)) (sym e) p) ∙ sym (List·getD-map pairIn (pairsIn (c .calibration)) i noFound),
+      )
 
   -- ---- a character
 

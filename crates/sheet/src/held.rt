@@ -15,6 +15,7 @@ ghost use Rattle.sheet.specs.Opened.{Opens, Held};
 ghost use Rattle.sheet.specs.Walk.{valueIn};
 use crate::Opened;
 use crate::places;
+use crate::table::PAIR_BITS;
 use fields::Decoded;
 use fields::Pair;
 use fields::Row;
@@ -95,25 +96,22 @@ pub fn unscaled_in(sheet: Opened, image: &[u8], field: u64) -> Value
     )
 }
 
-// A pair, counted from 0.
+// A pair, counted from 0: one field, its point's 16 bits lowest.
 pub fn pair_in(sheet: Opened, image: &[u8], index: u64) -> Pair
     requires { ⌜ Held sheet (now image) × (index < sheet .summary .points) ⌝ }
     ensures { λ r. ⌜ ((kind : ℕ) (c : Contents) → Opens kind (now (image .entry)) sheet c → r ≡ getD (points c) index noPair) ⌝ }
 {
     let sizes = sheet.sizes;
     let layout = sheet.layout;
-    let at = places::locate_pair(layout, index);
-    let row = coding::cal_point();
-    let point = unscaled_at(sizes, image, at, row);
-    let deviation = unscaled_at(
-        sizes,
-        image,
-        at + row.width as usize,
-        coding::cal_deviation(),
-    );
-    Pair {
-        point: figure(point),
-        deviation: figure(deviation),
+    let cursor = Cursor {
+        at: places::locate_pair(layout, index),
+    };
+    match cursor.take(sizes, image, PAIR_BITS) {
+        Taken::Refused(_) => Pair {
+            point: 0,
+            deviation: 0,
+        },
+        Taken::Field(code, _) => coding::pair_of(code),
     }
 }
 

@@ -26,7 +26,7 @@ use refusal::Refusal;
 use stream::Cursor;
 
 // The bits of a pair.
-const PAIR_BITS: usize = 37;
+pub const PAIR_BITS: usize = 37;
 
 // The codes of a pair.
 pub enum CodesStep {

@@ -1,6 +1,5 @@
 use mathlib.Core.Path.{_≡_, sym, ap, _∙_}
 use Prim.Native.Nat.{_≤_}
-use native.Mathlib.Nat.{le-refl}
 use borrow.Author.Needs.{needs}
 use lib.IntN.{pos, natAbs}
 use mir.Facts.{toZ-ofZ}
@@ -11,15 +10,16 @@ use Rattle.fields.proofs.EncodeLaws.{same-range, handed-on, in-range}
 use Rattle.coding.proofs.encoding.geometric.Statement.{statement}
 use Rattle.coding.proofs.encoding.geometric.Tie as tie
 
-range : (c : tie.After-is-outside) → let a = c .before .before .before .before .args in let value = geometricValue (progression (a .scale)) in c .is-outside .result ≡ outside (pos (value 0)) (pos (value (topCode (a .width)))) (a .figure)
+range : (c : tie.After-is-outside) → let a = c .before .before .before .args in let value = geometricValue (progression (a .scale)) in c .is-outside .result ≡ outside (pos (value 0)) (pos (value (topCode (a .width)))) (a .figure)
 range c =
-    same-range (c .is-outside .ensures) (handed-on (record { sfits = c .before .before .before .scale-value .ok }) (c .before .before .before .scale-value .ensures))
-    (handed-on (record { sfits = c .before .scale-value2 .ok }) (rw (c .before .before .top-code .ensures) at (c .before .scale-value2 .ensures)))
-    (toZ-ofZ (c .before .before .before .before .fits .figure))
+    let s = c .before .before .before in
+    same-range (c .is-outside .ensures) (handed-on (record { sfits = c .before .before .least-value .ok }) (c .before .before .least-value .ensures))
+    (handed-on (record { sfits = c .before .highest .ok }) (c .before .highest .ensures))
+    (toZ-ofZ (s .fits .figure))
 
-number : (c : tie.After-plus) → let a = c .before .before .before .before .before .before .args in (c .plus .result ≡ natAbs (a .figure)) × (natAbs (a .figure) ≤ geometricValue (progression (a .scale)) (topCode (a .width)))
+number : (c : tie.After-plus) → let a = c .before .before .before .before .before .args in (c .plus .result ≡ natAbs (a .figure)) × (natAbs (a .figure) ≤ geometricValue (progression (a .scale)) (topCode (a .width)))
 number c =
-    let s = c .before .before .before .before .before .before in
+    let s = c .before .before .before .before .before in
     let p = in-range (s .args .figure) _ _ (sym (range (c .before .before)) ∙ c .before .if1 .left) in
     (c .plus .ensures .0 ∙ (seen (s .fits .figure) .0 ∙ p .0), p .1)
 
@@ -29,12 +29,11 @@ geometric-spec =
     (tie.spec
     (λ c κs. search needs)
     (λ c κs. search needs)
-    (λ c κs. rw (c .top-code .ensures, c .before .before .pre .1) (le-refl _))
     (λ c κs. search needs)
     (λ c κs. search needs)
     (λ c. rw (← (range (c .before .before)), c .before .if1 .taken) (c .out-of-range .ensures))
     (λ c κs. search needs)
-    (λ c κs. rw (number c .0, ← (c .before .before .before .before .before .before .pre .1)) (number c .1))
+    (λ c κs. rw (number c .0, ← (c .before .before .before .before .before .pre .1)) (number c .1))
     (λ c.
-    let s = c .before .before .before .before .before .before .before in
+    let s = c .before .before .before .before .before .before in
     rw (sym (range (c .before .before .before)) ∙ c .before .before .if1 .left) (ap good (c .stored-code .ensures ∙ rw (number (c .before) .0, s .pre .1)))))

@@ -1,0 +1,52 @@
+-- A code that is told at once: the place of a value is named in its refusals alone.
+use mathlib.Core.Path.{_≡_, sym, ap, _∙_}
+use mathlib.Core.Bool.{Bool, not}
+use Prim.Native.Nat.{ℕ, _^_, _<_}
+use lib.Ieee.{Float, binary32, toBits}
+use lib.IntN.{ℤ, pos, natAbs}
+use Rattle.refusal.specs.Outcome.{good, _>>_, refuse_if_}
+use Rattle.refusal.specs.Rows.{wrongSort, outOfRange}
+use Rattle.refusal.proofs.Outcomes.{no-value, passed}
+use Rattle.fields.specs.declared.Value.{Value}
+use Rattle.fields.specs.declared.Value.the-variants.{Whole, Single, Missing}
+use Rattle.fields.specs.declared.Rule.{Rule}
+use Rattle.fields.specs.declared.Rule.the-variants.{Plain, Stepped, Geometric, Single as Ieee}
+use Rattle.fields.specs.declared.Row.{Row}
+use Rattle.fields.specs.declared.Encoded.{Encoded}
+use Rattle.fields.specs.declared.Encoded.the-variants.{Code}
+use Rattle.fields.specs.Rules.{allOnes, topCode, steppedValue, steppedCode, progression, geometricValue, finite, outside, storedAt, wholeCode, singleCode, encode}
+use Rattle.fields.specs.Stored.{Sound, Real}
+use Rattle.fields.specs.Answers.{encodedSaid}
+use Rattle.fields.proofs.StoredLaws.{reads-back}
+use Rattle.coding.specs.Swift.{Told}
+
+module _ (p q : ℕ) where
+  -- A figure in its range is so at any place.
+  ranged : (t : Bool) (n : ℕ) {code : ℕ} → (refuse outOfRange p if t >> good n) ≡ good code → (refuse outOfRange q if t >> good n) ≡ good code
+  ranged t n {code} e = let h = passed (outOfRange p) t (good n) code e in rw (h .0) (h .1)
+
+  whole-anywhere : (rule : Rule) (w : ℕ) (z : ℤ) {code : ℕ} → wholeCode rule w p z ≡ good code → wholeCode rule w q z ≡ good code
+  whole-anywhere (Plain least greatest) w z e = ranged (outside (pos least) (pos greatest) z) (natAbs z) e
+  whole-anywhere (Stepped start step) w z e = ranged (outside start (steppedValue start step (topCode w)) z) (steppedCode start step z) e
+  whole-anywhere (Geometric scale) w z e =
+      let value = geometricValue (progression scale) in
+      ranged (outside (pos (value 0)) (pos (value (topCode w))) z) (storedAt value (topCode w) (natAbs z)) e
+  whole-anywhere Ieee w z e = no-value e
+
+  single-anywhere : (rule : Rule) (x : Float) {code : ℕ} → singleCode rule p x ≡ good code → singleCode rule q x ≡ good code
+  single-anywhere (Plain least greatest) x e = no-value e
+  single-anywhere (Stepped start step) x e = no-value e
+  single-anywhere (Geometric scale) x e = no-value e
+  single-anywhere Ieee x e = ranged (not (finite x)) (toBits binary32 x) e
+
+  pub code-anywhere : (row : Row) (v : Value) {code : ℕ} → encode row p v ≡ good code → encode row q v ≡ good code
+  unfolding encode
+  code-anywhere row (Whole z) e = whole-anywhere (row .rule) (row .width) z e
+  code-anywhere row (Single x) e = single-anywhere (row .rule) x e
+  code-anywhere row Missing {code} e = let h = passed (wrongSort p) (not (row .missing)) (good (allOnes (row .width))) code e in rw (h .0) (h .1)
+
+-- An answer for any one place, where it is a code.
+pub tells : (row : Row) (place : ℕ) (v : Value) (e : Encoded) (code : ℕ) → Sound row → Real v → encodedSaid e ≡ encode row place v → (code < 2 ^ 32 → e ≡ Code code) → Told row v code
+tells row place v e code s real said h = λ few.
+    let coded : encode row place v ≡ good code = sym said ∙ ap encodedSaid (h few) in
+    (λ q. code-anywhere place q row v coded, reads-back row place 0 code v s real coded .0)

@@ -1,0 +1,36 @@
+-- `calibration::pair_of` meets its contract.
+use borrow.Author.Needs.{needs}
+use mathlib.Core.Path.{_≡_, sym, ap, ap₂, _∙_}
+use Prim.Native.Nat.{ℕ, _+_, _*_, _/_, _%_, _^_, _<_}
+use native.Mathlib.Nat.{zero-add}
+use native.Mathlib.Omega.{arith}
+use lib.IntN.{ℤ, pos, negsuc, _+ℤ_}
+use mir.Syntax.{w64}
+use mir.Val.{SFits, toZ}
+use mir.Facts.{toZ-ofZ, toZ-pos}
+use Rattle.integers.specs.Parts.{up, dn}
+use Rattle.integers.proofs.PartLaws.{add-parts}
+use Rattle.fields.specs.Calibration.{D, R, leastDeviation}
+use Rattle.coding.proofs.calibration.pair_of.Statement.{statement}
+use Rattle.coding.proofs.calibration.pair_of.Tie as tie
+
+difference-fits : (z : ℤ) (n : ℕ) → up z + 1_000_000_000 ≡ dn z + n → n < 2 ^ 63 → SFits w64 z
+difference-fits (pos k) n e l = record { sfits = omega arith }
+difference-fits (negsuc k) n e l = record { sfits = omega arith }
+
+deviation-fits : (n : ℕ) → n < 2 ^ 63 → SFits w64 (leastDeviation +ℤ toZ w64 n)
+deviation-fits n l = rw (toZ-pos w64 l) (difference-fits (leastDeviation +ℤ pos n) n (omega (arith, add-parts leastDeviation (pos n))) l)
+
+add-t8 : tie.Need-add-t8
+add-t8 c = deviation-fits (R * (c .args .code / 2 ^ 16)) (omega (arith, c .pre))
+
+returns : tie.Need-returns
+returns c =
+    let p : D * (c .args .code % 2 ^ 16) < 2 ^ 63 = omega arith in
+    let d : R * (c .args .code / 2 ^ 16) < 2 ^ 63 = omega (arith, c .pre) in
+    ap₂ (λ (y z : ℤ). record { point = y; deviation = z })
+    (toZ-pos w64 p ∙ ap pos (sym (zero-add _)))
+    (toZ-ofZ (deviation-fits _ d) ∙ ap (λ (z : ℤ). leastDeviation +ℤ z) (toZ-pos w64 d))
+
+pub pair-of-spec : {M : Type 1} → statement M
+pair-of-spec = tie.close (tie.spec (λ c. search needs) (λ c. search needs) (λ c. search needs) (λ c. search needs) add-t8 returns)
