@@ -17,19 +17,18 @@ use Rattle.memory.specs.declared.Sizes.{Sizes}
 use Rattle.memory.specs.Image.{imageBytes, imageSizes, streamBits, imageOf}
 use Rattle.memory.specs.Pieces.{Piece, pack, needed}
 use Rattle.memory.proofs.PieceLaws.{needed-append}
-use Rattle.fields.specs.declared.Judged.the-variants.{Stands, Refused}
 use Rattle.fields.specs.declared.Domain.{Domain}
 use Rattle.fields.specs.declared.Template.{Template}
 use Rattle.fields.specs.Lines.{ending}
-use Rattle.fields.specs.Answers.{judgedSaid}
 use Rattle.layout.specs.Pieces.{endCode}
 use Rattle.layout.specs.Places.{tableBits}
 use Rattle.layout.proofs.Endings.{text-needed}
 use Rattle.build.specs.declared.Sheet.{Sheet}
 use Rattle.build.specs.declared.plan.CodedField.{CodedField}
-use Rattle.build.specs.declared.plan.Plan.{Plan}
+use Rattle.build.specs.declared.plan.Planned.{Planned}
+use Rattle.build.specs.declared.plan.Planned.the-variants.{Bits, Refused}
 use Rattle.build.specs.Build.{templateIn, fieldPieces, endingPieces, Table, listed, listTested, behindPieces, plan, builtIn, buildWith}
-use Rattle.build.specs.Tested.{piecesOf, Accepted, codedFields, FieldsPlanned}
+use Rattle.build.specs.Tested.{piecesOf, Accepted, codedFields, plannedSaid, FieldsPlanned}
 use Rattle.build.specs.Filled.{codedEnding, codedSheet, fitted}
 use Rattle.build.proofs.EndingPlans.{ending-planned, character-lt}
 
@@ -92,12 +91,12 @@ module _ (domain : Domain) (points : List ℤ) where
 pub few-points : (points : List ℤ) → wrongLength points ≡ false → length points ≤ 254
 few-points points e = ltb-false 254 (length points) (neither (eqb (length points % 2) 1) (ltb 254 (length points)) e .1)
 
-module _ {sheet : Sheet} {p : Plan} (f : FieldsPlanned sheet p) where
-  pub fields-down : {r : Refusal} → p .answer ≡ Refused r → fieldPieces sheet ≡ refused r
-  fields-down e = sym (f .said) ∙ ap (λ j. judgedSaid j >> good (codedFields (templateIn sheet) (p .fields))) e
+module _ {sheet : Sheet} {fields : List CodedField} {p : Planned} (f : FieldsPlanned sheet fields p) where
+  pub fields-down : {r : Refusal} → p ≡ Refused r → fieldPieces sheet ≡ refused r
+  fields-down e = sym (f .said) ∙ ap (λ j. plannedSaid j >> good (codedFields (templateIn sheet) fields)) e
 
-  pub fields-good : p .answer ≡ Stands → fieldPieces sheet ≡ good (codedFields (templateIn sheet) (p .fields))
-  fields-good e = sym (f .said) ∙ ap (λ j. judgedSaid j >> good (codedFields (templateIn sheet) (p .fields))) e
+  pub fields-good : {bits : ℕ} → p ≡ Bits bits → fieldPieces sheet ≡ good (codedFields (templateIn sheet) fields)
+  fields-good e = sym (f .said) ∙ ap (λ j. plannedSaid j >> good (codedFields (templateIn sheet) fields)) e
 
 pub text-fits : (f : ℕ) (endBit : Bool) (text : List ℕ) → Accepted (endingPieces f endBit text) → (i : ℕ) → getD text i 0 < 128
 text-fits f endBit text ok = character-lt text (ending-planned f endBit text _ ok .characters)

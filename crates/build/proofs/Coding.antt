@@ -1,14 +1,16 @@
 -- The codes of fields, one after the other.
-use mathlib.Core.Path.{_≡_, refl, sym, ap, ap₂, _∙_}
+use mathlib.Core.Path.{_≡_, refl, sym, ap, ap₂, _∙_, subst}
 use mathlib.Core.List.{List, [], _∷_, _++_, map, append-assoc, append-nil}
-use Prim.Native.Nat.{ℕ, zero, suc, _+_, _-_, _*_, _≤_, _<_}
+use Prim.Native.Nat.{ℕ, zero, suc, _+_, _-_, _*_, _/_, _%_, _^_, _≤_, _<_}
 use native.Mathlib.Numerals.{add-one}
 use native.Mathlib.Omega.{arith}
 use native.Mathlib.Decide.{ℕ-discrete}
+use borrow.Author.Tests.{ne-eqb}
 use lib.IntN.{ℤ}
 use mir.Syntax.{w64}
 use mir.Val.{SFits, toZ, ofZ}
 use mir.Facts.{toZ-ofZ}
+use lib.Ieee.{Float}
 use lib.ListN.{length, take, drop, getD, set, replicate, length-replicate, getD-replicate, length-append, length-set, length-map, List·getD-map, drop-of-length-le}
 use lib.Seq.{slice, slice-cons, slice-empty, drop-cons, getD-set-same, getD-set-other, take-take}
 use Rattle.refusal.specs.declared.Refusal.{Refusal}
@@ -17,32 +19,43 @@ use Rattle.refusal.proofs.Outcomes.{bind-good, bind-refused, bind-assoc, bind-s
 use Rattle.memory.specs.Pieces.{Piece, piece, needed}
 use Rattle.memory.proofs.PieceLaws.{needed-append}
 use Rattle.fields.specs.declared.Value.{Value}
-use Rattle.fields.specs.declared.Value.the-variants.{Whole, Missing}
+use Rattle.fields.specs.declared.Value.the-variants.{Whole}
 use Rattle.fields.specs.declared.Row.{Row}
 use Rattle.fields.specs.declared.Encoded.{Encoded}
 use Rattle.fields.specs.declared.Encoded.the-variants.{Code, Refused as NoCode}
-use Rattle.fields.specs.declared.Judged.the-variants.{Stands, Refused}
 use Rattle.fields.specs.declared.Template.{Template}
+use Rattle.fields.specs.declared.Layout.{Layout}
 use Rattle.fields.specs.Rules.{encode}
-use Rattle.fields.specs.Lines.{Line, line, chose, basic, templateLines, linesOf, numberOf, lastField, lineOf, rowOf, noLine}
+use Rattle.fields.specs.Lines.{Line, chose, basic, templateLines, linesOf, numberOf, lastField, lineOf, rowOf, noLine}
 use Rattle.fields.specs.Stored.{Sound, Real}
 use Rattle.fields.specs.Answers.{encodedSaid}
 use Rattle.fields.proofs.StoredLaws.{reads-back}
+use Rattle.fields.proofs.RowLaws.{sets-at, row-sound}
+use Rattle.coding.specs.Swift.{Told}
 use Rattle.layout.specs.Pieces.{blockPieces}
-use Rattle.build.specs.declared.Slot.{Slot}
 use Rattle.build.specs.declared.Sheet.{Sheet}
 use Rattle.build.specs.declared.plan.CodedField.{CodedField}
-use Rattle.build.specs.Build.{slot, lent, templateIn, linePieces}
-use Rattle.build.specs.Tested.{Encodes, Fitting, Fit, blank, fieldPiece, codedFields, FieldsPlanned}
+use Rattle.build.specs.declared.plan.Planned.{Planned}
+use Rattle.build.specs.declared.plan.Planned.the-variants.{Bits, Refused as NotPlanned}
+use Rattle.build.specs.Build.{lent, templateIn, linePieces}
+use Rattle.build.specs.Tested.{Encodes, Fitting, Fit, blank, fieldPiece, unpack, unpacked, codedFields, valueLent, Long, fieldsLent, FieldsPlanned}
 use Rattle.build.proofs.LinePlans.{bind-good-last}
 use Rattle.fields.proofs.TemplateFacts.{last-most}
 use Rattle.build.proofs.FieldPlans.{withBlock, block-needed, fields-listed}
+use Rattle.build.proofs.Lent.{long-slot}
 
 -- ---- one value
 
 -- The answer for a value that a caller can lend.
 pub encodes : (row : Row) (place : ℕ) (v : Value) (e : Encoded) → Sound row → Real v → encodedSaid e ≡ encode row place v → Encodes row place v e
 encodes row place v e s real said = record { said = said; fits = λ code h. reads-back row place 0 code v s real (sym said ∙ ap encodedSaid h) .0 }
+
+-- The same where the code was told at once.
+pub told-encodes : (row : Row) (place : ℕ) (v : Value) (code : ℕ) → Told row v code → code < 2 ^ 32 → Encodes row place v (Code code)
+told-encodes row place v code told h = record { said = sym (told h .0 place); fits = λ n e. let same : code ≡ n = cc in subst (λ m. m < 2 ^ row .width) same (told h .1) }
+
+pub coded-fits : {row : Row} {place : ℕ} {v : Value} {e : Encoded} {code : ℕ} → Sound row → Encodes row place v e → e ≡ Code code → Fitting (row .width) code
+coded-fits s c a = record { some = s .some; most = s .most; fits = c .fits _ a }
 
 -- A figure that is handed to a callee.
 pub seen : (row : Row) (place : ℕ) {figure : ℤ} → SFits w64 figure → encode row place (Whole (toZ w64 (ofZ w64 figure))) ≡ encode row place (Whole figure)
@@ -53,6 +66,11 @@ seen row place f = ap (λ (z : ℤ). encode row place (Whole z)) (toZ-ofZ f)
 pub basic-fewer : (template : Template) → length basic ≤ lastField template
 unfolding linesOf
 basic-fewer template = omega (arith, length-append basic (templateLines template))
+
+-- Basic sets no widths.
+pub basic-choice : (t : Template) (f code : ℕ) → f ≤ length basic → 0 ≡ chose (lineOf t f .sets) code 0
+unfolding basic
+basic-choice t f code h = ap (λ b. chose b code 0) (sym (ne-eqb f 9 (λ e. omega (arith, e))) ∙ sets-at t f (omega (arith, basic-fewer t)))
 
 -- One more.
 pub taken : (fields : List CodedField) (i : ℕ) (x : CodedField) → i < length fields →
@@ -81,10 +99,34 @@ module _ (fields : List CodedField) (i end : ℕ) where
   pub fields-end : i ≤ end → end ≤ i → slice i end (map fieldPiece fields) ≡ []
   fields-end h k = let e : i ≡ end = omega arith in ap (λ (n : ℕ). slice n end (map fieldPiece fields)) e ∙ slice-empty end (map fieldPiece fields)
 
-inside-same : {X : Type 0} (l : List X) (i : ℕ) (d d' : X) → i < length l → getD l i d ≡ getD l i d'
-inside-same [] i d d' h = absurd (omega arith)
-inside-same (x ∷ l) zero d d' h = refl
-inside-same (x ∷ l) (suc i) d d' h = inside-same l i d d' (omega arith)
+-- The same of fields as numbers.
+pub packed-set : (codes : List ℕ) (i p : ℕ) {width code : ℕ} → p / 2 ^ 32 ≡ width → p % 2 ^ 32 ≡ code → unpacked (set codes i p) ≡ set (unpacked codes) i (record { width = width; code = code })
+packed-set [] i p w c = refl
+packed-set (y ∷ codes) zero p w c = ap₂ (λ (n m : ℕ). record { width = n; code = m } ∷ unpacked codes) w c
+packed-set (y ∷ codes) (suc i) p w c = ap (λ l. unpack y ∷ l) (packed-set codes i p w c)
+
+module _ (codes : List ℕ) (i none : ℕ) where
+  packed-at : getD (unpacked codes) i (unpack none) ≡ unpack (getD codes i none)
+  packed-at = List·getD-map unpack codes i none
+
+  pub packed-left : (end : ℕ) → i < end → end ≤ length codes →
+      slice i end (map fieldPiece (unpacked codes)) ≡ fieldPiece (unpack (getD codes i none)) ∷ slice (i + 1) end (map fieldPiece (unpacked codes))
+  packed-left end h k =
+      fields-left (unpacked codes) i end (unpack none) h (omega (arith, length-map codes unpack)) ∙ ap (λ x. fieldPiece x ∷ slice (i + 1) end (map fieldPiece (unpacked codes))) packed-at
+
+  pub packed-fits : {n : ℕ} → Fit n (unpacked codes) → i < n → Fitting (getD codes i none / 2 ^ 32) (getD codes i none % 2 ^ 32)
+  packed-fits fit h = subst (λ x. Fitting (x .width) (x .code)) packed-at (fit .each i (unpack none) h)
+
+pub packed-long : {n : ℕ} (codes : List ℕ) → Fit n (unpacked codes) → length codes ≡ n
+packed-long codes fit = sym (length-map codes unpack) ∙ fit .long
+
+-- Room for n fields.
+pub packed-none : (n : ℕ) → Fit n (unpacked (replicate n (2 ^ 32)))
+packed-none n = subst (Fit n) (sym (go n)) (fit-none n)
+  where
+    go : (n : ℕ) → unpacked (replicate n (2 ^ 32)) ≡ replicate n blank
+    go zero = refl
+    go (suc n) = ap (λ l. blank ∷ l) (go n)
 
 -- ---- one line after the other
 
@@ -131,6 +173,7 @@ module _ (sheet : Sheet) where
 
   -- ---- the loop over the fields
 
+  -- The first i fields have their codes, which need so many bits with the block; `latest` is the choice behind them.
   pub record FieldsDone (fields : List CodedField) (latest bits i : ℕ) : Type 0 where
     pub inside : i ≤ lastField t
     pub fit : Fit 21 fields
@@ -138,33 +181,33 @@ module _ (sheet : Sheet) where
     pub count : bits ≡ needed (take i (map fieldPiece fields)) + 10
     pub few : bits ≤ 10 + 32 * i
 
-  pub done-none : FieldsDone (replicate 21 blank) 0 10 0
-  done-none = record {
+  pub done-none : (fields : List CodedField) → Fit 21 fields → FieldsDone fields 0 10 0
+  done-none fields fit = record {
     inside = omega arith;
-    fit = fit-none 21;
-    rest = from-start (replicate 21 blank);
+    fit = fit;
+    rest = from-start fields;
     count = refl;
     few = omega arith;
   }
 
   pub done-all : {fields : List CodedField} {latest bits i : ℕ} → FieldsDone fields latest bits i → lastField t ≤ i →
-      FieldsPlanned sheet (record { answer = Stands; fields = fields; bits = bits })
+      FieldsPlanned sheet fields (Bits bits)
   done-all {fields} {latest} {bits} {i} d h =
       let last : i ≡ lastField t = omega (arith, d .inside) in
       let all : List Piece = take (lastField t) (map fieldPiece fields) in
       let planned : linePieces sheet lines 0 1 ≡ good all = sym (d .rest) ∙ from-end fields latest i h ∙ ap (λ (n : ℕ). good (take n (map fieldPiece fields))) last in
       let are : withBlock t all ≡ codedFields t fields =
       ap (λ q. q ++ (blockPieces (numberOf t) ++ drop (length basic) all)) (take-take (length basic) (lastField t) (map fieldPiece fields) (basic-fewer t)) in
+      let counted : bits ≡ needed (codedFields t fields) = d .count ∙ omega (arith, block-needed t all, ap needed are, ap (λ (n : ℕ). needed (take n (map fieldPiece fields))) last) in
       record {
         said = sym (fields-listed sheet ∙ bind-good _ planned ∙ ap good are);
         fit = d .fit;
-        count = λ a. d .count ∙ omega (arith, block-needed t all, ap needed are, ap (λ (n : ℕ). needed (take n (map fieldPiece fields))) last);
-        small = omega (arith, d .few, d .inside, last-most t);
+        count = λ b a. let same : bits ≡ b = cc in (sym same ∙ counted, omega (arith, same, d .few, d .inside, last-most t));
       }
 
   -- A turn, in the words of the code.
-  module _ {fields : List CodedField} {latest bits i : ℕ} (d : FieldsDone fields latest bits i) (h : i < lastField t) (none : Slot) (row : Row) (e : Encoded) (full : length (sheet .fields) ≡ 21)
-      (er : row ≡ rowOf (record { template = t; precision = latest }) (i + 1)) (c : Encodes row (i + 1) (getD (sheet .fields) i none .value) e) where
+  module _ {fields : List CodedField} {latest bits i : ℕ} (d : FieldsDone fields latest bits i) (h : i < lastField t) (row : Row) (e : Encoded) (er : row ≡ rowOf (record { template = t; precision = latest }) (i + 1))
+      (c : Encodes row (i + 1) (lent sheet (i + 1)) e) where
     is-here : lineOf t (i + 1) ≡ getD lines i noLine
     is-here = let k : i + 1 - 1 ≡ i = omega arith in ap (λ (n : ℕ). getD lines n noLine) k
 
@@ -173,17 +216,15 @@ module _ (sheet : Sheet) where
 
     heard : encodedSaid e ≡ encode (getD lines i noLine .rowAt latest) (suc i) (lent sheet (suc i))
     heard =
-        let k : i ≡ suc i - 1 = omega arith in
         c .said
-        ∙ ap₂ (λ (v : Slot) (n : ℕ). encode row n (v .value)) (inside-same (sheet .fields) i none (slot Missing) (omega (arith, last-most t)) ∙ ap (λ (n : ℕ). getD (sheet .fields) n (slot Missing)) k) (add-one i)
+        ∙ ap (λ (n : ℕ). encode row n (lent sheet n)) (add-one i)
         ∙ ap (λ r. encode r (suc i) (lent sheet (suc i))) row-here
 
-    pub turn-refused : {r : Refusal} → e ≡ NoCode r → FieldsPlanned sheet (record { answer = Refused r; fields = fields; bits = bits })
+    pub turn-refused : {r : Refusal} → e ≡ NoCode r → FieldsPlanned sheet fields (NotPlanned r)
     turn-refused {r} a = record {
       said = sym (fields-listed sheet ∙ bind-refused _ (sym (d .rest) ∙ field-refused fields latest i h (sym heard ∙ ap encodedSaid a)));
       fit = d .fit;
-      count = λ s. absurd (let z : _≡_ {A = ℕ} 0 1 = cc in omega arith);
-      small = omega (arith, d .few, d .inside, last-most t);
+      count = λ b s. absurd (let z : _≡_ {A = ℕ} 0 1 = cc in omega arith);
     }
 
     pub turn-coded : {code next : ℕ} → e ≡ Code code → next ≡ chose (lineOf t (i + 1) .sets) code latest → Sound row →
@@ -200,4 +241,74 @@ module _ (sheet : Sheet) where
               rw (add-one i, n, is-here, row-here) (sym (field-coded fields latest i h k (sym heard ∙ ap encodedSaid a)) ∙ d .rest);
           count = omega (arith, d .count, more);
           few = omega (arith, d .few, s .most);
+        }
+
+    pub turn-packed : (codes : List ℕ) (p : ℕ) → fields ≡ unpacked codes → {code next : ℕ} → e ≡ Code code → next ≡ chose (lineOf t (i + 1) .sets) code latest → Sound row →
+        (p / 2 ^ 32 ≡ row .width) × (p % 2 ^ 32 ≡ code) → FieldsDone (unpacked (set codes i p)) next (bits + row .width) (i + 1)
+    turn-packed codes p is {code} {next} a n s are =
+        subst (λ fs. FieldsDone fs next (bits + row .width) (i + 1)) (ap (λ fs. set fs i (record { width = row .width; code = code })) is ∙ sym (packed-set codes i p (are .0) (are .1))) (turn-coded a n s)
+
+-- ---- the loops over fields that are lent: Basic, then the template's own
+
+pub record Going (t : Template) (sorts : List ℕ) (wholes : List ℤ) (singles : List Float) (last : ℕ) (codes : List ℕ) (latest bits i : ℕ) : Type 0 where
+  pub long : Long sorts wholes singles
+  pub most : last ≤ lastField t
+  pub done : FieldsDone (fieldsLent t sorts wholes singles) (unpacked codes) latest bits i
+
+module _ {t : Template} {sorts : List ℕ} {wholes : List ℤ} {singles : List Float} {last : ℕ} {codes : List ℕ} {latest bits i : ℕ} (g : Going t sorts wholes singles last codes latest bits i) where
+  pub going-same : (codes₀ : List ℕ) → Fit 21 (unpacked codes₀) → length codes ≡ length codes₀
+  going-same codes₀ fit = packed-long codes (g .done .fit) ∙ sym (packed-long codes₀ fit)
+
+  -- In a template that is known.
+  pub going-own : {own : Template} {end : ℕ} → t ≡ own → end ≤ lastField own → Going own sorts wholes singles end codes latest bits i
+  going-own is h = record { long = g .long; most = h; done = subst (λ x. FieldsDone (fieldsLent x sorts wholes singles) (unpacked codes) latest bits i) is (g .done) }
+
+  going-planned : {into : Template} → into ≡ t → {r : Planned} → FieldsPlanned (fieldsLent t sorts wholes singles) (unpacked codes) r → FieldsPlanned (fieldsLent into sorts wholes singles) (unpacked codes) r
+  going-planned is {r} p = subst (λ x. FieldsPlanned (fieldsLent x sorts wholes singles) (unpacked codes) r) (sym is) p
+
+  pub going-all : {into : Template} → into ≡ t → lastField t ≤ i → FieldsPlanned (fieldsLent into sorts wholes singles) (unpacked codes) (Bits bits)
+  going-all is h = going-planned is (done-all (fieldsLent t sorts wholes singles) (g .done) h)
+
+  pub going-inside : i < last → i < 21
+  going-inside h = omega (arith, g .most, last-most t)
+
+  pub going-room : i < last → i < length codes
+  going-room h = omega (arith, going-inside h, packed-long codes (g .done .fit))
+
+  -- A turn. What its code is asked by may be the row of any layout that has it.
+  module _ (h : i < last) {row : Row} (layout : Layout) (er : row ≡ rowOf layout (i + 1)) (hi : i + 1 ≤ lastField (layout .template)) where
+    going-sound : Sound row
+    going-sound = subst Sound (sym er) (row-sound layout (i + 1) (omega arith) hi)
+
+    pub swift-asked : Sound row × Long sorts wholes singles × (i < 21)
+    swift-asked = (going-sound, g .long, going-inside h)
+
+    pub code-asked : {n : ℕ} → Told row (valueLent sorts wholes singles i) n →
+        (Long sorts wholes singles × (1 ≤ i + 1) × (i + 1 ≤ lastField (layout .template))) × Told (rowOf layout (i + 1)) (valueLent sorts wholes singles (i + 1 - 1)) n
+    code-asked {n} told =
+        let k : i ≡ i + 1 - 1 = omega arith in
+        ((g .long, omega arith, hi), subst (λ r. Told r (valueLent sorts wholes singles (i + 1 - 1)) n) er (subst (λ (m : ℕ). Told row (valueLent sorts wholes singles m) n) k told))
+
+    pub going-few : bits + row .width < 2 ^ 16
+    going-few = omega (arith, going-sound .most, g .done .few, going-inside h)
+
+    module _ {e : Encoded} (c : Encodes (rowOf layout (i + 1)) (i + 1) (valueLent sorts wholes singles (i + 1 - 1)) e) where
+      heard-here : Encodes row (i + 1) (lent (fieldsLent t sorts wholes singles) (i + 1)) e
+      heard-here =
+          subst (λ r. Encodes r (i + 1) (lent (fieldsLent t sorts wholes singles) (i + 1)) e) (sym er)
+          (subst (λ v. Encodes (rowOf layout (i + 1)) (i + 1) v e) (sym (long-slot (g .long) (i + 1 - 1) (omega (arith, going-inside h)))) c)
+
+      pub going-fits : {code : ℕ} → e ≡ Code code → Fitting (row .width) code
+      going-fits a = coded-fits going-sound heard-here a
+
+      module _ (here : row ≡ rowOf (record { template = t; precision = latest }) (i + 1)) where
+        pub going-refused : {into : Template} → into ≡ t → {r : Refusal} → e ≡ NoCode r → FieldsPlanned (fieldsLent into sorts wholes singles) (unpacked codes) (NotPlanned r)
+        going-refused is a = going-planned is (turn-refused (fieldsLent t sorts wholes singles) (g .done) (omega (arith, g .most)) row e here heard-here a)
+
+        pub going-on : (p : ℕ) {code next : ℕ} → e ≡ Code code → next ≡ chose (lineOf t (i + 1) .sets) code latest → (p / 2 ^ 32 ≡ row .width) × (p % 2 ^ 32 ≡ code) →
+            Going t sorts wholes singles last (set codes i p) next (bits + row .width) (i + 1)
+        going-on p a n are = record {
+          long = g .long;
+          most = g .most;
+          done = turn-packed (fieldsLent t sorts wholes singles) (g .done) (omega (arith, g .most)) row e here heard-here codes p refl a n going-sound are;
         }

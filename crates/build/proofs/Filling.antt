@@ -1,12 +1,14 @@
 -- Pieces filled in one behind the other.
 use mathlib.Core.Path.{_≡_, refl, sym, ap, ap₂, _∙_}
 use mathlib.Core.List.{List, [], _∷_, _++_}
-use Prim.Native.Nat.{ℕ, zero, suc, _+_, _*_, _^_, _≤_, _<_}
+use Prim.Native.Nat.{ℕ, zero, suc, _+_, _*_, _%_, _^_, _≤_, _<_}
 use native.Mathlib.Nat.{mod-eq-of-lt, div-eq-of-lt, lt-of-lt-of-le, add-comm, mul-assoc, zero-mul}
 use native.Mathlib.Omega.{arith}
 use lib.Arith.{digits-lt}
 use lib.ListN.{length, getD, replicate, length-replicate}
-use lib.Pow.{pow-add, pow-mono}
+use lib.Pow.{pow-add, pow-mono, shl-exact}
+use mir.Syntax.{w64}
+use mir.Val.{Fits}
 use Rattle.memory.specs.declared.Sizes.{Sizes}
 use Rattle.stream.specs.declared.cursor.Cursor.{Cursor}
 use Rattle.memory.specs.Bits.{number, putAt}
@@ -86,7 +88,7 @@ module _ (z : Sizes) where
 
     -- The same for one code, which is put at the cursor.
     module _ {left : List Piece} (w code : ℕ) (qs : List Piece) (e : left ≡ piece w code ∷ qs) (f : Filling a k all b m left) where
-      pub code-inside : 1 ≤ w → w ≤ 49 → InStream z b (m .at) w
+      code-inside : 1 ≤ w → w ≤ 49 → InStream z b (m .at) w
       code-inside some most = record {
         whole = f .room .free .whole;
         inside = omega (arith, room-first (piece w code ∷ []) qs e f .inside);
@@ -94,7 +96,7 @@ module _ (z : Sizes) where
         most = most;
       }
 
-      pub code-more : {c : List ℕ} {n : Cursor} → code < 2 ^ w → (c ≡ putIn z b (m .at) w code) × (n .at ≡ m .at + w) → Filling a k all c n qs
+      code-more : {c : List ℕ} {n : Cursor} → code < 2 ^ w → (c ≡ putIn z b (m .at) w code) × (n .at ≡ m .at + w) → Filling a k all c n qs
       code-more fits put = filling-more (piece w code ∷ []) qs e f (fills (room-first (piece w code ∷ []) qs e f) fits (put .0) (put .1))
 
     -- The same for several, which are put as one code.
@@ -118,6 +120,62 @@ module _ (z : Sizes) where
 
     pub filled : Filling a k all b m [] → Filled z a k all b m
     filled f = record { free = f .room .free; stream = omega (arith, f .stream, zero-mul (2 ^ m .at)); moved = omega (arith, f .moved) }
+
+  -- ---- gathered
+
+  -- The first of those left wait as one code, which is put when the next does not fit.
+  pub record Gathering (before : List ℕ) (cursor : Cursor) (pieces : List Piece) (image : List ℕ) (next : Cursor) (w code : ℕ) (left : List Piece) : Type 0 where
+    pub filling : Filling before cursor pieces image next (piece w code ∷ left)
+    pub fits : code < 2 ^ w
+    pub most : w ≤ 49
+
+  pub gathering-none : {a : List ℕ} {k : Cursor} {ps : List Piece} → Room z a k ps → Gathering a k ps a k 0 0 ps
+  gathering-none {ps = ps} r = record { filling = joined [] ps refl (filling-none r) refl; fits = omega arith; most = omega arith }
+
+  module _ {a b : List ℕ} {k m : Cursor} {all left : List Piece} {w code : ℕ} (g : Gathering a k all b m w code left) where
+    pub gathering-ready : 1 ≤ w → (InStream z b (m .at) w × (code < 2 ^ w)) × (streamNumber z b < 2 ^ m .at)
+    gathering-ready some = ((code-inside w code left refl (g .filling) some (g .most), g .fits), g .filling .room .free .below)
+
+    pub gathering-put : {c : List ℕ} {n : Cursor} → (c ≡ putIn z b (m .at) w code) × (n .at ≡ m .at + w) → Filling a k all c n left
+    gathering-put = code-more w code left refl (g .filling) (g .fits)
+
+    pub gathering-empty : w ≡ 0 → Filling a k all b m left
+    gathering-empty e =
+        let none : code ≡ 0 = omega (arith, g .fits, ap (λ (n : ℕ). 2 ^ n) e) in
+        let digits : pack left * 2 ^ w + code ≡ pack left = rw (e, none) (omega arith) in
+        record {
+          room = record { free = g .filling .room .free; inside = omega (arith, g .filling .room .inside) };
+          stream = ap (λ (x : ℕ). x * 2 ^ m .at + streamNumber z b) (sym digits) ∙ g .filling .stream;
+          moved = omega (arith, g .filling .moved);
+        }
+
+    -- The next one.
+    module _ {v more : ℕ} {qs : List Piece} (e : left ≡ piece v more ∷ qs) (fits : more < 2 ^ v) where
+      shifted : w + v ≤ 49 → more * 2 ^ w % 2 ^ 64 ≡ more * 2 ^ w
+      shifted few = shl-exact v w 64 fits (omega arith)
+
+      gathered-lt : w + v ≤ 49 → code + more * 2 ^ w % 2 ^ 64 < 2 ^ (w + v)
+      gathered-lt few =
+          let size : 2 ^ v * 2 ^ w ≡ 2 ^ (w + v) = sym (pow-add 2 v w) ∙ ap (λ (n : ℕ). 2 ^ n) (add-comm v w) in
+          let both : more * 2 ^ w + code < 2 ^ v * 2 ^ w = digits-lt fits (g .fits) in
+          omega (arith, shifted few)
+
+      pub gathered-small : w + v ≤ 49 → Fits w64 (code + more * 2 ^ w % 2 ^ 64)
+      gathered-small few = omega (arith, gathered-lt few, pow-mono few)
+
+      pub gather : w + v ≤ 49 → Gathering a k all b m (w + v) (code + more * 2 ^ w % 2 ^ 64) qs
+      gather few =
+          let both : List Piece = piece w code ∷ piece v more ∷ [] in
+          let width : needed both ≡ w + v = omega arith in
+          let is : code + more * 2 ^ w % 2 ^ 64 ≡ pack both = omega (arith, shifted few, zero-mul (2 ^ v)) in
+          record {
+            filling = rw width at (joined both qs (ap (λ l. piece w code ∷ l) e) (g .filling) is);
+            fits = gathered-lt few;
+            most = few;
+          }
+
+      pub gather-next : v ≤ 49 → {c : List ℕ} {n : Cursor} → (c ≡ putIn z b (m .at) w code) × (n .at ≡ m .at + w) → Gathering a k all c n v more qs
+      gather-next most put = record { filling = rw e at (gathering-put put); fits = fits; most = most }
 
 -- ---- a cleared image
 

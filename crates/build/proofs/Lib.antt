@@ -1,6 +1,7 @@
 pub mod Tests
 pub mod LinePlans
 pub mod FieldPlans
+pub mod Lent
 pub mod PairPlans
 pub mod EndingPlans
 pub mod Filling
@@ -11,3 +12,4 @@ pub mod CurvePlans
 pub mod SegmentPlans
 pub mod CurveTurns
 pub mod BuiltIn
+pub mod Spreading

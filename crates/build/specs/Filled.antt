@@ -5,7 +5,6 @@ use mathlib.Core.Bool.{Bool}
 use mathlib.Core.List.{List, [], _∷_, _++_, map}
 use Prim.Native.Nat.{ℕ, suc, _+_, _*_, _^_, _≤_, _<_}
 use lib.Dec.{ltb}
-use lib.ListN.{getD}
 use Rattle.refusal.specs.Outcome.{Outcome, good, refused, _>>_, refuse_if_}
 use Rattle.refusal.specs.Rows.{tooLong}
 use Rattle.memory.specs.declared.Sizes.{Sizes}
@@ -59,10 +58,6 @@ codedPair (refused r) = []
 abbrev pub codedPairs : ℕ → List Pair → List Piece
 codedPairs i [] = []
 codedPairs i (p ∷ pairs) = codedPair (codesFor i p) ++ codedPairs (suc i) pairs
-
--- Seven characters of a text, from index i on.
-abbrev pub sevenPieces : List ℕ → ℕ → List Piece
-sevenPieces text i = piece 7 (getD text i 0) ∷ map (λ k. piece 7 (getD text (i + k) 0)) (1 ∷ 2 ∷ 3 ∷ 4 ∷ 5 ∷ 6 ∷ [])
 
 abbrev pub codedEnding : Bool → List ℕ → List Piece
 codedEnding endBit text = piece 2 3 ∷ piece 1 (endCode endBit) ∷ map (piece 7) text

@@ -1,16 +1,18 @@
 -- Only inner contracts need this: what the tests of a build answer, and what holds of what they leave to be written.
 use mathlib.Core.Path.{_≡_}
+use mathlib.Core.Bool.{Bool, false}
 use mathlib.Core.List.{List, [], _∷_, _++_, map}
 use mathlib.Core.Option.{Option}
-use Prim.Native.Nat.{ℕ, _+_, _*_, _^_, _≤_, _<_}
+use Prim.Native.Nat.{ℕ, zero, suc, _+_, _*_, _/_, _%_, _^_, _≤_, _<_}
 use lib.IntN.{ℤ, pos, _*ℤ_}
+use lib.Ieee.{Float, nan}
 use lib.ListN.{length, getD, take, set, replicate}
 use lib.Seq.{slice}
 use Rattle.refusal.specs.declared.Refusal.{Refusal}
 use Rattle.refusal.specs.Outcome.{Outcome, good, refused, _>>_, _>>=_}
 use Rattle.memory.specs.Pieces.{Piece, piece, needed}
 use Rattle.fields.specs.declared.Value.{Value}
-use Rattle.fields.specs.declared.Value.the-variants.{Single}
+use Rattle.fields.specs.declared.Value.the-variants.{Whole, Single, Missing}
 use Rattle.fields.specs.declared.Row.{Row}
 use Rattle.fields.specs.declared.Pair.{Pair}
 use Rattle.fields.specs.declared.Codes.{Codes}
@@ -21,20 +23,24 @@ use Rattle.fields.specs.declared.Encoded.{Encoded}
 use Rattle.fields.specs.declared.Encoded.the-variants.{Code}
 use Rattle.fields.specs.declared.Judged.the-variants.{Stands, Refused as TurnedDown}
 use Rattle.fields.specs.declared.Template.{Template}
+use Rattle.fields.specs.declared.Level.{Level}
+use Rattle.fields.specs.declared.Level.the-variants.{Owner}
 use Rattle.fields.specs.Rules.{encode}
 use Rattle.fields.specs.Lines.{basic, numberOf, lastField}
 use Rattle.fields.specs.Curves.{segmentStart, termCount, exponent, coefficient, exponentCode}
 use Rattle.fields.specs.Answers.{encodedSaid, judgedSaid}
 use Rattle.layout.specs.Pieces.{blockPieces}
+use Rattle.build.specs.declared.Slot.{Slot}
 use Rattle.build.specs.declared.Sheet.{Sheet}
 use Rattle.build.specs.declared.plan.CodedField.{CodedField}
-use Rattle.build.specs.declared.plan.Plan.{Plan}
+use Rattle.build.specs.declared.plan.Planned.{Planned}
+use Rattle.build.specs.declared.plan.Planned.the-variants.{Bits, Refused as NotPlanned}
 use Rattle.build.specs.declared.plan.PairAnswer.{PairAnswer}
 use Rattle.build.specs.declared.plan.PairAnswer.the-variants.{Are, Refused}
 use Rattle.build.specs.declared.drawing.TwoAnswer.{TwoAnswer}
 use Rattle.build.specs.declared.drawing.TwoAnswer.the-variants.{Are as Both, Refused as Neither}
 use Rattle.build.specs.declared.drawing.CurvePlan.{CurvePlan}
-use Rattle.build.specs.Build.{templateIn, fieldPieces, startCode, curvePieces}
+use Rattle.build.specs.Build.{slot, templateIn, fieldPieces, startCode, curvePieces}
 
 -- What a test says: nothing but the refusal.
 abbrev pub tested : {A : Type 0} → Outcome A → Outcome (Unit {0})
@@ -48,6 +54,44 @@ piecesOf (refused r) = []
 
 abbrev pub Accepted : Outcome (List Piece) → Type 0
 Accepted o = o ≡ good (piecesOf o)
+
+-- ---- the values of a sheet, lent
+
+-- A value by its sort: 0 is a whole number, 1 a Single, any other missing.
+abbrev pub bySort : ℕ → ℤ → Float → Value
+bySort zero whole single = Whole whole
+bySort (suc zero) whole single = Single single
+bySort (suc (suc n)) whole single = Missing
+
+-- The value at an index of what is lent by sorts, whole numbers and Singles.
+abbrev pub valueLent : List ℕ → List ℤ → List Float → ℕ → Value
+valueLent sorts wholes singles i = bySort (getD sorts i 2) (getD wholes i (pos 0)) (getD singles i nan)
+
+-- All of them.
+abbrev pub slotsLent : List ℕ → List ℤ → List Float → List Slot
+slotsLent [] wholes singles = []
+slotsLent (sort ∷ sorts) [] singles = []
+slotsLent (sort ∷ sorts) (whole ∷ wholes) [] = []
+slotsLent (sort ∷ sorts) (whole ∷ wholes) (single ∷ singles) = slot (bySort sort whole single) ∷ slotsLent sorts wholes singles
+
+-- As many as a sheet has.
+pub record Long (sorts : List ℕ) (wholes : List ℤ) (singles : List Float) : Type 0 where
+  pub sorted : length sorts ≡ 21
+  pub whole : length wholes ≡ 21
+  pub single : length singles ≡ 21
+
+-- The slots of a sheet, so lent.
+pub record Spread (slots : List Slot) (sorts : List ℕ) (wholes : List ℤ) (singles : List Float) : Type 0 where
+  pub long : Long sorts wholes singles
+  pub each : slotsLent sorts wholes singles ≡ slots
+
+-- The sheet whose values are so lent.
+abbrev pub sheetLent : Template → Bool → Level → List ℕ → List ℤ → List Float → Sheet
+sheetLent template endBit level sorts wholes singles = record { template = template; fields = slotsLent sorts wholes singles; «end_bit» = endBit; level = level }
+
+-- A sheet with fields that are so lent: what the fields come to has no need of the rest of it.
+abbrev pub fieldsLent : Template → List ℕ → List ℤ → List Float → Sheet
+fieldsLent template sorts wholes singles = sheetLent template false Owner sorts wholes singles
 
 -- ---- the fields
 
@@ -76,11 +120,21 @@ codedFields template fields =
     slice 0 (length basic) (map fieldPiece fields) ++
     (blockPieces (numberOf template) ++ slice (length basic) (lastField template) (map fieldPiece fields))
 
-pub record FieldsPlanned (sheet : Sheet) (r : Plan) : Type 0 where
-  pub said : (judgedSaid (r .answer) >> good (codedFields (templateIn sheet) (r .fields))) ≡ fieldPieces sheet
-  pub fit : Fit 21 (r .fields)
-  pub count : r .answer ≡ Stands → r .bits ≡ needed (codedFields (templateIn sheet) (r .fields))
-  pub small : r .bits < 2 ^ 16
+-- A field as a number that can be lent.
+abbrev pub unpack : ℕ → CodedField
+unpack n = record { width = n / 2 ^ 32; code = n % 2 ^ 32 }
+
+abbrev pub unpacked : List ℕ → List CodedField
+unpacked codes = map unpack codes
+
+abbrev pub plannedSaid : Planned → Outcome (Unit {0})
+plannedSaid (Bits bits) = good tt
+plannedSaid (NotPlanned r) = refused r
+
+pub record FieldsPlanned (sheet : Sheet) (fields : List CodedField) (r : Planned) : Type 0 where
+  pub said : (plannedSaid r >> good (codedFields (templateIn sheet) fields)) ≡ fieldPieces sheet
+  pub fit : Fit 21 fields
+  pub count : (bits : ℕ) → r ≡ Bits bits → (bits ≡ needed (codedFields (templateIn sheet) fields)) × (bits < 2 ^ 16)
 
 -- ---- the points
 

@@ -1,19 +1,21 @@
 // Build an image in the caller's buffer.
 use crate::Sheet;
+use crate::Slot;
 use crate::drawing::CurvePlan;
 use crate::drawing::plan_curve;
-use crate::plan::Plan;
+use crate::plan::Planned;
+use crate::plan::WIDTHS;
 use crate::plan::check_ending;
 use crate::plan::check_points;
 use crate::plan::is_wrong_list;
 use crate::plan::plan_fields;
-use crate::plan::template_in;
 use crate::write::write_curve;
 use crate::write::write_table;
 use fields::Curve;
 use fields::Domain;
 use fields::Judged;
 use fields::Template;
+use fields::Value;
 use memory::Sizes;
 use memory::SizesAnswer;
 use refusal::Written;
@@ -25,9 +27,10 @@ ghost use Rattle.refusal.specs.Written.{writtenSaid, afterwards};
 ghost use Rattle.memory.specs.Image.{imageBytes, streamBits};
 ghost use Rattle.memory.specs.Answers.{Whole};
 ghost use Rattle.memory.specs.Pieces.{needed};
+ghost use Rattle.fields.specs.declared.Level.{Level};
 ghost use Rattle.layout.specs.Places.{tableBits};
 ghost use Rattle.build.specs.Build.{pairsLent, tablePieces, listed, drawn, builtIn, build as buildOf, buildCurve};
-ghost use Rattle.build.specs.Tested.{piecesOf, Accepted, Fit, codedFields, codedCurve, Tested};
+ghost use Rattle.build.specs.Tested.{piecesOf, Accepted, Fit, unpacked, codedFields, codedCurve, Tested, Long, Spread, sheetLent};
 ghost use Rattle.build.specs.Filled.{codedSheet, fitted};
 
 // The bits of a table of n pairs: none without one.
@@ -66,24 +69,24 @@ fn finish_table(
     sizes: Sizes,
     image: &mut [u8],
     template: Template,
-    plan: Plan,
+    fields: &[u64],
+    field_bits: u64,
     end_bit: bool,
     text: &[u8],
     domain: Domain,
     points: &[i64],
 ) -> Written
     requires { ⌜ Whole sizes (now image) × (imageBytes sizes ≤ 512) ⌝ }
-    requires { ⌜ Tested (plan .fields) (now text) × (plan .bits ≡ needed (codedFields template (plan .fields))) × (plan .bits < 2 ^ 16) ⌝ }
+    requires { ⌜ Tested (unpacked (now fields)) (now text) × («field_bits» ≡ needed (codedFields template (unpacked (now fields)))) × («field_bits» < 2 ^ 16) ⌝ }
     requires { ⌜ Accepted (tablePieces domain (pairsLent (now points))) × (length (now points) ≤ 254) ⌝ }
-    ensures { λ r. ⌜ (let outcome = fitted sizes (codedSheet template (plan .fields) «end_bit» (now (text .entry)) (piecesOf (tablePieces domain (pairsLent (now (points .entry)))))) in
+    ensures { λ r. ⌜ (let outcome = fitted sizes (codedSheet template (unpacked (now (fields .entry))) «end_bit» (now (text .entry)) (piecesOf (tablePieces domain (pairsLent (now (points .entry)))))) in
         (writtenSaid r (now (image .exit)) ≡ outcome) × (now (image .exit) ≡ afterwards (now (image .entry)) outcome)) ⌝ }
 {
     let behind = table_bits(points.len() as u64 / 2);
-    let bits = bits_needed(plan.bits, behind, text.len() as u64);
+    let bits = bits_needed(field_bits, behind, text.len() as u64);
     if is_too_long(sizes, bits) {
         return Written::Refused(refusal::too_long(bits));
     }
-    let fields = plan.fields;
     write_table(
         sizes,
         image,
@@ -102,94 +105,196 @@ fn finish_curve(
     sizes: Sizes,
     image: &mut [u8],
     template: Template,
-    plan: Plan,
+    fields: &[u64],
+    field_bits: u64,
     end_bit: bool,
     text: &[u8],
     curve: CurvePlan,
 ) -> Written
     requires { ⌜ Whole sizes (now image) × (imageBytes sizes ≤ 512) ⌝ }
-    requires { ⌜ Tested (plan .fields) (now text) × (plan .bits ≡ needed (codedFields template (plan .fields))) × (plan .bits < 2 ^ 16) ⌝ }
+    requires { ⌜ Tested (unpacked (now fields)) (now text) × («field_bits» ≡ needed (codedFields template (unpacked (now fields)))) × («field_bits» < 2 ^ 16) ⌝ }
     requires { ⌜ Fit 104 (curve .codes) × (curve .count ≤ 104) × (curve .bits ≡ needed (codedCurve curve)) × (curve .bits < 2 ^ 16) ⌝ }
-    ensures { λ r. ⌜ (let outcome = fitted sizes (codedSheet template (plan .fields) «end_bit» (now (text .entry)) (codedCurve curve)) in
+    ensures { λ r. ⌜ (let outcome = fitted sizes (codedSheet template (unpacked (now (fields .entry))) «end_bit» (now (text .entry)) (codedCurve curve)) in
         (writtenSaid r (now (image .exit)) ≡ outcome) × (now (image .exit) ≡ afterwards (now (image .entry)) outcome)) ⌝ }
 {
-    let bits = bits_needed(plan.bits, curve.bits, text.len() as u64);
+    let bits = bits_needed(field_bits, curve.bits, text.len() as u64);
     if is_too_long(sizes, bits) {
         return Written::Refused(refusal::too_long(bits));
     }
-    let fields = plan.fields;
     write_curve(sizes, image, template, fields, end_bit, text, curve);
     Written::Done
 }
 
-// All tests, in document 01's order; then what they leave.
+// All tests, in document 01's order; then what they leave. The level makes no difference.
 fn build_in(
     sizes: Sizes,
     image: &mut [u8],
-    sheet: Sheet,
+    template: Template,
+    end_bit: bool,
+    sorts: &[u8],
+    wholes: &[i64],
+    singles: &[f32],
     text: &[u8],
     domain: Domain,
     points: &[i64],
 ) -> Written
-    requires { ⌜ Whole sizes (now image) × (imageBytes sizes ≤ 512) ⌝ }
-    ensures { λ r. ⌜ (let outcome = builtIn sizes sheet (now (text .entry)) (listed domain (now (points .entry))) in
-        (writtenSaid r (now (image .exit)) ≡ outcome) × (now (image .exit) ≡ afterwards (now (image .entry)) outcome)) ⌝ }
+    requires { ⌜ Whole sizes (now image) × (imageBytes sizes ≤ 512) × Long (now sorts) (now wholes) (now singles) ⌝ }
+    ensures { λ r. ⌜ ((level : Level) → (let outcome = builtIn sizes (sheetLent template «end_bit» level (now (sorts .entry)) (now (wholes .entry)) (now (singles .entry))) (now (text .entry)) (listed domain (now (points .entry))) in
+        (writtenSaid r (now (image .exit)) ≡ outcome) × (now (image .exit) ≡ afterwards (now (image .entry)) outcome))) ⌝ }
 {
     let n = points.len();
     if is_wrong_list(n) {
         return Written::Refused(refusal::wrong_list(n as u64));
     }
-    let plan = plan_fields(sheet);
-    let answer = plan.answer;
-    if let Judged::Refused(r) = answer {
-        return Written::Refused(r);
+    let mut fields = [WIDTHS; 21];
+    match plan_fields(template, sorts, wholes, singles, &mut fields) {
+        Planned::Refused(r) => Written::Refused(r),
+        Planned::Bits(bits) => {
+            if let Judged::Refused(r) = check_ending(template, end_bit, text) {
+                return Written::Refused(r);
+            }
+            if let Judged::Refused(r) = check_points(domain, points) {
+                return Written::Refused(r);
+            }
+            finish_table(
+                sizes,
+                image,
+                template,
+                &fields,
+                bits,
+                end_bit,
+                text,
+                domain,
+                points,
+            )
+        }
     }
-    let template = template_in(sheet);
-    if let Judged::Refused(r) = check_ending(template, sheet.end_bit, text) {
-        return Written::Refused(r);
-    }
-    if let Judged::Refused(r) = check_points(domain, points) {
-        return Written::Refused(r);
-    }
-    finish_table(
-        sizes,
-        image,
-        template,
-        plan,
-        sheet.end_bit,
-        text,
-        domain,
-        points,
-    )
 }
 
 // The same with a curve, which has no list.
 fn build_curve_in(
     sizes: Sizes,
     image: &mut [u8],
-    sheet: Sheet,
+    template: Template,
+    end_bit: bool,
+    sorts: &[u8],
+    wholes: &[i64],
+    singles: &[f32],
     text: &[u8],
     curve: Curve,
 ) -> Written
-    requires { ⌜ Whole sizes (now image) × (imageBytes sizes ≤ 512) ⌝ }
-    ensures { λ r. ⌜ (let outcome = builtIn sizes sheet (now (text .entry)) (drawn curve) in
-        (writtenSaid r (now (image .exit)) ≡ outcome) × (now (image .exit) ≡ afterwards (now (image .entry)) outcome)) ⌝ }
+    requires { ⌜ Whole sizes (now image) × (imageBytes sizes ≤ 512) × Long (now sorts) (now wholes) (now singles) ⌝ }
+    ensures { λ r. ⌜ ((level : Level) → (let outcome = builtIn sizes (sheetLent template «end_bit» level (now (sorts .entry)) (now (wholes .entry)) (now (singles .entry))) (now (text .entry)) (drawn curve) in
+        (writtenSaid r (now (image .exit)) ≡ outcome) × (now (image .exit) ≡ afterwards (now (image .entry)) outcome))) ⌝ }
 {
-    let plan = plan_fields(sheet);
-    let answer = plan.answer;
-    if let Judged::Refused(r) = answer {
-        return Written::Refused(r);
+    let mut fields = [WIDTHS; 21];
+    match plan_fields(template, sorts, wholes, singles, &mut fields) {
+        Planned::Refused(r) => Written::Refused(r),
+        Planned::Bits(bits) => {
+            if let Judged::Refused(r) = check_ending(template, end_bit, text) {
+                return Written::Refused(r);
+            }
+            let block = plan_curve(curve);
+            let drawn = block.answer;
+            if let Judged::Refused(r) = drawn {
+                return Written::Refused(r);
+            }
+            finish_curve(sizes, image, template, &fields, bits, end_bit, text, block)
+        }
     }
-    let template = template_in(sheet);
-    if let Judged::Refused(r) = check_ending(template, sheet.end_bit, text) {
-        return Written::Refused(r);
+}
+
+// The values of slots, by sorts, whole numbers and Singles.
+fn spread(slots: [Slot; 21], sorts: &mut [u8], wholes: &mut [i64], singles: &mut [f32])
+    requires { ⌜ Long (now sorts) (now wholes) (now singles) ⌝ }
+    ensures { λ _. ⌜ Spread slots (now (sorts .exit)) (now (wholes .exit)) (now (singles .exit)) ⌝ }
+{
+    let mut i: usize = 0;
+    while i < 21 {
+        let slot = slots[i];
+        let value = slot.value;
+        match value {
+            Value::Whole(figure) => {
+                sorts[i] = 0;
+                wholes[i] = figure;
+            }
+            Value::Single(x) => {
+                sorts[i] = 1;
+                singles[i] = x;
+            }
+            Value::Missing => {
+                sorts[i] = 2;
+            }
+        }
+        i += 1;
     }
-    let block = plan_curve(curve);
-    let drawn = block.answer;
-    if let Judged::Refused(r) = drawn {
-        return Written::Refused(r);
+}
+
+// `build` of a sheet whose values are lent by sorts, whole numbers and Singles: nothing of it is copied. The level makes no
+// difference.
+pub fn build_lent(
+    kind: u8,
+    image: &mut [u8],
+    template: Template,
+    end_bit: bool,
+    sorts: &[u8],
+    wholes: &[i64],
+    singles: &[f32],
+    text: &[u8],
+    domain: Domain,
+    points: &[i64],
+) -> Written
+    requires { ⌜ Long (now sorts) (now wholes) (now singles) ⌝ }
+    ensures { λ r. ⌜ ((level : Level) → (let outcome = buildOf kind (now (image .entry)) (sheetLent template «end_bit» level (now (sorts .entry)) (now (wholes .entry)) (now (singles .entry))) (now (text .entry)) domain (now (points .entry)) in
+        (writtenSaid r (now (image .exit)) ≡ outcome) × (now (image .exit) ≡ afterwards (now (image .entry)) outcome))) ⌝ }
+{
+    match memory::image_sizes(kind, image.len()) {
+        SizesAnswer::Refused(r) => Written::Refused(r),
+        SizesAnswer::Are(sizes) => build_in(
+            sizes,
+            image,
+            template,
+            end_bit,
+            sorts,
+            wholes,
+            singles,
+            text,
+            domain,
+            points,
+        ),
     }
-    finish_curve(sizes, image, template, plan, sheet.end_bit, text, block)
+}
+
+// `build_curve` of a sheet so lent.
+pub fn build_curve_lent(
+    kind: u8,
+    image: &mut [u8],
+    template: Template,
+    end_bit: bool,
+    sorts: &[u8],
+    wholes: &[i64],
+    singles: &[f32],
+    text: &[u8],
+    curve: Curve,
+) -> Written
+    requires { ⌜ Long (now sorts) (now wholes) (now singles) ⌝ }
+    ensures { λ r. ⌜ ((level : Level) → (let outcome = buildCurve kind (now (image .entry)) (sheetLent template «end_bit» level (now (sorts .entry)) (now (wholes .entry)) (now (singles .entry))) (now (text .entry)) curve in
+        (writtenSaid r (now (image .exit)) ≡ outcome) × (now (image .exit) ≡ afterwards (now (image .entry)) outcome))) ⌝ }
+{
+    match memory::image_sizes(kind, image.len()) {
+        SizesAnswer::Refused(r) => Written::Refused(r),
+        SizesAnswer::Are(sizes) => build_curve_in(
+            sizes,
+            image,
+            template,
+            end_bit,
+            sorts,
+            wholes,
+            singles,
+            text,
+            curve,
+        ),
+    }
 }
 
 // Writes the image of a sheet: the fields and the end bit by value, the closing text, and the points and deviations by turns,
@@ -208,10 +313,24 @@ pub fn build(
     ensures { λ r. ⌜ (let outcome = buildOf kind (now (image .entry)) sheet (now (text .entry)) domain (now (points .entry)) in
         (writtenSaid r (now (image .exit)) ≡ outcome) × (now (image .exit) ≡ afterwards (now (image .entry)) outcome)) ⌝ }
 {
-    match memory::image_sizes(kind, image.len()) {
-        SizesAnswer::Refused(r) => Written::Refused(r),
-        SizesAnswer::Are(sizes) => build_in(sizes, image, sheet, text, domain, points),
-    }
+    let mut sorts = [0u8; 21];
+    let mut wholes = [0i64; 21];
+    let mut singles = [0.0f32; 21];
+    let slots = sheet.fields;
+    spread(slots, &mut sorts, &mut wholes, &mut singles);
+    let template = sheet.template;
+    build_lent(
+        kind,
+        image,
+        template,
+        sheet.end_bit,
+        &sorts,
+        &wholes,
+        &singles,
+        text,
+        domain,
+        points,
+    )
 }
 
 // The same from a curve in place of points, by value, its starts in billionths of the span. Refused is 1 for the kind or the
@@ -223,8 +342,21 @@ pub fn build_curve(kind: u8, image: &mut [u8], sheet: Sheet, text: &[u8], curve:
     ensures { λ r. ⌜ (let outcome = buildCurve kind (now (image .entry)) sheet (now (text .entry)) curve in
         (writtenSaid r (now (image .exit)) ≡ outcome) × (now (image .exit) ≡ afterwards (now (image .entry)) outcome)) ⌝ }
 {
-    match memory::image_sizes(kind, image.len()) {
-        SizesAnswer::Refused(r) => Written::Refused(r),
-        SizesAnswer::Are(sizes) => build_curve_in(sizes, image, sheet, text, curve),
-    }
+    let mut sorts = [0u8; 21];
+    let mut wholes = [0i64; 21];
+    let mut singles = [0.0f32; 21];
+    let slots = sheet.fields;
+    spread(slots, &mut sorts, &mut wholes, &mut singles);
+    let template = sheet.template;
+    build_curve_lent(
+        kind,
+        image,
+        template,
+        sheet.end_bit,
+        &sorts,
+        &wholes,
+        &singles,
+        text,
+        curve,
+    )
 }

@@ -7,6 +7,8 @@ mod write; // write.rt: what a build writes
 
 pub use building::build;
 pub use building::build_curve;
+pub use building::build_curve_lent;
+pub use building::build_lent;
 use fields::Level;
 use fields::Template;
 use fields::Value;

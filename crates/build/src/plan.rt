@@ -1,5 +1,4 @@
 // What a build tests before it writes: the fields, the ending, and the points.
-use crate::Sheet;
 use fields::Codes;
 use fields::Domain;
 use fields::Encoded;
@@ -12,16 +11,17 @@ use fields::Value;
 use refusal::Refusal;
 ghost use mathlib.Core.Path.{_≡_};
 ghost use mathlib.Core.Bool.{_||_};
-ghost use Prim.Native.Nat.{_*_, _+_, _%_, _<_, _≤_};
+ghost use Prim.Native.Nat.{_*_, _+_, _-_, _^_, _/_, _%_, _<_, _≤_};
 ghost use lib.Dec.{eqb, ltb};
 ghost use lib.ListN.{length};
 ghost use Rattle.refusal.specs.Outcome.{refuse_if_};
 ghost use Rattle.refusal.specs.Rows.{outOfRange};
-ghost use Rattle.fields.specs.Lines.{chose, lineOf, lastField, ending};
+ghost use Rattle.fields.specs.Lines.{chose, lineOf, rowOf, lastField, ending};
 ghost use Rattle.fields.specs.Stored.{Sound};
 ghost use Rattle.fields.specs.Answers.{judgedSaid, previousSaid};
-ghost use Rattle.build.specs.Build.{templateIn, unfit, endingPieces, pairsLent, codesFor, pairCodes, tablePieces};
-ghost use Rattle.build.specs.Tested.{tested, pairAt, codesSaid, Encodes, FieldsPlanned};
+ghost use Rattle.coding.specs.Swift.{Told};
+ghost use Rattle.build.specs.Build.{unfit, endingPieces, pairsLent, codesFor, pairCodes, tablePieces};
+ghost use Rattle.build.specs.Tested.{tested, pairAt, codesSaid, Encodes, Fitting, Fit, unpacked, valueLent, Long, fieldsLent, FieldsPlanned};
 
 // A field that is to be written: its bits and its code.
 pub struct CodedField {
@@ -29,12 +29,14 @@ pub struct CodedField {
     pub code: u64,
 }
 
-// The fields of a sheet, and the bits that they need with their block, where nothing is refused.
-pub struct Plan {
-    pub answer: Judged,
-    pub fields: [CodedField; 21],
-    pub bits: u64,
+// The bits that the fields of a sheet need with their block, or 9 or 10.
+pub enum Planned {
+    Bits(u64),
+    Refused(Refusal),
 }
+
+// A field that is to be written, as a number that can be lent: its bits times this, and its code.
+pub const WIDTHS: u64 = 0x1_0000_0000;
 
 // The codes of a pair, or 10, 7 or 22.
 pub enum PairAnswer {
@@ -42,19 +44,57 @@ pub enum PairAnswer {
     Refused(Refusal),
 }
 
-// The template of the first block.
-pub fn template_in(sheet: Sheet) -> Template
-    ensures { λ r. ⌜ r ≡ templateIn sheet ⌝ }
+// The value at an index of what is lent by sorts, whole numbers and Singles: a sort 0 is a whole number, 1 a Single, any other
+// missing.
+fn value_at(sorts: &[u8], wholes: &[i64], singles: &[f32], i: usize) -> Value
+    requires { ⌜ Long (now sorts) (now wholes) (now singles) × (i < 21) ⌝ }
+    ensures { λ r. ⌜ r ≡ valueLent (now (sorts .entry)) (now (wholes .entry)) (now (singles .entry)) i ⌝ }
 {
-    sheet.template
+    match sorts[i] {
+        0 => Value::Whole(wholes[i]),
+        1 => Value::Single(singles[i]),
+        _ => Value::Missing,
+    }
+}
+
+// The code of that value, where it is told at once.
+fn swift_at(row: Row, sorts: &[u8], wholes: &[i64], singles: &[f32], i: usize) -> u64
+    requires { ⌜ Sound row × Long (now sorts) (now wholes) (now singles) × (i < 21) ⌝ }
+    ensures { λ r. ⌜ Told row (valueLent (now (sorts .entry)) (now (wholes .entry)) (now (singles .entry)) i) r ⌝ }
+{
+    coding::swift(row, value_at(sorts, wholes, singles, i))
 }
 
 // The code of a field's value, which fits its row's bits: a Single that is lent has 32.
-fn code_of(row: Row, field: u64, value: Value) -> Encoded
-    requires { ⌜ Sound row ⌝ }
-    ensures { λ r. ⌜ Encodes row field value r ⌝ }
+fn code_of(layout: Layout, field: u64, value: Value) -> Encoded
+    requires { ⌜ (1 ≤ field) × (field ≤ lastField (layout .template)) ⌝ }
+    ensures { λ r. ⌜ Encodes (rowOf layout field) field value r ⌝ }
 {
-    coding::encode_by(row, field, value)
+    coding::encode(layout, field, value)
+}
+
+// The code of a field's value, once it is known whether it was told at once. The row is not handed in, so that a loop over rows
+// that are constants keeps none in memory.
+fn code_at(
+    layout: Layout,
+    field: u64,
+    sorts: &[u8],
+    wholes: &[i64],
+    singles: &[f32],
+    swift: u64,
+) -> Encoded
+    requires { ⌜ Long (now sorts) (now wholes) (now singles) × (1 ≤ field) × (field ≤ lastField (layout .template)) ⌝ }
+    requires { ⌜ Told (rowOf layout field) (valueLent (now sorts) (now wholes) (now singles) (field - 1)) swift ⌝ }
+    ensures { λ r. ⌜ Encodes (rowOf layout field) field (valueLent (now (sorts .entry)) (now (wholes .entry)) (now (singles .entry)) (field - 1)) r ⌝ }
+{
+    if swift < coding::NONE {
+        return Encoded::Code(swift);
+    }
+    code_of(
+        layout,
+        field,
+        value_at(sorts, wholes, singles, field as usize - 1),
+    )
 }
 
 // The latest choice behind a field.
@@ -68,48 +108,98 @@ fn choice_behind(template: Template, field: u64, code: u64, latest: u64) -> u64
     latest
 }
 
-// 9 or 10, field by field, each by the latest choice before it.
-pub fn plan_fields(sheet: Sheet) -> Plan
-    ensures { λ r. ⌜ FieldsPlanned sheet r ⌝ }
+// The number of a field.
+fn packed(width: u64, code: u64) -> u64
+    requires { ⌜ Fitting width code ⌝ }
+    ensures { λ r. ⌜ (r / 2 ^ 32 ≡ width) × (r % 2 ^ 32 ≡ code) ⌝ }
 {
-    let template = template_in(sheet);
-    let last = fields::last_field(template) as usize;
-    let mut fields = [CodedField { width: 1, code: 0 }; 21];
+    width * WIDTHS + code
+}
+
+// 9 or 10, field by field, each by the latest choice before it; the fields go into `codes`. Each loop has rows of its own, and
+// an end that is known when it is compiled: so no row is picked at run time.
+pub fn plan_fields(
+    template: Template,
+    sorts: &[u8],
+    wholes: &[i64],
+    singles: &[f32],
+    codes: &mut [u64],
+) -> Planned
+    requires { ⌜ Long (now sorts) (now wholes) (now singles) × Fit 21 (unpacked (now codes)) ⌝ }
+    ensures { λ r. ⌜ FieldsPlanned (fieldsLent template (now (sorts .entry)) (now (wholes .entry)) (now (singles .entry))) (unpacked (now (codes .exit))) r ⌝ }
+{
+    let basic = fields::basic_fields() as usize;
     let mut precision: u64 = 0;
     let mut bits: u64 = 10;
     let mut i: usize = 0;
-    while i < last {
+    while i < basic {
         let field = i as u64 + 1;
-        let slot = sheet.fields[i];
-        let value = slot.value;
+        let row = fields::basic_row(field);
+        let swift = swift_at(row, sorts, wholes, singles, i);
         let layout = Layout {
-            template,
-            precision,
+            template: Template::Bridge,
+            precision: 0,
         };
-        let row = fields::row_of(layout, field);
-        match code_of(row, field, value) {
+        match code_at(layout, field, sorts, wholes, singles, swift) {
             Encoded::Refused(r) => {
-                return Plan {
-                    answer: Judged::Refused(r),
-                    fields,
-                    bits,
-                };
+                return Planned::Refused(r);
             }
             Encoded::Code(code) => {
-                fields[i] = CodedField {
-                    width: row.width,
-                    code,
-                };
-                precision = choice_behind(template, field, code, precision);
+                codes[i] = packed(row.width, code);
             }
         }
         bits += row.width;
         i += 1;
     }
-    Plan {
-        answer: Judged::Stands,
-        fields,
-        bits,
+    match template {
+        Template::Bridge => {
+            let last = fields::last_field(Template::Bridge) as usize;
+            while i < last {
+                let field = i as u64 + 1;
+                let row = fields::bridge_row(precision, field);
+                let swift = swift_at(row, sorts, wholes, singles, i);
+                let layout = Layout {
+                    template: Template::Bridge,
+                    precision,
+                };
+                match code_at(layout, field, sorts, wholes, singles, swift) {
+                    Encoded::Refused(r) => {
+                        return Planned::Refused(r);
+                    }
+                    Encoded::Code(code) => {
+                        codes[i] = packed(row.width, code);
+                        precision = choice_behind(Template::Bridge, field, code, precision);
+                    }
+                }
+                bits += row.width;
+                i += 1;
+            }
+            Planned::Bits(bits)
+        }
+        Template::Resistance => {
+            let last = fields::last_field(Template::Resistance) as usize;
+            while i < last {
+                let field = i as u64 + 1;
+                let row = fields::resistance_row(precision, field);
+                let swift = swift_at(row, sorts, wholes, singles, i);
+                let layout = Layout {
+                    template: Template::Resistance,
+                    precision,
+                };
+                match code_at(layout, field, sorts, wholes, singles, swift) {
+                    Encoded::Refused(r) => {
+                        return Planned::Refused(r);
+                    }
+                    Encoded::Code(code) => {
+                        codes[i] = packed(row.width, code);
+                        precision = choice_behind(Template::Resistance, field, code, precision);
+                    }
+                }
+                bits += row.width;
+                i += 1;
+            }
+            Planned::Bits(bits)
+        }
     }
 }
 

@@ -4,6 +4,7 @@
 use crate::drawing::CurvePlan;
 use crate::plan::CodedField;
 use crate::plan::PairAnswer;
+use crate::plan::WIDTHS;
 use crate::plan::code_pair;
 use fields::Domain;
 use fields::Template;
@@ -11,7 +12,7 @@ use memory::Sizes;
 use stream::Cursor;
 ghost use mathlib.Core.Path.{_≡_};
 ghost use mathlib.Core.List.{map};
-ghost use Prim.Native.Nat.{ℕ, _+_, _*_, _^_, _≤_, _<_};
+ghost use Prim.Native.Nat.{ℕ, min, _+_, _*_, _^_, _≤_, _<_};
 ghost use lib.ListN.{length, getD, take};
 ghost use lib.Seq.{slice};
 ghost use Rattle.memory.specs.Image.{streamBits, streamNumber, imageOf};
@@ -19,35 +20,46 @@ ghost use Rattle.memory.specs.Answers.{Whole};
 ghost use Rattle.memory.specs.Pieces.{piece, pack, needed};
 ghost use Rattle.layout.specs.Pieces.{blockPieces};
 ghost use Rattle.build.specs.Build.{pairsLent, codesFor, tablePieces};
-ghost use Rattle.build.specs.Tested.{piecesOf, Accepted, fieldPiece, Fit, pairAt, codedFields, codedCurve, Tested};
-ghost use Rattle.build.specs.Filled.{Room, Filled, Begun, codedPair, codedPairs, sevenPieces, codedEnding, codedSheet};
+ghost use Rattle.build.specs.Tested.{piecesOf, Accepted, fieldPiece, unpacked, Fit, pairAt, codedFields, codedCurve, Tested};
+ghost use Rattle.build.specs.Filled.{Room, Filled, Begun, codedPair, codedPairs, codedEnding, codedSheet};
 
 // The bits of a point, and of a pair.
 const POINT_BITS: u64 = 16;
 
 const PAIR_BITS: usize = 37;
 
-// The fields from index `first` up to `end`.
+// The fields from index `first` up to `end`, as many at a time as 49 bits hold.
 fn lay_fields(
     sizes: Sizes,
     image: &mut [u8],
     start: Cursor,
-    fields: [CodedField; 21],
+    fields: &[u64],
     first: usize,
     end: usize,
 ) -> Cursor
-    requires { ⌜ Room sizes (now image) start (slice first end (map fieldPiece fields)) ⌝ }
-    requires { ⌜ (first ≤ end) × (end ≤ 21) × Fit 21 fields ⌝ }
-    ensures { λ r. ⌜ Filled sizes (now (image .entry)) start (slice first end (map fieldPiece fields)) (now (image .exit)) r ⌝ }
+    requires { ⌜ Room sizes (now image) start (slice first end (map fieldPiece (unpacked (now fields)))) ⌝ }
+    requires { ⌜ (first < end) × (end ≤ 21) × Fit 21 (unpacked (now fields)) ⌝ }
+    ensures { λ r. ⌜ Filled sizes (now (image .entry)) start (slice first end (map fieldPiece (unpacked (now (fields .entry))))) (now (image .exit)) r ⌝ }
 {
     let mut cursor = start;
+    let mut code: u64 = 0;
+    let mut width: usize = 0;
     let mut i = first;
     while i < end {
         let field = fields[i];
-        cursor = cursor.append(sizes, image, field.width as usize, field.code);
-        i += 1;
+        let more = (field / WIDTHS) as usize;
+        if width + more <= 49 {
+            code += (field % WIDTHS) << width;
+            width += more;
+            i += 1;
+        } else {
+            cursor = cursor.append(sizes, image, width, code);
+            code = field % WIDTHS;
+            width = more;
+            i += 1;
+        }
     }
-    cursor
+    cursor.append(sizes, image, width, code)
 }
 
 // A block's selector 0 and its template number.
@@ -112,7 +124,7 @@ fn lay_table(
     lay_pairs(sizes, image, pairs, points)
 }
 
-// Block 41, whose pieces have their codes.
+// Block 41, whose pieces have their codes, as many at a time as 49 bits hold.
 fn lay_curve(
     sizes: Sizes,
     image: &mut [u8],
@@ -125,35 +137,55 @@ fn lay_curve(
     ensures { λ r. ⌜ Filled sizes (now (image .entry)) start (take count (map fieldPiece codes)) (now (image .exit)) r ⌝ }
 {
     let mut cursor = start;
+    let mut code: u64 = 0;
+    let mut width: usize = 0;
     let mut i: usize = 0;
     while i < count {
-        let code = codes[i];
-        cursor = cursor.append(sizes, image, code.width as usize, code.code);
-        i += 1;
+        let piece = codes[i];
+        let more = piece.width as usize;
+        if width + more <= 49 {
+            code += piece.code << width;
+            width += more;
+            i += 1;
+        } else {
+            cursor = cursor.append(sizes, image, width, code);
+            code = piece.code;
+            width = more;
+            i += 1;
+        }
     }
-    cursor
+    if width == 0 {
+        return cursor;
+    }
+    cursor.append(sizes, image, width, code)
 }
 
-// A character of the text.
-fn character(text: &[u8], i: usize) -> u64
-    requires { ⌜ (i < length (now text)) × ((j : ℕ) → getD (now text) j 0 < 128) ⌝ }
-    ensures { λ r. ⌜ (r ≡ getD (now (text .entry)) i 0) × (r < 128) ⌝ }
+// The characters from index i up to `end`, seven at most, as one code.
+fn gathered(text: &[u8], i: usize, end: usize) -> u64
+    requires { ⌜ (i ≤ end) × (end ≤ i + 7) × (end ≤ length (now text)) × ((j : ℕ) → getD (now text) j 0 < 128) ⌝ }
+    ensures { λ r. ⌜ r ≡ pack (slice i end (map (piece 7) (now (text .entry)))) ⌝ }
 {
-    text[i] as u64
+    let mut code: u64 = 0;
+    let mut j = end;
+    while i < j {
+        j -= 1;
+        code = 128 * code + text[j] as u64;
+    }
+    code
 }
 
-// Seven characters from index i on, as one code.
-fn seven(text: &[u8], i: usize) -> u64
-    requires { ⌜ (i + 7 ≤ length (now text)) × ((j : ℕ) → getD (now text) j 0 < 128) ⌝ }
-    ensures { λ r. ⌜ (r ≡ pack (sevenPieces (now (text .entry)) i)) × (r < 2 ^ 49) ⌝ }
+// The end of seven characters from index i on, or of the text.
+fn seven_on(i: usize, n: usize) -> usize
+    requires { ⌜ i ≤ n ⌝ }
+    ensures { λ r. ⌜ r ≡ min (i + 7) n ⌝ }
 {
-    let last = 128 * character(text, i + 6) + character(text, i + 5);
-    let four = 128 * (128 * last + character(text, i + 4)) + character(text, i + 3);
-    let six = 128 * (128 * four + character(text, i + 2)) + character(text, i + 1);
-    128 * six + character(text, i)
+    if 7 < n - i {
+        return i + 7;
+    }
+    n
 }
 
-// The text in 7-bit characters, seven at a time while they last. The zero that ends it needs no writing.
+// The text in 7-bit characters, seven at a time. The zero that ends it needs no writing.
 fn lay_text(sizes: Sizes, image: &mut [u8], start: Cursor, text: &[u8]) -> Cursor
     requires { ⌜ Room sizes (now image) start (map (piece 7) (now text)) ⌝ }
     requires { ⌜ ((i : ℕ) → getD (now text) i 0 < 128) ⌝ }
@@ -162,13 +194,10 @@ fn lay_text(sizes: Sizes, image: &mut [u8], start: Cursor, text: &[u8]) -> Curso
     let mut cursor = start;
     let mut i: usize = 0;
     let n = text.len();
-    while 7 <= n - i {
-        cursor = cursor.append(sizes, image, 49, seven(text, i));
-        i += 7;
-    }
     while i < n {
-        cursor = cursor.append(sizes, image, 7, character(text, i));
-        i += 1;
+        let end = seven_on(i, n);
+        cursor = cursor.append(sizes, image, 7 * (end - i), gathered(text, i, end));
+        i = end;
     }
     cursor
 }
@@ -184,10 +213,10 @@ fn lay_ending(sizes: Sizes, image: &mut [u8], cursor: Cursor, end_bit: bool, tex
 }
 
 // Basic, the first block and the template's own fields, into a cleared image. What stood there before is gone.
-fn lay_front(sizes: Sizes, image: &mut [u8], template: Template, fields: [CodedField; 21]) -> Cursor
-    requires { ⌜ Whole sizes (now image) × Fit 21 fields ⌝ }
-    requires { ⌜ needed (codedFields template fields) ≤ streamBits sizes ⌝ }
-    ensures { λ r. ⌜ Begun sizes (codedFields template fields) (now (image .exit)) r ⌝ }
+fn lay_front(sizes: Sizes, image: &mut [u8], template: Template, fields: &[u64]) -> Cursor
+    requires { ⌜ Whole sizes (now image) × Fit 21 (unpacked (now fields)) ⌝ }
+    requires { ⌜ needed (codedFields template (unpacked (now fields))) ≤ streamBits sizes ⌝ }
+    ensures { λ r. ⌜ Begun sizes (codedFields template (unpacked (now (fields .entry)))) (now (image .exit)) r ⌝ }
 {
     stream::clear(image);
     let basic = fields::basic_fields() as usize;
@@ -212,16 +241,16 @@ pub fn write_table(
     sizes: Sizes,
     image: &mut [u8],
     template: Template,
-    fields: [CodedField; 21],
+    fields: &[u64],
     end_bit: bool,
     text: &[u8],
     domain: Domain,
     points: &[i64],
 )
-    requires { ⌜ Whole sizes (now image) × Tested fields (now text) ⌝ }
+    requires { ⌜ Whole sizes (now image) × Tested (unpacked (now fields)) (now text) ⌝ }
     requires { ⌜ Accepted (tablePieces domain (pairsLent (now points))) × (length (now points) ≤ 254) ⌝ }
-    requires { ⌜ needed (codedSheet template fields «end_bit» (now text) (piecesOf (tablePieces domain (pairsLent (now points))))) ≤ streamBits sizes ⌝ }
-    ensures { λ _. ⌜ now (image .exit) ≡ imageOf sizes (pack (codedSheet template fields «end_bit» (now (text .entry)) (piecesOf (tablePieces domain (pairsLent (now (points .entry))))))) ⌝ }
+    requires { ⌜ needed (codedSheet template (unpacked (now fields)) «end_bit» (now text) (piecesOf (tablePieces domain (pairsLent (now points))))) ≤ streamBits sizes ⌝ }
+    ensures { λ _. ⌜ now (image .exit) ≡ imageOf sizes (pack (codedSheet template (unpacked (now (fields .entry))) «end_bit» (now (text .entry)) (piecesOf (tablePieces domain (pairsLent (now (points .entry))))))) ⌝ }
 {
     let table = lay_front(sizes, image, template, fields);
     let ending = lay_table(sizes, image, table, domain, points);
@@ -233,15 +262,15 @@ pub fn write_curve(
     sizes: Sizes,
     image: &mut [u8],
     template: Template,
-    fields: [CodedField; 21],
+    fields: &[u64],
     end_bit: bool,
     text: &[u8],
     curve: CurvePlan,
 )
-    requires { ⌜ Whole sizes (now image) × Tested fields (now text) ⌝ }
+    requires { ⌜ Whole sizes (now image) × Tested (unpacked (now fields)) (now text) ⌝ }
     requires { ⌜ Fit 104 (curve .codes) × (curve .count ≤ 104) ⌝ }
-    requires { ⌜ needed (codedSheet template fields «end_bit» (now text) (codedCurve curve)) ≤ streamBits sizes ⌝ }
-    ensures { λ _. ⌜ now (image .exit) ≡ imageOf sizes (pack (codedSheet template fields «end_bit» (now (text .entry)) (codedCurve curve))) ⌝ }
+    requires { ⌜ needed (codedSheet template (unpacked (now fields)) «end_bit» (now text) (codedCurve curve)) ≤ streamBits sizes ⌝ }
+    ensures { λ _. ⌜ now (image .exit) ≡ imageOf sizes (pack (codedSheet template (unpacked (now (fields .entry))) «end_bit» (now (text .entry)) (codedCurve curve))) ⌝ }
 {
     let codes = curve.codes;
     let block = lay_front(sizes, image, template, fields);

@@ -1,5 +1,7 @@
 -- `plan::code_of` meets its contract.
 use borrow.Author.Needs.{needs}
+use Rattle.fields.specs.Lines.{rowOf}
+use Rattle.fields.proofs.RowLaws.{row-sound}
 use Rattle.coding.proofs.Lent.{lent-real}
 use Rattle.build.proofs.Coding.{encodes}
 use Rattle.build.proofs.plan.code_of.Statement.{statement}
@@ -9,7 +11,7 @@ returns : tie.Need-returns
 returns c =
     let s = c .before in
     let a = s .args in
-    encodes (a .row) (a .field) (a .value) (c .encode-by .result) (s .pre) (lent-real (a .value) (s .good .1 .1 .0)) (c .encode-by .ensures)
+    encodes (rowOf (a .layout) (a .field)) (a .field) (a .value) (c .encode .result) (row-sound (a .layout) (a .field) (s .pre .0) (s .pre .1)) (lent-real (a .value) (s .good .1 .1 .0)) (c .encode .ensures)
 
 pub code-of-spec : {M : Type 1} → statement M
 code-of-spec = tie.close (tie.spec (λ c κs. search needs) returns)

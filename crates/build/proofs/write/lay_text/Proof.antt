@@ -1,67 +1,58 @@
 -- `write::lay_text` meets its contract.
-use mathlib.Core.Path.{_≡_, refl, sym}
-use mathlib.Core.List.{[], map, append-nil}
-use Prim.Native.Nat.{_≤_, _-_}
+use mathlib.Core.Path.{_≡_, refl}
+use mathlib.Core.List.{map}
+use Prim.Native.Nat.{_-_, _≤_}
 use borrow.Author.Needs.{needs}
 use native.Mathlib.Omega.{arith}
 use lib.ListN.{length, drop}
 use Rattle.memory.specs.Pieces.{piece}
-use Rattle.build.specs.Filled.{sevenPieces}
-use Rattle.build.proofs.Filling.{Filling, filling-none, filling-more, joined-inside, joined-more, code-inside, code-more, filled}
-use Rattle.build.proofs.TextTurns.{text-left, text-end, seven-left, seven-fits}
+use Rattle.build.proofs.Filling.{Filling, filling-none, joined-inside, joined-more, filled}
+use Rattle.build.proofs.TextTurns.{chars, chars-bits, chars-fit, chars-left, chars-lt, chars-end}
 use Rattle.build.proofs.write.lay_text.Statement.{statement}
 use Rattle.build.proofs.write.lay_text.Tie as tie
 
 abbrev Inv-loop : tie.InvT-loop
 Inv-loop sizes image₀ text cursor₀ i₀ n image cursor i =
-    (i ≤ length text) × ((length image ≡ length image₀) × Filling sizes image₀ cursor₀ (map (piece 7) text) image cursor (map (piece 7) (drop i text)))
+    (i ≤ length text) × ((length image ≡ length image₀) × Filling sizes image₀ cursor₀ (map (piece 7) text) image cursor (drop i (map (piece 7) text)))
 
 abbrev μ-loop : tie.MeasureT-loop
 μ-loop sizes image₀ text cursor₀ i₀ n image cursor i = length text - i
 
-abbrev Inv-loop2 : tie.InvT-loop2
-Inv-loop2 sizes image₀ text cursor₀ i₀ n image cursor i =
-    (i ≤ length text) × ((length image ≡ length image₀) × Filling sizes image₀ cursor₀ (map (piece 7) (drop i₀ text)) image cursor (map (piece 7) (drop i text)))
-
-abbrev μ-loop2 : tie.MeasureT-loop2
-μ-loop2 = μ-loop
-
-append-requires : tie.Need-append-requires Inv-loop μ-loop Inv-loop2 μ-loop2
-append-requires c κs =
+gathered-requires : tie.Need-gathered-requires Inv-loop μ-loop
+gathered-requires c κs =
     let s = c .before .before .before .before .before .before in
     let l = c .before .before .before .loop in
-    let turn = seven-left (s .args .text .now) (l .i) (omega (arith, c .before .before .loop-test .taken)) in
-    ((joined-inside (s .args .sizes) (sevenPieces (s .args .text .now) (l .i)) _ turn (l .inv .1 .1) (omega arith) (omega arith), c .seven .ensures .1), l .inv .1 .1 .room .free .below)
+    let end = c .before .seven-on .ensures in
+    (omega (arith, end, l .inv .0), omega (arith, end), omega (arith, end), s .pre .1)
 
-loop-again : tie.Need-loop-again Inv-loop μ-loop Inv-loop2 μ-loop2
-loop-again c =
-    let s = c .before .before .before .before .before .before .before .before .before in
-    let l = c .before .before .before .before .before .before .loop in
+append-requires : tie.Need-append-requires Inv-loop μ-loop
+append-requires c κs =
+    let s = c .before .before .before .before .before .before .before in
+    let l = c .before .before .before .before .loop in
     let text = s .args .text .now in
-    let turn = seven-left text (l .i) (omega (arith, c .before .before .before .before .before .loop-test .taken)) in
-    (omega (arith, c .before .before .before .before .before .loop-test .taken), (omega (arith, c .before .before .append .kept), joined-more (s .args .sizes) (sevenPieces text (l .i)) _ turn (l .inv .1 .1) (seven-fits text (l .i) (s .pre .1)) (c .before .before .append .ensures) (c .before .before .before .seven .ensures .0)))
+    let h = c .before .before .before .loop-test .taken in
+    let at = c .before .before .seven-on .ensures in
+    let end = c .before .before .seven-on .result in
+    let bits = chars-bits text (l .i) end (omega (arith, at)) in
+    let inside = joined-inside (s .args .sizes) (chars text (l .i) end) _ (chars-left text (l .i) end (omega (arith, at)) (omega (arith, at, h))) (l .inv .1 .1) (omega (arith, bits, at, h)) (omega (arith, bits, at)) in
+    ((rw bits at inside, rw (c .gathered .ensures) (chars-lt text (l .i) end (omega (arith, at)) (s .pre .1))), l .inv .1 .1 .room .free .below)
 
-append-requires-2 : tie.Need-append-requires-2 Inv-loop μ-loop Inv-loop2 μ-loop2
-append-requires-2 c κs =
-    let s = c .before .before .before .before .before .before .before .before in
-    let l = c .before .before .before .loop2 in
-    let turn = text-left (s .args .text .now) (l .i) (c .before .before .loop2-test .taken) in
-    ((code-inside (s .args .sizes) 7 _ _ turn (l .inv .1 .1) (omega arith) (omega arith), c .character .ensures .1), l .inv .1 .1 .room .free .below)
+loop-again : tie.Need-loop-again Inv-loop μ-loop
+loop-again c =
+    let s = c .before .before .before .before .before .before .before .before .before .before in
+    let l = c .before .before .before .before .before .before .before .loop in
+    let text = s .args .text .now in
+    let h = c .before .before .before .before .before .before .loop-test .taken in
+    let at = c .before .before .before .before .before .seven-on .ensures in
+    let end = c .before .before .before .before .before .seven-on .result in
+    let bits = chars-bits text (l .i) end (omega (arith, at)) in
+    (omega (arith, at), (omega (arith, c .before .before .append .kept, l .inv .1 .0), joined-more (s .args .sizes) (chars text (l .i) end) _ (chars-left text (l .i) end (omega (arith, at)) (omega (arith, at, h))) (l .inv .1 .1) (chars-fit text (l .i) end (s .pre .1)) (rw (← bits) at (c .before .before .append .ensures)) (c .before .before .before .gathered .ensures)))
 
-loop2-again : tie.Need-loop2-again Inv-loop μ-loop Inv-loop2 μ-loop2
-loop2-again c =
-    let s = c .before .before .before .before .before .before .before .before .before .before .before in
-    let l = c .before .before .before .before .before .before .loop2 in
-    let turn = text-left (s .args .text .now) (l .i) (c .before .before .before .before .before .loop2-test .taken) in
-    (omega arith, (omega (arith, c .before .before .append2 .kept), code-more (s .args .sizes) 7 _ _ turn (l .inv .1 .1) (s .pre .1 (l .i)) (rw (c .before .before .before .character .ensures .0) at (c .before .before .append2 .ensures))))
-
-returns : tie.Need-returns Inv-loop μ-loop Inv-loop2 μ-loop2
+returns : tie.Need-returns Inv-loop μ-loop
 returns c =
-    let s = c .before .before .before .before .before .before in
-    let z = s .args .sizes in
-    let l = c .before .loop2 in
-    let rest = filled z (rw (text-end (s .args .text .now) (l .i) (c .loop2-test .left)) at (l .inv .1 .1)) in
-    filled z (filling-more z _ [] (sym (append-nil _)) (c .before .before .before .loop .inv .1 .1) rest)
+    let s = c .before .before .before .before in
+    let l = c .before .loop in
+    filled (s .args .sizes) (rw (chars-end (s .args .text .now) (l .i) (c .loop-test .left)) at (l .inv .1 .1))
 
 pub lay-text-spec : {M : Type 1} → statement M
 lay-text-spec =
@@ -69,20 +60,13 @@ lay-text-spec =
     (tie.spec
     Inv-loop
     μ-loop
-    Inv-loop2
-    μ-loop2
     (λ c. (search needs, (refl, filling-none _ (c .before .before .pre .0))))
-    (λ c. omega arith)
-    (λ c κs. (omega (arith, c .before .loop-test .taken), c .before .before .before .before .before .pre .1))
+    (λ c κs. search needs)
+    (λ c. search needs)
+    (λ c. omega (arith, c .before .seven-on .ensures))
+    gathered-requires
     append-requires
-    (λ c. omega (arith, c .before .before .before .before .before .loop-test .taken))
-    (λ c. omega (arith, c .before .before .before .before .before .loop-test .taken))
+    (λ c. omega (arith, c .before .before .before .before .before .seven-on .ensures))
     loop-again
-    (λ c. let l = c .before .loop in (l .inv .0, (refl, filling-none _ (l .inv .1 .1 .room))))
-    (λ c κs. (c .before .loop2-test .taken, c .before .before .before .before .before .before .before .pre .1))
-    append-requires-2
-    (λ c. omega arith)
-    (λ c. omega arith)
-    loop2-again
-    (λ c. omega (arith, c .before .loop2 .inv .1 .0, c .before .before .before .loop .inv .1 .0))
+    (λ c. c .before .loop .inv .1 .0)
     returns)

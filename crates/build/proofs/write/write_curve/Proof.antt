@@ -4,7 +4,7 @@ use mathlib.Core.List.{List, _++_}
 use borrow.Author.Needs.{needs}
 use Rattle.memory.specs.Image.{imageOf}
 use Rattle.memory.specs.Pieces.{Piece}
-use Rattle.build.specs.Tested.{codedCurve}
+use Rattle.build.specs.Tested.{unpacked, codedCurve}
 use Rattle.build.specs.Filled.{codedEnding}
 use Rattle.build.proofs.BuiltIn.{front-inside}
 use Rattle.build.proofs.Filling.{filling-none, room-first, filling-more, begun-room, begun-all}
@@ -13,13 +13,13 @@ use Rattle.build.proofs.write.write_curve.Tie as tie
 
 lay-front-requires : tie.Need-lay-front-requires
 lay-front-requires c κs =
-    let s = c .before .before .before .before in
+    let s = c .before .before .before .before .before in
     let a = s .args in
-    ((s .pre .0 .0, s .pre .0 .1 .fit), front-inside (a .template) (a .fields) (a .end-bit) (a .text .now) (codedCurve (a .curve)) (s .pre .1 .1))
+    ((s .pre .0 .0, s .pre .0 .1 .fit), front-inside (a .template) (unpacked (a .fields .now)) (a .end-bit) (a .text .now) (codedCurve (a .curve)) (s .pre .1 .1))
 
 lay-curve-requires : tie.Need-lay-curve-requires
 lay-curve-requires c κs =
-    let s = c .before .before .before .before .before .before .before .before in
+    let s = c .before .before .before .before .before .before .before .before .before in
     let a = s .args in
     let z = a .sizes in
     let ending : List Piece = codedEnding (a .end-bit) (a .text .now) in
@@ -28,7 +28,7 @@ lay-curve-requires c κs =
 
 lay-back-requires : tie.Need-lay-back-requires
 lay-back-requires c κs =
-    let s = c .before .before .before .before .before .before .before .before .before .before .before .before in
+    let s = c .before .before .before .before .before .before .before .before .before .before .before .before .before in
     let a = s .args in
     let z = a .sizes in
     let ending : List Piece = codedEnding (a .end-bit) (a .text .now) in
@@ -37,7 +37,7 @@ lay-back-requires c κs =
 
 returns : tie.Need-returns
 returns c =
-    let s = c .before .before .before .before .before .before .before .before .before .before .before .before .before .before .before in
+    let s = c .before .before .before .before .before .before .before .before .before .before .before .before .before .before .before .before in
     let a = s .args in
     let z = a .sizes in
     let ending : List Piece = codedEnding (a .end-bit) (a .text .now) in

@@ -5,7 +5,7 @@ use borrow.Author.Needs.{needs}
 use Rattle.memory.specs.Image.{imageOf}
 use Rattle.memory.specs.Pieces.{Piece}
 use Rattle.build.specs.Build.{pairsLent, tablePieces}
-use Rattle.build.specs.Tested.{piecesOf}
+use Rattle.build.specs.Tested.{unpacked, piecesOf}
 use Rattle.build.specs.Filled.{codedEnding}
 use Rattle.build.proofs.BuiltIn.{front-inside}
 use Rattle.build.proofs.Filling.{filling-none, room-first, filling-more, begun-room, begun-all}
@@ -14,13 +14,13 @@ use Rattle.build.proofs.write.write_table.Tie as tie
 
 lay-front-requires : tie.Need-lay-front-requires
 lay-front-requires c κs =
-    let s = c .before .before .before in
+    let s = c .before .before .before .before in
     let a = s .args in
-    ((s .pre .0 .0, s .pre .0 .1 .fit), front-inside (a .template) (a .fields) (a .end-bit) (a .text .now) (piecesOf (tablePieces (a .domain) (pairsLent (a .points .now)))) (s .pre .1 .1))
+    ((s .pre .0 .0, s .pre .0 .1 .fit), front-inside (a .template) (unpacked (a .fields .now)) (a .end-bit) (a .text .now) (piecesOf (tablePieces (a .domain) (pairsLent (a .points .now)))) (s .pre .1 .1))
 
 lay-table-requires : tie.Need-lay-table-requires
 lay-table-requires c κs =
-    let s = c .before .before .before .before .before .before .before in
+    let s = c .before .before .before .before .before .before .before .before in
     let a = s .args in
     let z = a .sizes in
     let table : List Piece = piecesOf (tablePieces (a .domain) (pairsLent (a .points .now))) in
@@ -30,7 +30,7 @@ lay-table-requires c κs =
 
 lay-back-requires : tie.Need-lay-back-requires
 lay-back-requires c κs =
-    let s = c .before .before .before .before .before .before .before .before .before .before .before in
+    let s = c .before .before .before .before .before .before .before .before .before .before .before .before in
     let a = s .args in
     let z = a .sizes in
     let table : List Piece = piecesOf (tablePieces (a .domain) (pairsLent (a .points .now))) in
@@ -40,7 +40,7 @@ lay-back-requires c κs =
 
 returns : tie.Need-returns
 returns c =
-    let s = c .before .before .before .before .before .before .before .before .before .before .before .before .before .before in
+    let s = c .before .before .before .before .before .before .before .before .before .before .before .before .before .before .before in
     let a = s .args in
     let z = a .sizes in
     let table : List Piece = piecesOf (tablePieces (a .domain) (pairsLent (a .points .now))) in

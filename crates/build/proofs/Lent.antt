@@ -1,0 +1,89 @@
+-- The values of a sheet, lent by sorts, whole numbers and Singles.
+use mathlib.Core.Path.{_≡_, refl, ap, ap₂, _∙_}
+use mathlib.Core.Bool.{Bool}
+use mathlib.Core.List.{List, [], _∷_, _++_}
+use mathlib.Core.Logic.{_≢_}
+use Prim.Native.Nat.{ℕ, zero, suc, _<_}
+use native.Mathlib.Omega.{arith}
+use lib.IntN.{ℤ, pos}
+use lib.Ieee.{Float, nan}
+use lib.ListN.{length, getD}
+use Rattle.refusal.specs.Outcome.{good, _>>=_}
+use Rattle.refusal.proofs.Outcomes.{bind-same}
+use Rattle.memory.specs.Pieces.{piece}
+use Rattle.fields.specs.declared.Value.the-variants.{Missing}
+use Rattle.fields.specs.declared.Template.{Template}
+use Rattle.fields.specs.declared.Level.{Level}
+use Rattle.fields.specs.Rules.{encode}
+use Rattle.fields.specs.Lines.{Line, chose, basic, templateLines, numberOf}
+use Rattle.layout.specs.Pieces.{blockPieces}
+use Rattle.build.specs.declared.Sheet.{Sheet}
+use Rattle.build.specs.declared.plan.CodedField.{CodedField}
+use Rattle.build.specs.declared.plan.Planned.{Planned}
+use Rattle.build.specs.Build.{slot, lent, linePieces, fieldPieces}
+use Rattle.build.specs.Tested.{bySort, valueLent, slotsLent, Long, sheetLent, fieldsLent, FieldsPlanned}
+
+-- ---- one value
+
+-- Inside a list, what it would give behind its end does not matter.
+inside-same : {X : Type 0} (l : List X) (i : ℕ) (d d' : X) → i < length l → getD l i d ≡ getD l i d'
+inside-same [] i d d' h = absurd (omega arith)
+inside-same (x ∷ l) zero d d' h = refl
+inside-same (x ∷ l) (suc i) d d' h = inside-same l i d d' (omega arith)
+
+pub by-other : (sort : ℕ) (whole : ℤ) (single : Float) → sort ≢ 0 → sort ≢ 1 → Missing ≡ bySort sort whole single
+by-other zero whole single no0 no1 = absurd (no0 refl)
+by-other (suc zero) whole single no0 no1 = absurd (no1 refl)
+by-other (suc (suc n)) whole single no0 no1 = refl
+
+-- By the sort as the code reads it.
+pub sorted-at : (sorts : List ℕ) (wholes : List ℤ) (singles : List Float) (i : ℕ) → i < length sorts → bySort (getD sorts i 0) (getD wholes i (pos 0)) (getD singles i nan) ≡ valueLent sorts wholes singles i
+sorted-at sorts wholes singles i h = ap (λ (n : ℕ). bySort n (getD wholes i (pos 0)) (getD singles i nan)) (inside-same sorts i 0 2 h)
+
+-- ---- the slots
+
+slots-length : (n : ℕ) (sorts : List ℕ) (wholes : List ℤ) (singles : List Float) → length sorts ≡ n → length wholes ≡ n → length singles ≡ n → length (slotsLent sorts wholes singles) ≡ n
+slots-length n [] wholes singles a b c = a
+slots-length n (x ∷ sorts) [] singles a b c = b
+slots-length n (x ∷ sorts) (y ∷ wholes) [] a b c = c
+slots-length zero (x ∷ sorts) (y ∷ wholes) (z ∷ singles) a b c = absurd (omega arith)
+slots-length (suc n) (x ∷ sorts) (y ∷ wholes) (z ∷ singles) a b c = ap suc (slots-length n sorts wholes singles (omega arith) (omega arith) (omega arith))
+
+pub slot-at : (sorts : List ℕ) (wholes : List ℤ) (singles : List Float) (i : ℕ) → i < length sorts → i < length wholes → i < length singles →
+    getD (slotsLent sorts wholes singles) i (slot Missing) .value ≡ valueLent sorts wholes singles i
+slot-at [] wholes singles i a b c = absurd (omega arith)
+slot-at (x ∷ sorts) [] singles i a b c = absurd (omega arith)
+slot-at (x ∷ sorts) (y ∷ wholes) [] i a b c = absurd (omega arith)
+slot-at (x ∷ sorts) (y ∷ wholes) (z ∷ singles) zero a b c = refl
+slot-at (x ∷ sorts) (y ∷ wholes) (z ∷ singles) (suc i) a b c = slot-at sorts wholes singles i (omega arith) (omega arith) (omega arith)
+
+-- ---- a sheet of them
+
+module _ {sorts : List ℕ} {wholes : List ℤ} {singles : List Float} (long : Long sorts wholes singles) where
+  pub long-slots : length (slotsLent sorts wholes singles) ≡ 21
+  long-slots = slots-length 21 sorts wholes singles (long .sorted) (long .whole) (long .single)
+
+  pub long-slot : (i : ℕ) → i < 21 → getD (slotsLent sorts wholes singles) i (slot Missing) .value ≡ valueLent sorts wholes singles i
+  long-slot i h = slot-at sorts wholes singles i (omega (arith, long .sorted)) (omega (arith, long .whole)) (omega (arith, long .single))
+
+-- What its fields come to, whatever the rest of it.
+module _ (template : Template) (endBit : Bool) (level : Level) (sorts : List ℕ) (wholes : List ℤ) (singles : List Float) where
+  abbrev bare : Sheet
+  bare = fieldsLent template sorts wholes singles
+
+  abbrev whole : Sheet
+  whole = sheetLent template endBit level sorts wholes singles
+
+  lines-alike : (lines : List Line) (latest f : ℕ) → linePieces bare lines latest f ≡ linePieces whole lines latest f
+  unfolding linePieces
+  lines-alike [] latest f = refl
+  lines-alike (l ∷ lines) latest f = bind-same (encode (l .rowAt latest) f (lent whole f)) (λ code.
+      ap (λ o. o >>= λ rest. good (piece (l .rowAt latest .width) code ∷ rest)) (lines-alike lines (chose (l .sets) code latest) (suc f)))
+
+  fields-alike : fieldPieces bare ≡ fieldPieces whole
+  unfolding fieldPieces
+  fields-alike = ap₂ (λ o p. o >>= λ basics. p >>= λ own. good (basics ++ (blockPieces (numberOf template) ++ own)))
+      (lines-alike basic 0 1) (lines-alike (templateLines template) 0 (suc (length basic)))
+
+  pub planned-alike : {fields : List CodedField} {r : Planned} → FieldsPlanned bare fields r → FieldsPlanned whole fields r
+  planned-alike p = record { said = p .said ∙ fields-alike; fit = p .fit; count = p .count }

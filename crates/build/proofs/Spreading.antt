@@ -1,0 +1,82 @@
+-- Slots spread over sorts, whole numbers and Singles, one after the other.
+use mathlib.Core.Path.{_≡_, refl, ap, ap₂, _∙_}
+use mathlib.Core.List.{List, [], _∷_}
+use Prim.Native.Nat.{ℕ, suc, _+_, _≤_, _<_}
+use native.Mathlib.Decide.{ℕ-discrete}
+use native.Mathlib.Omega.{arith}
+use lib.IntN.{ℤ, pos}
+use lib.Ieee.{Float, nan}
+use lib.ListN.{length, getD, set, length-set}
+use lib.Seq.{getD-set-same, getD-set-other}
+use Rattle.fields.specs.declared.Value.{Value}
+use Rattle.fields.specs.declared.Value.the-variants.{Whole, Single, Missing}
+use Rattle.build.specs.declared.Slot.{Slot}
+use Rattle.build.specs.declared.Sheet.{Sheet}
+use Rattle.build.specs.Build.{slot}
+use Rattle.build.specs.Tested.{valueLent, slotsLent, Long, Spread, sheetLent}
+
+-- The first n of them, with `none` for a slot behind the last.
+pub record SpreadTo (none : Slot) (slots : List Slot) (sorts : List ℕ) (wholes : List ℤ) (singles : List Float) (n : ℕ) : Type 0 where
+  pub most : n ≤ 21
+  pub long : Long sorts wholes singles
+  pub each : (j : ℕ) → j < n → valueLent sorts wholes singles j ≡ getD slots j none .value
+
+pub spread-none : {none : Slot} {slots : List Slot} {sorts : List ℕ} {wholes : List ℤ} {singles : List Float} → Long sorts wholes singles → SpreadTo none slots sorts wholes singles 0
+spread-none l = record { most = omega arith; long = l; each = λ j h. absurd (omega arith) }
+
+-- One more, by its sort.
+module _ {none : Slot} {slots : List Slot} {sorts : List ℕ} {wholes : List ℤ} {singles : List Float} {n : ℕ} (s : SpreadTo none slots sorts wholes singles n) (h : n < 21) where
+  step : (sorts' : List ℕ) (wholes' : List ℤ) (singles' : List Float) → Long sorts' wholes' singles' →
+      ((j : ℕ) → (j ≡ n → ⊥) → valueLent sorts' wholes' singles' j ≡ valueLent sorts wholes singles j) →
+      valueLent sorts' wholes' singles' n ≡ getD slots n none .value → SpreadTo none slots sorts' wholes' singles' (n + 1)
+  step sorts' wholes' singles' l others here = record { most = omega arith; long = l; each = λ j k. go j k (ℕ-discrete j n) }
+    where
+      go : (j : ℕ) → j < n + 1 → Dec (j ≡ n) → valueLent sorts' wholes' singles' j ≡ getD slots j none .value
+      go j k (yes e) = rw e here
+      go j k (no e) = others j e ∙ s .each j (omega arith)
+
+  pub spread-whole : {z : ℤ} → getD slots n none .value ≡ Whole z → SpreadTo none slots (set sorts n 0) (set wholes n z) singles (n + 1)
+  spread-whole {z} e =
+      step (set sorts n 0) (set wholes n z) singles
+      (record { sorted = length-set sorts n 0 ∙ s .long .sorted; whole = length-set wholes n z ∙ s .long .whole; single = s .long .single })
+      (λ j no. rw (getD-set-other sorts n j 0 2 no, getD-set-other wholes n j z (pos 0) no))
+      (rw (e, getD-set-same sorts n 0 2 (omega (arith, s .long .sorted)), getD-set-same wholes n z (pos 0) (omega (arith, s .long .whole))))
+
+  pub spread-single : {x : Float} → getD slots n none .value ≡ Single x → SpreadTo none slots (set sorts n 1) wholes (set singles n x) (n + 1)
+  spread-single {x} e =
+      step (set sorts n 1) wholes (set singles n x)
+      (record { sorted = length-set sorts n 1 ∙ s .long .sorted; whole = s .long .whole; single = length-set singles n x ∙ s .long .single })
+      (λ j no. rw (getD-set-other sorts n j 1 2 no, getD-set-other singles n j x nan no))
+      (rw (e, getD-set-same sorts n 1 2 (omega (arith, s .long .sorted)), getD-set-same singles n x nan (omega (arith, s .long .single))))
+
+  pub spread-missing : getD slots n none .value ≡ Missing → SpreadTo none slots (set sorts n 2) wholes singles (n + 1)
+  spread-missing e =
+      step (set sorts n 2) wholes singles
+      (record { sorted = length-set sorts n 2 ∙ s .long .sorted; whole = s .long .whole; single = s .long .single })
+      (λ j no. rw (getD-set-other sorts n j 2 2 no))
+      (rw (e, getD-set-same sorts n 2 2 (omega (arith, s .long .sorted))))
+
+-- All of them.
+all-lent : (none : Slot) (slots : List Slot) (sorts : List ℕ) (wholes : List ℤ) (singles : List Float) →
+    length sorts ≡ length slots → length wholes ≡ length slots → length singles ≡ length slots →
+    ((j : ℕ) → j < length slots → valueLent sorts wholes singles j ≡ getD slots j none .value) → slotsLent sorts wholes singles ≡ slots
+all-lent none [] [] wholes singles a b c f = refl
+all-lent none [] (x ∷ sorts) wholes singles a b c f = absurd (omega arith)
+all-lent none (s ∷ slots) [] wholes singles a b c f = absurd (omega arith)
+all-lent none (s ∷ slots) (x ∷ sorts) [] singles a b c f = absurd (omega arith)
+all-lent none (s ∷ slots) (x ∷ sorts) (y ∷ wholes) [] a b c f = absurd (omega arith)
+all-lent none (s ∷ slots) (x ∷ sorts) (y ∷ wholes) (z ∷ singles) a b c f =
+    ap₂ (λ (v : Value) (l : List Slot). slot v ∷ l) (f 0 (omega arith))
+    (all-lent none slots sorts wholes singles (omega arith) (omega arith) (omega arith) (λ j h. f (suc j) (omega arith)))
+
+pub spread-all : {none : Slot} {slots : List Slot} {sorts : List ℕ} {wholes : List ℤ} {singles : List Float} {n : ℕ} →
+    SpreadTo none slots sorts wholes singles n → 21 ≤ n → length slots ≡ 21 → Spread slots sorts wholes singles
+spread-all {none} {slots} {sorts} {wholes} {singles} s h e = record {
+  long = s .long;
+  each = all-lent none slots sorts wholes singles (omega (arith, s .long .sorted)) (omega (arith, s .long .whole)) (omega (arith, s .long .single)) (λ j k. s .each j (omega arith));
+}
+
+-- The sheet whose slots were spread is the one that is so lent.
+pub spread-sheet : (sheet : Sheet) {sorts : List ℕ} {wholes : List ℤ} {singles : List Float} → Spread (sheet .fields) sorts wholes singles →
+    sheetLent (sheet .template) (sheet .«end_bit») (sheet .level) sorts wholes singles ≡ sheet
+spread-sheet sheet s = ap (λ (l : List Slot). record { template = sheet .template; fields = l; «end_bit» = sheet .«end_bit»; level = sheet .level }) (s .each)

@@ -1,0 +1,39 @@
+-- `plan::value_at` meets its contract.
+use mathlib.Core.Path.{sym, ap, _∙_}
+use native.Mathlib.Omega.{arith}
+use borrow.Author.Needs.{needs}
+use mir.Syntax.{w64}
+use mir.Facts.{toZ-ofZ}
+use lib.IntN.{ℤ, pos}
+use lib.Ieee.{nan}
+use lib.ListN.{getD}
+use Rattle.fields.specs.declared.Value.the-variants.{Whole}
+use Rattle.build.specs.Tested.{bySort}
+use Rattle.build.proofs.Lent.{by-other, sorted-at}
+use Rattle.build.proofs.plan.value_at.Statement.{statement}
+use Rattle.build.proofs.plan.value_at.Tie as tie
+
+returns : tie.Need-returns
+returns c =
+    let s = c .before .before .before in
+    let a = s .args in
+    let x : ℤ = getD (a .wholes .now) (a .i) (pos 0) in
+    ap (λ (z : ℤ). Whole z) (toZ-ofZ {w = w64} {z = x} (record { sfits = c .t11 .given }))
+    ∙ ap (λ n. bySort n x (getD (a .singles .now) (a .i) nan)) (sym (c .before .match .keys1))
+    ∙ sorted-at (a .sorts .now) (a .wholes .now) (a .singles .now) (a .i) (omega (arith, s .pre .0 .sorted))
+
+returns-2 : tie.Need-returns-2
+returns-2 c =
+    let s = c .before .before .before in
+    let a = s .args in
+    ap (λ n. bySort n (getD (a .wholes .now) (a .i) (pos 0)) (getD (a .singles .now) (a .i) nan)) (sym (c .before .match .keys2))
+    ∙ sorted-at (a .sorts .now) (a .wholes .now) (a .singles .now) (a .i) (omega (arith, s .pre .0 .sorted))
+
+returns-3 : tie.Need-returns-3
+returns-3 c =
+    let s = c .before .before in
+    let a = s .args in
+    by-other _ _ _ (c .match .rest .0 .1) (c .match .rest .1) ∙ sorted-at (a .sorts .now) (a .wholes .now) (a .singles .now) (a .i) (omega (arith, s .pre .0 .sorted))
+
+pub value-at-spec : {M : Type 1} → statement M
+value-at-spec = tie.close (tie.spec (λ c. search needs) (λ c. search needs) (λ c. search needs) (λ c. search needs) (λ c. search needs) returns returns-2 returns-3)
