@@ -1,11 +1,12 @@
 -- What is told may be handed in again, and a kind goes by the image's length.
 -- Assumes nothing.
-use mathlib.Core.Path.{_≡_, refl, ap}
+use mathlib.Core.Path.{_≡_, refl, ap, ap₂, _∙_}
 use mathlib.Core.Bool.{Bool, true, false, not}
 use mathlib.Core.List.{List, [], _∷_, map, map-append}
 use Prim.Native.Nat.{ℕ, zero, suc, _-_, _<_}
 use native.Mathlib.Omega.{arith}
-use lib.IntN.{pos}
+use lib.IntN.{ℤ, pos}
+use lib.Ieee.{Float}
 use lib.Dec.{eqb}
 use lib.ListN.{length, replicate, length-map}
 use borrow.Author.Tests.{eqb-true}
@@ -20,8 +21,11 @@ use Rattle.fields.specs.declared.Template.the-variants.{Bridge, Resistance}
 use Rattle.fields.specs.Lines.{numberOf}
 use Rattle.fields.specs.declared.Level.the-variants.{Owner}
 use Rattle.build.specs.Build.{slot}
+use Rattle.build.specs.Tested.{Spread, sheetLent}
+use Rattle.build.proofs.Spreading.{spread-sheet}
 use Rattle.layout.specs.Pieces.{endCode}
-use Rattle.dartelm.specs.Values.{yes, templateBy, valueOf, byFlags, noValue, slotOf, sheetOf}
+use Rattle.dartelm.specs.declared.values.DartelmFields.{DartelmFields}
+use Rattle.dartelm.specs.Values.{yes, levelOf, templateBy, valueOf, byFlags, noValue, slotOf, sheetOf}
 use Rattle.dartelm.specs.Answers.{padded}
 use Rattle.dartelm.specs.Calls.{kindOf}
 use Rattle.dartelm.specs.Sheets.{AllFields, fieldNumbers, fieldsTold}
@@ -62,6 +66,12 @@ pub sheet-again : (s : AllFields) → sheetOf (fieldsTold (fieldNumbers s)) ≡
     }
 sheet-again s =
     rw (template-again (s .summary .template), map-append, values-again (s .values), zeros-again, flag-again (s .summary .«end_bit»), length-map (s .values) byFlags, length-map (s .values) slot)
+
+-- The sheet record handed in is the one that its values are lent of.
+pub handed-sheet : (f : DartelmFields) {t : Template} {endBit : Bool} {sorts : List ℕ} {wholes : List ℤ} {singles : List Float} → t ≡ templateBy (f .template) → endBit ≡ yes (f .«end_bit»)
+    → Spread (map slotOf (f .values)) sorts wholes singles → sheetLent t endBit (levelOf (f .level)) sorts wholes singles ≡ sheetOf f
+handed-sheet f {sorts = sorts} {wholes} {singles} e g s =
+    ap₂ (λ (x : Template) (b : Bool). sheetLent x b (levelOf (f .level)) sorts wholes singles) e g ∙ spread-sheet (sheetOf f) s
 
 -- ---- kinds
 

@@ -292,7 +292,23 @@ pub extern "C" fn dartelm_build(
         (r ≡ told writeAnswer [] outcome) × (now (image .exit) ≡ afterwards (now (image .entry)) outcome)) ⌝ }
 {
     let found = coding::domain_of(domain as u64);
-    wrote(build::build(kind, image, values::sheet_of(fields), text, found, points))
+    let template = values::template_of(fields.template);
+    let mut sorts = [0u8; 21];
+    let mut wholes = [0i64; 21];
+    let mut singles = [0.0f32; 21];
+    values::spread(fields, &mut sorts, &mut wholes, &mut singles);
+    wrote(build::build_lent(
+        kind,
+        image,
+        template,
+        values::is_yes(fields.end_bit),
+        &sorts,
+        &wholes,
+        &singles,
+        text,
+        found,
+        points,
+    ))
 }
 
 // Builds an image from a sheet, the closing text, and a curve.
@@ -308,7 +324,22 @@ pub extern "C" fn dartelm_build_curve(
         (r ≡ told writeAnswer [] outcome) × (now (image .exit) ≡ afterwards (now (image .entry)) outcome)) ⌝ }
 {
     let drawn = values::curve_of(curve);
-    wrote(build::build_curve(kind, image, values::sheet_of(fields), text, drawn))
+    let template = values::template_of(fields.template);
+    let mut sorts = [0u8; 21];
+    let mut wholes = [0i64; 21];
+    let mut singles = [0.0f32; 21];
+    values::spread(fields, &mut sorts, &mut wholes, &mut singles);
+    wrote(build::build_curve_lent(
+        kind,
+        image,
+        template,
+        values::is_yes(fields.end_bit),
+        &sorts,
+        &wholes,
+        &singles,
+        text,
+        drawn,
+    ))
 }
 
 // Changes one field, as a writer of a level.

@@ -2,20 +2,20 @@
 // not 0.
 ghost use mathlib.Core.Path.{_≡_};
 ghost use mathlib.Core.List.{map};
+ghost use Rattle.build.specs.Tested.{Long, Spread};
 ghost use Rattle.dartelm.specs.Values.{
+  yes,
   levelOf,
   templateBy,
   dashBy,
   valueOf,
   byFlags,
   noValue,
-  sheetOf,
+  slotOf,
   segmentOf,
   termOf,
   curveOf,
 };
-use build::Sheet;
-use build::Slot;
 use fields::Curve;
 use fields::Level;
 use fields::Segment;
@@ -65,6 +65,13 @@ pub struct DartelmCurve {
     pub count: u64,
     pub segments: [DartelmCurveSegment; 20],
     pub terms: [DartelmCurveTerm; 30],
+}
+
+// A flag as C hands it in.
+pub fn is_yes(given: u8) -> bool
+    ensures { λ r. ⌜ r ≡ yes given ⌝ }
+{
+    given != 0
 }
 
 // A level as C hands it in: 0 owner, 1 calibration room, 2 maker; any other is taken as the owner, the least of them.
@@ -149,27 +156,25 @@ pub fn no_value() -> DartelmValue
     }
 }
 
-// The sheet record that C hands in.
-pub fn sheet_of(given: DartelmFields) -> Sheet
-    ensures { λ r. ⌜ r ≡ sheetOf given ⌝ }
+// The values that C hands in, by sorts, whole numbers and Singles.
+pub fn spread(given: DartelmFields, sorts: &mut [u8], wholes: &mut [i64], singles: &mut [f32])
+    requires { ⌜ Long (now sorts) (now wholes) (now singles) ⌝ }
+    ensures { λ _. ⌜ Spread (map slotOf (given .values)) (now (sorts .exit)) (now (wholes .exit)) (now (singles .exit)) ⌝ }
 {
-    let values = given.values;
-    let mut fields = [Slot {
-        value: Value::Missing,
-    }; 21];
-    let mut at: usize = 0;
-    while at < 21 {
-        let value = values[at];
-        fields[at] = Slot {
-            value: value_of(value),
-        };
-        at += 1;
-    }
-    Sheet {
-        template: template_of(given.template),
-        fields,
-        end_bit: given.end_bit != 0,
-        level: level_of(given.level),
+    let mut i: usize = 0;
+    while i < 21 {
+        let value = given.values[i];
+        if value.is_missing != 0 {
+            sorts[i] = 2;
+        } else if value.is_single != 0 {
+            sorts[i] = 1;
+            singles[i] = value.single;
+        } else {
+            let whole = value.whole;
+            sorts[i] = 0;
+            wholes[i] = whole;
+        }
+        i += 1;
     }
 }
 
