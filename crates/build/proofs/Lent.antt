@@ -42,14 +42,7 @@ sorted-at sorts wholes singles i h = ap (λ (n : ℕ). bySort n (getD wholes i (
 
 -- ---- the slots
 
-slots-length : (n : ℕ) (sorts : List ℕ) (wholes : List ℤ) (singles : List Float) → length sorts ≡ n → length wholes ≡ n → length singles ≡ n → length (slotsLent sorts wholes singles) ≡ n
-slots-length n [] wholes singles a b c = a
-slots-length n (x ∷ sorts) [] singles a b c = b
-slots-length n (x ∷ sorts) (y ∷ wholes) [] a b c = c
-slots-length zero (x ∷ sorts) (y ∷ wholes) (z ∷ singles) a b c = absurd (omega arith)
-slots-length (suc n) (x ∷ sorts) (y ∷ wholes) (z ∷ singles) a b c = ap suc (slots-length n sorts wholes singles (omega arith) (omega arith) (omega arith))
-
-pub slot-at : (sorts : List ℕ) (wholes : List ℤ) (singles : List Float) (i : ℕ) → i < length sorts → i < length wholes → i < length singles →
+slot-at : (sorts : List ℕ) (wholes : List ℤ) (singles : List Float) (i : ℕ) → i < length sorts → i < length wholes → i < length singles →
     getD (slotsLent sorts wholes singles) i (slot Missing) .value ≡ valueLent sorts wholes singles i
 slot-at [] wholes singles i a b c = absurd (omega arith)
 slot-at (x ∷ sorts) [] singles i a b c = absurd (omega arith)
@@ -60,9 +53,6 @@ slot-at (x ∷ sorts) (y ∷ wholes) (z ∷ singles) (suc i) a b c = slot-at sor
 -- ---- a sheet of them
 
 module _ {sorts : List ℕ} {wholes : List ℤ} {singles : List Float} (long : Long sorts wholes singles) where
-  pub long-slots : length (slotsLent sorts wholes singles) ≡ 21
-  long-slots = slots-length 21 sorts wholes singles (long .sorted) (long .whole) (long .single)
-
   pub long-slot : (i : ℕ) → i < 21 → getD (slotsLent sorts wholes singles) i (slot Missing) .value ≡ valueLent sorts wholes singles i
   long-slot i h = slot-at sorts wholes singles i (omega (arith, long .sorted)) (omega (arith, long .whole)) (omega (arith, long .single))
 

@@ -1,5 +1,6 @@
 // Documents 01 and 02: build an image from a sheet, a text, and calibration points or a curve. The two calls ask nothing of
-// their caller, and a refusal writes to no buffer.
+// their caller, and a refusal writes to no buffer. `build_lent` and `build_curve_lent`, for the layer of firmware, ask for 21
+// values in each of their three lists.
 mod building; // building.rt: an image from a sheet
 mod drawing; // drawing.rt: what a build tests of a curve
 mod plan; // plan.rt: what a build tests before it writes

@@ -39,7 +39,7 @@ module _ (p q : ℕ) where
   single-anywhere (Geometric scale) x e = no-value e
   single-anywhere Ieee x e = ranged (not (finite x)) (toBits binary32 x) e
 
-  pub code-anywhere : (row : Row) (v : Value) {code : ℕ} → encode row p v ≡ good code → encode row q v ≡ good code
+  code-anywhere : (row : Row) (v : Value) {code : ℕ} → encode row p v ≡ good code → encode row q v ≡ good code
   unfolding encode
   code-anywhere row (Whole z) e = whole-anywhere (row .rule) (row .width) z e
   code-anywhere row (Single x) e = single-anywhere (row .rule) x e

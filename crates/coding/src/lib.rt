@@ -1,7 +1,7 @@
 // Document 01, "Layout": what a code means, whether it may stand, and the code that a value is stored at. The definitions are
-// those of `fields`. No call faults, whatever i64 or f32 it is given. `decode`, `judge` and `encode_by` ask that the row is sound
-// (`Sound` in fields/specs/Stored.antt), which every row of the table is, `decode` that the code has no more bits than the row,
-// `pair_of` that it has no more than a pair, and `encode` that the template has the field.
+// those of `fields`. No call faults, whatever i64 or f32 it is given. `decode`, `judge`, `swift` and `encode_by` ask that the row is
+// sound (`Sound` in fields/specs/Stored.antt), which every row of the table is, `decode` that the code has no more bits than the
+// row, `pair_of` that it has no more than a pair, and `encode` that the template has the field.
 
 mod calibration; // calibration.rt: the calibration table
 mod curves; // curves.rt: curves
