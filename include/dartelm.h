@@ -1,7 +1,8 @@
 /* Dartelm: the IEEE 1451.4 data sheet (TEDS) in a sender's memory chip, from its image to a reading. For C99 and C++.
  *
- * Every call returns one struct by value. Its number is 0 where the call is accepted; else it is a refusal's, DARTELM_WRONG_IMAGE
- * to DARTELM_WRONG_TICKS, with the refusal's place beside it, and every other member is 0. (0 as a float is +0.0. A Single that
+ * Every call but dartelm_version and dartelm_kind_of returns one struct by value. Its number is 0 where the call is accepted; else it is a refusal's, DARTELM_WRONG_IMAGE
+ * to DARTELM_WRONG_TICKS, with the refusal's place beside it, and every other member is 0 (of a page's answer, which has no
+ * number, all). (0 as a float is +0.0. A Single that
  * is returned is finite.) A refused call writes nothing; no call writes anything but the image of a build, a change or a commit,
  * and the buffer of an index.
  *
@@ -40,7 +41,8 @@ enum {
     DARTELM_WRONG_SUM = 2,        /* A page does not add up. Place: the page, from 0. */
     DARTELM_PAST_END = 3,         /* The stream ends before the sheet does. Place: the first bit of what is cut off. */
     DARTELM_WRONG_BLOCK = 4,      /* A block that is not known here; a reading from template 32. Place: its selector's bit. */
-    DARTELM_OUTSIDE_TABLE = 5,    /* A code that the table has not. Place: its first bit. */
+    DARTELM_OUTSIDE_TABLE = 5,    /* Code not in the field's table; in a fetch also an entry that the field cannot have. Place: its
+                                   * first bit. */
     DARTELM_NOT_FINITE = 6,       /* A Single that is infinite, or a NaN. Place: its first bit. */
     DARTELM_NOT_RISING = 7,       /* Calibration points that do not rise. Place: the later one's bit; in a build its index. */
     DARTELM_NO_SUCH = 8,          /* No such field, calibration point, segment, term or character. Place: the number given. */
@@ -53,6 +55,7 @@ enum {
     DARTELM_NO_SPAN = 13,         /* A reading needs fields 7, 8, 10 and 11, and 10 below 11. Place: the first that is missing,
                                    * else 11. */
     DARTELM_OUTSIDE_SPAN = 14,    /* A reading's input is too far outside the span. Place: 0. */
+    /* 15 is not returned. */
     DARTELM_WRONG_LIST = 16,      /* A list of points that is odd or longer than 254. Place: its length. */
     DARTELM_BLANK_CHIP = 17,      /* Every page is blank: nothing has been written to this chip. Place: 0. */
     DARTELM_SHORT_INDEX = 18,     /* A buffer too short for an index, or an index too short to be one. Place: the bytes needed. */
@@ -135,7 +138,7 @@ enum {
 
 /* The dash that a reading is taken on. Any other byte is taken as 1. */
 enum {
-    DARTELM_DASH_LARGE = 0, /* takes every calibration point, 127 at most */
+    DARTELM_DASH_LARGE = 0, /* takes every calibration point that a chip holds: 99 at most */
     DARTELM_DASH_SMALL = 1  /* takes 32 at most */
 };
 

@@ -147,7 +147,7 @@ fn held(answer: FieldAnswer) -> DartelmFieldAnswer
     }
 }
 
-// Reads field 1 to 21.
+// Reads a field by its number.
 #[no_mangle]
 pub extern "C" fn dartelm_field(kind: u8, image: &[u8], field: u64) -> DartelmFieldAnswer
     ensures { λ r. ⌜ r ≡ fieldCall kind (now (image .entry)) field ⌝ }
@@ -155,7 +155,7 @@ pub extern "C" fn dartelm_field(kind: u8, image: &[u8], field: u64) -> DartelmFi
     held(sheet::read_field(kind, image, field))
 }
 
-// Fetches field 1 to 21 through an index, without a check of the whole sheet.
+// Fetches a field through an index, without a check of the whole sheet.
 #[no_mangle]
 pub extern "C" fn dartelm_fetch(
     kind: u8,

@@ -29,8 +29,8 @@ pageCheck kind image = do
   z ← imageSizes kind (length image)
   sums z image
 
--- Where they turn an image down, a fetch and a read are refused alike, whatever the index holds. An image that a check turns down later, with 3 to 7,
--- has no index.
+-- Where they turn an image down, a fetch and a read are refused alike, whatever the index holds. An image that a check turns down later, for
+-- its stream (3 to 7, 22, 24 or 25), has no index.
 abbrev pub RefusedAlike : Type 0
 RefusedAlike =
     (kind : ℕ) (image made : List ℕ) (f : ℕ) (r : Refusal) → pageCheck kind image ≡ refused r →

@@ -33,7 +33,7 @@ writtenFrom level f (line ∷ lines) =
 abbrev pub writtenBy : Level → Template → List ℕ
 writtenBy level template = writtenFrom level 1 (linesOf template)
 
--- An owner changes field 21; a calibration room also 7, 8, 10, 11, 18, 19 and 20; a maker every field that could be changed so far. Of template 32
+-- An owner changes field 21; a calibration room also 7, 8, 10, 11, 18, 19 and 20; a maker every field that can be changed alone. Of template 32
 -- by the marks of its lines (Note 7).
 pub record FieldsOfLevels : Type 0 where
   pub owner : writtenBy Owner Bridge ≡ (21 ∷ [])

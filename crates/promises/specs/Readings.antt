@@ -13,7 +13,7 @@ use Rattle.reading.specs.declared.Dash.the-variants.{Large, Small}
 use Rattle.reading.specs.declared.Reading.{Reading}
 use Rattle.reading.specs.Reading.{takeReading}
 
--- Note 8: refusal 15 never occurs any more.
+-- Note 8: refusal 15 never occurs.
 abbrev pub NeverFifteen : Type 0
 NeverFifteen = (kind : ℕ) (image : List ℕ) (v : ℤ) (dash : Dash) (r : Refusal) → takeReading kind image v dash ≡ refused r → r .number ≡ 15 → ⊥
 

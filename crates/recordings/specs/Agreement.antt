@@ -51,6 +51,6 @@ FailsFirst =
     contents kind image ≡ good c → unlike (length slow) (length fast) ≡ false →
     (compare kind image slow fast ≡ good (tickFails k)) ↔ FirstFailing kind image (refreshes slow) (refreshes fast) k
 
--- Two empty lists agree, whatever the image.
+-- Two empty lists agree, of every accepted image.
 abbrev pub EmptyAgree : Type 0
 EmptyAgree = (kind : ℕ) (image : List ℕ) (c : Contents) → contents kind image ≡ good c → compare kind image [] [] ≡ good agree

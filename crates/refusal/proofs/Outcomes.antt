@@ -74,7 +74,7 @@ pub bind-same : {A B : Type 0} (o : Outcome A) {f g : A → Outcome B} → ((a :
 bind-same (good a) h = h a
 bind-same (refused r) h = refl
 
--- Numbers that no stream is turned down with: 15, which no row has any more, and 17, a blank chip's.
+-- Numbers that no stream is turned down with: 15, which no row has, and 17, a blank chip's.
 abbrev pub Elsewhere : ℕ → Type 0
 Elsewhere n = (n ≢ 15) × (n ≢ 17)
 

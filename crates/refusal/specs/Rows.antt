@@ -21,7 +21,8 @@ pastEnd bit = returned 3 bit
 abbrev pub wrongBlock : ℕ → Refusal
 wrongBlock selectorBit = returned 4 selectorBit
 
--- 5: code outside the table; count of points 0; all ones in a point, deviation, start, exponent or coefficient; domain 1 of a curve.
+-- 5: code outside the table; count of points 0; all ones in a point, deviation, start, exponent or coefficient; domain 1 of a curve; in a fetch the
+-- offset of an entry that the field can't have.
 abbrev pub outsideTable : ℕ → Refusal
 outsideTable bit = returned 5 bit
 
@@ -33,7 +34,7 @@ notFinite bit = returned 6 bit
 abbrev pub notRising : ℕ → Refusal
 notRising place = returned 7 place
 
--- 8: field not 1 to the template's last; pair, character, segment or term index past the last; for text, field not 3, 18 or 19.
+-- 8: field not 1 to the template's last, in a fetch too; pair, character, segment or term index past the last; for text, field not 3, 18 or 19.
 abbrev pub noSuch : ℕ → Refusal
 noSuch given = returned 8 given
 

@@ -4,7 +4,7 @@ use crate::output::put_entry;
 use crate::output::put_number;
 use refusal::Refusal;
 
-// A line a row, from 0, which is none, nor is 15 any more: what its place is, with no word for it where a row has more than one
+// Row n describes refusal n; 0 and 15 are no refusals. What its place is, with no word for it where a row has more than one
 // sort of place, and what it means.
 const ROWS: [u8; 1337] = *b"place;no row of the table\n\
     place;no such kind of chip, or an image of another length\n\
