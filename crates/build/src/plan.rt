@@ -36,7 +36,12 @@ pub enum Planned {
 }
 
 // A field that is to be written, as a number that can be lent: its bits times this, and its code.
-pub const WIDTHS: u64 = 0x1_0000_0000;
+pub const CODE_BITS: u64 = 32;
+
+pub const CODES: u64 = 0xffff_ffff;
+
+// The code 0 in one bit.
+pub const NO_CODE: u64 = 0x1_0000_0000;
 
 // The codes of a pair, or 10, 7 or 22.
 pub enum PairAnswer {
@@ -113,7 +118,7 @@ fn packed(width: u64, code: u64) -> u64
     requires { ⌜ Fitting width code ⌝ }
     ensures { λ r. ⌜ (r / 2 ^ 32 ≡ width) × (r % 2 ^ 32 ≡ code) ⌝ }
 {
-    width * WIDTHS + code
+    (width << CODE_BITS) | code
 }
 
 // 9 or 10, field by field, each by the latest choice before it; the fields go into `codes`. Each loop has rows of its own, and

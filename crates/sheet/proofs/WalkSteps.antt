@@ -14,7 +14,7 @@ use Rattle.refusal.specs.Rows.{wrongBlock}
 use Rattle.refusal.proofs.Outcomes.{told}
 use Rattle.memory.specs.declared.Sizes.{Sizes}
 use Rattle.memory.specs.Bits.{fieldAt}
-use Rattle.memory.specs.Image.{streamBits}
+use Rattle.memory.specs.Image.{streamBits, streamNumber}
 use Rattle.memory.specs.Answers.{Whole}
 use Rattle.stream.specs.declared.cursor.Cursor.{Cursor}
 use Rattle.fields.specs.declared.Row.{Row}
@@ -126,47 +126,70 @@ basic-most template = omega (arith, length-append basic (templateLines template)
 pub stream-holds : {z : Sizes} {image : List ℕ} → Whole z image → {n : ℕ} → n ≤ 248 → n ≤ streamBits z
 stream-holds w h = omega (arith, w .paged)
 
--- The judging comes first to the first line.
-pub basic-start : (template : Template) {z : Sizes} {image : List ℕ} → Whole z image → let s = streamIn z image in
-    Come s 0 firstSelector (basicChoice s) (linesFrom template 1 (length basic)) 0
-basic-start template {z} {image} w =
-    let s : Stream = streamIn z image in
-    subst₂ (λ o ls. Come s 0 firstSelector o ls 0) (sym (keep-bind (choiceOn basic 0) (parse s (fieldsOf basic 0) 0))) (sym (basic-lines template))
-    (basic-come s (stream-holds w (omega arith)))
+-- The judging has come to field f of Basic at a place, and to one of a template's own fields.
+abbrev pub BasicCome : Template → Sizes → List ℕ → ℕ → ℕ → Type 0
+BasicCome t z image f at = let s = streamIn z image in (0 < f) × Come s 0 firstSelector (basicChoice s) (linesFrom t f (length basic)) at
 
-pub own-start : {z : Sizes} {image : List ℕ} {layout : Layout} → Lies z image layout → {n : ℕ} → n ≡ length basic → let s = streamIn z image in
-    Come s (layout .precision) (behindFields layout) (ownChoice s (layout .template)) (linesFrom (layout .template) (n + 1) (lastField (layout .template))) ownStart
+abbrev pub OwnCome : Sizes → List ℕ → Layout → ℕ → ℕ → Type 0
+OwnCome z image layout f at =
+    let s = streamIn z image in
+    let t = layout .template in
+    (length basic < f) × Come s (layout .precision) (behindFields layout) (ownChoice s t) (linesFrom t f (lastField t)) at
+
+-- It comes first to the first.
+pub basic-start : (t : Template) {z : Sizes} {image : List ℕ} → Whole z image → BasicCome t z image 1 0
+basic-start t {z} {image} w =
+    let s : Stream = streamIn z image in (
+      omega arith,
+      subst₂ (λ o ls. Come s 0 firstSelector o ls 0) (sym (keep-bind (choiceOn basic 0) (parse s (fieldsOf basic 0) 0))) (sym (basic-lines t))
+          (basic-come s (stream-holds w (omega arith))),
+    )
+
+pub own-start : {z : Sizes} {image : List ℕ} {layout : Layout} → Lies z image layout → {n : ℕ} → n ≡ length basic → OwnCome z image layout (n + 1) ownStart
 own-start {z} {image} {layout} h e =
     let s : Stream = streamIn z image in
-    let t : Template = layout .template in
-    subst₂ (λ o ls. Come s (layout .precision) (behindFields layout) o ls ownStart)
-    (sym (keep-bind (choiceOn (templateLines t) 0) (parse s (fieldsOf (templateLines t) 0) ownStart))) (sym (own-lines t e refl))
-    (own-come s layout (h .precise) (h .inside))
+    let t : Template = layout .template in (
+      omega arith,
+      subst₂ (λ o ls. Come s (layout .precision) (behindFields layout) o ls ownStart)
+          (sym (keep-bind (choiceOn (templateLines t) 0) (parse s (fieldsOf (templateLines t) 0) ownStart))) (sym (own-lines t e refl))
+          (own-come s layout (h .precise) (h .inside)),
+    )
 
-module _ {s : Stream} {choice end : ℕ} {answer : Outcome (Parsed ℕ)} (t : Template) (f last at : ℕ) (h : Come s choice end answer (linesFrom t f last) at) where
-  -- Behind the last field that can turn a code down.
-  pub judged-all : {closed : ℕ} → OpenBehind t closed last → closed < f → good (parsed choice end) ≡ answer
-  judged-all all l = come-open h (behind-open (linesOf t) noLine choice (f - 1) (suc last - f) rows)
-    where
-      rows : (j : ℕ) → f - 1 ≤ j → j < f - 1 + (suc last - f) → Open (getD (linesOf t) j noLine .rowAt choice)
-      rows j lo hi =
-          let e : suc j - 1 ≡ j = omega arith in
-          subst (λ (i : ℕ). Open (getD (linesOf t) i noLine .rowAt choice)) e (all choice (suc j) (omega arith) (omega arith))
+-- Behind the last field that can turn a code down.
+pub judged-all : {s : Stream} {choice end : ℕ} {answer : Outcome (Parsed ℕ)} (t : Template) (f last at : ℕ) → Come s choice end answer (linesFrom t f last) at →
+    {closed : ℕ} → OpenBehind t closed last → closed < f → good (parsed choice end) ≡ answer
+judged-all {choice = choice} t f last at h {closed} all l = come-open h (behind-open (linesOf t) noLine choice (f - 1) (suc last - f) rows)
+  where
+    rows : (j : ℕ) → f - 1 ≤ j → j < f - 1 + (suc last - f) → Open (getD (linesOf t) j noLine .rowAt choice)
+    rows j lo hi =
+        let e : suc j - 1 ≡ j = omega arith in
+        subst (λ (i : ℕ). Open (getD (linesOf t) i noLine .rowAt choice)) e (all choice (suc j) (omega arith) (omega arith))
 
-  -- At field f.
-  module _ (lo : 1 ≤ f) (hi : f ≤ last) (most : last ≤ lastField t) {row : Row} (e : row ≡ lineOf t f .rowAt choice) where
-    here-come : Come s choice end answer (lineOf t f ∷ linesFrom t (f + 1) last) at
-    here-come = subst (λ ls. Come s choice end answer ls at) (first-line t f last lo hi most) h
+-- What a turn needs and gives: the row lies at its place, a refusal is the answer, and else the judging comes on.
+pub record Turn (z : Sizes) (image : List ℕ) (row : Row) (at : ℕ) (answer : Outcome (Parsed ℕ)) (Next : ℕ → Type 0) : Type 0 where
+  pub fits : Whole z image × Sound row × (at + row .width ≤ streamBits z)
+  pub halt : (j : Judged) → judgedSaid j ≡ judge row at (fieldAt (streamNumber z image) at (row .width)) → {r : Refusal} → j ≡ Turned r → refused r ≡ answer
+  pub next : (j : Judged) → judgedSaid j ≡ judge row at (fieldAt (streamNumber z image) at (row .width)) → j ≡ Stands → Next (at + row .width)
 
-    pub judged-inside : end ≤ s .bits → at + row .width ≤ s .bits
-    judged-inside = come-inside here-come e
+turn-at : {z : Sizes} {image : List ℕ} {choice end : ℕ} {answer : Outcome (Parsed ℕ)} → Whole z image → end ≤ streamBits z →
+    (t : Template) (least f last at : ℕ) → (least < f) × Come (streamIn z image) choice end answer (linesFrom t f last) at → f ≤ last → last ≤ lastField t →
+    {row : Row} → row ≡ lineOf t f .rowAt choice →
+    Turn z image row at answer (λ (n : ℕ). (least < f + 1) × Come (streamIn z image) choice end answer (linesFrom t (f + 1) last) n)
+turn-at {z} {image} {choice} {end} {answer} whole inside t least f last at (lo, h) hi most {row} e = record {
+  fits = (whole, subst Sound (sym e) (row-sound (record { template = t; precision = choice }) f (omega arith) (omega arith)), come-inside here e inside);
+  halt = come-halt here e;
+  next = λ j g k. (omega arith, come-next here e j g k);
+}
+  where
+    here : Come (streamIn z image) choice end answer (lineOf t f ∷ linesFrom t (f + 1) last) at
+    here = subst (λ ls. Come (streamIn z image) choice end answer ls at) (first-line t f last (omega arith) hi most) h
 
-    pub judged-sound : Sound row
-    judged-sound = subst Sound (sym e) (row-sound (record { template = t; precision = choice }) f lo (omega arith))
+pub basic-turn : (t : Template) {z : Sizes} {image : List ℕ} → Whole z image → (f at : ℕ) → BasicCome t z image f at → {closed : ℕ} → f ≤ closed → closed ≤ length basic →
+    {row : Row} → row ≡ lineOf t f .rowAt 0 → Turn z image row at (basicChoice (streamIn z image)) (BasicCome t z image (f + 1))
+basic-turn t w f at h hi l = turn-at w (stream-holds w (omega arith)) t 0 f (length basic) at h (omega arith) (basic-most t)
 
-    module _ (j : Judged) (g : judgedSaid j ≡ judge row at (fieldAt (s .number) at (row .width))) where
-      pub judged-halt : {r : Refusal} → j ≡ Turned r → refused r ≡ answer
-      judged-halt = come-halt here-come e j g
-
-      pub judged-next : j ≡ Stands → Come s choice end answer (linesFrom t (f + 1) last) (at + row .width)
-      judged-next = come-next here-come e j g
+pub own-turn : {z : Sizes} {image : List ℕ} {layout : Layout} → Lies z image layout → (f at : ℕ) → OwnCome z image layout f at → {closed : ℕ} → f ≤ closed →
+    closed ≤ lastField (layout .template) → {row : Row} → row ≡ lineOf (layout .template) f .rowAt (layout .precision) →
+    Turn z image row at (ownChoice (streamIn z image) (layout .template)) (OwnCome z image layout (f + 1))
+own-turn {layout = layout} lies f at h hi l =
+    turn-at (lies .whole) (lies .inside) (layout .template) (length basic) f (lastField (layout .template)) at h (omega arith) (omega arith)

@@ -25,7 +25,9 @@ use memory::Sizes;
 use refusal::Refusal;
 use stream::Cursor;
 
-// The bits of a pair.
+// The bits of a point, and of a pair.
+const POINT_BITS: usize = 16;
+
 pub const PAIR_BITS: usize = 37;
 
 // The codes of a pair.
@@ -80,14 +82,15 @@ fn all_rise(sizes: Sizes, image: &[u8], start: Cursor, domain: Domain, count: u6
     requires { ⌜ Whole sizes (now image) × (start .at + pairBits * count ≤ streamBits sizes) ⌝ }
     ensures { λ r. ⌜ (r ≡ true → behind count (record { at = start .at + pairBits * count }) ≡ keeping length (parse (streamIn sizes (now (image .entry))) (pairsOf domain count none) (start .at))) ⌝ }
 {
-    let mut at = start.at;
+    let mut cursor = start;
     let mut least: u64 = 0;
     let mut floor: u64 = 0;
     let mut left = count;
     while 0 < left {
-        let both = stream::take(sizes, image, at, PAIR_BITS);
-        let point = both % 0x1_0000;
-        let deviation = both >> 16;
+        let read = cursor.read(sizes, image, PAIR_BITS);
+        let both = read.code;
+        let point = both & 0xffff;
+        let deviation = both >> POINT_BITS;
         if point < least {
             return false;
         }
@@ -108,7 +111,7 @@ fn all_rise(sizes: Sizes, image: &[u8], start: Cursor, domain: Domain, count: u6
             floor = sum + 1;
         }
         least = point + 1;
-        at += PAIR_BITS;
+        cursor = read.next;
         left -= 1;
     }
     true
@@ -148,8 +151,9 @@ fn take_pairs(sizes: Sizes, image: &[u8], start: Cursor, domain: Domain, count: 
     if at <= bits {
         if count <= ((bits - at) / PAIR_BITS) as u64 {
             if all_rise(sizes, image, start, domain, count) {
-                let end = at + PAIR_BITS * (count as usize);
-                return CountStep::Counted(count, Cursor { at: end });
+                let pairs = start.over(PAIR_BITS * (count as usize));
+                let end = pairs.next;
+                return CountStep::Counted(count, end);
             }
         }
     }

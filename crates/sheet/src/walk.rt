@@ -38,6 +38,7 @@ use fields::TemplateAnswer;
 use memory::Sizes;
 use refusal::Refusal;
 use stream::Cursor;
+use stream::Field;
 use stream::Taken;
 
 // A field's code.
@@ -191,15 +192,15 @@ fn take_fields(
 
 // ---- fields that lie in the stream
 
-// Whether the code of a row may stand at its place: 5 or 6.
-fn judge_at(sizes: Sizes, image: &[u8], row: Row, at: usize) -> Judged
-    requires { ⌜ Whole sizes (now image) × Sound row × (at + row .width ≤ streamBits sizes) ⌝ }
-    ensures { λ r. ⌜ judgedSaid r ≡ judge row at (fieldAt (streamNumber sizes (now (image .entry))) at (row .width)) ⌝ }
+// Whether the code of a row may stand in its field: 5 or 6.
+fn judge_at(sizes: Sizes, image: &[u8], row: Row, field: Field) -> Judged
+    requires { ⌜ Whole sizes (now image) × Sound row × (field .at + row .width ≤ streamBits sizes) ⌝ }
+    ensures { λ r. ⌜ judgedSaid r ≡ judge row (field .at) (fieldAt (streamNumber sizes (now (image .entry))) (field .at) (row .width)) ⌝ }
 {
     coding::judge(
         row,
-        at as u64,
-        stream::take(sizes, image, at, row.width as usize),
+        field.at as u64,
+        field.code(sizes, image, row.width as usize),
     )
 }
 
@@ -210,14 +211,15 @@ pub fn judge_basic(sizes: Sizes, image: &[u8]) -> Judged
     ensures { λ r. ⌜ stoodTo 0 firstSelector r ≡ basicChoice (streamIn sizes (now (image .entry))) ⌝ }
 {
     let last = fields::basic_closed();
-    let mut at: usize = 0;
+    let mut cursor = Cursor::start();
     let mut field: u64 = 1;
     while field <= last {
         let row = fields::basic_row(field);
-        if let Judged::Refused(r) = judge_at(sizes, image, row, at) {
+        let passed = cursor.over(row.width as usize);
+        if let Judged::Refused(r) = judge_at(sizes, image, row, passed.field) {
             return Judged::Refused(r);
         }
-        at += row.width as usize;
+        cursor = passed.next;
         field += 1;
     }
     Judged::Stands
@@ -229,14 +231,15 @@ fn judge_bridge(sizes: Sizes, image: &[u8], precision: u64) -> Judged
     ensures { λ r. ⌜ stoodTo precision (behindFields (layoutAt Template.Bridge precision)) r ≡ ownChoice (streamIn sizes (now (image .entry))) Template.Bridge ⌝ }
 {
     let last = fields::last_closed(Template::Bridge);
-    let mut at = OWN_FIELDS;
+    let mut cursor = Cursor { at: OWN_FIELDS };
     let mut field = fields::basic_fields() + 1;
     while field <= last {
         let row = fields::bridge_row(precision, field);
-        if let Judged::Refused(r) = judge_at(sizes, image, row, at) {
+        let passed = cursor.over(row.width as usize);
+        if let Judged::Refused(r) = judge_at(sizes, image, row, passed.field) {
             return Judged::Refused(r);
         }
-        at += row.width as usize;
+        cursor = passed.next;
         field += 1;
     }
     Judged::Stands
@@ -248,14 +251,15 @@ fn judge_resistance(sizes: Sizes, image: &[u8], precision: u64) -> Judged
     ensures { λ r. ⌜ stoodTo precision (behindFields (layoutAt Template.Resistance precision)) r ≡ ownChoice (streamIn sizes (now (image .entry))) Template.Resistance ⌝ }
 {
     let last = fields::last_closed(Template::Resistance);
-    let mut at = OWN_FIELDS;
+    let mut cursor = Cursor { at: OWN_FIELDS };
     let mut field = fields::basic_fields() + 1;
     while field <= last {
         let row = fields::resistance_row(precision, field);
-        if let Judged::Refused(r) = judge_at(sizes, image, row, at) {
+        let passed = cursor.over(row.width as usize);
+        if let Judged::Refused(r) = judge_at(sizes, image, row, passed.field) {
             return Judged::Refused(r);
         }
-        at += row.width as usize;
+        cursor = passed.next;
         field += 1;
     }
     Judged::Stands
@@ -278,11 +282,12 @@ pub fn take_template(sizes: Sizes, image: &[u8]) -> TemplateStep
     requires { ⌜ Whole sizes (now image) ⌝ }
     ensures { λ r. ⌜ templateStepSaid r ≡ parse (streamIn sizes (now (image .entry))) firstBlock firstSelector ⌝ }
 {
-    let block = stream::take(sizes, image, FIRST_BLOCK, SELECTOR_BITS + NUMBER_BITS);
-    if block % 4 != 0 {
+    let first = Field { at: FIRST_BLOCK };
+    let block = first.code(sizes, image, SELECTOR_BITS + NUMBER_BITS);
+    if block & 3 != 0 {
         return TemplateStep::Refused(refusal::wrong_block(FIRST_BLOCK as u64));
     }
-    match fields::template_of(block / 4) {
+    match fields::template_of(block >> SELECTOR_BITS) {
         TemplateAnswer::Is(template) => TemplateStep::Named(template),
         TemplateAnswer::Unknown => TemplateStep::Refused(refusal::wrong_block(FIRST_BLOCK as u64)),
     }
@@ -294,7 +299,8 @@ pub fn take_own(sizes: Sizes, image: &[u8], template: Template) -> ChoiceStep
     requires { ⌜ Whole sizes (now image) ⌝ }
     ensures { λ r. ⌜ choiceSaid r ≡ ownChoice (streamIn sizes (now (image .entry))) template ⌝ }
 {
-    let precision = stream::take(sizes, image, PRECISION, PRECISION_BITS);
+    let choice = Field { at: PRECISION };
+    let precision = choice.code(sizes, image, PRECISION_BITS);
     let layout = Layout {
         template,
         precision,

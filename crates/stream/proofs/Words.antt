@@ -1,13 +1,13 @@
 -- The code's shifts and masks.
 use mathlib.Core.Path.{_≡_, sym, ap, ap₂, _∙_}
 use Prim.Native.Nat.{ℕ, _+_, _-_, _*_, _/_, _%_, _^_, _≤_, _<_}
-use native.Mathlib.Nat.{mod-lt, le-refl, one-mul, lt-trans, lt-of-le-of-lt, div-mul-le-self, mul-assoc, add-comm}
+use native.Mathlib.Nat.{mod-lt, le-refl, one-mul, lt-trans, lt-of-le-of-lt, lt-of-lt-of-le, div-mul-le-self, mul-assoc, add-comm}
 use native.Mathlib.Omega.{arith}
 use lib.Dec.{lit<}
-use lib.Bits.{bitOr, bitAnd, or-shifted-r, and-mask, and-high}
-use lib.Pow.{pow-pos, pow-add, split, mod-pow-add, shr-shr, shr-lt, shr-le, shr-mod, shl-exact}
-use Rattle.memory.specs.Bits.{fieldAt, putAt}
-use Rattle.memory.proofs.FieldLaws.{field-lt, low-lt}
+use lib.Bits.{bitOr, bitAnd, or-shifted-r, or-zero-r, or-block, and-mask, and-high, and-block}
+use lib.Pow.{pow-pos, pow-mono, pow-add, split, mod-mod-pow, ones-lt, ones-split, shr-shr, shr-lt, shr-le, shr-mod, shl-lt, shl-exact}
+use Rattle.memory.specs.Bits.{putAt}
+use Rattle.memory.proofs.FieldLaws.{low-lt}
 
 -- `1 << width`
 pub one-shl : (width : ℕ) → width < 64 → 1 * 2 ^ width % 2 ^ 64 ≡ 2 ^ width
@@ -61,19 +61,35 @@ put-between word bits check hw h hc =
     ∙ mul-assoc hi (2 ^ bits) (2 ^ 8) ∙ ap (λ (x : ℕ). hi * x) (sym (pow-add 2 bits 8) ∙ ap (λ (x : ℕ). 2 ^ x) (add-comm bits 8)))
     ∙ or-shifted-r hi (8 + bits) (check * 2 ^ bits + word % 2 ^ bits) (low-lt word bits 8 check hc)
 
--- A word with the field of `width` bits at bit `low` taken out, and another code added there.
-module _ (word low width code : ℕ) (hw : width < 64) (h : width + low ≤ 64) (hc : code < 2 ^ width) where
-  abbrev old : ℕ
-  old = bitAnd (word / 2 ^ low) (1 * 2 ^ width % 2 ^ 64 - 1) * 2 ^ low % 2 ^ 64
+-- A word with the field of `width` bits at bit `low` cleared, and a code put in there.
+module _ (word low width code : ℕ) (hn : word < 2 ^ 64) (hw : width < 64) (h : width + low ≤ 64) (hc : code < 2 ^ width) where
+  abbrev mask : ℕ
+  mask = (1 * 2 ^ width % 2 ^ 64 - 1) * 2 ^ low % 2 ^ 64
 
-  old-is : old ≡ fieldAt word low width * 2 ^ low
-  old-is = ap (λ (x : ℕ). x * 2 ^ low % 2 ^ 64) (low-bits (word / 2 ^ low) width hw) ∙ shl-exact width low 64 (field-lt word low width) h
+  mask-is : mask ≡ (2 ^ width - 1) * 2 ^ low
+  mask-is = ap (λ (x : ℕ). (x - 1) * 2 ^ low % 2 ^ 64) (one-shl width hw) ∙ shl-exact width low 64 (ones-lt width) h
 
-  word-is : word / 2 ^ (width + low) * 2 ^ (width + low) + (fieldAt word low width * 2 ^ low + word % 2 ^ low) ≡ word
-  word-is = ap (λ (x : ℕ). word / 2 ^ (width + low) * 2 ^ (width + low) + x) (sym (mod-pow-add word width low)) ∙ split word (width + low)
+  abbrev hi : ℕ
+  hi = word / 2 ^ (width + low)
 
-  pub old-le : old ≤ word
-  old-le = omega (arith, old-is, word-is)
+  lo-lt : word % 2 ^ low < 2 ^ (width + low)
+  lo-lt = lt-of-lt-of-le (mod-lt word (pow-pos low)) (pow-mono (omega arith))
 
-  pub put-word : word - old + code * 2 ^ low % 2 ^ 64 ≡ putAt word low width code
-  put-word = omega (arith, old-is, word-is, shl-exact width low 64 hc h)
+  cleared : bitAnd word (2 ^ 64 - 1 - mask) ≡ hi * 2 ^ (width + low) + word % 2 ^ low
+  cleared =
+      let j : ℕ = 64 - (width + low) in
+      let e : 64 ≡ j + (width + low) = omega arith in
+      let outside : 2 ^ 64 - 1 - mask ≡ (2 ^ j - 1) * 2 ^ (width + low) + (2 ^ low - 1) =
+      omega (arith, mask-is, ap (λ (n : ℕ). 2 ^ n) e, ones-split j (width + low), ones-split width low) in
+      ap₂ bitAnd (sym (split word (width + low))) outside
+      ∙ and-block (width + low) hi (2 ^ j - 1) (word % 2 ^ (width + low)) (2 ^ low - 1) (mod-lt word (pow-pos (width + low)))
+      (lt-of-lt-of-le (ones-lt low) (pow-mono (omega arith)))
+      ∙ ap₂ (λ (a b : ℕ). a * 2 ^ (width + low) + b) (and-mask hi j ∙ shr-mod j (width + low) (rw (← e) hn))
+      (and-mask (word % 2 ^ (width + low)) low ∙ mod-mod-pow word width low)
+
+  pub put-word : bitOr (bitAnd word (2 ^ 64 - 1 - mask)) (code * 2 ^ low % 2 ^ 64) ≡ putAt word low width code
+  put-word =
+      let at-low : code * 2 ^ low % 2 ^ 64 ≡ 0 * 2 ^ (width + low) + code * 2 ^ low = omega (arith, shl-exact width low 64 hc h) in
+      ap₂ bitOr cleared at-low
+      ∙ or-block (width + low) hi 0 (word % 2 ^ low) (code * 2 ^ low) lo-lt (shl-lt width low hc)
+      ∙ ap₂ (λ (a b : ℕ). a * 2 ^ (width + low) + b) (or-zero-r hi) (or-shifted-r code low (word % 2 ^ low) (mod-lt word (pow-pos low)))

@@ -6,6 +6,7 @@ use Rattle.memory.specs.declared.Sizes.{Sizes}
 use Rattle.memory.specs.Image.{streamBits, takeAt}
 use Rattle.memory.specs.Answers.{Whole}
 use Rattle.stream.specs.declared.cursor.Cursor.{Cursor}
+use Rattle.stream.specs.declared.cursor.Passed.{Passed}
 use Rattle.stream.specs.declared.cursor.Taken.{Taken}
 use Rattle.stream.specs.declared.cursor.Taken.the-variants.{Field, Refused as NoField}
 
@@ -15,6 +16,10 @@ pub record InStream (z : Sizes) (image : List ℕ) (at width : ℕ) : Type 0 whe
   pub inside : at + width ≤ streamBits z
   pub some : 1 ≤ width
   pub most : width ≤ 49
+
+-- A field and the cursor behind it.
+abbrev pub passedOver : Cursor → ℕ → Passed
+passedOver cursor w = record { field = record { at = cursor .at }; next = record { at = cursor .at + w } }
 
 -- ---- the answers
 

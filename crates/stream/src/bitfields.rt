@@ -54,7 +54,7 @@ fn over_check(word: u64, bits: usize) -> u64
     ensures { λ r. ⌜ r ≡ word / 2 ^ (8 + bits) * 2 ^ bits + word % 2 ^ bits ⌝ }
 {
     let near = (1u64 << bits) - 1;
-    (word & near) | ((word >> 8) & (0xffff_ffff_ffff_ffff - near))
+    (word & near) | ((word >> 8) & !near)
 }
 
 // The field of `width` bits at bit `at` of the stream.
@@ -103,7 +103,7 @@ fn with_check(word: u64, bits: usize, check: u64) -> u64
     ensures { λ r. ⌜ r ≡ word / 2 ^ bits * 2 ^ (8 + bits) + (check * 2 ^ bits + word % 2 ^ bits) ⌝ }
 {
     let near = (1u64 << bits) - 1;
-    (word & near) | (check << bits) | ((word & (0xffff_ffff_ffff_ffff - near)) << 8)
+    (word & near) | (check << bits) | ((word & !near) << 8)
 }
 
 // A number with its field of `width` bits at bit `low` replaced by a code.
@@ -111,8 +111,8 @@ fn replaced(word: u64, low: usize, width: usize, code: u64) -> u64
     requires { ⌜ (low < 64) × (width < 64) × (width + low ≤ 64) × (code < 2 ^ width) ⌝ }
     ensures { λ r. ⌜ r ≡ putAt word low width code ⌝ }
 {
-    let old = (word >> low) & ((1u64 << width) - 1);
-    word - (old << low) + (code << low)
+    let mask = ((1u64 << width) - 1) << low;
+    (word & !mask) | (code << low)
 }
 
 // Writes a code into the field of `width` bits at bit `bit` of the image, in the 8 bytes from byte `from` on.

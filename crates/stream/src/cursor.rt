@@ -1,9 +1,10 @@
 // A place in the stream, carried by value and handed back moved on.
 ghost use mathlib.Core.Path.{_≡_};
 ghost use Prim.Native.Nat.{_+_, _^_, _≤_, _<_};
+ghost use Rattle.memory.specs.Bits.{fieldAt};
 ghost use Rattle.memory.specs.Image.{streamNumber, putIn};
 ghost use Rattle.memory.specs.Answers.{Whole};
-ghost use Rattle.stream.specs.Answers.{InStream, takenSaid, takenAt};
+ghost use Rattle.stream.specs.Answers.{InStream, passedOver, takenSaid, takenAt};
 use crate::bitfields;
 use memory::Sizes;
 use refusal::Refusal;
@@ -12,11 +13,38 @@ pub struct Cursor {
     pub at: usize,
 }
 
+// A field of the stream, by its first bit.
+pub struct Field {
+    pub at: usize,
+}
+
+// A field, and the cursor behind it.
+pub struct Passed {
+    pub field: Field,
+    pub next: Cursor,
+}
+
+// The code of a field, and the cursor behind it.
+pub struct Read {
+    pub code: u64,
+    pub next: Cursor,
+}
+
 pub enum Taken {
     // The field's code, and the cursor behind it.
     Field(u64, Cursor),
     // 3: the field would pass the stream's end.
     Refused(Refusal),
+}
+
+impl Field {
+    // The code of the field, which has `width` bits and lies in the stream.
+    pub fn code(self, sizes: Sizes, image: &[u8], width: usize) -> u64
+        requires { ⌜ InStream sizes (now image) (self .at) width ⌝ }
+        ensures { λ r. ⌜ r ≡ fieldAt (streamNumber sizes (now (image .entry))) (self .at) width ⌝ }
+    {
+        bitfields::take(sizes, image, self.at, width)
+    }
 }
 
 impl Cursor {
@@ -27,7 +55,33 @@ impl Cursor {
         Cursor { at: 0 }
     }
 
-    // The field of `width` bits at the cursor, and the cursor behind it, or 3 where the field would pass the end.
+    // The field of `width` bits at the cursor, and the cursor behind it.
+    pub fn over(self, width: usize) -> Passed
+        requires { ⌜ self .at + width < 2 ^ 64 ⌝ }
+        ensures { λ r. ⌜ r ≡ passedOver self width ⌝ }
+    {
+        Passed {
+            field: Field { at: self.at },
+            next: Cursor {
+                at: self.at + width,
+            },
+        }
+    }
+
+    // The code of the field of `width` bits at the cursor, which lies in the stream, and the cursor behind it.
+    pub fn read(self, sizes: Sizes, image: &[u8], width: usize) -> Read
+        requires { ⌜ InStream sizes (now image) (self .at) width ⌝ }
+        ensures { λ r. ⌜ (r .code ≡ fieldAt (streamNumber sizes (now (image .entry))) (self .at) width) × (r .next .at ≡ self .at + width) ⌝ }
+    {
+        Read {
+            code: bitfields::take(sizes, image, self.at, width),
+            next: Cursor {
+                at: self.at + width,
+            },
+        }
+    }
+
+    // The same, or 3 where the field would pass the end.
     pub fn take(self, sizes: Sizes, image: &[u8], width: usize) -> Taken
         requires { ⌜ Whole sizes (now image) × (1 ≤ width) × (width ≤ 49) ⌝ }
         ensures { λ r. ⌜ takenSaid r ≡ takenAt sizes (now (image .entry)) (self .at) width ⌝ }
@@ -41,10 +95,9 @@ impl Cursor {
         if bits - at < width {
             return Taken::Refused(refusal::past_end(at as u64));
         }
-        Taken::Field(
-            bitfields::take(sizes, image, at, width),
-            Cursor { at: at + width },
-        )
+        let read = self.read(sizes, image, width);
+        let next = read.next;
+        Taken::Field(read.code, next)
     }
 
     // Writes a code into the field of `width` bits at the cursor, where every bit of the stream from there on is 0, and hands back

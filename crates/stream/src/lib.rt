@@ -6,8 +6,10 @@ mod bitfields;
 mod cursor;
 mod writing;
 
-pub use bitfields::take;
 pub use cursor::Cursor;
+pub use cursor::Field;
+pub use cursor::Passed;
+pub use cursor::Read;
 pub use cursor::Taken;
 pub use writing::clear;
 pub use writing::rewrite;

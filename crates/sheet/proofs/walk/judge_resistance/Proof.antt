@@ -1,75 +1,40 @@
 -- `walk::judge_resistance` meets its contract, as `judge_basic` does.
 use borrow.Author.Needs.{needs}
-use Prim.Native.Nat.{suc, _-_, _≤_, _<_}
+use Prim.Native.Nat.{suc, _-_, _+_}
 use native.Mathlib.Omega.{arith}
-use lib.ListN.{length}
 use Rattle.fields.specs.declared.Template.the-variants.{Resistance}
-use Rattle.fields.specs.Lines.{basic, lastField}
 use Rattle.fields.proofs.TemplateFacts.{last-most}
 use Rattle.layout.specs.Image.{streamIn}
-use Rattle.layout.specs.Places.{behindFields}
-use Rattle.layout.proofs.Judging.{Come}
-use Rattle.sheet.specs.Walk.{linesFrom, ownChoice, layoutAt}
-use Rattle.sheet.proofs.WalkSteps.{basic-most, own-start, judged-all, judged-inside, judged-sound, judged-halt, judged-next}
+use Rattle.sheet.specs.Walk.{ownChoice, layoutAt}
+use Rattle.sheet.proofs.WalkSteps.{basic-most, OwnCome, own-start, own-turn, judged-all, Turn}
 use Rattle.sheet.proofs.walk.judge_resistance.Statement.{statement}
 use Rattle.sheet.proofs.walk.judge_resistance.Tie as tie
 
 abbrev Inv-loop : tie.InvT-loop
-Inv-loop sizes image precision last at₀ field₀ at field =
-    let s = streamIn sizes image in
-    (length basic < field) × Come s precision (behindFields (layoutAt Resistance precision)) (ownChoice s Resistance) (linesFrom Resistance field (lastField Resistance)) at
+Inv-loop sizes image precision last cursor₀ field₀ cursor field = OwnCome sizes image (layoutAt Resistance precision) field (cursor .at)
 
 abbrev μ-loop : tie.MeasureT-loop
-μ-loop sizes image precision last at₀ field₀ at field = suc last - field
+μ-loop sizes image precision last cursor₀ field₀ cursor field = suc last - field
 
-loop-holds : tie.Need-loop-holds Inv-loop μ-loop
-loop-holds c = (omega (arith, c .basic-fields .ensures), own-start (c .before .before .before .pre) (c .basic-fields .ensures))
-
-resistance-row-requires : tie.Need-resistance-row-requires Inv-loop μ-loop
-resistance-row-requires c κs = (c .before .loop .inv .0, omega (arith, c .before .before .before .last-closed .ensures .0))
-
-judge-at-requires : tie.Need-judge-at-requires Inv-loop μ-loop
-judge-at-requires c κs =
+turn : (c : tie.After-resistance-row Inv-loop μ-loop) → let l = c .before .before in let a = l .before .before .before .before .args in
+    Turn (a .sizes) (a .image .now) (c .resistance-row .result) (l .loop .cursor .at) (ownChoice (streamIn (a .sizes) (a .image .now)) Resistance)
+    (OwnCome (a .sizes) (a .image .now) (layoutAt Resistance (a .precision)) (l .loop .field + 1))
+turn c =
     let l = c .before .before in
-    let lies = l .before .before .before .before .pre in
-    let (lo, come) = l .loop .inv in
-    let hi : l .loop .field ≤ lastField Resistance = omega (arith, l .before .before .last-closed .ensures .0) in (
-      lies .whole,
-      judged-sound Resistance _ _ _ come (omega arith) hi (omega arith) (c .resistance-row .ensures),
-      judged-inside Resistance _ _ _ come (omega arith) hi (omega arith) (c .resistance-row .ensures) (lies .inside),
-    )
+    let b = l .before .before in
+    own-turn (b .before .before .pre) _ _ (l .loop .inv) (c .before .loop-test .taken) (b .last-closed .ensures .0) (c .resistance-row .ensures)
 
 returns : tie.Need-returns Inv-loop μ-loop
 returns c =
     let j = c .before .before .before in
-    let l = j .before .before .before in
-    let (lo, come) = l .loop .inv in
-    let hi : l .loop .field ≤ lastField Resistance = omega (arith, l .before .before .last-closed .ensures .0) in
-    judged-halt Resistance _ _ _ come (omega arith) hi (omega arith) (j .before .resistance-row .ensures) _ (j .judge-at .ensures) (c .before .r .given .1)
-
-add-at : tie.Need-add-at Inv-loop μ-loop
-add-at c =
-    let j = c .before .before in
-    let l = j .before .before .before in
-    let lies = l .before .before .before .before .pre in
-    let (lo, come) = l .loop .inv in
-    let hi : l .loop .field ≤ lastField Resistance = omega (arith, l .before .before .last-closed .ensures .0) in
-    omega (arith, judged-inside Resistance _ _ _ come (omega arith) hi (omega arith) (j .before .resistance-row .ensures) (lies .inside), lies .whole .small)
+    let o = j .before in
+    turn (o .before) .halt _ (rw (o .over .ensures) at (j .judge-at .ensures)) (c .before .r .given .1)
 
 loop-again : tie.Need-loop-again Inv-loop μ-loop
 loop-again c =
-    let j = c .before .before in
-    let l = j .before .before .before in
-    let (lo, come) = l .loop .inv in
-    let hi : l .loop .field ≤ lastField Resistance = omega (arith, l .before .before .last-closed .ensures .0) in (
-      omega arith,
-      judged-next Resistance _ _ _ come (omega arith) hi (omega arith) (j .before .resistance-row .ensures) _ (j .judge-at .ensures) (c .enum-told .given .1),
-    )
-
-returns-2 : tie.Need-returns-2 Inv-loop μ-loop
-returns-2 c =
-    let l = c .before in
-    judged-all Resistance _ _ _ (l .loop .inv .1) (l .before .before .last-closed .ensures .1) (c .loop-test .left)
+    let j = c .before .before .before in
+    let o = j .before in
+    rw (o .over .ensures) (turn (o .before) .next _ (rw (o .over .ensures) at (j .judge-at .ensures)) (c .before .enum-told .given .1))
 
 pub judge-resistance-spec : {M : Type 1} → statement M
 judge-resistance-spec =
@@ -80,14 +45,14 @@ judge-resistance-spec =
     (λ c κs. search needs)
     (λ c κs. search needs)
     (λ c. omega (arith, c .basic-fields .ensures, basic-most Resistance, last-most Resistance))
-    loop-holds
-    resistance-row-requires
-    judge-at-requires
+    (λ c. own-start (c .before .before .before .pre) (c .basic-fields .ensures))
+    (λ c κs. (c .before .loop .inv .0, omega (arith, c .before .before .before .last-closed .ensures .0)))
+    (λ c κs. let (w, s, fits) = turn c .fits in omega (arith, w .small))
+    (λ c κs. rw (c .over .ensures) (turn (c .before) .fits))
     (λ c. search needs)
     returns
     (λ c. search needs)
-    add-at
-    (λ c. omega (arith, c .before .before .before .before .before .before .before .last-closed .ensures .0, last-most Resistance))
+    (λ c. omega (arith, c .before .before .before .before .before .before .before .before .before .last-closed .ensures .0, last-most Resistance))
     (λ c. omega arith)
     loop-again
-    returns-2)
+    (λ c. let l = c .before in judged-all Resistance _ _ _ (l .loop .inv .1) (l .before .before .last-closed .ensures .1) (c .loop-test .left)))

@@ -18,8 +18,8 @@ use Rattle.sheet.proofs.WalkSteps.{own-lines, basic-most, stream-holds}
 use Rattle.sheet.proofs.walk.take_own.Statement.{statement}
 use Rattle.sheet.proofs.walk.take_own.Tie as tie
 
-take-requires : tie.Need-take-requires
-take-requires c κs =
+code-requires : tie.Need-code-requires
+code-requires c κs =
     record { whole = c .before .pre; inside = stream-holds (c .before .pre) (omega arith); some = search needs; most = search needs }
 
 add-take-fields : tie.Need-add-take-fields
@@ -41,11 +41,11 @@ judge-own-requires : tie.Need-judge-own-requires
 judge-own-requires c κs =
     let e = c .before .before in
     let b = e .before .before .before in
-    let precision = e .before .take .result in
+    let precision = e .before .code .result in
     record {
       whole = b .pre;
       precise =
-          e .before .take .ensures
+          e .before .code .ensures
           ∙ ap (λ (n : ℕ). fieldAt (streamNumber (b .args .sizes) (b .args .image .now)) n 2) (sym (choice-place (b .args .template) precision));
       inside = omega (arith, e .fields-end .ensures, c .if1 .left, b .pre .long);
     }
@@ -54,14 +54,14 @@ returns-2 : tie.Need-returns-2
 returns-2 c =
     let j = c .before .before .before in
     let e = j .before .before .before in
-    let layout = layoutAt (e .before .before .before .args .template) (e .before .take .result) in
+    let layout = layoutAt (e .before .before .before .args .template) (e .before .code .result) in
     told (stoodTo (layout .precision) (behindFields layout)) (c .before .r .given .1) (j .judge-own .ensures)
 
 returns-3 : tie.Need-returns-3
 returns-3 c =
     let j = c .before .before in
     let e = j .before .before .before in
-    let layout = layoutAt (e .before .before .before .args .template) (e .before .take .result) in
+    let layout = layoutAt (e .before .before .before .args .template) (e .before .code .result) in
     ap (λ (n : ℕ). good (parsed (layout .precision) n)) (e .fields-end .ensures)
     ∙ told (stoodTo (layout .precision) (behindFields layout)) (c .enum-told .given .1) (j .judge-own .ensures)
 
@@ -69,7 +69,7 @@ pub take-own-spec : {M : Type 1} → statement M
 take-own-spec =
     tie.close
     (tie.spec
-    take-requires
+    code-requires
     (λ c κs. search needs)
     (λ c. search needs)
     (λ c. search needs)

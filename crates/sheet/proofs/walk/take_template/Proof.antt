@@ -1,6 +1,7 @@
 use borrow.Author.Needs.{needs}
-use mathlib.Core.Path.{ap, _∙_}
+use mathlib.Core.Path.{sym, ap, _∙_}
 use native.Mathlib.Omega.{arith}
+use lib.Bits.{and-mask}
 use Rattle.refusal.specs.Outcome.{refused}
 use Rattle.layout.specs.Image.{streamIn}
 use Rattle.layout.specs.Places.{firstSelector}
@@ -9,8 +10,8 @@ use Rattle.sheet.proofs.WalkSteps.{stream-holds}
 use Rattle.sheet.proofs.walk.take_template.Statement.{statement}
 use Rattle.sheet.proofs.walk.take_template.Tie as tie
 
-take-requires : tie.Need-take-requires
-take-requires c κs =
+code-requires : tie.Need-code-requires
+code-requires c κs =
     record { whole = c .before .pre; inside = stream-holds (c .before .pre) (omega arith); some = search needs; most = search needs }
 
 returns : tie.Need-returns
@@ -18,14 +19,14 @@ returns c =
     let t = c .before .before in
     let b = t .before .before in
     ap refused (c .wrong-block .ensures)
-    ∙ wrong-selector (streamIn (b .args .sizes) (b .args .image .now)) firstSelector (stream-holds (b .pre) (omega arith)) (t .take .ensures) (λ e. omega (arith, c .before .if1 .taken))
+    ∙ wrong-selector (streamIn (b .args .sizes) (b .args .image .now)) firstSelector (stream-holds (b .pre) (omega arith)) (t .code .ensures) (λ e. c .before .if1 .taken (and-mask (t .code .result) 2 ∙ e))
 
 returns-2 : tie.Need-returns-2
 returns-2 c =
     let n = c .before .before .before in
     let t = n .before .before in
     let b = t .before .before in
-    block-named (streamIn (b .args .sizes) (b .args .image .now)) firstSelector (stream-holds (b .pre) (omega arith)) (t .take .ensures) (omega (arith, n .before .if1 .left)) _
+    block-named (streamIn (b .args .sizes) (b .args .image .now)) firstSelector (stream-holds (b .pre) (omega arith)) (t .code .ensures) (sym (and-mask (t .code .result) 2) ∙ n .before .if1 .left) _
     (n .template-of .ensures) (c .before .template .given .1)
 
 returns-3 : tie.Need-returns-3
@@ -34,7 +35,7 @@ returns-3 c =
     let t = n .before .before in
     let b = t .before .before in
     ap refused (c .wrong-block2 .ensures)
-    ∙ block-unknown (streamIn (b .args .sizes) (b .args .image .now)) firstSelector (stream-holds (b .pre) (omega arith)) (t .take .ensures) (omega (arith, n .before .if1 .left)) _
+    ∙ block-unknown (streamIn (b .args .sizes) (b .args .image .now)) firstSelector (stream-holds (b .pre) (omega arith)) (t .code .ensures) (sym (and-mask (t .code .result) 2) ∙ n .before .if1 .left) _
     (n .template-of .ensures) (c .before .enum-told .given .1)
 
 pub take-template-spec : {M : Type 1} → statement M
@@ -42,9 +43,10 @@ take-template-spec =
     tie.close
     (tie.spec
     (λ c. search needs)
-    take-requires
+    code-requires
     (λ c κs. search needs)
     returns
+    (λ c. search needs)
     (λ c κs. search needs)
     (λ c. search needs)
     (λ c. search needs)

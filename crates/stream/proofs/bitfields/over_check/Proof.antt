@@ -10,11 +10,8 @@ shl-near c = omega arith
 sub-near : tie.Need-sub-near
 sub-near c = one-shl-pos _ (c .pre)
 
-sub-result : tie.Need-sub-result
-sub-result c = omega arith
-
 returns : tie.Need-returns
 returns c = left-out (c .args .word) (c .args .bits) (c .fits .word .fits) (c .pre)
 
 pub over-check-spec : {M : Type 1} → statement M
-over-check-spec = tie.close (tie.spec shl-near sub-near sub-result returns)
+over-check-spec = tie.close (tie.spec shl-near sub-near returns)

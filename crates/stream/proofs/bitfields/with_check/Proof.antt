@@ -13,13 +13,10 @@ sub-near c = one-shl-pos _ (omega arith)
 shl-result : tie.Need-shl-result
 shl-result c = omega arith
 
-sub-result : tie.Need-sub-result
-sub-result c = omega arith
-
 returns : tie.Need-returns
 returns c =
     let a = c .args in
     put-between (a .word) (a .bits) (a .check) (c .pre .0) (c .pre .1) (c .pre .2)
 
 pub with-check-spec : {M : Type 1} → statement M
-with-check-spec = tie.close (tie.spec shl-near sub-near shl-result sub-result returns)
+with-check-spec = tie.close (tie.spec shl-near sub-near shl-result returns)

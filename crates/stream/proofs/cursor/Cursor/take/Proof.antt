@@ -27,17 +27,14 @@ returns-2 c =
     let a = c .before .before .before .before .before .args in
     rw (c .past-end2 .ensures, take-past (a .sizes) (a .image .now) (a .self .at) (a .width) (omega arith))
 
-take-requires : tie.Need-take-requires
-take-requires c κs = search needs
-
-add-t8 : tie.Need-add-t8
-add-t8 c = search needs
+read-requires : tie.Need-read-requires
+read-requires c κs = search needs
 
 returns-3 : tie.Need-returns-3
 returns-3 c =
-    let a = c .before .before .before .before .before .args in
-    rw (c .take .ensures, take-inside (a .sizes) (a .image .now) (a .self .at) (a .width) (omega arith))
+    let a = c .before .before .before .before .before .before .args in
+    rw (c .before .read .ensures .0, c .before .read .ensures .1, take-inside (a .sizes) (a .image .now) (a .self .at) (a .width) (omega arith))
 
 pub take-spec : {M : Type 1} → statement M
 take-spec =
-    tie.close (tie.spec sub-bits mul-bits past-end-requires returns past-end-requires-2 returns-2 take-requires add-t8 returns-3)
+    tie.close (tie.spec sub-bits mul-bits past-end-requires returns past-end-requires-2 returns-2 read-requires returns-3)
