@@ -6,9 +6,8 @@ use native.Mathlib.Nat.{mod-eq-of-lt, div-eq-of-lt, lt-of-lt-of-le, add-comm, mu
 use native.Mathlib.Omega.{arith}
 use lib.Arith.{digits-lt}
 use lib.ListN.{length, getD, replicate, length-replicate}
+use lib.Bits.{bitOr, or-shifted-r}
 use lib.Pow.{pow-add, pow-mono, shl-exact}
-use mir.Syntax.{w64}
-use mir.Val.{Fits}
 use Rattle.memory.specs.declared.Sizes.{Sizes}
 use Rattle.stream.specs.declared.cursor.Cursor.{Cursor}
 use Rattle.memory.specs.Bits.{number, putAt}
@@ -22,6 +21,10 @@ use Rattle.memory.proofs.Written.{put-whole, put-bytes, put-stream}
 use Rattle.build.specs.Filled.{Free, Room, Filled, Begun}
 
 -- ---- numbers
+
+-- A code behind the first k bits of another.
+pub or-behind : {a b : ℕ} (j k : ℕ) → a < 2 ^ j → j + k ≤ 64 → b < 2 ^ k → bitOr b (a * 2 ^ k % 2 ^ 64) ≡ b + a * 2 ^ k
+or-behind {a} {b} j k ha h hb = ap (bitOr b) (shl-exact j k 64 ha h) ∙ or-shifted-r a k b hb ∙ add-comm (a * 2 ^ k) b
 
 -- A code put where nothing stands.
 put-free : (N at w code : ℕ) → N < 2 ^ at → putAt N at w code ≡ code * 2 ^ at + N
@@ -151,26 +154,21 @@ module _ (z : Sizes) where
 
     -- The next one.
     module _ {v more : ℕ} {qs : List Piece} (e : left ≡ piece v more ∷ qs) (fits : more < 2 ^ v) where
-      shifted : w + v ≤ 49 → more * 2 ^ w % 2 ^ 64 ≡ more * 2 ^ w
-      shifted few = shl-exact v w 64 fits (omega arith)
-
-      gathered-lt : w + v ≤ 49 → code + more * 2 ^ w % 2 ^ 64 < 2 ^ (w + v)
-      gathered-lt few =
+      gathered-lt : code + more * 2 ^ w < 2 ^ (w + v)
+      gathered-lt =
           let size : 2 ^ v * 2 ^ w ≡ 2 ^ (w + v) = sym (pow-add 2 v w) ∙ ap (λ (n : ℕ). 2 ^ n) (add-comm v w) in
           let both : more * 2 ^ w + code < 2 ^ v * 2 ^ w = digits-lt fits (g .fits) in
-          omega (arith, shifted few)
+          omega arith
 
-      pub gathered-small : w + v ≤ 49 → Fits w64 (code + more * 2 ^ w % 2 ^ 64)
-      gathered-small few = omega (arith, gathered-lt few, pow-mono few)
-
-      pub gather : w + v ≤ 49 → Gathering a k all b m (w + v) (code + more * 2 ^ w % 2 ^ 64) qs
+      pub gather : w + v ≤ 49 → Gathering a k all b m (w + v) (bitOr code (more * 2 ^ w % 2 ^ 64)) qs
       gather few =
+          let behind : bitOr code (more * 2 ^ w % 2 ^ 64) ≡ code + more * 2 ^ w = or-behind v w fits (omega arith) (g .fits) in
           let both : List Piece = piece w code ∷ piece v more ∷ [] in
           let width : needed both ≡ w + v = omega arith in
-          let is : code + more * 2 ^ w % 2 ^ 64 ≡ pack both = omega (arith, shifted few, zero-mul (2 ^ v)) in
+          let is : bitOr code (more * 2 ^ w % 2 ^ 64) ≡ pack both = omega (arith, zero-mul (2 ^ v)) in
           record {
             filling = rw width at (joined both qs (ap (λ l. piece w code ∷ l) e) (g .filling) is);
-            fits = gathered-lt few;
+            fits = rw behind gathered-lt;
             most = few;
           }
 

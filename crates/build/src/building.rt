@@ -3,8 +3,8 @@ use crate::Sheet;
 use crate::Slot;
 use crate::drawing::CurvePlan;
 use crate::drawing::plan_curve;
+use crate::plan::NO_CODE;
 use crate::plan::Planned;
-use crate::plan::WIDTHS;
 use crate::plan::check_ending;
 use crate::plan::check_points;
 use crate::plan::is_wrong_list;
@@ -146,7 +146,7 @@ fn build_in(
     if is_wrong_list(n) {
         return Written::Refused(refusal::wrong_list(n as u64));
     }
-    let mut fields = [WIDTHS; 21];
+    let mut fields = [NO_CODE; 21];
     match plan_fields(template, sorts, wholes, singles, &mut fields) {
         Planned::Refused(r) => Written::Refused(r),
         Planned::Bits(bits) => {
@@ -187,7 +187,7 @@ fn build_curve_in(
     ensures { λ r. ⌜ ((level : Level) → (let outcome = builtIn sizes (sheetLent template «end_bit» level (now (sorts .entry)) (now (wholes .entry)) (now (singles .entry))) (now (text .entry)) (drawn curve) in
         (writtenSaid r (now (image .exit)) ≡ outcome) × (now (image .exit) ≡ afterwards (now (image .entry)) outcome))) ⌝ }
 {
-    let mut fields = [WIDTHS; 21];
+    let mut fields = [NO_CODE; 21];
     match plan_fields(template, sorts, wholes, singles, &mut fields) {
         Planned::Refused(r) => Written::Refused(r),
         Planned::Bits(bits) => {

@@ -2,9 +2,10 @@
 // A function that lays pieces takes the cursor to lay them at, and hands back the cursor behind them. Neighbours go in as one
 // field, the first in its lowest bits, which is faster.
 use crate::drawing::CurvePlan;
+use crate::plan::CODE_BITS;
+use crate::plan::CODES;
 use crate::plan::CodedField;
 use crate::plan::PairAnswer;
-use crate::plan::WIDTHS;
 use crate::plan::code_pair;
 use fields::Domain;
 use fields::Template;
@@ -47,14 +48,14 @@ fn lay_fields(
     let mut i = first;
     while i < end {
         let field = fields[i];
-        let more = (field / WIDTHS) as usize;
+        let more = (field >> CODE_BITS) as usize;
         if width + more <= 49 {
-            code += (field % WIDTHS) << width;
+            code = code | ((field & CODES) << width);
             width += more;
             i += 1;
         } else {
             cursor = cursor.append(sizes, image, width, code);
-            code = field % WIDTHS;
+            code = field & CODES;
             width = more;
             i += 1;
         }
@@ -68,7 +69,7 @@ fn lay_block(sizes: Sizes, image: &mut [u8], cursor: Cursor, number: u64) -> Cur
     requires { ⌜ number < 2 ^ 8 ⌝ }
     ensures { λ r. ⌜ Filled sizes (now (image .entry)) cursor (blockPieces number) (now (image .exit)) r ⌝ }
 {
-    cursor.append(sizes, image, 10, 4 * number)
+    cursor.append(sizes, image, 10, number << 2)
 }
 
 // Pair i, which has its codes.
@@ -81,7 +82,7 @@ fn lay_pair(sizes: Sizes, image: &mut [u8], cursor: Cursor, points: &[i64], i: u
         PairAnswer::Refused(_) => cursor,
         PairAnswer::Are(codes) => {
             let deviation = codes.deviation as u64;
-            let code = codes.point as u64 + (deviation << POINT_BITS);
+            let code = codes.point as u64 | (deviation << POINT_BITS);
             cursor.append(sizes, image, PAIR_BITS, code)
         }
     }
@@ -120,7 +121,7 @@ fn lay_table(
     }
     let code = coding::domain_code(domain);
     let block = lay_block(sizes, image, cursor, 40);
-    let pairs = block.append(sizes, image, 8, code + 2 * n as u64);
+    let pairs = block.append(sizes, image, 8, code | ((n as u64) << 1));
     lay_pairs(sizes, image, pairs, points)
 }
 
@@ -144,7 +145,7 @@ fn lay_curve(
         let piece = codes[i];
         let more = piece.width as usize;
         if width + more <= 49 {
-            code += piece.code << width;
+            code = code | (piece.code << width);
             width += more;
             i += 1;
         } else {
@@ -169,7 +170,7 @@ fn gathered(text: &[u8], i: usize, end: usize) -> u64
     let mut j = end;
     while i < j {
         j -= 1;
-        code = 128 * code + text[j] as u64;
+        code = (code << 7) | text[j] as u64;
     }
     code
 }
@@ -208,7 +209,7 @@ fn lay_ending(sizes: Sizes, image: &mut [u8], cursor: Cursor, end_bit: bool, tex
     requires { ⌜ ((i : ℕ) → getD (now text) i 0 < 128) ⌝ }
     ensures { λ r. ⌜ Filled sizes (now (image .entry)) cursor (codedEnding «end_bit» (now (text .entry))) (now (image .exit)) r ⌝ }
 {
-    let characters = cursor.append(sizes, image, 3, 3 + 4 * end_bit as u64);
+    let characters = cursor.append(sizes, image, 3, 3 | ((end_bit as u64) << 2));
     lay_text(sizes, image, characters, text)
 }
 

@@ -21,4 +21,4 @@ returns c =
     filled z (joined-more z (blockPieces (s .args .number)) [] refl (filling-none z (s .pre .0)) (omega arith, (s .pre .1, tt)) (c .before .before .append .ensures) (omega arith))
 
 pub lay-block-spec : {M : Type 1} → statement M
-lay-block-spec = tie.close (tie.spec (λ c. omega (arith, c .before .before .pre .1)) append-requires (λ c. search needs) returns)
+lay-block-spec = tie.close (tie.spec append-requires (λ c. search needs) returns)

@@ -8,7 +8,7 @@ use lib.Seq.{slice}
 use Rattle.build.specs.declared.plan.CodedField.{CodedField}
 use Rattle.build.specs.Tested.{fieldPiece, Fitting}
 use Rattle.build.proofs.Coding.{fields-left, fields-end}
-use Rattle.build.proofs.Filling.{Gathering, gathering-none, gathering-ready, gathering-put, gathering-empty, gathered-small, gather, gather-next, filled}
+use Rattle.build.proofs.Filling.{Gathering, gathering-none, gathering-ready, gathering-put, gathering-empty, gather, gather-next, filled}
 use Rattle.build.proofs.write.lay_curve.Statement.{statement}
 use Rattle.build.proofs.write.lay_curve.Tie as tie
 
@@ -40,12 +40,6 @@ fits c =
 
 add-if1 : tie.Need-add-if1 Inv-loop μ-loop
 add-if1 c = omega (arith, fits c .most, c .before .before .loop .inv .1 .1 .most)
-
-add-code : tie.Need-add-code Inv-loop μ-loop
-add-code c =
-    let k = c .before .before in
-    let g = k .before .before .loop .inv .1 .1 in
-    gathered-small _ g (turn k) (fits k .fits) (c .before .if1 .taken)
 
 loop-again : tie.Need-loop-again Inv-loop μ-loop
 loop-again c =
@@ -95,7 +89,6 @@ lay-curve-spec =
     (λ c. omega arith)
     add-if1
     (λ c. omega arith)
-    add-code
     (λ c. omega arith)
     (λ c. omega arith)
     (λ c. omega arith)

@@ -1,13 +1,14 @@
 -- `write::lay_fields` meets its contract.
 use mathlib.Core.Path.{_≡_, refl}
 use mathlib.Core.List.{_∷_, map}
-use Prim.Native.Nat.{_+_, _-_, _≤_, _<_}
+use Prim.Native.Nat.{_+_, _-_, _%_, _^_, _≤_, _<_}
 use native.Mathlib.Omega.{arith}
+use lib.Bits.{bitAnd, and-mask}
 use lib.ListN.{length, getD}
 use lib.Seq.{slice}
 use Rattle.build.specs.Tested.{fieldPiece, unpack, unpacked, Fitting}
 use Rattle.build.proofs.Coding.{packed-left, packed-fits, packed-long, fields-end}
-use Rattle.build.proofs.Filling.{Gathering, gathering-none, gathering-ready, gathering-put, gathered-small, gather, gather-next, filled}
+use Rattle.build.proofs.Filling.{Gathering, gathering-none, gathering-ready, gathering-put, gather, gather-next, filled}
 use Rattle.build.proofs.write.lay_fields.Statement.{statement}
 use Rattle.build.proofs.write.lay_fields.Tie as tie
 
@@ -36,20 +37,18 @@ fits c =
     let s = c .before .before .before .before .before in
     packed-fits (s .args .fields .now) (c .before .before .loop .i) 0 (s .pre .1 .2) (omega (arith, c .before .loop-test .taken))
 
+code : (c : tie.After-shared-slice-known2 Inv-loop μ-loop) → let field = getD (c .before .before .before .before .before .args .fields .now) (c .before .before .loop .i) 0 in
+    bitAnd field 0xffff_ffff ≡ field % 2 ^ 32
+code c = and-mask _ 32
+
 add-if1 : tie.Need-add-if1 Inv-loop μ-loop
 add-if1 c = omega (arith, fits c .most, c .before .before .loop .inv .1 .1 .most)
-
-add-code : tie.Need-add-code Inv-loop μ-loop
-add-code c =
-    let k = c .before in
-    let g = c .before .before .before .loop .inv .1 .1 in
-    gathered-small _ g (turn k) (fits k .fits) (c .if1 .taken)
 
 loop-again : tie.Need-loop-again Inv-loop μ-loop
 loop-again c =
     let k = c .before in
     let l = c .before .before .before .loop in
-    ((omega (arith, c .before .before .loop-test .taken), λ _. omega (arith, fits k .some)), (l .inv .1 .0, gather _ (l .inv .1 .1) (turn k) (fits k .fits) (c .if1 .taken)))
+    ((omega (arith, c .before .before .loop-test .taken), λ _. omega (arith, fits k .some)), (l .inv .1 .0, rw (code k) (gather _ (l .inv .1 .1) (turn k) (fits k .fits) (c .if1 .taken))))
 
 append-requires : tie.Need-append-requires Inv-loop μ-loop
 append-requires c κs =
@@ -61,7 +60,7 @@ loop-again-2 : tie.Need-loop-again-2 Inv-loop μ-loop
 loop-again-2 c =
     let k = c .before .before .before .before .before in
     let l = k .before .before .loop in
-    ((omega (arith, k .before .loop-test .taken), λ _. fits k .some), (omega (arith, c .before .before .append .kept, l .inv .1 .0), gather-next _ (l .inv .1 .1) (turn k) (fits k .fits) (omega (arith, fits k .most)) (c .before .before .append .ensures)))
+    ((omega (arith, k .before .loop-test .taken), λ _. fits k .some), (omega (arith, c .before .before .append .kept, l .inv .1 .0), rw (code k) (gather-next _ (l .inv .1 .1) (turn k) (fits k .fits) (omega (arith, fits k .most)) (c .before .before .append .ensures))))
 
 append-requires-2 : tie.Need-append-requires-2 Inv-loop μ-loop
 append-requires-2 c κs =
@@ -88,7 +87,6 @@ lay-fields-spec =
     (λ c. omega (arith, packed-long (c .before .before .before .before .before .args .fields .now) (c .before .before .before .before .before .pre .1 .2)))
     add-if1
     (λ c. omega arith)
-    add-code
     (λ c. omega arith)
     (λ c. omega arith)
     (λ c. omega arith)
