@@ -1,11 +1,11 @@
 -- The codes of fields, one after the other.
+use mathlib.Core.Bool.{Bool, true, false}
 use mathlib.Core.Path.{_≡_, refl, sym, ap, ap₂, _∙_, subst}
 use mathlib.Core.List.{List, [], _∷_, _++_, map, append-assoc, append-nil}
 use Prim.Native.Nat.{ℕ, zero, suc, _+_, _-_, _*_, _/_, _%_, _^_, _≤_, _<_}
 use native.Mathlib.Numerals.{add-one}
 use native.Mathlib.Omega.{arith}
 use native.Mathlib.Decide.{ℕ-discrete}
-use borrow.Author.Tests.{ne-eqb}
 use lib.IntN.{ℤ}
 use mir.Syntax.{w64}
 use mir.Val.{SFits, toZ, ofZ}
@@ -19,27 +19,29 @@ use Rattle.refusal.proofs.Outcomes.{bind-good, bind-refused, bind-assoc, bind-s
 use Rattle.memory.specs.Pieces.{Piece, piece, needed}
 use Rattle.memory.proofs.PieceLaws.{needed-append}
 use Rattle.fields.specs.declared.Value.{Value}
-use Rattle.fields.specs.declared.Value.the-variants.{Whole}
+use Rattle.fields.specs.declared.Value.the-variants.{Whole, Missing}
 use Rattle.fields.specs.declared.Row.{Row}
 use Rattle.fields.specs.declared.Encoded.{Encoded}
 use Rattle.fields.specs.declared.Encoded.the-variants.{Code, Refused as NoCode}
 use Rattle.fields.specs.declared.Template.{Template}
 use Rattle.fields.specs.declared.Layout.{Layout}
 use Rattle.fields.specs.Rules.{encode}
-use Rattle.fields.specs.Lines.{Line, chose, basic, templateLines, linesOf, numberOf, lastField, lineOf, rowOf, noLine}
-use Rattle.fields.specs.Stored.{Sound, Real}
+use Rattle.fields.specs.Lines.{Line, chose, basic, templateLines, linesOf, numberOf, lastField, lineOf, rowOf, rowsOf, noLine, bitsBefore}
+use Rattle.fields.specs.Stored.{Sound, AllSound, Real}
 use Rattle.fields.specs.Answers.{encodedSaid}
 use Rattle.fields.proofs.StoredLaws.{reads-back}
-use Rattle.fields.proofs.RowLaws.{sets-at, row-sound}
+use Rattle.fields.proofs.RowLaws.{row-sound, rows-sound}
 use Rattle.coding.specs.Swift.{Told}
 use Rattle.layout.specs.Pieces.{blockPieces}
+use Rattle.layout.proofs.Choices.{Steady, lines-steady}
 use Rattle.build.specs.declared.Sheet.{Sheet}
 use Rattle.build.specs.declared.plan.CodedField.{CodedField}
+use Rattle.build.specs.declared.plan.Coded.{Coded}
+use Rattle.build.specs.declared.plan.Coded.the-variants.{Next, Refused as NotCoded}
 use Rattle.build.specs.declared.plan.Planned.{Planned}
 use Rattle.build.specs.declared.plan.Planned.the-variants.{Bits, Refused as NotPlanned}
-use Rattle.build.specs.Build.{lent, templateIn, linePieces}
-use Rattle.build.specs.Tested.{Encodes, Fitting, Fit, blank, fieldPiece, unpack, unpacked, codedFields, valueLent, Long, fieldsLent, FieldsPlanned}
-use Rattle.build.proofs.LinePlans.{bind-good-last}
+use Rattle.build.specs.Build.{slot, lent, templateIn, linePieces, fieldPieces}
+use Rattle.build.specs.Tested.{Encodes, Fitting, Fit, blank, fieldPiece, unpack, unpacked, codedFields, valueLent, slotsLent, Long, fieldsLent, Quick, codedFrom, FieldsCoded, CodedTo, FieldsPlanned}
 use Rattle.fields.proofs.TemplateFacts.{last-most}
 use Rattle.build.proofs.FieldPlans.{withBlock, block-needed, fields-listed}
 use Rattle.build.proofs.Lent.{long-slot}
@@ -50,9 +52,9 @@ use Rattle.build.proofs.Lent.{long-slot}
 pub encodes : (row : Row) (place : ℕ) (v : Value) (e : Encoded) → Sound row → Real v → encodedSaid e ≡ encode row place v → Encodes row place v e
 encodes row place v e s real said = record { said = said; fits = λ code h. reads-back row place 0 code v s real (sym said ∙ ap encodedSaid h) .0 }
 
--- The same where the code was told at once.
-pub told-encodes : (row : Row) (place : ℕ) (v : Value) (code : ℕ) → Told row v code → code < 2 ^ 32 → Encodes row place v (Code code)
-told-encodes row place v code told h = record { said = sym (told h .0 place); fits = λ n e. let same : code ≡ n = cc in subst (λ m. m < 2 ^ row .width) same (told h .1) }
+-- The same where the row told it without a search.
+pub quick-encodes : (row : Row) (place : ℕ) (v : Value) (code : ℕ) → Told row v code → code < 2 ^ 32 → Encodes row place v (Code code)
+quick-encodes row place v code told h = record { said = sym (told h .0 place); fits = λ n e. let same : code ≡ n = cc in subst (λ m. m < 2 ^ row .width) same (told h .1) }
 
 pub coded-fits : {row : Row} {place : ℕ} {v : Value} {e : Encoded} {code : ℕ} → Sound row → Encodes row place v e → e ≡ Code code → Fitting (row .width) code
 coded-fits s c a = record { some = s .some; most = s .most; fits = c .fits _ a }
@@ -66,11 +68,6 @@ seen row place f = ap (λ (z : ℤ). encode row place (Whole z)) (toZ-ofZ f)
 pub basic-fewer : (template : Template) → length basic ≤ lastField template
 unfolding linesOf
 basic-fewer template = omega (arith, length-append basic (templateLines template))
-
--- Basic sets no widths.
-pub basic-choice : (t : Template) (f code : ℕ) → f ≤ length basic → 0 ≡ chose (lineOf t f .sets) code 0
-unfolding basic
-basic-choice t f code h = ap (λ b. chose b code 0) (sym (ne-eqb f 9 (λ e. omega (arith, e))) ∙ sets-at t f (omega (arith, basic-fewer t)))
 
 -- One more.
 pub taken : (fields : List CodedField) (i : ℕ) (x : CodedField) → i < length fields →
@@ -137,14 +134,14 @@ module _ (sheet : Sheet) where
   abbrev lines : List Line
   lines = linesOf t
 
-  -- What the lines come to, with the first i of them done.
-  abbrev pub fromHere : List CodedField → ℕ → ℕ → Outcome (List Piece)
-  fromHere fields latest i = linePieces sheet (drop i lines) latest (suc i) >>= λ rest. good (take i (map fieldPiece fields) ++ rest)
+  from-start : (fields : List CodedField) → codedFrom sheet fields 0 0 ≡ linePieces sheet lines 0 1
+  from-start fields = go (linePieces sheet lines 0 1)
+    where
+      go : (o : Outcome (List Piece)) → (o >>= good) ≡ o
+      go (good ps) = refl
+      go (refused r) = refl
 
-  pub from-start : (fields : List CodedField) → fromHere fields 0 0 ≡ linePieces sheet lines 0 1
-  from-start fields = bind-good-last (linePieces sheet lines 0 1)
-
-  pub from-end : (fields : List CodedField) (latest i : ℕ) → lastField t ≤ i → fromHere fields latest i ≡ good (take i (map fieldPiece fields))
+  pub from-end : (fields : List CodedField) (latest i : ℕ) → lastField t ≤ i → codedFrom sheet fields latest i ≡ good (take i (map fieldPiece fields))
   unfolding linePieces
   from-end fields latest i h =
       ap (λ l. linePieces sheet l latest (suc i) >>= λ rest. good (take i (map fieldPiece fields) ++ rest)) (drop-of-length-le lines h)
@@ -159,11 +156,11 @@ module _ (sheet : Sheet) where
     unfolding linePieces
     step = ap (λ l. linePieces sheet l latest (suc i)) (drop-cons lines i noLine h)
 
-    pub field-refused : {r : Refusal} → encode (here .rowAt latest) (suc i) (lent sheet (suc i)) ≡ refused r → fromHere fields latest i ≡ refused r
+    pub field-refused : {r : Refusal} → encode (here .rowAt latest) (suc i) (lent sheet (suc i)) ≡ refused r → codedFrom sheet fields latest i ≡ refused r
     field-refused e = ap (λ o. o >>= λ rest. good (take i (map fieldPiece fields) ++ rest)) (step ∙ bind-refused _ e)
 
     pub field-coded : {code : ℕ} → i < length fields → encode (here .rowAt latest) (suc i) (lent sheet (suc i)) ≡ good code →
-        fromHere fields latest i ≡ fromHere (set fields i (record { width = here .rowAt latest .width; code = code })) (chose (here .sets) code latest) (suc i)
+        codedFrom sheet fields latest i ≡ codedFrom sheet (set fields i (record { width = here .rowAt latest .width; code = code })) (chose (here .sets) code latest) (suc i)
     field-coded {code} k e =
         let x : CodedField = record { width = here .rowAt latest .width; code = code } in
         let others = linePieces sheet (drop (suc i) lines) (chose (here .sets) code latest) (suc (suc i)) in
@@ -171,144 +168,155 @@ module _ (sheet : Sheet) where
         ∙ bind-assoc others (λ rest. good (fieldPiece x ∷ rest)) (λ rest. good (take i (map fieldPiece fields) ++ rest))
         ∙ bind-same others (λ rest. ap good (sym (ap (λ l. l ++ rest) (taken fields i x k) ∙ append-assoc (take i (map fieldPiece fields)) (fieldPiece x ∷ []) rest)))
 
-  -- ---- the loop over the fields
+-- ---- the bits of the fields that are coded
 
-  -- The first i fields have their codes, which need so many bits with the block; `latest` is the choice behind them.
-  pub record FieldsDone (fields : List CodedField) (latest bits i : ℕ) : Type 0 where
-    pub inside : i ≤ lastField t
-    pub fit : Fit 21 fields
-    pub rest : fromHere fields latest i ≡ linePieces sheet lines 0 1
-    pub count : bits ≡ needed (take i (map fieldPiece fields)) + 10
-    pub few : bits ≤ 10 + 32 * i
+bits-none : (lines : List Line) (latest : ℕ) → bitsBefore lines latest 0 ≡ 0
+bits-none [] latest = refl
+bits-none (l ∷ lines) latest = refl
 
-  pub done-none : (fields : List CodedField) → Fit 21 fields → FieldsDone fields 0 10 0
-  done-none fields fit = record {
+-- A row has 32 at most.
+bits-most : (lines : List Line) (latest i : ℕ) → AllSound (rowsOf lines latest) → bitsBefore lines latest i ≤ 32 * i
+bits-most [] latest i s = omega arith
+bits-most (l ∷ lines) latest zero s = omega arith
+bits-most (l ∷ lines) latest (suc i) s = omega (arith, s .0 .most, bits-most lines latest i (s .1))
+
+pub bits-small : (t : Template) (p : ℕ) → bitsBefore (linesOf t) p (lastField t) ≤ 32 * 21
+bits-small t p = omega (arith, last-most t, bits-most (linesOf t) p (lastField t) (rows-sound t p .0))
+
+-- No line sets widths behind the one that does.
+settled : (lines : List Line) → Steady true lines → (i code latest : ℕ) → i < length lines → chose (getD lines i noLine .sets) code latest ≡ latest
+settled [] s i code latest h = absurd (omega arith)
+settled (l ∷ lines) s zero code latest h = rw (s .0)
+settled (l ∷ lines) s (suc i) code latest h = settled lines (s .1) i code latest (omega arith)
+
+bits-next : (lines : List Line) (latest i : ℕ) → i < length lines → getD lines i noLine .rowAt latest .width + bitsBefore lines latest i ≡ bitsBefore lines latest (suc i)
+bits-next [] latest i h = absurd (omega arith)
+bits-next (l ∷ lines) latest zero h = omega (arith, bits-none lines latest)
+bits-next (l ∷ lines) latest (suc i) h = omega (arith, bits-next lines latest i (omega arith))
+
+-- One more line, by the choice behind it.
+bits-more : (done : Bool) (lines : List Line) → Steady done lines → (latest code i : ℕ) → i < length lines →
+    getD lines i noLine .rowAt latest .width + bitsBefore lines latest i ≡ bitsBefore lines (chose (getD lines i noLine .sets) code latest) (suc i)
+bits-more done [] s latest code i h = absurd (omega arith)
+bits-more true (l ∷ lines) s latest code i h = rw (settled (l ∷ lines) s i code latest h) (bits-next (l ∷ lines) latest i h)
+bits-more false (l ∷ lines) s latest code zero h =
+    let next : ℕ = chose (l .sets) code latest in
+    omega (arith, bits-none lines next, ap (λ r. r .width) (s .0 latest next))
+bits-more false (l ∷ lines) s latest code (suc i) h =
+    let next : ℕ = chose (getD lines i noLine .sets) code latest in
+    omega (arith, bits-more (l .sets) lines (s .1) latest code i (omega arith), ap (λ r. r .width) (s .0 latest next))
+
+-- ---- the quick code of a field
+
+module _ (layout : Layout) {row : Row} {sorts : List ℕ} {wholes : List ℤ} {singles : List Float} {i : ℕ} (is : row ≡ rowOf layout (i + 1)) where
+  pub quick-asked : Long sorts wholes singles → i < lastField (layout .template) → Sound row × Long sorts wholes singles × (i < 21)
+  quick-asked long h = (subst Sound (sym is) (row-sound layout (i + 1) (omega arith) (omega arith)), long, omega (arith, last-most (layout .template)))
+
+  pub quick-here : {quick : CodedField} → Quick row sorts wholes singles i quick → Quick (rowOf layout (i + 1)) sorts wholes singles i quick
+  quick-here {quick} q = subst (λ r. Quick r sorts wholes singles i quick) is q
+
+-- A row of a template that is known.
+pub row-known : (layout : Layout) (f : ℕ) {t : Template} {row : Row} → layout .template ≡ t → row ≡ lineOf t f .rowAt (layout .precision) → row ≡ rowOf layout f
+row-known layout f e r = r ∙ ap (λ t. lineOf t f .rowAt (layout .precision)) (sym e)
+
+-- ---- one field after the other
+
+module _ {t : Template} {sorts : List ℕ} {wholes : List ℤ} {singles : List Float} where
+  pub coded-none : {codes : List ℕ} → Long sorts wholes singles → Fit 21 (unpacked codes) → FieldsCoded t sorts wholes singles codes 0 0
+  coded-none {codes} long fit = record {
+    long = long;
     inside = omega arith;
     fit = fit;
-    rest = from-start fields;
-    count = refl;
-    few = omega arith;
+    rest = from-start (fieldsLent t sorts wholes singles) (unpacked codes);
+    count = sym (bits-none (linesOf t) 0);
   }
 
-  pub done-all : {fields : List CodedField} {latest bits i : ℕ} → FieldsDone fields latest bits i → lastField t ≤ i →
-      FieldsPlanned sheet fields (Bits bits)
-  done-all {fields} {latest} {bits} {i} d h =
-      let last : i ≡ lastField t = omega (arith, d .inside) in
-      let all : List Piece = take (lastField t) (map fieldPiece fields) in
-      let planned : linePieces sheet lines 0 1 ≡ good all = sym (d .rest) ∙ from-end fields latest i h ∙ ap (λ (n : ℕ). good (take n (map fieldPiece fields))) last in
-      let are : withBlock t all ≡ codedFields t fields =
-      ap (λ q. q ++ (blockPieces (numberOf t) ++ drop (length basic) all)) (take-take (length basic) (lastField t) (map fieldPiece fields) (basic-fewer t)) in
-      let counted : bits ≡ needed (codedFields t fields) = d .count ∙ omega (arith, block-needed t all, ap needed are, ap (λ (n : ℕ). needed (take n (map fieldPiece fields))) last) in
+  pub coded-next : {n latest : ℕ} {codes : List ℕ} → FieldsCoded t sorts wholes singles codes latest n → CodedTo n t sorts wholes singles codes (Next latest)
+  coded-next {n} {latest} {codes} d = record {
+    done = λ other e. let same : latest ≡ other = cc in subst (λ (k : ℕ). FieldsCoded t sorts wholes singles codes k n) same d;
+    stop = λ r e. absurd (let z : _≡_ {A = ℕ} 0 1 = cc in omega arith);
+    fit = d .fit;
+  }
+
+  coded-stop : {n : ℕ} {codes : List ℕ} {r : Refusal} → fieldPieces (fieldsLent t sorts wholes singles) ≡ refused r → Fit 21 (unpacked codes) → CodedTo n t sorts wholes singles codes (NotCoded r)
+  coded-stop {n} {codes} {r} e fit = record {
+    done = λ latest a. absurd (let z : _≡_ {A = ℕ} 0 1 = cc in omega arith);
+    stop = λ other a. let same : r ≡ other = cc in e ∙ ap refused same;
+    fit = fit;
+  }
+
+  pub coded-up : {n latest i : ℕ} {codes : List ℕ} → FieldsCoded t sorts wholes singles codes latest i → n ≤ i → i ≤ n → CodedTo n t sorts wholes singles codes (Next latest)
+  coded-up {n} {latest} {i} {codes} d a b = let e : i ≡ n = omega arith in coded-next (subst (λ (k : ℕ). FieldsCoded t sorts wholes singles codes latest k) e d)
+
+  -- Where one is refused, so are more.
+  pub stopped : {n m : ℕ} {codes : List ℕ} {answer : Coded} {r : Refusal} → CodedTo n t sorts wholes singles codes answer → answer ≡ NotCoded r → CodedTo m t sorts wholes singles codes (NotCoded r)
+  stopped c e = coded-stop (c .stop _ e) (c .fit)
+
+  -- A list of codes keeps its length.
+  pub coded-same : {n latest i : ℕ} {codes codes₀ : List ℕ} {answer : Coded} → CodedTo n t sorts wholes singles codes answer → FieldsCoded t sorts wholes singles codes₀ latest i → length codes ≡ length codes₀
+  coded-same {codes = codes} {codes₀ = codes₀} c d = packed-long codes (c .fit) ∙ sym (packed-long codes₀ (d .fit))
+
+  -- A turn: field i + 1 by its row.
+  module _ {codes : List ℕ} {latest i : ℕ} (d : FieldsCoded t sorts wholes singles codes latest i) (h : i < lastField t) where
+    abbrev rowHere : Row
+    rowHere = rowOf (record { template = t; precision = latest }) (i + 1)
+
+    abbrev lineHere : Line
+    lineHere = getD (linesOf t) i noLine
+
+    pub turn-room : i < length codes
+    turn-room = omega (arith, last-most t, packed-long codes (d .fit))
+
+    pub turn-sound : Sound rowHere
+    turn-sound = row-sound (record { template = t; precision = latest }) (i + 1) (omega arith) (omega arith)
+
+    is-here : lineOf t (i + 1) ≡ lineHere
+    is-here = let k : i + 1 - 1 ≡ i = omega arith in ap (λ (n : ℕ). getD (linesOf t) n noLine) k
+
+    module _ {e : Encoded} (c : Encodes rowHere (i + 1) (valueLent sorts wholes singles i) e) where
+      heard : encodedSaid e ≡ encode (lineHere .rowAt latest) (suc i) (lent (fieldsLent t sorts wholes singles) (suc i))
+      heard =
+          let k : suc i - 1 ≡ i = omega arith in
+          c .said
+          ∙ ap (λ (n : ℕ). encode rowHere n (valueLent sorts wholes singles i)) (add-one i)
+          ∙ ap (λ l. encode (l .rowAt latest) (suc i) (valueLent sorts wholes singles i)) is-here
+          ∙ ap (encode (lineHere .rowAt latest) (suc i)) (sym (ap (λ (n : ℕ). getD (slotsLent sorts wholes singles) n (slot Missing) .value) k ∙ long-slot (d .long) i (omega (arith, last-most t))))
+
+      pub turn-refused : {r : Refusal} → e ≡ NoCode r → CodedTo (i + 1) t sorts wholes singles codes (NotCoded r)
+      turn-refused a = coded-stop (fields-listed (fieldsLent t sorts wholes singles) ∙ bind-refused _ (sym (d .rest) ∙ field-refused (fieldsLent t sorts wholes singles) (unpacked codes) latest i h (sym heard ∙ ap encodedSaid a))) (d .fit)
+
+      pub turn-coded : (p : ℕ) {code next : ℕ} → e ≡ Code code → (p / 2 ^ 32 ≡ rowHere .width) × (p % 2 ^ 32 ≡ code) → next ≡ chose (lineOf t (i + 1) .sets) code latest →
+          CodedTo (i + 1) t sorts wholes singles (set codes i p) (Next next)
+      turn-coded p {code} {next} a are n =
+          let x : CodedField = record { width = rowHere .width; code = code } in
+          let k : i < length (unpacked codes) = omega (arith, d .fit .long, last-most t) in
+          let added : needed (take (suc i) (map fieldPiece (set (unpacked codes) i x))) ≡ rowHere .width + needed (take i (map fieldPiece (unpacked codes))) =
+          omega (arith, ap needed (taken (unpacked codes) i x k), needed-append (take i (map fieldPiece (unpacked codes))) (fieldPiece x ∷ [])) in
+          coded-next (rw (add-one i, n, is-here) (record {
+            long = d .long;
+            inside = omega arith;
+            fit = rw (packed-set codes i p (are .0) (are .1)) (fit-more (unpacked codes) i x (d .fit) (coded-fits turn-sound c a));
+            rest = rw (packed-set codes i p (are .0) (are .1), is-here) (sym (field-coded (fieldsLent t sorts wholes singles) (unpacked codes) latest i h k (sym heard ∙ ap encodedSaid a)) ∙ d .rest);
+            count = rw (packed-set codes i p (are .0) (are .1)) (added ∙ omega (arith, d .count, ap (λ l. l .rowAt latest .width) is-here, bits-more false (linesOf t) (lines-steady t) latest code i h));
+          }))
+
+  -- All of them.
+  pub coded-all : {codes : List ℕ} {latest bits : ℕ} → FieldsCoded t sorts wholes singles codes latest (lastField t) →
+      (bits ≡ bitsBefore (linesOf t) latest (lastField t) + 10) × (bits < 2 ^ 16) → FieldsPlanned (fieldsLent t sorts wholes singles) (unpacked codes) (Bits bits)
+  coded-all {codes} {latest} {bits} d b =
+      let all : List Piece = take (lastField t) (map fieldPiece (unpacked codes)) in
+      let planned : linePieces (fieldsLent t sorts wholes singles) (linesOf t) 0 1 ≡ good all = sym (d .rest) ∙ from-end (fieldsLent t sorts wholes singles) (unpacked codes) latest (lastField t) (omega arith) in
+      let are : withBlock t all ≡ codedFields t (unpacked codes) =
+      ap (λ q. q ++ (blockPieces (numberOf t) ++ drop (length basic) all)) (take-take (length basic) (lastField t) (map fieldPiece (unpacked codes)) (basic-fewer t)) in
       record {
-        said = sym (fields-listed sheet ∙ bind-good _ planned ∙ ap good are);
+        said = sym (fields-listed (fieldsLent t sorts wholes singles) ∙ bind-good _ planned ∙ ap good are);
         fit = d .fit;
-        count = λ b a. let same : bits ≡ b = cc in (sym same ∙ counted, omega (arith, same, d .few, d .inside, last-most t));
+        count = λ n a. let same : bits ≡ n = cc in (omega (arith, same, b .0, d .count, block-needed t all, ap needed are), omega (arith, same, b .1));
       }
 
-  -- A turn, in the words of the code.
-  module _ {fields : List CodedField} {latest bits i : ℕ} (d : FieldsDone fields latest bits i) (h : i < lastField t) (row : Row) (e : Encoded) (er : row ≡ rowOf (record { template = t; precision = latest }) (i + 1))
-      (c : Encodes row (i + 1) (lent sheet (i + 1)) e) where
-    is-here : lineOf t (i + 1) ≡ getD lines i noLine
-    is-here = let k : i + 1 - 1 ≡ i = omega arith in ap (λ (n : ℕ). getD lines n noLine) k
-
-    row-here : row ≡ getD lines i noLine .rowAt latest
-    row-here = er ∙ ap (λ l. l .rowAt latest) is-here
-
-    heard : encodedSaid e ≡ encode (getD lines i noLine .rowAt latest) (suc i) (lent sheet (suc i))
-    heard =
-        c .said
-        ∙ ap (λ (n : ℕ). encode row n (lent sheet n)) (add-one i)
-        ∙ ap (λ r. encode r (suc i) (lent sheet (suc i))) row-here
-
-    pub turn-refused : {r : Refusal} → e ≡ NoCode r → FieldsPlanned sheet fields (NotPlanned r)
-    turn-refused {r} a = record {
-      said = sym (fields-listed sheet ∙ bind-refused _ (sym (d .rest) ∙ field-refused fields latest i h (sym heard ∙ ap encodedSaid a)));
-      fit = d .fit;
-      count = λ b s. absurd (let z : _≡_ {A = ℕ} 0 1 = cc in omega arith);
-    }
-
-    pub turn-coded : {code next : ℕ} → e ≡ Code code → next ≡ chose (lineOf t (i + 1) .sets) code latest → Sound row →
-        FieldsDone (set fields i (record { width = row .width; code = code })) next (bits + row .width) (i + 1)
-    turn-coded {code} {next} a n s =
-        let x : CodedField = record { width = row .width; code = code } in
-        let k : i < length fields = omega (arith, d .fit .long, last-most t) in
-        let more : needed (take (i + 1) (map fieldPiece (set fields i x))) ≡ row .width + needed (take i (map fieldPiece fields)) =
-        rw (add-one i) (omega (arith, ap needed (taken fields i x k), needed-append (take i (map fieldPiece fields)) (fieldPiece x ∷ []))) in
-        record {
-          inside = omega arith;
-          fit = fit-more fields i x (d .fit) (record { some = s .some; most = s .most; fits = c .fits code a });
-          rest =
-              rw (add-one i, n, is-here, row-here) (sym (field-coded fields latest i h k (sym heard ∙ ap encodedSaid a)) ∙ d .rest);
-          count = omega (arith, d .count, more);
-          few = omega (arith, d .few, s .most);
-        }
-
-    pub turn-packed : (codes : List ℕ) (p : ℕ) → fields ≡ unpacked codes → {code next : ℕ} → e ≡ Code code → next ≡ chose (lineOf t (i + 1) .sets) code latest → Sound row →
-        (p / 2 ^ 32 ≡ row .width) × (p % 2 ^ 32 ≡ code) → FieldsDone (unpacked (set codes i p)) next (bits + row .width) (i + 1)
-    turn-packed codes p is {code} {next} a n s are =
-        subst (λ fs. FieldsDone fs next (bits + row .width) (i + 1)) (ap (λ fs. set fs i (record { width = row .width; code = code })) is ∙ sym (packed-set codes i p (are .0) (are .1))) (turn-coded a n s)
-
--- ---- the loops over fields that are lent: Basic, then the template's own
-
-pub record Going (t : Template) (sorts : List ℕ) (wholes : List ℤ) (singles : List Float) (last : ℕ) (codes : List ℕ) (latest bits i : ℕ) : Type 0 where
-  pub long : Long sorts wholes singles
-  pub most : last ≤ lastField t
-  pub done : FieldsDone (fieldsLent t sorts wholes singles) (unpacked codes) latest bits i
-
-module _ {t : Template} {sorts : List ℕ} {wholes : List ℤ} {singles : List Float} {last : ℕ} {codes : List ℕ} {latest bits i : ℕ} (g : Going t sorts wholes singles last codes latest bits i) where
-  pub going-same : (codes₀ : List ℕ) → Fit 21 (unpacked codes₀) → length codes ≡ length codes₀
-  going-same codes₀ fit = packed-long codes (g .done .fit) ∙ sym (packed-long codes₀ fit)
-
-  -- In a template that is known.
-  pub going-own : {own : Template} {end : ℕ} → t ≡ own → end ≤ lastField own → Going own sorts wholes singles end codes latest bits i
-  going-own is h = record { long = g .long; most = h; done = subst (λ x. FieldsDone (fieldsLent x sorts wholes singles) (unpacked codes) latest bits i) is (g .done) }
-
-  going-planned : {into : Template} → into ≡ t → {r : Planned} → FieldsPlanned (fieldsLent t sorts wholes singles) (unpacked codes) r → FieldsPlanned (fieldsLent into sorts wholes singles) (unpacked codes) r
-  going-planned is {r} p = subst (λ x. FieldsPlanned (fieldsLent x sorts wholes singles) (unpacked codes) r) (sym is) p
-
-  pub going-all : {into : Template} → into ≡ t → lastField t ≤ i → FieldsPlanned (fieldsLent into sorts wholes singles) (unpacked codes) (Bits bits)
-  going-all is h = going-planned is (done-all (fieldsLent t sorts wholes singles) (g .done) h)
-
-  pub going-inside : i < last → i < 21
-  going-inside h = omega (arith, g .most, last-most t)
-
-  pub going-room : i < last → i < length codes
-  going-room h = omega (arith, going-inside h, packed-long codes (g .done .fit))
-
-  -- A turn. What its code is asked by may be the row of any layout that has it.
-  module _ (h : i < last) {row : Row} (layout : Layout) (er : row ≡ rowOf layout (i + 1)) (hi : i + 1 ≤ lastField (layout .template)) where
-    going-sound : Sound row
-    going-sound = subst Sound (sym er) (row-sound layout (i + 1) (omega arith) hi)
-
-    pub swift-asked : Sound row × Long sorts wholes singles × (i < 21)
-    swift-asked = (going-sound, g .long, going-inside h)
-
-    pub code-asked : {n : ℕ} → Told row (valueLent sorts wholes singles i) n →
-        (Long sorts wholes singles × (1 ≤ i + 1) × (i + 1 ≤ lastField (layout .template))) × Told (rowOf layout (i + 1)) (valueLent sorts wholes singles (i + 1 - 1)) n
-    code-asked {n} told =
-        let k : i ≡ i + 1 - 1 = omega arith in
-        ((g .long, omega arith, hi), subst (λ r. Told r (valueLent sorts wholes singles (i + 1 - 1)) n) er (subst (λ (m : ℕ). Told row (valueLent sorts wholes singles m) n) k told))
-
-    pub going-few : bits + row .width < 2 ^ 16
-    going-few = omega (arith, going-sound .most, g .done .few, going-inside h)
-
-    module _ {e : Encoded} (c : Encodes (rowOf layout (i + 1)) (i + 1) (valueLent sorts wholes singles (i + 1 - 1)) e) where
-      heard-here : Encodes row (i + 1) (lent (fieldsLent t sorts wholes singles) (i + 1)) e
-      heard-here =
-          subst (λ r. Encodes r (i + 1) (lent (fieldsLent t sorts wholes singles) (i + 1)) e) (sym er)
-          (subst (λ v. Encodes (rowOf layout (i + 1)) (i + 1) v e) (sym (long-slot (g .long) (i + 1 - 1) (omega (arith, going-inside h)))) c)
-
-      pub going-fits : {code : ℕ} → e ≡ Code code → Fitting (row .width) code
-      going-fits a = coded-fits going-sound heard-here a
-
-      module _ (here : row ≡ rowOf (record { template = t; precision = latest }) (i + 1)) where
-        pub going-refused : {into : Template} → into ≡ t → {r : Refusal} → e ≡ NoCode r → FieldsPlanned (fieldsLent into sorts wholes singles) (unpacked codes) (NotPlanned r)
-        going-refused is a = going-planned is (turn-refused (fieldsLent t sorts wholes singles) (g .done) (omega (arith, g .most)) row e here heard-here a)
-
-        pub going-on : (p : ℕ) {code next : ℕ} → e ≡ Code code → next ≡ chose (lineOf t (i + 1) .sets) code latest → (p / 2 ^ 32 ≡ row .width) × (p % 2 ^ 32 ≡ code) →
-            Going t sorts wholes singles last (set codes i p) next (bits + row .width) (i + 1)
-        going-on p a n are = record {
-          long = g .long;
-          most = g .most;
-          done = turn-packed (fieldsLent t sorts wholes singles) (g .done) (omega (arith, g .most)) row e here heard-here codes p refl a n going-sound are;
-        }
+  pub all-refused : {n : ℕ} {codes : List ℕ} {answer : Coded} {r : Refusal} → CodedTo n t sorts wholes singles codes answer → answer ≡ NotCoded r → FieldsPlanned (fieldsLent t sorts wholes singles) (unpacked codes) (NotPlanned r)
+  all-refused c e = record {
+    said = sym (c .stop _ e);
+    fit = c .fit;
+    count = λ b s. absurd (let z : _≡_ {A = ℕ} 0 1 = cc in omega arith);
+  }

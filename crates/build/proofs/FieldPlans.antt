@@ -1,31 +1,26 @@
 -- The fields of a sheet: Basic, the first block and the template's own, as the lines of one list with the block between them.
-use mathlib.Core.Path.{_≡_, refl, sym, ap, ap₂, _∙_}
-use mathlib.Core.Bool.{true}
-use mathlib.Core.List.{List, _++_}
-use Prim.Native.Nat.{ℕ, suc, _+_, _-_}
+use mathlib.Core.Path.{_≡_, refl, ap, _∙_}
+use mathlib.Core.List.{List, [], _∷_, _++_}
+use Prim.Native.Nat.{ℕ, suc, _+_}
 use native.Mathlib.Omega.{arith}
 use lib.ListN.{length, take, drop, take-append-drop}
-use lib.Seq.{take-at, drop-at}
 use Rattle.refusal.specs.Outcome.{Outcome, good, refused, _>>=_}
-use Rattle.refusal.proofs.Outcomes.{bind-assoc, bind-same}
-use Rattle.memory.specs.Pieces.{Piece, needed}
+use Rattle.memory.specs.Pieces.{Piece, piece, needed}
 use Rattle.memory.proofs.PieceLaws.{needed-append}
 use Rattle.fields.specs.declared.Template.{Template}
+use Rattle.fields.specs.Rules.{encode}
 use Rattle.fields.specs.Lines.{Line, basic, templateLines, linesOf, numberOf}
 use Rattle.layout.specs.Pieces.{blockPieces}
-use Rattle.layout.proofs.Choices.{Steady}
 use Rattle.build.specs.declared.Sheet.{Sheet}
-use Rattle.build.specs.Build.{templateIn, linePieces, fieldPieces}
-use Rattle.build.proofs.LinePlans.{lines-length, lines-joined}
+use Rattle.build.specs.Build.{lent, templateIn, linePieces, fieldPieces}
 
--- Basic sets no widths.
-basic-settled : Steady true basic
-unfolding basic
-basic-settled = (refl, (refl, (refl, (refl, (refl, tt)))))
+-- Pieces behind the first n of others.
+abbrev behind : ℕ → List Piece → List Piece → List Piece
+behind n block ps = take n ps ++ (block ++ drop n ps)
 
 -- The block stands behind Basic.
 abbrev pub withBlock : Template → List Piece → List Piece
-withBlock template ps = take (length basic) ps ++ (blockPieces (numberOf template) ++ drop (length basic) ps)
+withBlock template ps = behind (length basic) (blockPieces (numberOf template)) ps
 
 pub block-needed : (template : Template) (ps : List Piece) → needed (withBlock template ps) ≡ needed ps + 10
 block-needed template ps =
@@ -38,25 +33,49 @@ block-needed template ps =
       ap needed (take-append-drop (length basic) ps),
     )
 
-module _ (sheet : Sheet) where
-  abbrev t : Template
-  t = templateIn sheet
+-- A line whose row goes by no choice: its bits, and its code or the refusal.
+record Part : Type 0 where
+  width : ℕ
+  code : Outcome ℕ
 
-  abbrev own : List Line
-  own = templateLines t
+abbrev joined : List Part → Outcome (List Piece) → Outcome (List Piece)
+joined [] own = own
+joined (p ∷ parts) own = p .code >>= λ code. joined parts own >>= λ rest. good (piece (p .width) code ∷ rest)
 
-  pub fields-listed : fieldPieces sheet ≡ (linePieces sheet (linesOf t) 0 1 >>= λ ps. good (withBlock t ps))
-  unfolding fieldPieces linesOf
-  fields-listed =
-      go (linePieces sheet basic 0 1) refl ∙ ap (λ o. o >>= λ ps. good (withBlock t ps)) (sym (lines-joined sheet basic own basic-settled 0 1))
+module _ (block : List Piece) (own : Outcome (List Piece)) where
+  abbrev apart : Outcome (List Piece) → Outcome (List Piece)
+  apart front = front >>= λ bs. own >>= λ os. good (bs ++ (block ++ os))
+
+  apart-more : (p : Piece) (front : Outcome (List Piece)) → apart (front >>= λ rest. good (p ∷ rest)) ≡ (apart front >>= λ l. good (p ∷ l))
+  apart-more p (refused r) = refl
+  apart-more p (good bs) = go own
     where
-      go : (o : Outcome (List Piece)) → linePieces sheet basic 0 1 ≡ o →
-          (o >>= λ bs. linePieces sheet own 0 (suc (length basic)) >>= λ os. good (bs ++ (blockPieces (numberOf t) ++ os)))
-          ≡ ((o >>= λ bs. linePieces sheet own 0 (1 + length basic) >>= λ os. good (bs ++ os)) >>= λ ps. good (withBlock t ps))
-      go (refused r) e = refl
-      go (good bs) e =
-          let n : length bs ≡ length basic = lines-length sheet basic 0 1 bs e in
-          let f : suc (length basic) ≡ 1 + length basic = omega arith in
-          bind-same (linePieces sheet own 0 (suc (length basic))) (λ os. ap good (ap₂ (λ p q. p ++ (blockPieces (numberOf t) ++ q)) (sym (take-at bs os (length basic) n)) (sym (drop-at bs os (length basic) n))))
-          ∙ sym (bind-assoc (linePieces sheet own 0 (suc (length basic))) (λ os. good (bs ++ os)) (λ ps. good (withBlock t ps)))
-          ∙ ap (λ (m : ℕ). (linePieces sheet own 0 m >>= λ os. good (bs ++ os)) >>= λ ps. good (withBlock t ps)) f
+      go : (o : Outcome (List Piece)) → (o >>= λ os. good (p ∷ (bs ++ (block ++ os)))) ≡ ((o >>= λ os. good (bs ++ (block ++ os))) >>= λ l. good (p ∷ l))
+      go (refused r) = refl
+      go (good os) = refl
+
+  behind-more : (p : Piece) (n : ℕ) (all : Outcome (List Piece)) → ((all >>= λ ps. good (behind n block ps)) >>= λ l. good (p ∷ l)) ≡ ((all >>= λ rest. good (p ∷ rest)) >>= λ ps. good (behind (suc n) block ps))
+  behind-more p n (refused r) = refl
+  behind-more p n (good ps) = refl
+
+  abbrev Between : List Part → Type 0
+  Between parts = apart (joined parts (good [])) ≡ (joined parts own >>= λ ps. good (behind (length parts) block ps))
+
+  between-more : (parts : List Part) → Between parts → (width : ℕ) (code : Outcome ℕ) → Between (record { width = width; code = code } ∷ parts)
+  between-more parts h width (refused r) = refl
+  between-more parts h width (good code) =
+      let p : Piece = piece width code in
+      apart-more p (joined parts (good [])) ∙ ap (λ o. o >>= λ l. good (p ∷ l)) h ∙ behind-more p (length parts) (joined parts own)
+
+  between : (parts : List Part) → Between parts
+  between [] = refl
+  between (p ∷ parts) = between-more parts (between parts) (p .width) (p .code)
+
+module _ (sheet : Sheet) where
+  abbrev partsFrom : ℕ → List Line → List Part
+  partsFrom f [] = []
+  partsFrom f (l ∷ lines) = record { width = l .rowAt 0 .width; code = encode (l .rowAt 0) f (lent sheet f) } ∷ partsFrom (suc f) lines
+
+  pub fields-listed : fieldPieces sheet ≡ (linePieces sheet (linesOf (templateIn sheet)) 0 1 >>= λ ps. good (withBlock (templateIn sheet) ps))
+  unfolding fieldPieces linesOf basic linePieces
+  fields-listed = between (blockPieces (numberOf (templateIn sheet))) (linePieces sheet (templateLines (templateIn sheet)) 0 (suc (length basic))) (partsFrom 1 basic)

@@ -1,5 +1,4 @@
 pub mod Tests
-pub mod LinePlans
 pub mod FieldPlans
 pub mod Lent
 pub mod PairPlans

@@ -6,7 +6,7 @@ use mathlib.Core.Option.{Option}
 use Prim.Native.Nat.{ℕ, zero, suc, _+_, _*_, _/_, _%_, _^_, _≤_, _<_}
 use lib.IntN.{ℤ, pos, _*ℤ_}
 use lib.Ieee.{Float, nan}
-use lib.ListN.{length, getD, take, set, replicate}
+use lib.ListN.{length, getD, take, drop, set, replicate}
 use lib.Seq.{slice}
 use Rattle.refusal.specs.declared.Refusal.{Refusal}
 use Rattle.refusal.specs.Outcome.{Outcome, good, refused, _>>_, _>>=_}
@@ -26,21 +26,24 @@ use Rattle.fields.specs.declared.Template.{Template}
 use Rattle.fields.specs.declared.Level.{Level}
 use Rattle.fields.specs.declared.Level.the-variants.{Owner}
 use Rattle.fields.specs.Rules.{encode}
-use Rattle.fields.specs.Lines.{basic, numberOf, lastField}
+use Rattle.fields.specs.Lines.{basic, numberOf, linesOf, lastField, bitsBefore}
 use Rattle.fields.specs.Curves.{segmentStart, termCount, exponent, coefficient, exponentCode}
 use Rattle.fields.specs.Answers.{encodedSaid, judgedSaid}
+use Rattle.coding.specs.Swift.{Told}
 use Rattle.layout.specs.Pieces.{blockPieces}
 use Rattle.build.specs.declared.Slot.{Slot}
 use Rattle.build.specs.declared.Sheet.{Sheet}
 use Rattle.build.specs.declared.plan.CodedField.{CodedField}
 use Rattle.build.specs.declared.plan.Planned.{Planned}
 use Rattle.build.specs.declared.plan.Planned.the-variants.{Bits, Refused as NotPlanned}
+use Rattle.build.specs.declared.plan.Coded.{Coded}
+use Rattle.build.specs.declared.plan.Coded.the-variants.{Next, Refused as NotCoded}
 use Rattle.build.specs.declared.plan.PairAnswer.{PairAnswer}
 use Rattle.build.specs.declared.plan.PairAnswer.the-variants.{Are, Refused}
 use Rattle.build.specs.declared.drawing.TwoAnswer.{TwoAnswer}
 use Rattle.build.specs.declared.drawing.TwoAnswer.the-variants.{Are as Both, Refused as Neither}
 use Rattle.build.specs.declared.drawing.CurvePlan.{CurvePlan}
-use Rattle.build.specs.Build.{slot, templateIn, fieldPieces, startCode, curvePieces}
+use Rattle.build.specs.Build.{slot, templateIn, linePieces, fieldPieces, startCode, curvePieces}
 
 -- What a test says: nothing but the refusal.
 abbrev pub tested : {A : Type 0} → Outcome A → Outcome (Unit {0})
@@ -126,6 +129,30 @@ unpack n = record { width = n / 2 ^ 32; code = n % 2 ^ 32 }
 
 abbrev pub unpacked : List ℕ → List CodedField
 unpacked codes = map unpack codes
+
+-- A row's bits, and the code of field i + 1 by it, if it is below 2^32.
+pub record Quick (row : Row) (sorts : List ℕ) (wholes : List ℤ) (singles : List Float) (i : ℕ) (quick : CodedField) : Type 0 where
+  pub wide : quick .width ≡ row .width
+  pub told : Told row (valueLent sorts wholes singles i) (quick .code)
+
+-- What the lines of a sheet come to where the first i have these codes, and the others go by the latest choice.
+abbrev pub codedFrom : Sheet → List CodedField → ℕ → ℕ → Outcome (List Piece)
+codedFrom sheet fields latest i =
+    linePieces sheet (drop i (linesOf (templateIn sheet))) latest (suc i) >>= λ rest. good (take i (map fieldPiece fields) ++ rest)
+
+-- The first i fields of a sheet so lent have their codes; `latest` is the choice behind them.
+pub record FieldsCoded (t : Template) (sorts : List ℕ) (wholes : List ℤ) (singles : List Float) (codes : List ℕ) (latest i : ℕ) : Type 0 where
+  pub long : Long sorts wholes singles
+  pub inside : i ≤ lastField t
+  pub fit : Fit 21 (unpacked codes)
+  pub rest : codedFrom (fieldsLent t sorts wholes singles) (unpacked codes) latest i ≡ linePieces (fieldsLent t sorts wholes singles) (linesOf t) 0 1
+  pub count : needed (take i (map fieldPiece (unpacked codes))) ≡ bitsBefore (linesOf t) latest i
+
+-- So have the first n, or one of them is refused.
+pub record CodedTo (n : ℕ) (t : Template) (sorts : List ℕ) (wholes : List ℤ) (singles : List Float) (codes : List ℕ) (answer : Coded) : Type 0 where
+  pub done : (latest : ℕ) → answer ≡ Next latest → FieldsCoded t sorts wholes singles codes latest n
+  pub stop : (r : Refusal) → answer ≡ NotCoded r → fieldPieces (fieldsLent t sorts wholes singles) ≡ refused r
+  pub fit : Fit 21 (unpacked codes)
 
 abbrev pub plannedSaid : Planned → Outcome (Unit {0})
 plannedSaid (Bits bits) = good tt

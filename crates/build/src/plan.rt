@@ -16,12 +16,12 @@ ghost use lib.Dec.{eqb, ltb};
 ghost use lib.ListN.{length};
 ghost use Rattle.refusal.specs.Outcome.{refuse_if_};
 ghost use Rattle.refusal.specs.Rows.{outOfRange};
-ghost use Rattle.fields.specs.Lines.{chose, lineOf, rowOf, lastField, ending};
+ghost use Rattle.fields.specs.Lines.{chose, basic, lineOf, linesOf, rowOf, lastField, ending, bitsBefore};
 ghost use Rattle.fields.specs.Stored.{Sound};
 ghost use Rattle.fields.specs.Answers.{judgedSaid, previousSaid};
 ghost use Rattle.coding.specs.Swift.{Told};
 ghost use Rattle.build.specs.Build.{unfit, endingPieces, pairsLent, codesFor, pairCodes, tablePieces};
-ghost use Rattle.build.specs.Tested.{tested, pairAt, codesSaid, Encodes, Fitting, Fit, unpacked, valueLent, Long, fieldsLent, FieldsPlanned};
+ghost use Rattle.build.specs.Tested.{tested, pairAt, codesSaid, Encodes, Fitting, Fit, unpacked, valueLent, Long, fieldsLent, Quick, FieldsCoded, CodedTo, FieldsPlanned};
 
 // A field that is to be written: its bits and its code.
 pub struct CodedField {
@@ -32,6 +32,12 @@ pub struct CodedField {
 // The bits that the fields of a sheet need with their block, or 9 or 10.
 pub enum Planned {
     Bits(u64),
+    Refused(Refusal),
+}
+
+// The precision that the field behind those that are coded goes by, or 9 or 10.
+pub enum Coded {
+    Next(u64),
     Refused(Refusal),
 }
 
@@ -62,12 +68,45 @@ fn value_at(sorts: &[u8], wholes: &[i64], singles: &[f32], i: usize) -> Value
     }
 }
 
-// The code of that value, where it is told at once.
-fn swift_at(row: Row, sorts: &[u8], wholes: &[i64], singles: &[f32], i: usize) -> u64
+// The bits of field i + 1 by its row, and its code where the row tells it without a search, else `coding::NONE`. Small, so that
+// the compiler takes it into the loops below and keeps the row in registers.
+fn quick_code(row: Row, sorts: &[u8], wholes: &[i64], singles: &[f32], i: usize) -> CodedField
     requires { ⌜ Sound row × Long (now sorts) (now wholes) (now singles) × (i < 21) ⌝ }
-    ensures { λ r. ⌜ Told row (valueLent (now (sorts .entry)) (now (wholes .entry)) (now (singles .entry)) i) r ⌝ }
+    ensures { λ r. ⌜ Quick row (now (sorts .entry)) (now (wholes .entry)) (now (singles .entry)) i r ⌝ }
 {
-    coding::swift(row, value_at(sorts, wholes, singles, i))
+    CodedField {
+        width: row.width,
+        code: coding::swift(row, value_at(sorts, wholes, singles, i)),
+    }
+}
+
+// The same of a template's own field.
+fn quick_own(layout: Layout, sorts: &[u8], wholes: &[i64], singles: &[f32], i: usize) -> CodedField
+    requires { ⌜ Long (now sorts) (now wholes) (now singles) × (length basic ≤ i) × (i < lastField (layout .template)) ⌝ }
+    ensures { λ r. ⌜ Quick (rowOf layout (i + 1)) (now (sorts .entry)) (now (wholes .entry)) (now (singles .entry)) i r ⌝ }
+{
+    let field = i as u64 + 1;
+    let template = layout.template;
+    match template {
+        Template::Bridge => {
+            quick_code(
+                fields::bridge_row(layout.precision, field),
+                sorts,
+                wholes,
+                singles,
+                i,
+            )
+        }
+        Template::Resistance => {
+            quick_code(
+                fields::resistance_row(layout.precision, field),
+                sorts,
+                wholes,
+                singles,
+                i,
+            )
+        }
+    }
 }
 
 // The code of a field's value, which fits its row's bits: a Single that is lent has 32.
@@ -78,39 +117,35 @@ fn code_of(layout: Layout, field: u64, value: Value) -> Encoded
     coding::encode(layout, field, value)
 }
 
-// The code of a field's value, once it is known whether it was told at once. The row is not handed in, so that a loop over rows
-// that are constants keeps none in memory.
+// The code of field i + 1: the quick one, if there is one.
 fn code_at(
     layout: Layout,
-    field: u64,
+    quick: u64,
     sorts: &[u8],
     wholes: &[i64],
     singles: &[f32],
-    swift: u64,
+    i: usize,
 ) -> Encoded
-    requires { ⌜ Long (now sorts) (now wholes) (now singles) × (1 ≤ field) × (field ≤ lastField (layout .template)) ⌝ }
-    requires { ⌜ Told (rowOf layout field) (valueLent (now sorts) (now wholes) (now singles) (field - 1)) swift ⌝ }
-    ensures { λ r. ⌜ Encodes (rowOf layout field) field (valueLent (now (sorts .entry)) (now (wholes .entry)) (now (singles .entry)) (field - 1)) r ⌝ }
+    requires { ⌜ Long (now sorts) (now wholes) (now singles) × (i < lastField (layout .template)) ⌝ }
+    requires { ⌜ Told (rowOf layout (i + 1)) (valueLent (now sorts) (now wholes) (now singles) i) quick ⌝ }
+    ensures { λ r. ⌜ Encodes (rowOf layout (i + 1)) (i + 1) (valueLent (now (sorts .entry)) (now (wholes .entry)) (now (singles .entry)) i) r ⌝ }
 {
-    if swift < coding::NONE {
-        return Encoded::Code(swift);
+    if quick < coding::NONE {
+        return Encoded::Code(quick);
     }
-    code_of(
-        layout,
-        field,
-        value_at(sorts, wholes, singles, field as usize - 1),
-    )
+    code_of(layout, i as u64 + 1, value_at(sorts, wholes, singles, i))
 }
 
-// The latest choice behind a field.
-fn choice_behind(template: Template, field: u64, code: u64, latest: u64) -> u64
-    requires { ⌜ (1 ≤ field) × (field ≤ lastField template) ⌝ }
-    ensures { λ r. ⌜ r ≡ chose (lineOf template field .sets) code latest ⌝ }
+// The precision behind a field: its code, if it is the field that sets it.
+fn precision_behind(layout: Layout, field: u64, code: u64) -> u64
+    requires { ⌜ (1 ≤ field) × (field ≤ lastField (layout .template)) ⌝ }
+    ensures { λ r. ⌜ r ≡ chose (lineOf (layout .template) field .sets) code (layout .precision) ⌝ }
 {
+    let template = layout.template;
     if fields::is_choice(template, field) {
         return code;
     }
-    latest
+    layout.precision
 }
 
 // The number of a field.
@@ -121,8 +156,102 @@ fn packed(width: u64, code: u64) -> u64
     (width << CODE_BITS) | code
 }
 
-// 9 or 10, field by field, each by the latest choice before it; the fields go into `codes`. Each loop has rows of its own, and
-// an end that is known when it is compiled: so no row is picked at run time.
+// Field i + 1, behind i that are coded: its bits and its code go into `codes`.
+fn code_field(
+    layout: Layout,
+    quick: CodedField,
+    sorts: &[u8],
+    wholes: &[i64],
+    singles: &[f32],
+    codes: &mut [u64],
+    i: usize,
+) -> Coded
+    requires { ⌜ FieldsCoded (layout .template) (now sorts) (now wholes) (now singles) (now codes) (layout .precision) i × (i < lastField (layout .template)) ⌝ }
+    requires { ⌜ Quick (rowOf layout (i + 1)) (now sorts) (now wholes) (now singles) i quick ⌝ }
+    ensures { λ r. ⌜ CodedTo (i + 1) (layout .template) (now (sorts .entry)) (now (wholes .entry)) (now (singles .entry)) (now (codes .exit)) r ⌝ }
+{
+    match code_at(layout, quick.code, sorts, wholes, singles, i) {
+        Encoded::Refused(r) => Coded::Refused(r),
+        Encoded::Code(code) => {
+            codes[i] = packed(quick.width, code);
+            Coded::Next(precision_behind(layout, i as u64 + 1, code))
+        }
+    }
+}
+
+// The fields of Basic.
+fn code_basic(
+    template: Template,
+    sorts: &[u8],
+    wholes: &[i64],
+    singles: &[f32],
+    codes: &mut [u64],
+) -> Coded
+    requires { ⌜ FieldsCoded template (now sorts) (now wholes) (now singles) (now codes) 0 0 ⌝ }
+    ensures { λ r. ⌜ CodedTo (length basic) template (now (sorts .entry)) (now (wholes .entry)) (now (singles .entry)) (now (codes .exit)) r ⌝ }
+{
+    let end = fields::basic_fields() as usize;
+    let mut precision: u64 = 0;
+    for i in 0..end {
+        let layout = Layout {
+            template,
+            precision,
+        };
+        let quick = quick_code(fields::basic_row(i as u64 + 1), sorts, wholes, singles, i);
+        match code_field(layout, quick, sorts, wholes, singles, codes, i) {
+            Coded::Refused(r) => {
+                return Coded::Refused(r);
+            }
+            Coded::Next(next) => {
+                precision = next;
+            }
+        }
+    }
+    Coded::Next(precision)
+}
+
+// The template's own fields, behind Basic.
+fn code_own(
+    template: Template,
+    behind: u64,
+    sorts: &[u8],
+    wholes: &[i64],
+    singles: &[f32],
+    codes: &mut [u64],
+) -> Coded
+    requires { ⌜ FieldsCoded template (now sorts) (now wholes) (now singles) (now codes) behind (length basic) ⌝ }
+    ensures { λ r. ⌜ CodedTo (lastField template) template (now (sorts .entry)) (now (wholes .entry)) (now (singles .entry)) (now (codes .exit)) r ⌝ }
+{
+    let first = fields::basic_fields() as usize;
+    let end = fields::last_field(template) as usize;
+    let mut precision = behind;
+    for i in first..end {
+        let layout = Layout {
+            template,
+            precision,
+        };
+        let quick = quick_own(layout, sorts, wholes, singles, i);
+        match code_field(layout, quick, sorts, wholes, singles, codes, i) {
+            Coded::Refused(r) => {
+                return Coded::Refused(r);
+            }
+            Coded::Next(next) => {
+                precision = next;
+            }
+        }
+    }
+    Coded::Next(precision)
+}
+
+// The bits of the fields of a layout, with their block.
+fn field_bits(layout: Layout) -> u64
+    ensures { λ r. ⌜ (r ≡ bitsBefore (linesOf (layout .template)) (layout .precision) (lastField (layout .template)) + 10) × (r < 2 ^ 16) ⌝ }
+{
+    let template = layout.template;
+    fields::bits_before(layout, fields::last_field(template) + 1) + 10
+}
+
+// 9 or 10, field by field, each by the precision before it; the fields go into `codes`.
 pub fn plan_fields(
     template: Template,
     sorts: &[u8],
@@ -133,78 +262,15 @@ pub fn plan_fields(
     requires { ⌜ Long (now sorts) (now wholes) (now singles) × Fit 21 (unpacked (now codes)) ⌝ }
     ensures { λ r. ⌜ FieldsPlanned (fieldsLent template (now (sorts .entry)) (now (wholes .entry)) (now (singles .entry))) (unpacked (now (codes .exit))) r ⌝ }
 {
-    let basic = fields::basic_fields() as usize;
-    let mut precision: u64 = 0;
-    let mut bits: u64 = 10;
-    let mut i: usize = 0;
-    while i < basic {
-        let field = i as u64 + 1;
-        let row = fields::basic_row(field);
-        let swift = swift_at(row, sorts, wholes, singles, i);
-        let layout = Layout {
-            template: Template::Bridge,
-            precision: 0,
-        };
-        match code_at(layout, field, sorts, wholes, singles, swift) {
-            Encoded::Refused(r) => {
-                return Planned::Refused(r);
-            }
-            Encoded::Code(code) => {
-                codes[i] = packed(row.width, code);
-            }
-        }
-        bits += row.width;
-        i += 1;
-    }
-    match template {
-        Template::Bridge => {
-            let last = fields::last_field(Template::Bridge) as usize;
-            while i < last {
-                let field = i as u64 + 1;
-                let row = fields::bridge_row(precision, field);
-                let swift = swift_at(row, sorts, wholes, singles, i);
-                let layout = Layout {
-                    template: Template::Bridge,
-                    precision,
-                };
-                match code_at(layout, field, sorts, wholes, singles, swift) {
-                    Encoded::Refused(r) => {
-                        return Planned::Refused(r);
-                    }
-                    Encoded::Code(code) => {
-                        codes[i] = packed(row.width, code);
-                        precision = choice_behind(Template::Bridge, field, code, precision);
-                    }
-                }
-                bits += row.width;
-                i += 1;
-            }
-            Planned::Bits(bits)
-        }
-        Template::Resistance => {
-            let last = fields::last_field(Template::Resistance) as usize;
-            while i < last {
-                let field = i as u64 + 1;
-                let row = fields::resistance_row(precision, field);
-                let swift = swift_at(row, sorts, wholes, singles, i);
-                let layout = Layout {
-                    template: Template::Resistance,
-                    precision,
-                };
-                match code_at(layout, field, sorts, wholes, singles, swift) {
-                    Encoded::Refused(r) => {
-                        return Planned::Refused(r);
-                    }
-                    Encoded::Code(code) => {
-                        codes[i] = packed(row.width, code);
-                        precision = choice_behind(Template::Resistance, field, code, precision);
-                    }
-                }
-                bits += row.width;
-                i += 1;
-            }
-            Planned::Bits(bits)
-        }
+    match code_basic(template, sorts, wholes, singles, codes) {
+        Coded::Refused(r) => Planned::Refused(r),
+        Coded::Next(behind) => match code_own(template, behind, sorts, wholes, singles, codes) {
+            Coded::Refused(r) => Planned::Refused(r),
+            Coded::Next(precision) => Planned::Bits(field_bits(Layout {
+                template,
+                precision,
+            })),
+        },
     }
 }
 
