@@ -1,8 +1,8 @@
 -- A tray with an image more.
 use mathlib.Core.Path.{_≡_}
-use mathlib.Core.Bool.{Bool, true, false, _&&_, cond, false≢true}
+use mathlib.Core.Bool.{Bool, true, _&&_}
 use mathlib.Core.List.{List}
-use Prim.Native.Nat.{ℕ, _+_, _-_, _^_, _<_}
+use Prim.Native.Nat.{ℕ, _+_, _^_, _<_}
 use native.Mathlib.Omega.{arith}
 use borrow.Author.Tests.{ltb-true}
 use lib.Dec.{ltb}
@@ -13,9 +13,8 @@ use Rattle.sheet.specs.declared.Checked.{Checked}
 use Rattle.sheet.specs.Check.{check, checkSaid}
 use Rattle.report.specs.declared.Line.{Line}
 use Rattle.report.specs.declared.SoFar.{SoFar}
-use Rattle.report.specs.declared.Judged.{Judged}
 use Rattle.report.specs.Tray.{bitsOf, line}
-use Rattle.report.specs.Judging.{isWhole, begun, closed, with, left, Reads, Sound, JudgedAs}
+use Rattle.report.specs.Judging.{isWhole, begun, with, Reads, Sound, JudgedAs}
 use Rattle.report.proofs.BitLaws.{bits-of-few}
 
 pub begun-sound : Sound begun
@@ -40,19 +39,3 @@ module _ (s : SoFar) (kind : ℕ) (image : List ℕ) (h : Sound s) (m : s .more 
     judged-as l bits whole more r b w n =
         let same : record { images = s .images + 1; bits = bits; more = more } ≡ with s kind image = rw (n, w, b, e) in
         record { line = rw e at r; tray = same; sound = rw same with-sound }
-
--- ---- how many images may still come
-
-module _ {s : SoFar} (h : Sound s) (m : s .more ≡ true) where
-  pub closed-sound : Sound (closed s)
-  closed-sound = record { few = h .few; small = h .small; last = λ e. absurd (false≢true e) }
-
-  pub closed-left : left (closed s) < left s
-  closed-left = rw m (omega (arith, h .last m))
-
-  pub judged-left : {kind : ℕ} {image : List ℕ} {j : Judged} → JudgedAs s kind image j → left (j .tray) < left s
-  judged-left {kind} {image} {j} e = rw (e .tray, m) (go (with s kind image .more))
-    where
-      go : (b : Bool) → cond b (1_000 - (s .images + 1)) 0 < 1_000 - s .images
-      go true = omega (arith, h .last m)
-      go false = omega (arith, h .last m)

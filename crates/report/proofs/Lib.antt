@@ -3,4 +3,4 @@ pub mod LineLaws
 pub mod BitLaws
 pub mod JudgeLaws
 pub mod TrayLaws
-pub mod TellLaws
+pub mod StepLaws

@@ -4,7 +4,7 @@ use mathlib.Core.Bool.{Bool, true, false, _&&_, cond}
 use mathlib.Core.List.{List, _++_}
 use Prim.Native.Nat.{ℕ, _+_, _-_, _*_, _≤_, _<_}
 use lib.Dec.{ltb}
-use lib.ListN.{length, take}
+use lib.ListN.{length, take, replicate}
 use Rattle.refusal.specs.Outcome.{Outcome, good, refused}
 use Rattle.memory.specs.declared.Sizes.{Sizes}
 use Rattle.memory.specs.Image.{imageBytes, imageSizes}
@@ -12,7 +12,6 @@ use Rattle.sheet.specs.Check.{check}
 use Rattle.report.specs.declared.Line.{Line}
 use Rattle.report.specs.declared.SoFar.{SoFar}
 use Rattle.report.specs.declared.Judged.{Judged}
-use Rattle.report.specs.declared.Report.{Report}
 use Rattle.report.specs.Tray.{checks, mostImages, bitsOf, line, linesFrom, total, totalLine}
 
 -- ---- the images
@@ -29,9 +28,6 @@ isWhole (refused r) = false
 
 abbrev pub begun : SoFar
 begun = record { images = 0; bits = 0; more = true }
-
-abbrev pub closed : SoFar → SoFar
-closed s = record { images = s .images; bits = s .bits; more = false }
 
 -- With an image more. It ends the tray where it is not whole, and so does the last of 1,000.
 abbrev pub with : SoFar → ℕ → List ℕ → SoFar
@@ -57,18 +53,20 @@ reportFrom s bytes =
 abbrev pub bytesIn : Line → List ℕ
 bytesIn l = take (l .length) (l .bytes)
 
--- A text at the start of a buffer of so many bytes.
-pub record Starts (size : ℕ) (buffer : List ℕ) (count : ℕ) (text : List ℕ) : Type 0 where
-  pub room : length buffer ≡ size
-  pub short : count ≤ size
-  pub is : take count buffer ≡ text
+-- A text in an array with room for two numbers of 20 digits, a space, a minus sign and a newline: zeros follow it.
+abbrev pub lineSize : ℕ
+lineSize = 43
 
--- A line has room for two numbers of 20 digits, a space, a minus sign and a newline; a report for 1,001 lines.
-abbrev pub Reads : Line → List ℕ → Type 0
-Reads l text = Starts 43 (l .bytes) (l .length) text
+abbrev pub paddedLine : List ℕ → Line
+paddedLine text = record { bytes = text ++ replicate (lineSize - length text) 0; length = length text }
 
-abbrev pub Tells : Report → List ℕ → Type 0
-Tells r text = Starts 43_043 (r .bytes) (r .length) text
+pub record Reads (l : Line) (text : List ℕ) : Type 0 where
+  pub fits : length text ≤ lineSize
+  pub is : l ≡ paddedLine text
+
+-- The bytes that are written of such a line are the text.
+abbrev pub TextOfLine : Type 0
+TextOfLine = (l : Line) (text : List ℕ) → Reads l text → bytesIn l ≡ text
 
 -- ---- what holds
 

@@ -6,7 +6,7 @@ ghost use lib.Dec.{ltb};
 ghost use Rattle.memory.specs.Image.{sizesOf, imageSizes};
 ghost use Rattle.sheet.specs.Check.{checkSaid};
 ghost use Rattle.report.specs.Tray.{mostImages, bitsOf};
-ghost use Rattle.report.specs.Judging.{bytesOf, isWhole, begun, closed, Sound, JudgedAs};
+ghost use Rattle.report.specs.Judging.{bytesOf, isWhole, begun, Sound, JudgedAs};
 use crate::Judged;
 use crate::SoFar;
 use crate::lines;
@@ -36,17 +36,6 @@ pub fn begin() -> SoFar
         images: 0,
         bits: 0,
         more: true,
-    }
-}
-
-// A tray in which no further image was found.
-pub fn close(tray: SoFar) -> SoFar
-    ensures { λ r. ⌜ r ≡ closed tray ⌝ }
-{
-    SoFar {
-        images: tray.images,
-        bits: tray.bits,
-        more: false,
     }
 }
 

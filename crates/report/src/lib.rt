@@ -1,18 +1,17 @@
 // Document 02, Note 12: the report on a tray of senders, one line an image and the sum of the accepted images' bits. Every
-// function is proved, and nothing is assumed. A tray is judged image by image as its bytes are read (`judge`), or all at once
-// where it lies in memory (`tell`).
+// function is proved, and nothing is assumed. A tray is reported step by step: `begin`; while it `has_next`, bytes are read into
+// `read_buffer` and handed to `step`, and the `text` of the line that it gives is written.
 mod judging; // judging.rt: a tray, image by image
 mod lines; // lines.rt: the bytes of a line
-mod telling; // telling.rt: a tray that lies in memory
+mod steps; // steps.rt: a tray step by step
 
-pub use judging::begin;
-pub use judging::close;
-pub use judging::image_bytes;
-pub use judging::judge;
-pub use lines::total_line;
-pub use telling::tell;
+pub use lines::text;
+pub use steps::begin;
+pub use steps::has_next;
+pub use steps::read_buffer;
+pub use steps::step;
 
-// A line with its newline: the first bytes of an array.
+// A line with its newline, then zeros.
 pub struct Line {
     pub bytes: [u8; 43],
     pub length: usize,
@@ -31,8 +30,22 @@ pub struct Judged {
     pub tray: SoFar,
 }
 
-// A whole report: the first bytes of an array, which has room for 1,001 lines.
-pub struct Report {
-    pub bytes: [u8; 43_043],
-    pub length: usize,
+// The next step: a kind is read, or the image of a kind; the total is written; or there is none.
+pub enum Next {
+    Kind,
+    Image(u8),
+    Total,
+    Nothing,
+}
+
+// What the tray has come to, and its next step.
+pub struct State {
+    pub tray: SoFar,
+    pub next: Next,
+}
+
+// The line of a step, which may be empty, and the state after it.
+pub struct Stepped {
+    pub line: Line,
+    pub state: State,
 }

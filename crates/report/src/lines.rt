@@ -5,13 +5,13 @@ ghost use Prim.Native.Nat.{_+_, _≤_};
 ghost use lib.ListN.{length};
 ghost use Rattle.sheet.specs.Check.{checkSaid};
 ghost use Rattle.report.specs.Tray.{decimal, line as lineOf, totalLine};
-ghost use Rattle.report.specs.Judging.{Reads};
+ghost use Rattle.report.specs.Judging.{bytesIn, Reads};
 ghost use Rattle.report.specs.Lines.{Put, Room, Longer};
 use crate::Line;
 use sheet::Checked;
 
 // Puts a text into a buffer from a place on, and says where it ends.
-pub fn put(out: &mut [u8], at: usize, text: &[u8]) -> usize
+fn put(out: &mut [u8], at: usize, text: &[u8]) -> usize
     requires { ⌜ at + length (now text) ≤ length (now out) ⌝ }
     ensures { λ r. ⌜ Put (now (out .entry)) at (now (text .entry)) (now (out .exit)) r ⌝ }
 {
@@ -19,8 +19,8 @@ pub fn put(out: &mut [u8], at: usize, text: &[u8]) -> usize
 }
 
 // A line with nothing in it.
-fn start() -> Line
-    ensures { λ r. ⌜ Reads r [] × (r .length ≡ 0) ⌝ }
+pub fn empty() -> Line
+    ensures { λ r. ⌜ Reads r [] × Room r 43 ⌝ }
 {
     Line {
         bytes: [0; 43],
@@ -61,7 +61,7 @@ fn ended(line: Line, text: &[u8], n: u64) -> Line
 pub fn line(position: u64, checked: Checked) -> Line
     ensures { λ r. ⌜ Reads r (lineOf position (checkSaid checked)) ⌝ }
 {
-    let begun = with_number(start(), position);
+    let begun = with_number(empty(), position);
     match checked {
         Checked::Accepted(summary) => ended(begun, b" ", summary.bits),
         Checked::Refused(r) => ended(begun, b" -", r.number as u64),
@@ -72,5 +72,13 @@ pub fn line(position: u64, checked: Checked) -> Line
 pub fn total_line(bits: u64) -> Line
     ensures { λ r. ⌜ Reads r (totalLine bits) ⌝ }
 {
-    ended(start(), b"total ", bits)
+    ended(empty(), b"total ", bits)
+}
+
+// What a line reads: the bytes that are to be written.
+pub fn text(bytes: &[u8], line: Line) -> &[u8]
+    requires { ⌜ now bytes ≡ line .bytes ⌝ }
+    ensures { λ r. ⌜ now r ≡ bytesIn line ⌝ }
+{
+    words::front(bytes, line.length)
 }

@@ -1,5 +1,6 @@
 use Prim.Native.Nat.{_-_}
 use native.Mathlib.Omega.{arith}
+use borrow.Rule.Slice.PartMut.{mid-len}
 use lib.ListN.{length}
 use borrow.Author.Needs.{needs}
 use Rattle.report.proofs.LineLaws.{put-as}
@@ -10,7 +11,7 @@ returns : tie.Need-returns
 returns c =
     let d = c .before .before in
     let s = d .before .before .before .before in
-    put-as (s .args .out .now) (s .args .text .now) _ (s .args .at) (length (s .args .out .now) - s .args .at) _ (omega (arith, s .pre)) (d .copy .ensures .0) (d .copy .ensures .1) (c .before .out .given .0)
+    put-as (s .args .out .now) (s .args .text .now) _ (s .args .at) (length (s .args .out .now) - s .args .at) _ (omega (arith, s .pre)) (omega (arith, s .pre, mid-len (s .args .at) (length (s .args .out .now)) (s .args .out .now) (omega arith))) (d .copy .ensures .0) (d .copy .ensures .1) (c .before .out .given .0)
 
 pub put-spec : {M : Type 1} → statement M
 put-spec =

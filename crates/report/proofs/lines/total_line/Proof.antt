@@ -10,4 +10,4 @@ total-line-spec =
     (λ c κs. search needs)
     (λ c. search needs)
     (λ c κs. search needs)
-    (λ c. longer-reads _ (c .before .before .start .ensures .0) (c .ended .ensures)))
+    (λ c. longer-reads _ (c .before .before .empty .ensures .0) (c .ended .ensures)))

@@ -14,7 +14,7 @@ with-requires c κs =
     let d = c .before .decimal in
     let s = c .before .before .before in
     let e = spelt-decimal _ (s .args .n) (d .ensures .1 .0) (s .fits .n .fits) (d .ensures .1 .1) in
-    record { room = s .pre .room; fits = omega (arith, e .1, s .pre .fits) }
+    record { room = s .pre .room; fits = omega (arith, e .1, s .pre .fits); zeros = s .pre .zeros }
 
 returns : tie.Need-returns
 returns c =

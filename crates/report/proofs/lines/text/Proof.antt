@@ -1,0 +1,10 @@
+use mathlib.Core.Path.{ap, _∙_}
+use lib.ListN.{take}
+use borrow.Author.Needs.{needs}
+use Rattle.report.proofs.lines.text.Statement.{statement}
+use Rattle.report.proofs.lines.text.Tie as tie
+
+pub text-spec : {M : Type 1} → statement M
+text-spec =
+    tie.close
+    (tie.spec (λ c κs. search needs) (λ c. let s = c .before .before in c .front .ensures ∙ ap (take (s .args .line .length)) (s .pre)))

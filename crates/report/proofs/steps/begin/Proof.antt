@@ -1,0 +1,9 @@
+use mathlib.Core.Path.{ap}
+use borrow.Author.Needs.{needs}
+use Rattle.report.specs.declared.Next.the-variants.{Kind}
+use Rattle.report.specs.Steps.{stateOf}
+use Rattle.report.proofs.steps.begin.Statement.{statement}
+use Rattle.report.proofs.steps.begin.Tie as tie
+
+pub begin-spec : {M : Type 1} → statement M
+begin-spec = tie.close (tie.spec (λ c κs. search needs) (λ c. ap (λ t. stateOf t Kind) (c .begin .ensures)))
