@@ -24,26 +24,26 @@ pub record Is (s : ℤ) (x : Fraction) (c : Correction) : Type 0 where
   pub some : 0 < c .run
   pub is : Apart 0 1 (value x c) (s over 1)
 
-is-none : (x : Fraction) → Is (pos 0) x (record { num = pos 0; run = 1 })
+pub is-none : (x : Fraction) → Is (pos 0) x (record { num = pos 0; run = 1 })
 is-none x = omega arith
 
-is-held : (p : Pair) (x : Fraction) → Is (p .deviation) x (atEnd (x .den) p)
+pub is-held : (p : Pair) (x : Fraction) → Is (p .deviation) x (atEnd (x .den) p)
 is-held p x = omega (arith, scaled (p .deviation) (x .den))
 
 -- At a point it is that point's deviation.
 module _ (p r : Pair) (rises : p .point <ℤ r .point) where
-  abbrev onward : AtMost (at p) (at r)
+  abbrev pub onward : AtMost (at p) (at r)
   onward = (run p r, omega (arith, run-parts p r rises))
 
-  is-left : Is (p .deviation) (at p) (between (p .point) 1 p r)
+  pub is-left : Is (p .deviation) (at p) (between (p .point) 1 p r)
   unfolding between
   is-left = omega (arith, run-some p r rises, between-parts p r rises {x = at p} {u = 0} (omega arith))
 
-  is-right : Is (r .deviation) (at r) (between (r .point) 1 p r)
+  pub is-right : Is (r .deviation) (at r) (between (r .point) 1 p r)
   unfolding between
   is-right = omega (arith, run-some p r rises, weights-num p r rises {x = at r} {u = run p r} (onward .1) {w = 0} (omega arith))
 
-is-start : (p : Pair) (pairs : List Pair) → Rises (p ∷ pairs) → Is (p .deviation) (at p) (correctionAfter (p .point) 1 p pairs)
+pub is-start : (p : Pair) (pairs : List Pair) → Rises (p ∷ pairs) → Is (p .deviation) (at p) (correctionAfter (p .point) 1 p pairs)
 unfolding correctionAfter
 is-start p [] rises = is-held p (at p)
 is-start p (r ∷ pairs) rises = rw (is-up-to (at p) (r .point) (onward p r (rises .0))) (is-left p r (rises .0))

@@ -17,7 +17,7 @@ use Rattle.line.proofs.Steepness.{steady}
 use Rattle.line.proofs.Shadow.{Shadow, Cast, cast}
 
 -- p near x and v near the correction c at x: their sum against x + c.
-summed : {C : ℕ} (p v : ℤ) (x : Fraction) (c : Correction) → Apart 1 2 (p over 1) x → Apart C 2000 (v over 1) (value x c) → 2000 * natAbs ((p +ℤ v) *ℤ pos (x .den * c .run) -ℤ (x .num *ℤ pos (c .run) +ℤ c .num)) ≤ (1000 + C) * (x .den * c .run)
+pub summed : {C : ℕ} (p v : ℤ) (x : Fraction) (c : Correction) → Apart 1 2 (p over 1) x → Apart C 2000 (v over 1) (value x c) → 2000 * natAbs ((p +ℤ v) *ℤ pos (x .den * c .run) -ℤ (x .num *ℤ pos (c .run) +ℤ c .num)) ≤ (1000 + C) * (x .den * c .run)
 summed p v x c h g = near-abs 2000 off (near-as (omega (arith, parts, ap (λ (k : ℕ). k * (x .den * c .run)) (add-parts p v))) (omega arith) (near-mean (1000 * c .run) 1 (h .near) (g .near)))
   where
     off : ℤ

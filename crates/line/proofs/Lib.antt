@@ -12,3 +12,5 @@ pub mod Sizes
 pub mod Places
 pub mod Told
 pub mod Sums
+pub mod Pieces
+pub mod Conformity

@@ -1,5 +1,6 @@
 pub mod Line
 pub mod Certificate
+pub mod Conformity
 pub mod Crossing
 pub mod Needle
 pub mod Ranges

@@ -19,6 +19,8 @@ pub mod Distance
 pub mod Beforehand
 pub mod Crossed
 pub mod Needles
+pub mod CurveFigures
+pub mod Figures
 pub mod Lending
 pub mod Calling
 pub mod EdgesHold

@@ -12,6 +12,7 @@ pub mod Certificate
 pub mod Beforehand
 pub mod Crossing
 pub mod Needle
+pub mod Figure
 pub mod Calls
 pub mod Edges
 pub mod Attained

@@ -1,0 +1,61 @@
+-- The physical figure beside the exact one: least + (greatest − least) × q / 1,000,000,000 with nothing rounded.
+use mathlib.Core.Path.{_≡_}
+use mathlib.Core.Bool.{true}
+use Prim.Native.Nat.{_+_, _*_, _/_, _^_, _≤_}
+use lib.Dec.{T}
+use lib.IntN.{ℤ, pos, natAbs, _+ℤ_, _-ℤ_, _*ℤ_}
+use lib.Signed.{_≤ℤ_}
+use lib.Ieee.{Float, nan, inf, fin, binary32, binary64, up, down, fits, le}
+use Rattle.fields.specs.Figure.{billion, floatFraction, physicalFigure}
+use Rattle.fields.specs.Rules.{finite}
+use Rattle.fields.specs.Singles.{signed, exact}
+
+-- A finite f64 in units of 2^−1074, the smallest one above 0: a whole number of them. What is not finite has none, and 0 stands in its place.
+unfoldable pub units : Float → ℤ
+units nan = pos 0
+units (inf negative) = pos 0
+units (fin negative m e) = signed negative (m * up e * 2 ^ 1074 / down e)
+
+-- That is its exact value.
+abbrev pub UnitsExact : Type 0
+UnitsExact = (x : Float) → T (fits binary64 x) → finite x ≡ true → units x *ℤ pos (exact x .den) ≡ exact x .num *ℤ pos (2 ^ 1074)
+
+abbrev pub figure : Float → Float → ℤ → Float
+figure least greatest q = physicalFigure least greatest (floatFraction q)
+
+-- The exact figure, in billionths of a unit.
+abbrev pub exactFigure : Float → Float → ℤ → ℤ
+exactFigure least greatest q = units least *ℤ pos billion +ℤ (units greatest -ℤ units least) *ℤ q
+
+-- A span's ends: finite Singles.
+pub record End (x : Float) : Type 0 where
+  pub single : T (fits binary32 x)
+  pub finite : finite x ≡ true
+
+-- For every q up to 2^50 either way (a reading's is 3 · 10^9 at most): the figure is finite, and its distance from the exact figure is at most 2^−53 of
+-- |least| + |greatest − least| · (4 · |q| + 1) / 1,000,000,000.
+abbrev pub FigureFinite : Type 0
+FigureFinite = (least greatest : Float) (q : ℤ) → End least → End greatest → natAbs q ≤ 2 ^ 50 → finite (figure least greatest q) ≡ true
+
+abbrev pub FigureNear : Type 0
+FigureNear =
+    (least greatest : Float) (q : ℤ) → End least → End greatest → natAbs q ≤ 2 ^ 50
+    → 2 ^ 53 * natAbs (units (figure least greatest q) *ℤ pos billion -ℤ exactFigure least greatest q)
+    ≤ natAbs (units least) * billion + natAbs (units greatest -ℤ units least) * (4 * natAbs q + 1)
+
+-- It follows the fraction: with the fraction it rises where greatest is least or more, and falls where it is least or less. That is so
+-- of every finite fraction, as a curve gives it, and so of q.
+pub record Follows (least greatest x y x' y' : Float) : Type 0 where
+  pub rises : T (le least greatest) → T (le x y) → T (le x' y')
+  pub falls : T (le greatest least) → T (le x y) → T (le y' x')
+
+abbrev pub FigureFollows : Type 0
+FigureFollows =
+    (least greatest x y : Float) → End least → End greatest → finite x ≡ true → finite y ≡ true
+    → Follows least greatest x y (physicalFigure least greatest x) (physicalFigure least greatest y)
+
+abbrev pub FractionRises : Type 0
+FractionRises = (q q' : ℤ) → natAbs q ≤ 2 ^ 50 → natAbs q' ≤ 2 ^ 50 → q ≤ℤ q' → T (le (floatFraction q) (floatFraction q'))
+
+abbrev pub FractionFinite : Type 0
+FractionFinite = (q : ℤ) → natAbs q ≤ 2 ^ 50 → finite (floatFraction q) ≡ true

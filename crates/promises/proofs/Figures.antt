@@ -1,0 +1,192 @@
+-- The figure that a reading shows: its ends are finite Singles and its fraction is small, so the laws of the figure hold of it.
+use mathlib.Core.Path.{_≡_, refl, sym, ap, _∙_, subst}
+use mathlib.Core.Bool.{Bool, true, false, not, _&&_, cond}
+use mathlib.Core.List.{List}
+use Prim.Native.Nat.{ℕ, _^_, _≤_}
+use native.Mathlib.Omega.{arith}
+use borrow.Author.Tests.{not-false}
+use lib.Dec.{T, eqb}
+use lib.IntN.{ℤ, natAbs}
+use lib.ListN.{length}
+use lib.Ieee.{binary32, ofBits}
+use lib.Ieee.Bits.{ofBits-fits}
+use Rattle.refusal.specs.Outcome.{good}
+use Rattle.refusal.specs.Rows.{wrongBlock, outsideSpan, tooManyPoints, outsideTable, notFinite}
+use Rattle.refusal.proofs.Outcomes.{good-same, good-bind, passed}
+use Rattle.fields.specs.declared.Value.{Value}
+use Rattle.fields.specs.declared.Value.the-variants.{Whole, Single, Missing}
+use Rattle.fields.specs.declared.Rule.the-variants.{Single as Ieee}
+use Rattle.fields.specs.declared.Row.{Row}
+use Rattle.fields.specs.declared.Template.{Template}
+use Rattle.fields.specs.declared.Template.the-variants.{Bridge}
+use Rattle.fields.specs.Figure.{floatFraction, physicalFigure}
+use Rattle.fields.specs.Lines.{Line, lineOf}
+use Rattle.fields.specs.Rules.{allOnes, finite, meaning, decode}
+use Rattle.fields.proofs.TemplateFacts.{span-listed, span-lines}
+use Rattle.layout.specs.Contents.{Found, Calibration, bare, table, curve, Contents}
+use Rattle.layout.specs.Image.{contents, field, layoutOf, points}
+use Rattle.layout.specs.Places.{firstSelector, fieldPlace}
+use Rattle.layout.proofs.Accepted.{Accepted, contents-accepted}
+use Rattle.layout.proofs.Calibrations.{CalibrationAt}
+use Rattle.layout.proofs.Fields.{FieldAt}
+use Rattle.layout.proofs.Places.{field-at}
+use Rattle.sheet.specs.declared.TableDomain.the-variants.{Is}
+use Rattle.sheet.specs.Check.{domainIn}
+use Rattle.sheet.specs.Opened.{Opens, openedAs}
+use Rattle.fields.specs.declared.Domain.the-variants.{Physical}
+use Rattle.reading.specs.declared.Dash.{Dash}
+use Rattle.reading.specs.declared.Reading.{Reading}
+use Rattle.reading.specs.declared.span.Span.{Span}
+use Rattle.reading.specs.Reading.{isResistance, tooMany, isMissing, float, least, greatest, spanOf, tooFar, position, fraction, share, readingAt, takeReading}
+use Rattle.reading.proofs.Opening.{bridge}
+use Rattle.reading.proofs.Orders.{shown}
+use Rattle.reading.proofs.Spans.{spanned, span-ready}
+use Rattle.reading.proofs.Positions.{position-small}
+use Rattle.reading.proofs.Fractions.{fraction-small}
+use Rattle.promises.proofs.Needles.{needle, needle-by-physical-point}
+use Rattle.promises.specs.Needle.{NeverFalls}
+use Rattle.figures.specs.Figures.{figure, End}
+use Rattle.figures.proofs.FigureLaws.{figure-finite, figure-close, figure-follows, fraction-finite, fraction-rises}
+use Rattle.promises.proofs.CurveFigures.{curve-number}
+use Rattle.promises.specs.Figure.{NoCurve, low, high, ShownNear, ShownFinite, ShownFollows, ShownRises, ShownRisesByPhysicalPoint}
+
+-- ---- the ends
+
+abbrev Ended : Value → Type 0
+Ended (Whole z) = ⊥
+Ended (Single x) = End x
+Ended Missing = Unit {0}
+
+ended : {row : Row} {at : ℕ} {x : Found} → FieldAt row at x → row .rule ≡ Ieee → Ended (x .value)
+unfolding decode
+ended {row} {at} {x} h r = go (row .missing && eqb (x .code) (allOnes (row .width))) (h .means)
+  where
+    go : (t : Bool) → cond t (good Missing) (meaning (row .rule) (row .width) at (x .code)) ≡ good (x .value) → Ended (x .value)
+    go true e = subst Ended (good-same e) tt
+    go false e =
+        let q = passed (outsideTable at) (eqb (x .code) (allOnes (row .width))) _ (x .value) (rw r at e) in
+        let p = passed (notFinite at) (not (finite (ofBits binary32 (x .code)))) _ (x .value) (q .1) in
+        subst Ended (good-same (p .1)) (record { single = ofBits-fits binary32 (x .code); finite = not-false (finite (ofBits binary32 (x .code))) (p .0) })
+
+end-of : (v : Value) → Ended v → isMissing v ≡ false → End (float v)
+end-of (Whole z) h m = absurd h
+end-of (Single x) h m = h
+end-of Missing h m = absurd (subst T m tt)
+
+-- ---- an accepted reading
+
+pub record Taken (c : Contents) (v : ℤ) (r : Reading) : Type 0 where
+  pub foot : End (low c)
+  pub top : End (high c)
+  pub near : natAbs (position v (least c) (greatest c)) ≤ 2 ^ 31
+  pub small : natAbs (r .fraction) ≤ 2 ^ 50
+  pub counts : r .fraction ≡ fraction (c .calibration) (position v (least c) (greatest c))
+  pub shows : r .figure ≡ physicalFigure (low c) (high c) (share (c .calibration) (position v (least c) (greatest c)))
+
+-- Fields 7 and 8 of template 33.
+module _ (kind : ℕ) (image : List ℕ) (c : Contents) (accepted : contents kind image ≡ good c) (b : isResistance (c .template) ≡ false) where
+  a : Accepted kind image c
+  a = contents-accepted kind image c accepted
+
+  opens : Opens kind image (openedAs (a .sizes) c) c
+  opens = record { sized = a .sized; accepted = accepted; is = refl }
+
+  stands : (f : ℕ) → 1 ≤ f → f ≤ 11 → {l : Line} → lineOf Bridge f ≡ l → FieldAt (l .rowAt (layoutOf c .precision)) (fieldPlace (layoutOf c) f) (field c f)
+  stands f lo hi e =
+      subst (λ (l : Line). FieldAt (l .rowAt (layoutOf c .precision)) (fieldPlace (layoutOf c) f) (field c f)) (ap (λ (t : Template). lineOf t f) (bridge (c .template) b) ∙ e)
+      (field-at (a .holding .formed) f lo (span-listed (c .template) hi))
+
+  module _ (s : Span) (found : spanOf c ≡ good s) where
+    low-end : End (low c)
+    low-end = end-of (field c 7 .value) (ended (stands 7 (omega arith) (omega arith) (span-lines .0)) refl) (spanned c s found .low)
+
+    high-end : End (high c)
+    high-end = end-of (field c 8 .value) (ended (stands 8 (omega arith) (omega arith) (span-lines .1)) refl) (spanned c s found .high)
+
+    within : (v : ℤ) → tooFar v (s .least) (s .greatest) ≡ false → natAbs (position v (s .least) (s .greatest)) ≤ 2 ^ 31
+    within v t = position-small v (span-ready opens b found) t
+
+    few : (v : ℤ) → tooFar v (s .least) (s .greatest) ≡ false → natAbs (fraction (c .calibration) (position v (s .least) (s .greatest))) ≤ 2 ^ 33
+    few v t = fraction-small opens (position v (s .least) (s .greatest)) (within v t)
+
+pub taken : (kind : ℕ) (image : List ℕ) (c : Contents) (v : ℤ) (dash : Dash) (r : Reading) → contents kind image ≡ good c → takeReading kind image v dash ≡ good r → Taken c v r
+unfolding takeReading readingAt
+taken kind image c v dash r accepted e =
+    let (d, holds, f) = good-bind (contents kind image) _ r e in
+    let (b, h) = passed (wrongBlock firstSelector) (isResistance (d .template)) _ r f in
+    let (m, j) = passed (tooManyPoints (length (points d))) (tooMany dash (length (points d))) _ r h in
+    let (s, found, g) = good-bind (spanOf d) _ r j in
+    let t = passed outsideSpan (tooFar v (s .least) (s .greatest)) _ r g in
+    let k = spanned d s found in
+    let q : r .fraction ≡ fraction (d .calibration) (position v (s .least) (s .greatest)) = sym (ap (λ (y : Reading). y .fraction) (good-same (t .1))) in
+    let x : r .figure ≡ physicalFigure (s .low) (s .high) (share (d .calibration) (position v (s .least) (s .greatest))) = sym (ap (λ (y : Reading). y .figure) (good-same (t .1))) in
+    subst (λ (y : Contents). Taken y v r) (good-same (sym holds ∙ accepted))
+    (record {
+      foot = low-end kind image d holds b s found;
+      top = high-end kind image d holds b s found;
+      near = subst (λ (y : Span). natAbs (position v (y .least) (y .greatest)) ≤ 2 ^ 31) (sym (k .is)) (within kind image d holds b s found v (t .0));
+      small = rw q (omega (arith, few kind image d holds b s found v (t .0)));
+      counts = q ∙ ap (λ (y : Span). fraction (d .calibration) (position v (y .least) (y .greatest))) (sym (k .is));
+      shows = x ∙ ap (λ (y : Span). physicalFigure (y .low) (y .high) (share (d .calibration) (position v (y .least) (y .greatest)))) (sym (k .is));
+    })
+
+-- Without a curve the share is the fraction's.
+by-fraction : (k : Calibration) (p : ℤ) → NoCurve k → share k p ≡ floatFraction (fraction k p)
+by-fraction bare p h = refl
+by-fraction (table domain pairs) p h = refl
+by-fraction (curve segments) p h = absurd h
+
+figure-is : (c : Contents) (v : ℤ) (r : Reading) → Taken c v r → NoCurve (c .calibration) → r .figure ≡ figure (low c) (high c) (r .fraction)
+figure-is c v r t h = t .shows ∙ ap (physicalFigure (low c) (high c)) (by-fraction (c .calibration) (position v (least c) (greatest c)) h ∙ ap floatFraction (sym (t .counts)))
+
+-- ---- what is promised
+
+pub shown-near : ShownNear
+shown-near kind image c v dash r accepted plain e =
+    let t = taken kind image c v dash r accepted e in
+    let x = figure-is c v r t plain in
+    record {
+      finite = rw x (figure-finite (low c) (high c) (r .fraction) (t .foot) (t .top) (t .small));
+      near = rw x (figure-close (low c) (high c) (r .fraction) (t .foot) (t .top) (t .small));
+    }
+
+pub shown-finite : ShownFinite
+shown-finite kind image v dash r e =
+    let x = shown kind image v dash r e in
+    let c = x .holds in
+    let t = taken kind image c v dash r (x .accepted) e in
+    ap finite (t .shows) ∙ go c t _ (c .calibration) (contents-accepted kind image c (x .accepted) .holding .formed .calibrated) (rw (t .counts) at (t .small))
+  where
+    go : (c : Contents) → Taken c v r → (at : ℕ) (k : Calibration) → CalibrationAt at k → natAbs (fraction k (position v (least c) (greatest c))) ≤ 2 ^ 50
+        → finite (physicalFigure (low c) (high c) (share k (position v (least c) (greatest c)))) ≡ true
+    go c t at bare h l = figure-finite (low c) (high c) (fraction bare (position v (least c) (greatest c))) (t .foot) (t .top) l
+    go c t at (table domain pairs) h l = figure-finite (low c) (high c) (fraction (table domain pairs) (position v (least c) (greatest c))) (t .foot) (t .top) l
+    go c t at (curve segments) h l = curve-number (low c) (high c) (position v (least c) (greatest c)) _ segments (t .foot) (t .top) (t .near) (h .stand)
+
+pub shown-follows : ShownFollows
+shown-follows kind image c v w one other r s accepted plain e k more =
+    let t = taken kind image c v one r accepted e in
+    let u = taken kind image c w other s accepted k in
+    let x = figure-is c v r t plain in
+    let y = figure-is c w s u plain in
+    let h = figure-follows (low c) (high c) (floatFraction (r .fraction)) (floatFraction (s .fraction)) (t .foot) (t .top) (fraction-finite (r .fraction) (t .small)) (fraction-finite (s .fraction) (u .small)) in
+    let l = fraction-rises (r .fraction) (s .fraction) (t .small) (u .small) more in
+    record { rises = λ up. rw (x, y) (h .rises up l); falls = λ down. rw (x, y) (h .falls down l) }
+
+not-curve : (k : Calibration) → NeverFalls k → NoCurve k
+not-curve bare h = tt
+not-curve (table domain pairs) h = tt
+not-curve (curve segments) h = absurd h
+
+table-only : (k : Calibration) → domainIn k ≡ Is Physical → NoCurve k
+table-only bare h = tt
+table-only (table domain pairs) h = tt
+table-only (curve segments) h = absurd (let z : _≡_ {A = ℕ} 0 1 = cc in omega arith)
+
+pub shown-rises : ShownRises
+shown-rises kind image c accepted falls v w one other r s e k more =
+    shown-follows kind image c v w one other r s accepted (not-curve (c .calibration) falls) e k (needle kind image c accepted falls v w one other r s e k more)
+
+pub shown-rises-by-physical-point : ShownRisesByPhysicalPoint
+shown-rises-by-physical-point kind image c accepted domain v w one other r s e k more =
+    shown-follows kind image c v w one other r s accepted (table-only (c .calibration) domain) e k (needle-by-physical-point kind image c accepted domain v w one other r s e k more)
