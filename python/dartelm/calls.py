@@ -23,7 +23,7 @@ from .answers import (
     TermAnswer,
     Value,
 )
-from .declared import LONGEST_INDEX, NO_KIND, Domain
+from .declared import LONGEST_INDEX, NO_DOMAIN, NO_KIND, Domain
 from .native import call
 from .refusal import Refusal
 
@@ -124,16 +124,23 @@ def character(image: Bytes, index: int, *, kind: Optional[int] = None) -> str:
 
 
 def build(
-    kind: int, fields: Fields, text: Union[str, bytes] = "", points: Pairs = (), domain: Domain = Domain.ELECTRICAL
+    kind: int,
+    fields: Fields,
+    text: Union[str, bytes] = "",
+    points: Pairs = (),
+    domain: Optional[Domain] = Domain.ELECTRICAL,
 ) -> bytes:
-    """Builds an image. Points are calibration points with their deviations, in billionths of the span, and the domain is theirs."""
+    """Builds an image. Points are calibration points with their deviations, in billionths of the span, and the domain is theirs: None
+    may be handed in where there are none."""
+    if domain is None and len(points) > 0:
+        raise ValueError("domain: points need one")
     return _written(
         "build",
         bytes(LENGTHS.get(kind, 0)),
         kind,
         fields=convert.fields_struct(fields),
         text=_characters(text),
-        domain=domain,
+        domain=NO_DOMAIN if domain is None else domain,
         points=_by_turns(points),
     )
 
