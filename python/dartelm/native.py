@@ -1,0 +1,67 @@
+"""The structs and calls of the header by ctypes, after the tables of declared.py."""
+import ctypes
+import operator
+
+from .declared import CALLS, STRUCTS
+from .library import library
+
+INTEGERS = {
+    "uint8_t": ctypes.c_uint8,
+    "uint32_t": ctypes.c_uint32,
+    "uint64_t": ctypes.c_uint64,
+    "int64_t": ctypes.c_int64,
+    "size_t": ctypes.c_size_t,
+    "char": ctypes.c_uint8,
+}
+FLOATS = {"float": ctypes.c_float, "double": ctypes.c_double}
+
+TYPES = {**INTEGERS, **FLOATS}
+for _name, _members in STRUCTS.items():
+    TYPES[_name] = type(
+        _name,
+        (ctypes.Structure,),
+        {"_fields_": [(member, TYPES[sort] * length if length else TYPES[sort]) for member, sort, length in _members]},
+    )
+
+
+def whole(value, sort, what):
+    """A whole number of a C type. ctypes would cut off what does not fit."""
+    number = operator.index(value)
+    bits = 8 * ctypes.sizeof(INTEGERS[sort])
+    least = -(1 << (bits - 1)) if sort.startswith("int") else 0
+    if not least <= number < least + (1 << bits):
+        raise ValueError(f"{what}: {number} is not from {least} to {least + (1 << bits) - 1}")
+    return number
+
+
+def buffer(values, sort, what):
+    """An array that is never NULL, and its length."""
+    element = TYPES[sort]
+    if isinstance(values, (bytes, bytearray, memoryview)):
+        data = bytes(values)
+        return (element * max(1, len(data))).from_buffer_copy(data or b"\0"), len(data)
+    numbers = [whole(value, sort, what) for value in values]
+    return (element * max(1, len(numbers)))(*numbers), len(numbers)
+
+
+def call(name, **given):
+    """Makes a call. Returns the struct or number that it returns, and what it wrote to, by parameter."""
+    result, parameters = CALLS[name]
+    words, kinds, written = [], [], {}
+    for parameter, sort in parameters:
+        value = given.pop(parameter)
+        if sort.endswith("[]"):
+            element = sort.removeprefix("const ").removesuffix("[]")
+            array, length = buffer(value, element, parameter)
+            words += [array, length]
+            kinds += [ctypes.c_void_p, ctypes.c_size_t]
+            if not sort.startswith("const "):
+                written[parameter] = array
+        else:
+            words.append(whole(value, sort, parameter) if sort in INTEGERS else value)
+            kinds.append(TYPES[sort])
+    if given:
+        raise TypeError(f"{name} has no {', '.join(given)}")
+    function = getattr(library(), "dartelm_" + name)
+    function.argtypes, function.restype = kinds, TYPES[result]
+    return function(*words), written
