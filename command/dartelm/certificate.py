@@ -1,44 +1,43 @@
 """certificate: a chip against its certificate's points, by the proved distance."""
-import csv
-import io
 import math
-import re
 from fractions import Fraction
 
-from . import fields, files, readings, refusals
+from . import fields, readings, refusals, tables
 from .image import build, open_image
-from .measurands import CASES
 from .readings import WHOLE_SPAN
 from .trouble import ACCEPTED, REFUSED, Refusal, Trouble, misused, refused
-from .units import PERCENT, RATIO, counted, figure_of, float_text, in_unit, many, percent, split, uncounted
+from .units import PERCENT, RATIO, Unit, figure_of, float_text, in_unit, many, nearest_count, percent, split, uncounted
 
 FEW = 6
 LARGEST = 2
-BRACKETS = re.compile(r"[(\[]([^()\[\]]*)[)\]]\s*$")
-BEHIND = re.compile(r"\w[\s,]+(?:in\s+)?((?:%|\S+)(?: rms)?(?: of .*)?)$")
+OF_SPAN = Unit("%", also=(*PERCENT.spellings, tables.SPAN))
 HEADS = ("point", "at", "input", "certificate", "chip", "difference", "of the span")
-DEVIATION = {"deviation", "deviations", "correction", "corrections"}
-MEASURED = {word for name, _ in CASES for word in re.findall("[a-z]+", name.lower())}
-POINT = {"point", "points", "figure", "load", "applied"} | MEASURED
-COLUMNS = "columns like 'point (%)' and 'deviation (%)', or with the sender's unit in the brackets"
 
 
 def run(console, given):
     image, sheet = open_image(console, given.file)
-    beside = against(console, image, sheet, given.certificate)
+    beside = against(console, image, sheet, given.certificate, tables.asked_in(given))
     print(f"{given.file} against {given.certificate}, {many(len(beside.points), 'point')}")
+    for line in beside.told:
+        print(line)
     for line in beside.lines():
         print(line)
     print(beside.verdict())
     return ACCEPTED if beside.agrees() else REFUSED
 
 
-def against(console, image, sheet, path):
+def against(console, image, sheet, path, asked=tables.Asked()):
     """The chip beside the certificate in a file."""
     refusal = readings.why_no_reading(console, sheet, image)
     if refusal:
         raise refused(readings.no_reading_text(sheet, refusal))
-    points = read_certificate(console, sheet, path)
+    table = tables.read_table(path, asked)
+    beside = beside_points(console, image, sheet, path, points_of(table, Scale(console, sheet)))
+    beside.told = list(table.told())
+    return beside
+
+
+def beside_points(console, image, sheet, path, points):
     try:
         if sheet.domain == 1:
             return AgainstTwin(console, image, sheet, points)
@@ -52,71 +51,15 @@ def point_name(refusal):
     return f"point {refusal.place + 1}: " if refusal.number in (7, 10, 22) else ""
 
 
-def read_certificate(console, sheet, path):
-    """Points and deviations in billionths of the span. What stands above the heads of the columns is not looked at."""
-    text = files.read_text(path)
-    for mark in (";", "\t", ","):
-        rows = list(numbered_rows(path, text, mark))
-        for at, (_, row) in enumerate(rows):
-            columns = columns_of(row)
-            if columns:
-                return points_below(console, sheet, path, rows[at + 1 :], columns, mark)
-    raise misused(f"{path}: there are no {COLUMNS}")
-
-
-def numbered_rows(path, text, mark):
-    reader = csv.reader(io.StringIO(text), delimiter=mark, skipinitialspace=True)
-    try:
-        for row in reader:
-            cells = [cell.strip() for cell in row]
-            if any(cells) and not cells[0].startswith("#"):
-                yield reader.line_num, cells
-    except csv.Error as error:
-        raise misused(f"{path}:{reader.line_num}: {error}") from None
-
-
-def columns_of(row):
-    """The places of both columns and the units in their heads; None where the row has not both."""
-    deviation = next((at for at, cell in enumerate(row) if DEVIATION & words_of(cell)), None)
-    point = next((at for at, cell in enumerate(row) if at != deviation and POINT & words_of(cell)), None)
-    if point is None or deviation is None:
-        return None
-    return tuple((at, unit_in(row[at])) for at in (point, deviation))
-
-
-def words_of(cell):
-    return set(re.findall("[a-z]+", cell.lower()))
-
-
-def unit_in(head):
-    """The unit in a column's head: between brackets, or behind the name."""
-    found = BRACKETS.search(head) or BEHIND.search(head)
-    word = found.group(1).strip() if found else ""
-    word = re.sub(r"^(%|per cent|percent) (of )?(the )?(full )?span$", "%", word)
-    return "" if word.lower() in POINT | DEVIATION else word
-
-
-def points_below(console, sheet, path, rows, columns, mark):
-    scale = Scale(console, sheet)
+def points_of(table, scale):
+    """Points and deviations in billionths of the span."""
     points = []
-    for number, row in rows:
+    for line, point, deviation in table.rows:
         try:
-            cells = (cell(row, *column, what, mark) for column, what in zip(columns, ("point", "deviation")))
-            points.append(scale.pair(*cells))
+            points.append(scale.pair(point, deviation, table.turned))
         except Trouble as trouble:
-            raise Trouble(f"{path}:{number}: {trouble}", trouble.status) from None
-    if not points:
-        raise misused(f"{path}: it has no points below its columns")
+            raise Trouble(f"{table.path}:{line}: {trouble}", trouble.status) from None
     return points
-
-
-def cell(row, at, unit, what, mark):
-    """A cell with the unit of its column's head, if it has none; with another separator a comma may be the decimal one."""
-    if at >= len(row) or not row[at]:
-        raise misused(f"there is no {what}")
-    text = row[at].replace("\u2212", "-")
-    text = text if mark == "," else text.replace(",", ".")
-    return text if re.search(r"[^\d.eE+\-\s]", text) or not unit else f"{text} {unit}"
 
 
 class Scale:
@@ -126,31 +69,37 @@ class Scale:
         self.unit = fields.around(console, sheet).unit()
         self.ruler = readings.physical_ruler(console, sheet)
 
-    def pair(self, point, deviation):
+    def pair(self, point, deviation, turned=False):
         at, figure = self.point(point)
-        return at, self.deviation(deviation, at, figure)
+        return at, self.deviation(deviation, at, figure, -1 if turned else 1)
 
     def point(self, text):
         if self.is_percent(text):
-            return counted(figure_of(text, PERCENT, "point"), -7, PERCENT, "point"), None
+            return billionths(text, "point"), None
         figure = Fraction(figure_of(text, self.unit, "point"))
         return self.place(figure, text), figure
 
-    def deviation(self, text, at, figure):
-        if self.is_percent(text) or figure is None and self.unit.exponent((split(text) or (0, ""))[1]) is None:
-            return counted(figure_of(text, PERCENT, "deviation"), -7, PERCENT, "deviation")
+    def deviation(self, text, at, figure, sign):
+        if self.is_percent(text) or figure is None and self.unit.factor((split(text) or (0, ""))[1]) is None:
+            return billionths(text, "deviation", sign)
         if figure is None:
             raise misused("a deviation in the sender's unit needs a point in it")
-        return self.place(figure + Fraction(figure_of(text, self.unit, "deviation")), text) - at
+        return self.place(figure + sign * Fraction(figure_of(text, self.unit, "deviation")), text) - at
 
     def is_percent(self, text):
-        return text.rstrip().endswith(PERCENT.spellings) and self.unit.name != "%"
+        """Per cent of the span. A sender whose own unit is per cent has it unless the span is named."""
+        return text.rstrip().endswith((tables.SPAN, *(PERCENT.spellings if self.unit.name != "%" else ())))
 
     def place(self, figure, text):
         found = self.ruler.place(figure)
         if found is None:
             raise misused(f"'{text}' is neither on the span nor within a tenth of it")
         return found
+
+
+def billionths(text, what, sign=1):
+    """Per cent of the span, to the nearest billionth of it."""
+    return nearest_count(sign * Fraction(figure_of(text, OF_SPAN, what)), -7, what)
 
 
 def line_at(points, x):

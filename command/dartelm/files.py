@@ -1,5 +1,6 @@
 """Files: read whole, and written whole or not at all."""
 import os
+import stat
 import sys
 
 from .trouble import misused, unread
@@ -8,6 +9,8 @@ from .trouble import misused, unread
 LONGEST = 1 << 20
 # Bytes that no text has.
 CONTROLS = set(range(9)) | set(range(14, 32))
+# Where `-o -` writes.
+standard = sys.stdout
 
 
 def read_bytes(path):
@@ -45,20 +48,78 @@ def reason(error):
 
 def must_be_new(path, force):
     """Said before anything is worked out, so that no work is lost; `write_new` holds to it again."""
-    if path in ("", "-"):
-        raise misused(f"-o takes a file's name, and '{path}' is none")
-    if not force and os.path.lexists(path):
-        raise unread(f"{path} is there already; --force replaces it")
+    if path == "":
+        raise misused("-o takes a file's name, or - for standard output")
+    if path != "-" and os.path.lexists(path):
+        target = replaceable(path)
+        if not force:
+            raise unread(f"{path} is there already; --force replaces it")
+        keep_owner(target, None)
+
+
+def must_be_no_input(path, inputs):
+    """An output that is one of the inputs, under whichever name."""
+    for name in inputs:
+        if path not in (None, "-") and is_same(path, name):
+            raise misused(f"-o {path} is the file that is read; write to another")
+
+
+def is_same(path, name):
+    try:
+        return os.path.samestat(os.stat(path), os.fstat(sys.stdin.fileno()) if name == "-" else os.stat(name))
+    except (OSError, ValueError, AttributeError):
+        return False
+
+
+def replaceable(path):
+    """The regular file that a name or a link stands for: nothing else is replaced."""
+    target = os.path.realpath(path)
+    try:
+        there = os.stat(target)
+    except OSError as error:
+        raise unread(f"{path} is a link that cannot be followed: {reason(error)}") from None
+    if not stat.S_ISREG(there.st_mode):
+        raise unread(f"{path} is no regular file, and is not replaced")
+    return target
+
+
+def keep_owner(target, handle):
+    """Gives a file the owner and the mode of the one that it replaces; without a handle says whether it can be done."""
+    there = os.stat(target)
+    owner = (there.st_uid, there.st_gid)
+    if handle is None:
+        if os.geteuid() not in (0, there.st_uid):
+            raise unread(f"{target} is another user's, who would lose it; it is not replaced")
+        return
+    new = os.fstat(handle)
+    if (new.st_uid, new.st_gid) != owner:
+        try:
+            os.fchown(handle, *owner)
+        except OSError as error:
+            raise unread(f"{target}: its owner and group cannot be kept, so it is not replaced: {reason(error)}") from None
+    os.fchmod(handle, stat.S_IMODE(there.st_mode))
 
 
 def write_new(path, data, force):
     """Writes a file that has no name yet, in the same folder, and gives it the name when all is in it."""
+    if path == "-":
+        write_standard(data)
+        return
     try:
-        write_and_name(path, data, force)
+        write_and_name(replaceable(path) if force and os.path.lexists(path) else path, data, force)
     except FileExistsError:
         raise unread(f"{path} is there already; --force replaces it") from None
     except OSError as error:
         raise unread(f"cannot write {path}: {reason(error)}") from None
+
+
+def write_standard(data):
+    """To standard output, which has nothing else then: `main` sends what is said to standard error."""
+    if hasattr(standard, "buffer"):
+        standard.buffer.write(data)
+    else:
+        standard.write(data.decode("latin-1"))
+    standard.flush()
 
 
 def write_and_name(path, data, force):
@@ -92,6 +153,9 @@ def give_name(handle, named, spare, path, force):
         return
     if not force and os.path.lexists(path):
         raise FileExistsError(path)
+    if os.path.lexists(path):
+        replaceable(path)
+        keep_owner(path, handle)
     if not named:
         link(handle, spare)
     os.replace(spare, path)

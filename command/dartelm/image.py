@@ -115,10 +115,15 @@ def refusal_of(console, image):
     return refusal_in(console.ask_all([f"check {image}"])[0])
 
 
+def wrote(path):
+    return "standard output: written" if path == "-" else f"{path}: written and read again"
+
+
 def write_image(console, path, image, force):
-    """Writes an image's file and reads it again: what stands in it is what was written, and accepted. The sheet in it."""
+    """Writes an image's file and reads it again: what stands in it is what was written, and accepted; standard
+    output is not read again. The sheet in it."""
     write_new(path, image.data, force)
-    there = read_image(path)
+    there = image if path == "-" else read_image(path)
     if there.data != image.data or refusal_of(console, there):
         raise unread(f"{path}: what stands in the file is not what was written")
     return read_sheet(console, there)

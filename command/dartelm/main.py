@@ -1,5 +1,6 @@
 """The command line: what each command takes, and the status that it ends with."""
 import argparse
+import contextlib
 import datetime
 import importlib
 import os
@@ -7,12 +8,12 @@ import re
 import signal
 import sys
 
-from . import version
+from . import files, version
 from .console import Console, Unknown
 from .refusals import headline
 from .trouble import REFUSED, UNREAD, Refusal, Trouble, misused
 
-VALUED = ("-o", "--level", "--table", "--dash", "--kind", "--today")
+VALUED = ("-o", "--level", "--table", "--dash", "--kind", "--today", "--point", "--deviation", "--error")
 STATUS = "Ends with 0 if accepted, 1 if refused or different, 2 if it is not understood, 3 if a file cannot be read or written."
 
 
@@ -68,6 +69,7 @@ def parser():
     certificate.add_argument(
         "certificate", metavar="CERT.csv", help="columns like 'point (%%)' and 'deviation (%%)', or in the sender's unit"
     )
+    add_columns(certificate)
 
     export = command(commands, "export", "the sheet as lines 'name = value unit', which make takes")
     export.add_argument("file", metavar="FILE", help="an image of 40, 128 or 512 bytes")
@@ -82,6 +84,7 @@ def parser():
     report = command(commands, "report", "one page in HTML, to be printed or kept")
     report.add_argument("file", metavar="FILE", help="an image of 40, 128 or 512 bytes")
     report.add_argument("certificate", metavar="CERT.csv", nargs="?", help="as certificate takes it")
+    add_columns(report)
     add_output(report)
     add_today(report)
     return top
@@ -94,6 +97,12 @@ def command(commands, name, about):
 def add_output(to, required=True, about="the file to write"):
     to.add_argument("-o", dest="output", metavar="NEW", required=required, help=about)
     to.add_argument("--force", action="store_true", help="replace NEW if it is there")
+
+
+def add_columns(to):
+    to.add_argument("--point", metavar="COLUMN", help="the certificate's column of points, by its head")
+    to.add_argument("--deviation", metavar="COLUMN", help="its column of deviations")
+    to.add_argument("--error", metavar="COLUMN", help="its column of errors, which are deviations with the sign turned")
 
 
 def add_today(to):
@@ -123,7 +132,8 @@ MODULES = {"set": "setting"}
 def answer(words):
     given = parser().parse_args(in_order(words))
     module = importlib.import_module("." + MODULES.get(given.command, given.command), __package__)
-    with Console() as console:
+    files.must_be_no_input(getattr(given, "output", None), inputs_of(given))
+    with Console() as console, said_elsewhere(given):
         if getattr(given, "today", None):
             try:
                 console.code(18, given.today)
@@ -132,6 +142,21 @@ def answer(words):
         status = module.run(console, given)
     sys.stdout.flush()
     return status
+
+
+def inputs_of(given):
+    """The files that a command reads and must not replace; `set --force` may replace its own image."""
+    named = [given.file] if hasattr(given, "file") else list(getattr(given, "files", ()))
+    named = [] if given.command == "set" and given.force else named
+    return named + [name for name in (getattr(given, "sheet", None), getattr(given, "certificate", None)) if name]
+
+
+def said_elsewhere(given):
+    """Where `-o -` has standard output, what is said goes to standard error."""
+    if getattr(given, "output", None) != "-":
+        return contextlib.nullcontext()
+    files.standard = sys.stdout
+    return contextlib.redirect_stdout(sys.stderr)
 
 
 def main(words):

@@ -2,7 +2,7 @@
 from . import fields, files, refusals, sheets, singles
 from .console import Unknown
 from .fields import FIELDS
-from .image import BYTES, STREAM_BITS, build, write_image
+from .image import BYTES, STREAM_BITS, build, write_image, wrote
 from .looks import look_lines
 from .trouble import ACCEPTED, Refusal, misused, refused
 from .units import percent, plain, split
@@ -16,7 +16,7 @@ def run(console, given):
     for line in (*nearest(console, draft, stored), *look_lines(console, stored, given.today)):
         print(line)
     print(
-        f"{given.output}: written and read again, accepted: kind {stored.kind} ({BYTES[stored.kind]} bytes), {stored.bits} bits"
+        f"{wrote(given.output)}, accepted: kind {stored.kind} ({BYTES[stored.kind]} bytes), {stored.bits} bits"
     )
     return ACCEPTED
 

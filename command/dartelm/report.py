@@ -3,7 +3,7 @@ import hashlib
 import html
 import re
 
-from . import certificate, fields, files, looks, readings, refusals, show, version, why
+from . import certificate, fields, files, looks, readings, refusals, show, tables, version, why
 from .image import Image, read_sheet, refusal_of
 from .panels import Panel
 from .readings import WHOLE_SPAN
@@ -67,14 +67,15 @@ def run(console, given):
         title, body = "A chip that is refused", refused_body(console, given.file, data, refusal)
     else:
         sheet = read_sheet(console, image)
-        against = compared(console, image, sheet, given.certificate)
+        against = compared(console, image, sheet, given)
         title = "Maker {}, model {}, serial {}".format(*(looks.shown(console, sheet, field) for field in (1, 2, 5)))
         body = sheet_body(console, given, image, sheet, against)
     page = document(title, [*body, footer(given, data)]).encode("utf-8")
     files.write_new(given.output, page, given.force)
-    print(f"{given.output}: written" + (f"; {refusals.headline(refusal)}" if refusal else ""))
+    print(("standard output" if given.output == "-" else given.output) + ": written" + (f"; {refusals.headline(refusal)}" if refusal else ""))
     if against:
-        print(against.verdict())
+        for line in (*against.told, against.verdict()):
+            print(line)
     return REFUSED if refusal or against and not against.agrees() else ACCEPTED
 
 
@@ -106,9 +107,11 @@ def refused_body(console, path, data, refusal):
     yield "<pre>" + html.escape("\n".join(why.told(console, path, data)[0][1:])) + "</pre>"
 
 
-def compared(console, image, sheet, path):
+def compared(console, image, sheet, given):
     """The chip beside the certificate; None where there is none."""
-    return certificate.against(console, image, sheet, path) if path else None
+    if not given.certificate:
+        return None
+    return certificate.against(console, image, sheet, given.certificate, tables.asked_in(given))
 
 
 def sheet_body(console, given, image, sheet, against):
@@ -205,6 +208,8 @@ def certificate_figure(console, sheet, by, against):
             f"({against.physical(distance, False)}) either way."
         )
     yield figure(panel.svg(), caption)
+    for told in against.told:
+        yield f"<p>{text(told[:1].upper() + told[1:])}</p>"
     yield '<div class="wide"><table><tr>' + "".join(f"<th>{html.escape(name)}</th>" for name in certificate.HEADS) + "</tr>"
     for cells in against.rows():
         yield "<tr>" + "".join(f"<td>{html.escape(cell)}</td>" for cell in cells) + "</tr>"

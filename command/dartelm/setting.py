@@ -2,7 +2,7 @@
 from . import fields, files, refusals
 from .console import refusal_in
 from .fields import field_named, is_single, whole
-from .image import Image, open_image, write_image
+from .image import Image, open_image, write_image, wrote
 from .looks import look_lines
 from .trouble import ACCEPTED, Refusal, misused, refused, unread
 
@@ -39,7 +39,7 @@ def run(console, given):
             print(line)
     if 6 in stored and not {7, 8} <= set(stored):
         print("look at: the physical values that were not set keep their numbers, in the new unit")
-    print(f"{given.output}: written and read again, accepted")
+    print(f"{wrote(given.output)}, accepted")
     return ACCEPTED
 
 

@@ -1,6 +1,8 @@
 """Units, their prefixes and decimal points. Decimals are exact here: a prefix moves the point and nothing else."""
 import decimal
+import math
 import re
+from fractions import Fraction
 
 from .trouble import misused
 
@@ -8,11 +10,12 @@ EXACT = decimal.Context(prec=200, Emax=999, Emin=-999)
 PREFIXES = {"n": -9, "u": -6, "\u00b5": -6, "\u03bc": -6, "m": -3, "": 0, "k": 3, "M": 6, "G": 9}
 NUMBER = re.compile(r"\s*([+-]?(?:[0-9]+\.?[0-9]*|\.[0-9]+)(?:[eE][+-]?[0-9]{1,2}(?![0-9]))?)\s*(.*?)\s*")
 LONGEST = 40
+FEW = 3
 
 
 class Unit:
     """A unit's name, other spellings, the prefixes that are understood, and those that figures are shown with, from the least:
-    the first that leaves a figure below `most`."""
+    the first that leaves a figure below `most`. Other units of the same quantity are understood by their exact factors."""
 
     def __init__(self, name, also=(), prefixes="", shown=("",), most=1000):
         self.name = name
@@ -20,6 +23,7 @@ class Unit:
         self.prefixes = prefixes
         self.shown = shown
         self.most = most
+        self.others = {}
 
     def exponent(self, word):
         """The power of ten of a unit as it is written; None where it is another."""
@@ -27,6 +31,11 @@ class Unit:
             if any(word == prefix + spelling for spelling in self.spellings):
                 return PREFIXES[prefix]
         return None
+
+    def factor(self, word):
+        """What a unit as it is written is in this one, exactly; None where it is another quantity's."""
+        exponent = self.exponent(word)
+        return self.others.get(word) if exponent is None else Fraction(10) ** exponent
 
     def named(self, prefix=""):
         return prefix + self.name
@@ -39,7 +48,7 @@ class Unit:
 
     def takes(self):
         """The spellings that are understood, for a message."""
-        names = [self.name] + [prefix + self.name for prefix in self.prefixes if ord(prefix) < 128]
+        names = [self.name] + [prefix + self.name for prefix in self.prefixes if ord(prefix) < 128] + list(self.others)[:FEW]
         return names[0] if len(names) == 1 else ", ".join(names[:-1]) + " or " + names[-1]
 
 
@@ -98,10 +107,16 @@ def figure_of(text, unit, what):
     if not word:
         example = plain(number) + unit.named(unit.shown[0])
         raise misused(f"{what}: '{text.strip()}' has no unit; write it in {unit.takes()}, as {example}")
-    exponent = unit.exponent(word)
-    if exponent is None:
+    factor = unit.factor(word)
+    if factor is None:
         raise misused(f"{what}: '{word}' is not understood here; write it in {unit.takes()}")
-    return shifted(number, exponent)
+    exponent = unit.exponent(word)
+    return times(number, factor) if exponent is None else shifted(number, exponent)
+
+
+def times(number, factor):
+    """A decimal times a factor: exact where the product has an end, else to 200 digits."""
+    return EXACT.divide(EXACT.multiply(number, decimal.Decimal(factor.numerator)), decimal.Decimal(factor.denominator))
 
 
 def counted(figure, exponent, unit, what):
@@ -115,6 +130,14 @@ def counted(figure, exponent, unit, what):
     if abs(whole) >= 1 << 63:
         raise misused(f"{what}: {in_unit(figure, unit)} is far outside what it counts")
     return whole
+
+
+def nearest_count(figure, exponent, what):
+    """The whole number of 10^exponent units that is nearest to a fraction, halves upward."""
+    count = math.floor(figure / Fraction(10) ** exponent + Fraction(1, 2))
+    if abs(count) >= 1 << 63:
+        raise misused(f"{what}: far outside what it counts")
+    return count
 
 
 def uncounted(count, exponent):

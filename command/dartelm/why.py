@@ -5,7 +5,7 @@ from . import dumps, files, refusals
 from .console import refusal_in
 from .fields import FIELDS, MISSING, Around, whole
 from .files import read_bytes
-from .image import BYTES, KINDS, Image, Sheet, build, read_sheet, refusal_of, write_image
+from .image import BYTES, KINDS, Image, Sheet, build, read_sheet, refusal_of, write_image, wrote
 from .show import summary
 from .trouble import ACCEPTED, REFUSED, Refusal, refused
 
@@ -30,7 +30,7 @@ def run(console, given):
     if not found:
         raise refused(f"nothing is written: there is no accepted image in {given.file}")
     sheet = write_image(console, given.output, found.image, given.force)
-    print(f"{given.output}: written and read again, accepted, {summary(sheet)}")
+    print(f"{wrote(given.output)}, accepted, {summary(sheet)}")
     return ACCEPTED
 
 

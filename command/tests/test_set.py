@@ -160,7 +160,7 @@ class Set(support.Case):
         ):
             self.unwritten(2, *words, err=part)
         self.gives(2, "set", sample("load-cell.kind1"), "location=1", err="-o")
-        self.gives(2, "set", sample("load-cell.kind1"), "location=1", "-o", "-", err="-o takes a file's name")
+        self.gives(2, "set", sample("load-cell.kind1"), "location=1", "-o", "", err="-o takes a file's name")
 
     def test_files(self):
         self.unwritten(3, "location=1", source="nope", err="cannot read")
@@ -171,10 +171,10 @@ class Set(support.Case):
         self.gives(0, "set", sample("load-cell.kind1"), "location=1", "-o", path, "--force")
         self.assertEqual(len(self.bytes("there")), 128)
         self.gives(0, "set", path, "location=2", "-o", path, "--force")
-        self.gives(3, "set", sample("load-cell.kind1"), "location=1", "-o", self.room, err="there already")
-        self.gives(3, "set", sample("load-cell.kind1"), "location=1", "-o", self.room, "--force", err="cannot write")
+        for force in ((), ("--force",)):
+            self.gives(3, "set", sample("load-cell.kind1"), "location=1", "-o", self.room, *force, err="no regular file")
         os.symlink("nowhere", self.path("link"))
-        self.gives(3, "set", sample("load-cell.kind1"), "location=1", "-o", self.path("link"), err="there already")
+        self.gives(3, "set", sample("load-cell.kind1"), "location=1", "-o", self.path("link"), err="cannot be followed")
         self.assertEqual(sorted(os.listdir(self.room)), ["link", "there"])
 
 

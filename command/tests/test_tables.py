@@ -1,0 +1,242 @@
+"""A certificate's table is taken as it is meant, or refused: never another one in its place."""
+import support
+from dartelm import certificate, tables
+from dartelm.image import read_image, read_sheet
+from dartelm.trouble import Trouble
+from support import sample
+
+# The load cell's certificate in newtons and in per cent of 5000 N, and in billionths of it.
+NEWTONS = ((0, "0"), (1000, "0.75"), (2000, "2.1"), (3000, "1.9"), (4000, "0.45"), (5000, "-1.05"))
+PERCENTS = ((0, "0"), (20, "0.015"), (40, "0.042"), (60, "0.038"), (80, "0.009"), (100, "-0.021"))
+BILLIONTHS = [(0, 0), (200000000, 150000), (400000000, 420000), (600000000, 380000), (800000000, 90000), (10**9, -210000)]
+BARE = "point (%),deviation (%)\n0,0\n100,0\n"
+
+
+class Tables(support.Case):
+    def setUp(self):
+        super().setUp()
+        self.cell = sample("load-cell.kind1")
+        sheet, _ = self.gives(0, "export", self.cell)
+        bare = "".join(line + "\n" for line in sheet.splitlines() if not line.startswith(("point", "domain")))
+        self.gives(0, "make", self.file("bare.txt", bare), "-o", self.path("bare"))
+        self.scale = certificate.Scale(support.console(), read_sheet(support.console(), read_image(self.cell)))
+
+    def points(self, text, **columns):
+        table = tables.read_table(self.file("cert", text), tables.Asked(**columns))
+        return certificate.points_of(table, self.scale)
+
+    def refused(self, text, *parts, columns=()):
+        """By both chips: one that has the correction, and one without."""
+        for chip in (self.cell, self.path("bare")):
+            self.gives(2, "certificate", chip, self.file("cert", text), *columns, err=parts)
+
+    def test_the_chip_without_a_correction(self):
+        self.gives(0, "certificate", self.path("bare"), self.file("cert", BARE), out="AGREES")
+        self.gives(1, "certificate", self.path("bare"), sample("load-cell.csv"), out="DIFFERS")
+
+    def test_cells_and_heads(self):
+        self.refused("Point (%),Deviation (%)\n0,0\n20,0,015\n", "cert:3: 3 cells under 2 heads", "a decimal comma meant?")
+        self.refused("Point (%),Deviation (%),Note\n0,0,a\n20,0,015\n", "cert:3: '015' is no figure", "a decimal comma meant?")
+        self.refused("Point (%),Deviation (%)\n0,0,\n", "cert:2: 3 cells under 2 heads")
+        self.refused("Point (%);Deviation (%)\n0\n", "cert:2: 1 cell under 2 heads")
+        self.refused("Point (%);Deviation (%)\n020;0\n", "cert:2: '020' is no figure; write it without the first 0")
+        self.refused("Point (%),Deviation (%),Note\n0,0,0\n20,0,15\n", "cert:2: '0,0' may be one figure")
+        self.refused("Point (%),Deviation (%),Note\n0,0,a\n20,0,15 %\n", "cert:3: '0,15 %' may be one figure")
+        self.refused("Point (%),Deviation (%),Note\n0,0,0\n20,-0,15\n", "may be one figure")
+        self.refused('Point (%),Deviation (%),Note\n0,0,"a\n20,0.015,b\n40,0.042,"\n', "cert:4: a cell of more than one line")
+        self.refused('Point (%),Deviation (%),Note\n0,0,"a\n20,0.015,b\n', "unexpected end")
+        self.assertEqual(
+            self.points("Point (%),Deviation (%),Readings\n0,0,3\n20,0.015,3\n"), [(0, 0), (200000000, 150000)]
+        )
+        self.assertEqual(
+            self.points("Point (%);Deviation (%);No\n0;0;001\n20;0,015;002\n"), [(0, 0), (200000000, 150000)]
+        )
+
+    def test_two_columns_that_fit(self):
+        both = "Load (N),Deviation as found (N),Deviation as left (N)\n0,0,0\n1000,9,0.75\n"
+        self.refused(both, "cert:1: 'Deviation as found (N)' and 'Deviation as left (N)' may each be the deviation", "--deviation")
+        self.refused("Point %,Deviation %,Expanded uncertainty of deviation %\n0,0,1\n", "'Deviation %' and 'Expanded unc")
+        self.refused("Point,Load (N),Deviation (N)\n1,0,0\n", "'Point' and 'Load (N)' may each be the point", "--point COLUMN")
+        self.refused("Load (N),Deviation (N),Deviation (N)\n0,0,0\n", "may each be", columns=("--deviation", "Deviation (N)"))
+        for name in ("Deviation as left (N)", "deviation  AS left (n)", "Deviation as l"):
+            self.assertEqual(self.points(both, deviation=name), [(0, 0), (200000000, 150000)])
+        self.assertEqual(
+            self.points("Point,Load (N),Deviation (N)\n1,0,0\n2,1000,.75\n", point="load"), [(0, 0), (200000000, 150000)]
+        )
+        self.refused(both, "there are no columns 'weight' and 'Deviation as left (N)' in one line", columns=("--point", "weight", "--deviation", "Deviation as left (N)"))
+        self.gives(
+            0,
+            "certificate",
+            self.cell,
+            self.file("cert", "Load (N),Deviation as found (N),Deviation as left (N)\n" + "".join(
+                f"{point},9,{deviation}\n" for point, deviation in NEWTONS
+            )),
+            "--deviation",
+            "Deviation as left (N)",
+            out=("taken: point from 'Load (N)', deviation from 'Deviation as left (N)', 6 rows\n", "AGREES"),
+        )
+
+    def test_errors_have_the_other_sign(self):
+        turned = "Load (N),Error (N)\n" + "".join(f"{point},{-float(deviation)}\n" for point, deviation in NEWTONS)
+        self.refused(turned, "cert:1: 'Error (N)' is an error", "--error COLUMN")
+        self.assertEqual(self.points(turned, error="Error (N)"), BILLIONTHS)
+        self.gives(
+            0,
+            "certificate",
+            self.cell,
+            self.file("cert", turned),
+            "--error",
+            "Error (N)",
+            out="deviation from 'Error (N)', an error, with its sign turned, 6 rows\n",
+        )
+        self.gives(1, "certificate", self.cell, self.path("cert"), "--deviation", "Error (N)", out="DIFFERS")
+        percent = "Point (%),Error (%)\n" + "".join(f"{point},{-float(deviation)}\n" for point, deviation in PERCENTS)
+        self.assertEqual(self.points(percent, error="Error (%)"), BILLIONTHS)
+        self.refused("Load (N),Deviation (N),Error (N)\n0,0,0\n", "may each be the deviation")
+        self.refused(turned, "--deviation and --error", columns=("--error", "Error (N)", "--deviation", "Error (N)"))
+
+    def test_points_and_commas(self):
+        self.refused("Load (N);Deviation (N)\n0;0\n1.000;0,75\n", "cert:3: '0,75' and '1.000'", "one has a point and one a comma")
+        self.refused("Load (N);Deviation (N)\n0;0\n1.000;1\n", "cert:3: '1.000' may be thousands")
+        self.refused("Load (N);Deviation (N)\n0;0\n1,000;1\n", "cert:3: '1,000' may be thousands")
+        self.refused("Load;Deviation\n0 N;0 N\n1,000 N;1 N\n", "'1,000 N' may be thousands")
+        self.refused('Load (N),Deviation (N)\n0,0\n"1,000",0.75\n', "cert:3: '1,000' has a comma")
+        self.refused('Load (N),Deviation (N)\n0,0\n1000,"0,75"\n', "cert:3: '0,75' has a comma")
+        self.refused("Load (N);Deviation (N)\n0;0\n1.000,5;0,75\n", "one has a point and one a comma")
+        self.refused("Load (N);Deviation (N)\n0;0\n1 000;0,75\n", "'000 N' is not understood")
+        self.refused("Load (N);Deviation (N)\n0;0\n1'000;0,75\n", "''000' is not understood")
+        self.assertEqual(self.points("Load (kN);Deviation (N)\n1.000;0.75\n2.000;2.100\n"), BILLIONTHS[1:3])
+        self.assertEqual(self.points("Point (%);Deviation (%)\n20.000;1.000\n"), [(200000000, 10000000)])
+        self.assertEqual(self.points("Point (%)\tDeviation (%)\n20,000\t0,015\n"), BILLIONTHS[1:2])
+
+    def test_footers(self):
+        text = "Point (%),Deviation (%)\n0,0\n20,0.015\nUncertainty (k = 2): 0.005 %\nsigned,J.K\n"
+        self.assertEqual(self.points(text), BILLIONTHS[:2])
+        self.gives(
+            1,
+            "certificate",
+            self.cell,
+            self.file("cert", text),
+            out=(", 2 rows\n", "passed over: line 4: Uncertainty (k = 2): 0.005 %\n", "passed over: line 5: signed, J.K\n"),
+        )
+        self.refused(text + "40,0.042\n", "cert:6: a row behind line 5, which is none")
+        self.refused("Point (%),Deviation (%)\n0,0\nn/a,n/a\n20,0.015\n", "cert:4: a row behind line 3")
+        self.refused("Point (%),Deviation (%)\n0,0\n20,n/a\n", "cert:3: deviation: 'n/a")
+        self.refused("Point (%),Deviation (%)\n0,0\n~20,~0.5\n", "cert:3: point: '~20")
+        self.refused("Point (%),Deviation (%)\n0,0\nca. 20,ca. 0.5\n", "cert:3: ")
+        self.refused("Point (%),Deviation (%)\n0,0\n20,\n", "cert:3: there is no deviation")
+        self.refused("Point (%),Deviation (%)\n0,0\n,0.5\n", "cert:3: there is no point")
+        self.refused("Point (%),Deviation (%)\n0,0\n#20,0.5\n", "cert:3: a comment that looks like a row")
+        self.refused("20,0.5\nPoint (%),Deviation (%)\n0,0\n", "cert:1: a row above the heads")
+        self.assertEqual(self.points("# 5 points\n23 to 24 C,45 % RH\nPoint (%),Deviation (%)\n# none\n\n0,0\n"), [(0, 0)])
+
+    def test_units(self):
+        self.refused("Point (%),Relative deviation (%)\n0,0\n", "may be per cent of the reading")
+        self.refused("Point (%),Deviation (% of reading)\n0,0\n", "not understood")
+        self.refused("Load (N),Deviation as left\n0,0\n", "has no unit")
+        for load, deviation, points in (
+            ("Load (kN)", "Deviation (mN)", "1,750"),
+            ("Load (kgf)", "Deviation (lbf)", "101.971621297792824257,0.16860670734829353"),
+            ("Force in N", "Correction in % of the span", "1000,0.015"),
+            ("Calibration point (% of span)", "Deviation in % of full span", "20,0.015"),
+            ("Point", "Deviation", "1 kN,0.015 %"),
+            ("Point (%)", "Deviation (%)", "20.00000004,0.01500000049"),
+        ):
+            self.assertEqual(self.points(f"{load},{deviation}\n{points}\n"), BILLIONTHS[1:2], load)
+
+    def test_a_sender_whose_unit_is_per_cent(self):
+        """Its own per cent, unless the span is named. 0 to 50 %, in which 10 % is a fifth of the span."""
+        self.gives(
+            0, "set", self.cell, "measurand=%", "max phys=50%", "--level", "maker", "-o", self.path("ratio"), out="5000 N -> 50 %"
+        )
+        for text in (
+            "Point (%),Deviation (%)\n" + "".join(f"{p / 2},{float(d) / 2}\n" for p, d in PERCENTS),
+            "Point (% of span),Deviation (% of span)\n" + "".join(f"{p},{d}\n" for p, d in PERCENTS),
+        ):
+            self.gives(0, "certificate", self.path("ratio"), self.file("cert", text), out="AGREES")
+
+    def odd_table(self, chance):
+        """A table as some laboratory writes it: the columns in any order among others, one of some separators and decimal
+        marks, units in heads or cells, thousands with a mark, rows that lack a cell, titles above and remarks below."""
+        mark = chance.choice(",,;;\t")
+        decimal = chance.choice(".,") if mark != "," or chance.random() < 0.4 else "."
+        rows, unit = chance.choice(((NEWTONS, "N"), (PERCENTS, "%"), ([(p / 1000, d) for p, d in NEWTONS], "kN")))
+        other = "N" if unit == "kN" else unit
+        heads, cells = [], []
+        in_cells = chance.random() < 0.2
+
+        def column(head, texts, named):
+            heads.append(head if in_cells or not named else f"{head} ({named})")
+            cells.append([f"{text} {named}" if in_cells and named else text for text in texts])
+
+        def figure(text, digits=None):
+            text = text if digits is None else f"{float(text):.{digits}f}"
+            if chance.random() < 0.03:
+                text = chance.choice(("0" + text, "~" + text, text + "?", "'" + text))
+            if float_of(text) is not None and abs(float_of(text)) >= 1000 and thousands:
+                text = f"{float(text):,}".replace(",", thousands)
+            text = text.replace(".", decimal) if decimal != "." else text
+            return f'"{text}"' if quote and mark in text else text
+
+        thousands = chance.choice(("", "", "", ".", ",", "'", " "))
+        quote = chance.random() < 0.5
+        digits = chance.choice((None, None, 3, 6))
+        columns = [("point", chance.choice(("Point", "Load", "Calibration point", "Applied force")))]
+        columns.append(("deviation", chance.choice(("Deviation", "Correction", "Deviation as left", "Error"))))
+        for extra in chance.sample(("No", "Note", "Uncertainty", "Reading", "Deviation as found", "Load cell"), chance.randrange(4)):
+            columns.append((extra, extra))
+        chance.shuffle(columns)
+        sign = -1 if any(head == "Error" for _, head in columns) else 1
+        for sort, head in columns:
+            if sort == "point":
+                column(head, [figure(str(p), digits) for p, _ in rows], unit)
+            elif sort == "deviation":
+                column(head, [figure(str(sign * float(d)), digits) for _, d in rows], other)
+            elif sort == "No":
+                column(head, [str(n) for n in range(len(rows))], "")
+            elif sort == "Note":
+                column(head, [chance.choice(("", "ok", "15", "015")) for _ in rows], "")
+            else:
+                column(head, [figure(str(chance.choice((0, 0.5, 15)))) for _ in rows], other)
+        lines = [mark.join(heads)] + [mark.join(column[n] for column in cells) for n in range(len(rows))]
+        if chance.random() < 0.1:
+            lines[chance.randrange(1, len(lines))] += mark
+        if chance.random() < 0.1:
+            at = chance.randrange(1, len(lines))
+            lines[at] = lines[at].rpartition(mark)[0]
+        for _ in range(chance.choice((0, 0, 1, 2))):
+            lines.insert(chance.choice((0, len(lines), len(lines), chance.randrange(len(lines)))), chance.choice(REMARKS))
+        return "\n".join(lines) + "\n", sign
+
+    def test_odd_tables(self):
+        """The right points or a refusal, of which none makes a chip without the correction agree."""
+        chance = support.random.Random(44)
+        taken = 0
+        for number in range(400):
+            text, sign = self.odd_table(chance)
+            columns = {"error": "Error"} if sign < 0 else {}
+            try:
+                points = self.points(text, **columns)
+            except Trouble as trouble:
+                self.assertEqual(trouble.status, 2, text)
+                continue
+            self.assertEqual(points, BILLIONTHS, text)
+            taken += 1
+            if number % 8 == 0:
+                options = ("--error", "Error") if sign < 0 else ()
+                self.gives(1, "certificate", self.path("bare"), self.file("cert", text), *options, out="DIFFERS")
+        self.assertGreater(taken, 60)
+
+
+REMARKS = ("Laboratory,RR-118", "Uncertainty 0.005 %", "", "Calibrated 2025-11-03", "# checked", "signed;J.K", "Temperature;23;C")
+
+
+def float_of(text):
+    try:
+        return float(text)
+    except ValueError:
+        return None
+
+
+if __name__ == "__main__":
+    support.unittest.main()
