@@ -20,5 +20,7 @@ pub mod Beforehand
 pub mod Crossed
 pub mod Needles
 pub mod Lending
+pub mod LentLaws
+pub mod EveryLent
 pub mod Calling
 pub mod EdgesHold
