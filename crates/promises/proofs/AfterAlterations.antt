@@ -27,8 +27,8 @@ use Rattle.change.specs.Change.{codeFor, recodedIn, change, mayCommit, commit}
 use Rattle.change.proofs.Recoding.{code-found, change-unread, change-is, change-made, made-length, made-bytes, stored-contents, same-value}
 use Rattle.change.proofs.CommitLaws.{commit-unread, commit-is, committed}
 use Rattle.change.proofs.Commits.{stands-means, commit-made, commit-length, commit-bytes, committed-contents}
-use Rattle.promises.specs.declared.Change.{Change}
 use Rattle.promises.specs.Alterations.{
+  Change,
   Commit,
   Alteration,
   changes,

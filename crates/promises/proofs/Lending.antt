@@ -1,4 +1,4 @@
--- What the types of parameters say: a sheet that is lent is `Lendable`, and the value of a change is `Real`.
+-- What the type of a parameter says: a sheet that is lent is `Lendable`.
 -- Assumes nothing.
 use mathlib.Core.Path.{subst}
 use mathlib.Core.List.{List, [], _∷_, map}
@@ -19,16 +19,11 @@ use Rattle.build.specs.declared.Slot.{Slot}
 use Rattle.build.specs.declared.Sheet.{Sheet}
 use Rattle.build.proofs.Slot as slot
 use Rattle.build.proofs.Sheet as sheet
-use Rattle.promises.specs.declared.Change.{Change}
 use Rattle.promises.specs.Lent.{AllReal, Lendable}
-use Rattle.promises.proofs.Change as change
 
 -- A value, whatever machine values stand for it.
 value-real : (v : Value) (vs : List Val) → Is (enum.row value.the-type) v vs → Real v
 value-real v vs h = lent-real v (subst (Is (enum.row value.the-type) v) (tells value.the-type the-laws v vs h) h)
-
-pub change-real : (ch : Change) (vs : List Val) → Is (struct.row change.the-type) ch vs → Real (ch .value)
-change-real ch vs h = value-real (ch .value) (h .0 .1 .1 .1 .0) (h .1 .1 .1 .1 .1 .0)
 
 slots-real : (slots : List Slot) (us : List Val) → shadow (each (slot.the-field .row .Denot) (slot.the-field .row .own) (map (slot.the-field .into) slots) us) → AllReal slots
 slots-real [] us h = tt

@@ -22,5 +22,7 @@ pub mod Needles
 pub mod CurveFigures
 pub mod Figures
 pub mod Lending
+pub mod LentLaws
+pub mod EveryLent
 pub mod Calling
 pub mod EdgesHold

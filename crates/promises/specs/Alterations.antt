@@ -19,9 +19,15 @@ use Rattle.fields.specs.Stored.{kept, Real}
 use Rattle.layout.specs.Contents.{Found, Contents}
 use Rattle.layout.specs.Image.{contents, field}
 use Rattle.change.specs.Change.{codeFor, change, mayCommit, commit}
-use Rattle.promises.specs.declared.Change.{Change}
 
--- A commit as a caller can hand it in: its own kind, level, field and codes.
+-- A one-field change as a caller can hand it in: its own kind, level, field and value.
+pub record Change : Type 0 where
+  pub kind : ℕ
+  pub level : Level
+  pub field : ℕ
+  pub value : Value
+
+-- A commit: its own kind, level, field and codes.
 pub record Commit : Type 0 where
   pub kind : ℕ
   pub level : Level

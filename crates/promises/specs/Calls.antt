@@ -1,43 +1,34 @@
--- Demand 3 on the calls themselves: what a build, two changes and a reading answer one after the other, what the image holds then, and how far the q
--- returned lies from the certificate line.
+-- Demand 3 on the calls themselves: what a build and a reading answer with any number of changes between them, what the image holds then, and how far
+-- the q returned lies from the certificate line.
 use mathlib.Core.Path.{_≡_}
-use mathlib.Core.List.{List, [], _∷_}
+use mathlib.Core.List.{List}
 use Prim.Native.Nat.{ℕ}
 use lib.IntN.{ℤ}
-use Rattle.refusal.specs.declared.Written.{Written}
 use Rattle.refusal.specs.declared.Written.the-variants.{Done}
 use Rattle.refusal.specs.Written.{writtenSaid, afterwards}
 use Rattle.fields.specs.declared.Domain.{Domain}
 use Rattle.fields.specs.Calibration.{D, R}
 use Rattle.build.specs.declared.Sheet.{Sheet}
 use Rattle.build.specs.Build.{pairsLent, build}
-use Rattle.change.specs.Change.{change}
 use Rattle.line.specs.Certificate.{Slopes, Within}
 use Rattle.reading.specs.declared.Dash.{Dash}
 use Rattle.reading.specs.declared.Reading.{Reading}
 use Rattle.reading.specs.declared.ReadingAnswer.the-variants.{Shows}
 use Rattle.reading.specs.Reading.{takeReading, readingSaid}
-use Rattle.promises.specs.declared.Change.{Change}
 use Rattle.promises.specs.declared.Answers.{Answers}
-use Rattle.promises.specs.Alterations.{changes, changedBy, altered}
+use Rattle.promises.specs.Alterations.{Alteration, altered}
 use Rattle.promises.specs.Certificate.{leastIn, greatestIn, lineFor, Straight}
-
--- What a change of an image answered.
-abbrev pub ChangeSaid : List ℕ → Change → Written → Type 0
-ChangeSaid image ch w = writtenSaid w (changedBy image ch) ≡ change (ch .kind) image (ch .level) (ch .field) (ch .value)
 
 module _ (kind : ℕ) (buffer : List ℕ) (sheet : Sheet) (text : List ℕ) (domain : Domain) (points : List ℤ) where
   -- The image behind the build.
   abbrev pub made : List ℕ
   made = afterwards buffer (build kind buffer sheet text domain points)
 
-  -- Each call answers by its definition, accepted or refused; the image is as build and changes leave it, and the reading is of that. If the build and
+  -- Each call answers by its definition, accepted or refused; the image is as build and alterations leave it, and the reading is of that. If the build and
   -- the reading were accepted, the q returned lies within the distance of the certificate line through the points lent in domain 0, for every K.
-  pub record Answered (first second : Change) (readingKind : ℕ) (v : ℤ) (dash : Dash) (image : List ℕ) (r : Answers) : Type 0 where
+  pub record Answered (alterations : List Alteration) (readingKind : ℕ) (v : ℤ) (dash : Dash) (image : List ℕ) (r : Answers) : Type 0 where
     pub buildSaid : writtenSaid (r .built) made ≡ build kind buffer sheet text domain points
-    pub firstSaid : ChangeSaid made first (r .first)
-    pub secondSaid : ChangeSaid (changedBy made first) second (r .second)
-    pub bytes : image ≡ altered made (changes first ∷ changes second ∷ [])
+    pub bytes : image ≡ altered made alterations
     pub shown : readingSaid (r .reading) ≡ takeReading readingKind image v dash
     pub distance : (q : Reading) (K : ℕ) → Straight domain points → r .built ≡ Done → r .reading ≡ Shows q → Slopes K (pairsLent points) →
         Within D R K (q .fraction) (lineFor points v (leastIn readingKind image) (greatestIn readingKind image))

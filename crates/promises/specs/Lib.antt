@@ -4,6 +4,7 @@ pub mod Blank
 pub mod Reads
 pub mod Again
 pub mod Alterations
+pub mod AlterationsLent
 pub mod Proposals
 pub mod Levels
 pub mod Index

@@ -1,13 +1,16 @@
 // Demand 3 on the calls: from the points lent to the q returned.
 use crate::Answers;
-use crate::Change;
+use crate::lent;
 use build::Sheet;
 use fields::Domain;
 use reading::Dash;
 ghost use Rattle.promises.specs.Calls.{Answered};
+ghost use Rattle.promises.specs.AlterationsLent.{alterationsLent};
 
-// Builds an image in the caller's buffer, makes two changes and takes a reading of it, whatever each call before it answered:
-// a refused one leaves the buffer as it was.
+// Builds an image in the caller's buffer, makes any number of changes and commits and takes a reading of it, whatever each call
+// before it answered: a refused one leaves the buffer as it was. There are as many alterations as fields. At the index of each are
+// its kind, writer's level (0, 1, 2), field, and by its sort a whole number (0), a Single (1), missing (2), or, for a commit (3),
+// the present code and the new one. Nothing can hold a slice, so that each is a parameter of its own.
 pub fn points_to_reading(
     kind: u8,
     image: &mut [u8],
@@ -15,33 +18,34 @@ pub fn points_to_reading(
     text: &[u8],
     domain: Domain,
     points: &[i64],
-    first: Change,
-    second: Change,
+    kinds: &[u8],
+    levels: &[u8],
+    fields: &[u64],
+    sorts: &[u8],
+    wholes: &[i64],
+    singles: &[f32],
+    presents: &[u64],
+    news: &[u64],
     reading_kind: u8,
     input: i64,
     dash: Dash,
 ) -> Answers
     ensures { λ r. ⌜ Answered kind (now (image .entry)) sheet (now (text .entry)) domain (now (points .entry))
-        first second «reading_kind» input dash (now (image .exit)) r ⌝ }
+        (alterationsLent (now (kinds .entry)) (now (levels .entry)) (now (fields .entry)) (now (sorts .entry)) (now (wholes .entry)) (now (singles .entry)) (now (presents .entry)) (now (news .entry)))
+        «reading_kind» input dash (now (image .exit)) r ⌝ }
 {
     let built = build::build(kind, image, sheet, text, domain, points);
-    let first_value = first.value;
-    let first_level = first.level;
-    let first_answer = change::change(first.kind, image, first_level, first.field, first_value);
-    let second_value = second.value;
-    let second_level = second.level;
-    let second_answer = change::change(
-        second.kind,
+    lent::alter(
         image,
-        second_level,
-        second.field,
-        second_value,
+        kinds,
+        levels,
+        fields,
+        sorts,
+        wholes,
+        singles,
+        presents,
+        news,
     );
     let reading = reading::take_reading(reading_kind, image, input, dash);
-    Answers {
-        built,
-        first: first_answer,
-        second: second_answer,
-        reading,
-    }
+    Answers { built, reading }
 }
