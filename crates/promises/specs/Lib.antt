@@ -16,3 +16,9 @@ pub mod Needle
 pub mod Calls
 pub mod Edges
 pub mod Attained
+pub mod Rounding
+pub mod Deviations
+pub mod Texts
+pub mod Images
+pub mod Singles
+pub mod Geometric
