@@ -57,7 +57,7 @@ crossed kind image c v dash r e n taken =
     let one = crosses (points c) (calibration-table _ k stands .rises) (sums-rise _ k stands n) p in
     let q : r .fraction ≡ crossing (points c) p =
     s .shows ∙ ap₂ (λ (y z : ℤ). fraction (s .holds .calibration) (position v y z)) (sym (ends .0)) (sym (ends .1)) ∙ ap (λ (x : Contents). fraction (x .calibration) p) same ∙ by-crossing k p n in
-    rw q (record { is = one .is; only = one .one })
+    rw q (record { is = one .is; only = one .one; from = one .from })
 
 pub crossing-shown : CrossingShown
 crossing-shown kind image c v dash r e domain taken = crossed kind image c v dash r e (not-electrical (domainIn (c .calibration)) domain) taken

@@ -2,10 +2,11 @@
 use mathlib.Core.Path.{_≡_, refl, sym, ap, _∙_}
 use mathlib.Core.List.{List, [], _∷_, map}
 use mathlib.Core.Option.{none}
-use Prim.Native.Nat.{ℕ}
+use Prim.Native.Nat.{ℕ, _+_}
 use native.Mathlib.Omega.{arith}
-use lib.IntN.{ℤ, pos, natAbs, _+ℤ_, _-ℤ_, _*ℤ_}
+use lib.IntN.{ℤ, pos, negsuc, natAbs, _+ℤ_, _-ℤ_, _*ℤ_}
 use lib.Signed.{_<ℤ_}
+use Rattle.integers.specs.Parts.{up, dn}
 use Rattle.integers.proofs.PartLaws.{sub-parts-ℤ, abs-parts, ltZ-parts}
 use Rattle.refusal.specs.Outcome.{good}
 use Rattle.memory.specs.Pieces.{Piece}
@@ -26,7 +27,7 @@ use Rattle.reading.proofs.Orders.{shown}
 use Rattle.reading.proofs.Fractions.{by-deviation}
 use Rattle.promises.specs.Again.{keptPair, domainLent}
 use Rattle.promises.specs.Alterations.{altered}
-use Rattle.promises.specs.Certificate.{Straight, CertificateDistance}
+use Rattle.promises.specs.Certificate.{Straight, CertificateDistance, LentPointsRise, EndsRise, DifferenceAbove}
 use Rattle.promises.proofs.PlannedSheet.{plan-parts}
 use Rattle.promises.proofs.Written.{built}
 use Rattle.promises.proofs.KeptLent.{kept-lent, ends-read}
@@ -73,3 +74,24 @@ certificate-distance kind buffer sheet text domain lentPoints image alterations 
     let ends = ends-read readingKind (altered image alterations) (s .holds) (s .accepted) in
     distance-of domain (pairsLent lentPoints) (points (s .holds)) ps (r .fraction) v (least (s .holds)) (greatest (s .holds)) _ _ K pairs (s .rises) slopes
     (k .keepsPoints) (s .shows ∙ by-deviation (s .holds .calibration) _ (λ e. straight-lent domain lentPoints straight (sym (k .keepsDomain) ∙ e))) (ends .0) (ends .1)
+
+-- ---- what is above 0 in it
+
+pub lent-points-rise : LentPointsRise
+lent-points-rise kind buffer sheet text domain lentPoints image made =
+    let b = built kind buffer sheet text (listed domain lentPoints) image made in
+    let (ps, pairs) = planned-pairs domain (pairsLent lentPoints) _ (plan-parts sheet text (listed domain lentPoints) (b .pieces) (b .plans) .behindPlanned) in
+    stored-rises domain none 0 (pairsLent lentPoints) ps pairs .lent
+
+pub ends-rise : EndsRise
+ends-rise kind image v dash r taken =
+    let s = shown kind image v dash r taken in
+    let ends = ends-read kind image (s .holds) (s .accepted) in
+    rw (ends .0, ends .1) (s .rises)
+
+pub difference-above : DifferenceAbove
+difference-above a b h = go (b -ℤ a) (sub-parts-ℤ b a)
+  where
+    go : (z : ℤ) → up z + (dn b + up a) ≡ dn z + (up b + dn a) → pos (natAbs z) ≡ z
+    go (pos n) e = refl
+    go (negsuc n) e = absurd (omega (arith, ltZ-parts a b (h .lt)))

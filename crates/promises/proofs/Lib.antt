@@ -26,3 +26,9 @@ pub mod LentLaws
 pub mod EveryLent
 pub mod Calling
 pub mod EdgesHold
+pub mod Rounding
+pub mod Deviations
+pub mod Texts
+pub mod Images
+pub mod Singles
+pub mod Geometric

@@ -3,6 +3,7 @@ use mathlib.Core.Path.{_≡_}
 use mathlib.Core.List.{List, [], _∷_}
 use Prim.Native.Nat.{ℕ}
 use lib.IntN.{ℤ, pos, natAbs, _-ℤ_, _*ℤ_}
+use lib.Signed.{_<ℤ_}
 use Rattle.integers.specs.Nearest.{Fraction}
 use Rattle.refusal.specs.Outcome.{Outcome, good, refused}
 use Rattle.fields.specs.declared.Value.{Value}
@@ -15,7 +16,7 @@ use Rattle.build.specs.declared.Sheet.{Sheet}
 use Rattle.build.specs.Build.{pairsLent, build}
 use Rattle.reading.specs.declared.Dash.{Dash}
 use Rattle.reading.specs.declared.Reading.{Reading}
-use Rattle.line.specs.Certificate.{Slopes, Within}
+use Rattle.line.specs.Certificate.{Rises, Slopes, Within}
 use Rattle.line.specs.Line.{certificateLine}
 use Rattle.reading.specs.Reading.{electricalFigure, takeReading}
 use Rattle.promises.specs.Lent.{Lendable}
@@ -55,3 +56,20 @@ CertificateDistance =
     takeReading readingKind image v dash ≡ good r →
     Slopes K (pairsLent points) →
     Within D R K (r .fraction) (lineFor points v (leastIn readingKind image) (greatestIn readingKind image))
+
+-- ---- what is above 0 in it
+
+-- The points of an accepted build rise strictly as lent, so that every run b − a is above 0.
+abbrev pub LentPointsRise : Type 0
+LentPointsRise =
+    (kind : ℕ) (buffer : List ℕ) (sheet : Sheet) (text : List ℕ) (domain : Domain) (points : List ℤ) (built : List ℕ) →
+    build kind buffer sheet text domain points ≡ good built → Rises (pairsLent points)
+
+-- Of an accepted reading e is below f, so that f − e is above 0.
+abbrev pub EndsRise : Type 0
+EndsRise =
+    (kind : ℕ) (image : List ℕ) (v : ℤ) (dash : Dash) (r : Reading) → takeReading kind image v dash ≡ good r → leastIn kind image <ℤ greatestIn kind image
+
+-- The absolute values of runs and of f − e are then the differences themselves.
+abbrev pub DifferenceAbove : Type 0
+DifferenceAbove = (a b : ℤ) → a <ℤ b → pos (natAbs (b -ℤ a)) ≡ b -ℤ a

@@ -1,9 +1,11 @@
 -- Document 02, Note 9: tables by physical point. The crossing itself is what a user relies on: the fraction that a reading shows is the least whole q
--- for which q plus the exact deviation at q is at least p, over the points as stored, and there is no second.
+-- for which q plus the exact deviation at q is at least p, over the points as stored: it is so of q and of every number above it, and of none below.
 use mathlib.Core.Path.{_≡_}
 use mathlib.Core.List.{List, map}
+use mathlib.Core.Logic.{_↔_}
 use Prim.Native.Nat.{ℕ}
 use lib.IntN.{ℤ}
+use lib.Signed.{_≤ℤ_}
 use Rattle.refusal.specs.Outcome.{good}
 use Rattle.fields.specs.declared.Pair.{Pair}
 use Rattle.fields.specs.declared.Domain.the-variants.{Physical}
@@ -13,7 +15,7 @@ use Rattle.sheet.specs.declared.TableDomain.the-variants.{Is}
 use Rattle.sheet.specs.Check.{domainIn}
 use Rattle.build.specs.declared.Sheet.{Sheet}
 use Rattle.build.specs.Build.{pairsLent, build}
-use Rattle.line.specs.Crossing.{Crossing}
+use Rattle.line.specs.Crossing.{Meets, Crossing}
 use Rattle.reading.specs.declared.Dash.{Dash}
 use Rattle.reading.specs.declared.Reading.{Reading}
 use Rattle.reading.specs.Reading.{position, takeReading}
@@ -22,10 +24,11 @@ use Rattle.promises.specs.Again.{keptPair}
 use Rattle.promises.specs.Alterations.{Alteration, RealAlterations, altered}
 use Rattle.promises.specs.Certificate.{leastIn, greatestIn}
 
--- q is the crossing of p, and nothing else is.
+-- q is the crossing of p, nothing else is, and whatever whole number k, k with its deviation is at least p exactly if q ≤ k.
 pub record OnlyCrossing (stored : List Pair) (p q : ℤ) : Type 0 where
   pub is : Crossing stored p q
   pub only : (k : ℤ) → Crossing stored p k → k ≡ q
+  pub from : (k : ℤ) → Meets stored p k ↔ q ≤ℤ k
 
 -- p, as a reading works it out from an image and an input.
 abbrev pub positionIn : ℕ → List ℕ → ℤ → ℤ

@@ -17,3 +17,9 @@ pub mod Figure
 pub mod Calls
 pub mod Edges
 pub mod Attained
+pub mod Rounding
+pub mod Deviations
+pub mod Texts
+pub mod Images
+pub mod Singles
+pub mod Geometric
