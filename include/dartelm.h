@@ -306,6 +306,15 @@ typedef struct dartelm_distance_answer {
     uint64_t bound; /* B, in 2000ths of a billionth of the span */
 } dartelm_distance_answer;
 
+/* The conformity of an image with a list of points. */
+typedef struct dartelm_conformity_answer {
+    uint8_t number;
+    uint64_t place;
+    uint64_t slope;      /* K of the points, as of a distance */
+    uint64_t bound;      /* B, in 2000ths of a billionth of the span */
+    uint8_t is_straight; /* a flag: there is a straight table to compare; else K and B are 0 */
+} dartelm_conformity_answer;
+
 /* A text. */
 typedef struct dartelm_text_answer {
     uint8_t number;
@@ -416,6 +425,13 @@ dartelm_compared_answer dartelm_compare(uint8_t kind, const uint8_t *image, size
  * input and after any changes and commits. Refused as a build would refuse the list, with 7, 10 and 16. */
 dartelm_distance_answer dartelm_distance(const int64_t *points, size_t points_length);
 
+/* Tells how far any reading of this image can be from the line through these points, whoever wrote the image: no fraction that
+ * dartelm_reading gives is more than bound / 2000 billionths of the span from it, at any input. For a sheet with a curve, or with
+ * a table of domain 1, is_straight is 0. Refused as a check is, with 4 for a sheet of template 32, and as a build in domain 0
+ * would refuse the list, with 7, 10 and 16. */
+dartelm_conformity_answer dartelm_conformity(uint8_t kind, const uint8_t *image, size_t image_length, const int64_t *points,
+                                             size_t points_length);
+
 /* The text of a code of field 3, 18 or 19, as template 33 has them: a letter, a date as 2018-01-02, three letters. Refused with 8
  * and 10. */
 dartelm_text_answer dartelm_text(uint64_t field, uint64_t code);
@@ -509,6 +525,10 @@ DARTELM_AT(dartelm_compared_answer, tick, 24);
 DARTELM_ANSWER(dartelm_distance_answer, 32);
 DARTELM_AT(dartelm_distance_answer, slope, 16);
 DARTELM_AT(dartelm_distance_answer, bound, 24);
+DARTELM_ANSWER(dartelm_conformity_answer, 40);
+DARTELM_AT(dartelm_conformity_answer, slope, 16);
+DARTELM_AT(dartelm_conformity_answer, bound, 24);
+DARTELM_AT(dartelm_conformity_answer, is_straight, 32);
 DARTELM_ANSWER(dartelm_text_answer, 40);
 DARTELM_AT(dartelm_text_answer, length, 16);
 DARTELM_AT(dartelm_text_answer, characters, 24);

@@ -2,11 +2,11 @@
 //! handed the same and are compared in the same.
 
 use crate::plain::{
-    self, Calibration, Comparison, Curve, Dash, Distance, Level, Proposal, Reading, Refusal, Segment, Sheet, Summary,
+    self, Calibration, Comparison, Conformity, Curve, Dash, Distance, Level, Proposal, Reading, Refusal, Segment, Sheet, Summary,
     Term, Text, Value,
 };
 use crate::structs::{
-    ByFlags, CharacterAnswer, CheckAnswer, CodeAnswer, ComparedAnswer, DistanceAnswer, FieldAnswer, Fields, NO_DOMAIN,
+    ByFlags, CharacterAnswer, CheckAnswer, CodeAnswer, ComparedAnswer, ConformityAnswer, DistanceAnswer, FieldAnswer, Fields, NO_DOMAIN,
     PageAnswer, PairAnswer, ProposalAnswer, ReadingAnswer, SegmentAnswer, SheetAnswer, TermAnswer, TextAnswer,
     WriteAnswer, dash_of, domain_byte, domain_of, level_of, template_of,
 };
@@ -30,6 +30,7 @@ pub trait Calls {
     fn reading(&self, kind: u8, image: &[u8], input: i64, dash: u8) -> ReadingAnswer;
     fn compare(&self, kind: u8, image: &[u8], slow: &[i64], fast: &[i64]) -> ComparedAnswer;
     fn distance(&self, points: &[i64]) -> DistanceAnswer;
+    fn conformity(&self, kind: u8, image: &[u8], points: &[i64]) -> ConformityAnswer;
     fn text(&self, field: u64, code: u64) -> TextAnswer;
     fn code(&self, field: u64, text: &[u8]) -> CodeAnswer;
     fn page(&self, kind: u8, image: &[u8], page: u64) -> PageAnswer;
@@ -151,6 +152,12 @@ pub trait Calls {
         let DistanceAnswer { number, place, slope, bound } = self.distance(points);
         accepted(number, place)?;
         Ok(Distance { slope, bound })
+    }
+
+    fn conformity_told(&self, kind: u8, image: &[u8], points: &[i64]) -> Result<Conformity, Refusal> {
+        let ConformityAnswer { number, place, slope, bound, is_straight } = self.conformity(kind, image, points);
+        accepted(number, place)?;
+        Ok(if is_straight != 0 { Conformity::Is(Distance { slope, bound }) } else { Conformity::NotStraight })
     }
 
     fn text_of(&self, field: u64, code: u64) -> Result<Text, Refusal> {
@@ -297,6 +304,16 @@ impl Calls for Plain {
         match plain::distance(points) {
             Ok(Distance { slope, bound }) => DistanceAnswer { slope, bound, ..DistanceAnswer::default() },
             Err(Refusal { number, place }) => DistanceAnswer { number, place, ..DistanceAnswer::default() },
+        }
+    }
+
+    fn conformity(&self, kind: u8, image: &[u8], points: &[i64]) -> ConformityAnswer {
+        match plain::conformity(kind, image, points) {
+            Ok(Conformity::Is(Distance { slope, bound })) => {
+                ConformityAnswer { slope, bound, is_straight: 1, ..ConformityAnswer::default() }
+            }
+            Ok(Conformity::NotStraight) => ConformityAnswer::default(),
+            Err(Refusal { number, place }) => ConformityAnswer { number, place, ..ConformityAnswer::default() },
         }
     }
 

@@ -4,7 +4,7 @@ use std::fmt::{self, Display, Formatter};
 
 use crate::calls::Calls;
 use crate::plain::{
-    Calibration, Comparison, Curve, Dash, Distance, Domain, Level, Refusal, Segment, Summary, Template, Term, Value,
+    Calibration, Comparison, Conformity, Curve, Dash, Distance, Domain, Level, Refusal, Segment, Summary, Template, Term, Value,
 };
 use crate::structs::{ByFlags, Fields};
 
@@ -36,6 +36,7 @@ pub enum Command {
     /// The slow recording, and the fast one.
     Compare(u8, Vec<u8>, Vec<i64>, Vec<i64>),
     Distance(Vec<i64>),
+    Conform(u8, Vec<u8>, Vec<i64>),
     Text(u64, u64),
     Code(u64, Vec<u8>),
     Index(u8, Vec<u8>, Vec<u8>),
@@ -95,6 +96,9 @@ pub fn parse(line: &str) -> Option<Command> {
             Command::Compare(unsigned(kind)?, bytes(image)?, list(slow, signed)?, list(fast, signed)?)
         }
         ["distance", points] => Command::Distance(list(points, signed)?),
+        ["conform", kind, image, points] => {
+            Command::Conform(unsigned(kind)?, bytes(image)?, list(points, signed)?)
+        }
         ["text", field, code] => Command::Text(unsigned(field)?, unsigned(code)?),
         ["code", field, text] => Command::Code(unsigned(field)?, bytes(text)?),
         ["index", kind, image, buffer] => Command::Index(unsigned(kind)?, bytes(image)?, bytes(buffer)?),
@@ -354,6 +358,7 @@ impl Display for Command {
                 write!(to, "compare {kind} {} {} {}", Hex(image), Figures(slow), Figures(fast))
             }
             Command::Distance(points) => write!(to, "distance {}", Figures(points)),
+            Command::Conform(kind, image, points) => write!(to, "conform {kind} {} {}", Hex(image), Figures(points)),
             Command::Text(field, code) => write!(to, "text {field} {code}"),
             Command::Code(field, text) => write!(to, "code {field} {}", Hex(text)),
             Command::Index(kind, image, buffer) => write!(to, "index {kind} {} {}", Hex(image), Hex(buffer)),
@@ -442,6 +447,10 @@ impl Command {
                 let Distance { slope, bound } = calls.distance_told(points)?;
                 format!("{slope} {bound}")
             }
+            Command::Conform(kind, image, points) => match calls.conformity_told(*kind, image, points)? {
+                Conformity::Is(Distance { slope, bound }) => format!("{slope} {bound}"),
+                Conformity::NotStraight => "none".to_string(),
+            },
             Command::Text(field, code) => {
                 let text = calls.text_of(*field, *code)?;
                 Hex(&text.characters[..text.length]).to_string()
@@ -497,6 +506,10 @@ mod tests {
             "distance - -",
             "distance 0,1,",
             "distance w1",
+            "conform 0 -",
+            "conform 0 - - -",
+            "conform 0 - 0,1,",
+            "conform 0 - w1",
             "text 18 18446744073709551616",
             "text 18 ",
             "change 0 - 1 s0000000 maker",
@@ -565,6 +578,8 @@ mod tests {
             "compare 2 - 5,-6,7 -9223372036854775808",
             "distance -",
             "distance 0,-5,15300,9223372036854775807,3",
+            "conform 2 00ff -",
+            "conform 1 - 0,-5,15300",
             "text 18 0",
             "code 18 -",
             "index 1 00ff -",

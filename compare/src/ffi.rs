@@ -3,7 +3,7 @@
 use crate::calls::Calls;
 use crate::plain::Curve;
 use crate::structs::{
-    ByFlags, CharacterAnswer, CheckAnswer, CodeAnswer, ComparedAnswer, DistanceAnswer, FieldAnswer, Fields, PageAnswer,
+    ByFlags, CharacterAnswer, CheckAnswer, CodeAnswer, ComparedAnswer, ConformityAnswer, DistanceAnswer, FieldAnswer, Fields, PageAnswer,
     PairAnswer, ProposalAnswer, ReadingAnswer, SegmentAnswer, SheetAnswer, TermAnswer, TextAnswer, WriteAnswer,
 };
 
@@ -75,6 +75,13 @@ mod dartelm {
             fast_length: usize,
         ) -> ComparedAnswer;
         pub fn dartelm_distance(points: *const i64, points_length: usize) -> DistanceAnswer;
+        pub fn dartelm_conformity(
+            kind: u8,
+            image: *const u8,
+            image_length: usize,
+            points: *const i64,
+            points_length: usize,
+        ) -> ConformityAnswer;
         pub safe fn dartelm_text(field: u64, code: u64) -> TextAnswer;
         pub fn dartelm_code(field: u64, text: *const u8, text_length: usize) -> CodeAnswer;
         pub fn dartelm_page(kind: u8, image: *const u8, image_length: usize, page: u64) -> PageAnswer;
@@ -179,6 +186,12 @@ impl Calls for Product {
 
     fn distance(&self, points: &[i64]) -> DistanceAnswer {
         unsafe { dartelm::dartelm_distance(points.as_ptr(), points.len()) }
+    }
+
+    fn conformity(&self, kind: u8, image: &[u8], points: &[i64]) -> ConformityAnswer {
+        unsafe {
+            dartelm::dartelm_conformity(kind, image.as_ptr(), image.len(), points.as_ptr(), points.len())
+        }
     }
 
     fn text(&self, field: u64, code: u64) -> TextAnswer {

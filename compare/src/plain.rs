@@ -165,6 +165,14 @@ pub struct Distance {
     pub bound: u64,
 }
 
+/// The conformity of an image with a certificate's points: no reading is further than `bound` / 2000 billionths of the span from
+/// the line through them; or the image has no straight table to compare.
+#[derive(Clone, Copy, Debug, PartialEq, Eq)]
+pub enum Conformity {
+    Is(Distance),
+    NotStraight,
+}
+
 /// A text of field 3, 18 or 19, with zeros behind it.
 #[derive(Clone, Copy, Debug, PartialEq, Eq)]
 pub struct Text {
@@ -1361,6 +1369,52 @@ pub fn distance(points: &[i64]) -> Answer<Distance> {
     Ok(Distance { slope, bound: 2_000 + 1_000 * 1_000 + slope * (15_300 + 1) })
 }
 
+// ---- conformity ----
+
+/// 2000 x the difference, rounded up, of a deviation and the correction of a list at its point.
+fn apart(point: i64, deviation: i64, pairs: &[(i64, i64)]) -> u64 {
+    let (num, run) = match (pairs.partition_point(|pair| pair.0 < point), pairs) {
+        (_, []) => (0, 1),
+        (0, pairs) => (pairs[0].1, 1),
+        (n, pairs) if n == pairs.len() => (pairs[n - 1].1, 1),
+        (n, pairs) => {
+            let ((a, s), (b, t)) = (pairs[n - 1], pairs[n]);
+            (s * (b - a) + (t - s) * (point - a), b - a)
+        }
+    };
+    let difference = i128::from(deviation * run - num).unsigned_abs();
+    (2_000 * difference).div_ceil(run as u128) as u64
+}
+
+/// How far any reading of an image can be from the line through these points.
+pub fn conformity(kind: u8, image: &[u8], points: &[i64]) -> Answer<Conformity> {
+    let open = open(kind, image)?;
+    if open.layout.template == Template::Resistance {
+        return refuse(4, 64);
+    }
+    let slope = distance(points)?.slope;
+    if open.summary.segments > 0 || open.summary.domain == Some(Domain::Physical) {
+        return Ok(Conformity::NotStraight);
+    }
+    let mut stored = [(0, 0); 127];
+    let stored = &mut stored[..open.summary.points as usize];
+    for (pair, index) in stored.iter_mut().zip(0..) {
+        *pair = (open.point(image, index), open.deviation(image, index));
+    }
+    let mut lent = [(0, 0); 127];
+    let lent = &mut lent[..points.len() / 2];
+    for (pair, point) in lent.iter_mut().zip(points.chunks_exact(2)) {
+        *pair = (point[0], point[1]);
+    }
+    let mut greatest = 0;
+    for (own, other) in [(&*stored, &*lent), (&*lent, &*stored)] {
+        for (point, deviation) in own {
+            greatest = greatest.max(apart(*point, *deviation, other));
+        }
+    }
+    Ok(Conformity::Is(Distance { slope, bound: 2_000 + slope + greatest }))
+}
+
 // ---- letters and dates ----
 
 const LETTERS: &[u8; 32] = b" ABCDEFGHIJKLMNOPQRSTUVWXYZ,./_@";
@@ -1988,6 +2042,29 @@ mod tests {
             };
             assert!(2_000 * i128::from(q * den - num).abs() <= bound * i128::from(den), "{x}");
         }
+    }
+
+    #[test]
+    fn conformities() {
+        let told = |image: &[u8], points: &[i64]| match conformity(2, image, points) {
+            Ok(Conformity::Is(distance)) => Ok(Some((distance.slope, distance.bound))),
+            Ok(Conformity::NotStraight) => Ok(None),
+            Err(refusal) => Err(refusal),
+        };
+        let none = tabled(Domain::Electrical, &[]).unwrap();
+        assert_eq!(told(&none, &[]), Ok(Some((0, 2_000))));
+        // Without stored points the lent deviations themselves.
+        assert_eq!(told(&none, &[0, 0, BILLION, -7]), Ok(Some((1, 2_001 + 14_000))));
+        let one = tabled(Domain::Electrical, &[153_000, 5_000]).unwrap();
+        assert_eq!(told(&one, &[]), Ok(Some((0, 2_000 + 2_000 * 5_000))));
+        assert_eq!(told(&one, &[153_000, 5_000]), Ok(Some((0, 2_000))));
+        // The line of 3 points with rises of a third at the stored one: 2000 / 3, rounded up.
+        let level = tabled(Domain::Electrical, &[15_300, 0]).unwrap();
+        assert_eq!(told(&level, &[15_299, 0, 15_302, 1]), Err(Refusal { number: 7, place: 1 }));
+        assert_eq!(told(&level, &[0, 0, 45_900, 1]), Ok(Some((1, 2_001 + 2_000))));
+        let physical = tabled(Domain::Physical, &[0, 0, 153_000, 5_000]).unwrap();
+        assert_eq!(told(&physical, &[0, 0]), Ok(None));
+        assert_eq!(told(&physical, &[0]), Err(Refusal { number: 16, place: 1 }));
     }
 
     fn curve_of(segments: &[(i64, u64)], terms: &[(i64, f32)]) -> Curve {

@@ -265,6 +265,16 @@ pub struct DistanceAnswer {
 
 #[derive(Clone, Copy, Debug, Default, PartialEq)]
 #[repr(C)]
+pub struct ConformityAnswer {
+    pub number: u8,
+    pub place: u64,
+    pub slope: u64,
+    pub bound: u64,
+    pub is_straight: u8,
+}
+
+#[derive(Clone, Copy, Debug, Default, PartialEq)]
+#[repr(C)]
 pub struct TextAnswer {
     pub number: u8,
     pub place: u64,

@@ -292,6 +292,11 @@ fn distance<C: Calls>(calls: &C, case: &mut Case, _: usize) -> u8 {
     black_box(&calls.distance(black_box(&case.points))).number
 }
 
+#[inline(never)]
+fn conformity<C: Calls>(calls: &C, case: &mut Case, _: usize) -> u8 {
+    black_box(&calls.conformity(black_box(case.kind), black_box(&*case.image), black_box(&case.points))).number
+}
+
 // ---- rows ----
 
 type Run = Box<dyn Fn(&mut Case, usize)>;
@@ -514,6 +519,11 @@ fn others(bench: &mut Bench) {
     for chip in [CHIPS[4], CHIPS[5]] {
         let case = Case::new(Template::Bridge, values(), chip);
         bench.rows(case, &[chip.1], 1, [call!("distance", distance)]);
+    }
+    bench.table("Conformity", &["Kind", "Points"]);
+    for chip in CHIPS {
+        let case = Case::new(Template::Bridge, values(), chip);
+        bench.rows(case, &[chip.0.into(), chip.1], 1, [call!("conform", conformity)]);
     }
 }
 

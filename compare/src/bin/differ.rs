@@ -32,9 +32,9 @@ mod values;
 
 use met::Met;
 
-const CALLS: [&str; 21] = [
+const CALLS: [&str; 22] = [
     "check", "page", "field", "pair", "char", "build", "change", "reading", "text", "code", "sheet", "kind", "index",
-    "fetch", "propose", "commit", "segment", "term", "curve", "compare", "distance",
+    "fetch", "propose", "commit", "segment", "term", "curve", "compare", "distance", "conform",
 ];
 const CHECK: usize = 0;
 const PAGE: usize = 1;
@@ -57,6 +57,7 @@ const TERM: usize = 17;
 const CURVE: usize = 18;
 const COMPARE: usize = 19;
 const DISTANCE: usize = 20;
+const CONFORM: usize = 21;
 
 /// Refusal numbers, and 0.
 const NUMBERS: usize = 27;
@@ -689,7 +690,7 @@ impl Differ {
 
     /// A call on the image.
     fn act(&mut self) {
-        match self.random.below(106) {
+        match self.random.below(110) {
             0..=9 => self.check(),
             10..=13 => self.sheet(),
             14..=17 => self.page(),
@@ -708,7 +709,8 @@ impl Differ {
             92..=95 => self.text(),
             96..=99 => self.code(),
             100..=103 => self.compare(),
-            _ => self.distance(),
+            104 | 105 => self.distance(),
+            _ => self.conform(),
         }
     }
 

@@ -1,4 +1,5 @@
 -- include/dartelm.h: the struct that a call answers, from its outcome. Each struct is made of a number, a place and the call's values.
+use mathlib.Core.Option.{Option, none, some}
 use mathlib.Core.List.{List, [], _++_, map}
 use Prim.Native.Nat.{ℕ, _-_}
 use lib.IntN.{pos}
@@ -32,6 +33,7 @@ use Rattle.dartelm.specs.declared.answers.DartelmProposalAnswer.{Dartelm
 use Rattle.dartelm.specs.declared.answers.DartelmReadingAnswer.{DartelmReadingAnswer}
 use Rattle.dartelm.specs.declared.answers.DartelmComparedAnswer.{DartelmComparedAnswer}
 use Rattle.dartelm.specs.declared.answers.DartelmDistanceAnswer.{DartelmDistanceAnswer}
+use Rattle.dartelm.specs.declared.answers.DartelmConformityAnswer.{DartelmConformityAnswer}
 use Rattle.dartelm.specs.declared.answers.DartelmTextAnswer.{DartelmTextAnswer}
 use Rattle.dartelm.specs.declared.answers.DartelmCodeAnswer.{DartelmCodeAnswer}
 use Rattle.dartelm.specs.declared.answers.DartelmPageAnswer.{DartelmPageAnswer}
@@ -157,6 +159,14 @@ distanceAnswer n p d = record { number = n; place = p; slope = d .slope; bound =
 
 abbrev pub noDistance : ToldDistance
 noDistance = record { slope = 0; bound = 0 }
+
+-- Whether there is a straight table is a flag; K and the bound beside it are 0 where there is none.
+abbrev pub conformityAnswer : ℕ → ℕ → Option ToldDistance → DartelmConformityAnswer
+conformityAnswer n p (some d) = record { number = n; place = p; slope = d .slope; bound = d .bound; «is_straight» = 1 }
+conformityAnswer n p none = record { number = n; place = p; slope = 0; bound = 0; «is_straight» = 0 }
+
+abbrev pub noConformity : Option ToldDistance
+noConformity = none
 
 -- A text ends with a zero, as C's strings do: it has ten characters at most.
 abbrev pub textAnswer : ℕ → ℕ → List ℕ → DartelmTextAnswer

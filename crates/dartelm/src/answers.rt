@@ -126,6 +126,17 @@ pub struct DartelmDistanceAnswer {
     pub bound: u64,
 }
 
+// The conformity of an image with points: K and the bound, as of a distance, and whether there is a straight table to compare;
+// without one K and the bound are 0.
+#[repr(C)]
+pub struct DartelmConformityAnswer {
+    pub number: u8,
+    pub place: u64,
+    pub slope: u64,
+    pub bound: u64,
+    pub is_straight: u8,
+}
+
 // The text of a code: how many characters, and them, with zeros behind.
 #[repr(C)]
 pub struct DartelmTextAnswer {

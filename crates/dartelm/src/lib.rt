@@ -28,6 +28,7 @@ ghost use Rattle.dartelm.specs.Calls.{
   readingCall,
   compareCall,
   distanceCall,
+  conformityCall,
   textCall,
   codeCall,
   pageCall,
@@ -42,6 +43,7 @@ use answers::DartelmCharacterAnswer;
 use answers::DartelmCheckAnswer;
 use answers::DartelmCodeAnswer;
 use answers::DartelmComparedAnswer;
+use answers::DartelmConformityAnswer;
 use answers::DartelmDistanceAnswer;
 use answers::DartelmFieldAnswer;
 use answers::DartelmPageAnswer;
@@ -54,6 +56,7 @@ use answers::DartelmTermAnswer;
 use answers::DartelmTextAnswer;
 use answers::DartelmWriteAnswer;
 use change::ProposalAnswer;
+use conformity::ConformityAnswer;
 use distance::DistanceAnswer;
 use reading::ReadingAnswer;
 use recordings::ComparedAnswer;
@@ -498,6 +501,40 @@ pub extern "C" fn dartelm_distance(points: &[i64]) -> DartelmDistanceAnswer
             place: 0,
             slope: found.slope,
             bound: found.bound,
+        },
+    }
+}
+
+// Tells how far any reading of an image can be from the line through these points, whoever wrote the image.
+#[no_mangle]
+pub extern "C" fn dartelm_conformity(
+    kind: u8,
+    image: &[u8],
+    points: &[i64],
+) -> DartelmConformityAnswer
+    ensures { λ r. ⌜ r ≡ conformityCall kind (now (image .entry)) (now (points .entry)) ⌝ }
+{
+    match conformity::conformity(kind, image, points) {
+        ConformityAnswer::Refused(r) => DartelmConformityAnswer {
+            number: r.number,
+            place: r.place,
+            slope: 0,
+            bound: 0,
+            is_straight: 0,
+        },
+        ConformityAnswer::Is(found) => DartelmConformityAnswer {
+            number: 0,
+            place: 0,
+            slope: found.slope,
+            bound: found.bound,
+            is_straight: 1,
+        },
+        ConformityAnswer::NotStraight => DartelmConformityAnswer {
+            number: 0,
+            place: 0,
+            slope: 0,
+            bound: 0,
+            is_straight: 0,
         },
     }
 }

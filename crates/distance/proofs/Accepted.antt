@@ -5,12 +5,12 @@ use mathlib.Core.List.{List, [], _∷_}
 use mathlib.Core.Option.{Option, none, some}
 use Prim.Native.Nat.{ℕ, zero, suc, _+_, _*_, _^_, _%_, _≤_, _<_}
 use native.Mathlib.Omega.{arith}
-use lib.Dec.{eqb, ltb}
+use lib.Dec.{lit<, eqb, ltb}
 use lib.IntN.{ℤ, pos, natAbs, _-ℤ_}
 use lib.ListN.{length}
-use lib.Signed.{ltZ}
+use lib.Signed.{ltZ, _<ℤ_, ltZ-yes}
 use Rattle.integers.specs.Parts.{up, dn}
-use Rattle.integers.proofs.PartLaws.{same, sub-parts-ℤ, abs-parts, nltZ-parts, is-false}
+use Rattle.integers.proofs.PartLaws.{same, sub-parts-ℤ, abs-parts, nltZ-parts, le-ltZ, is-true, is-false, parts-≤ℤ}
 use Rattle.refusal.specs.declared.Refusal.{Refusal}
 use Rattle.refusal.specs.Outcome.{Outcome, good, refused, _>>_}
 use Rattle.refusal.specs.Rows.{wrongList}
@@ -23,16 +23,18 @@ use Rattle.fields.specs.declared.Domain.{Domain}
 use Rattle.fields.specs.declared.Domain.the-variants.{Electrical}
 use Rattle.fields.specs.Rules.{topCode, steppedValue, steppedCode, encode}
 use Rattle.fields.specs.Calibration.{D, R, leastDeviation, calPoint, calDeviation}
-use Rattle.fields.proofs.StepLaws.{small}
+use Rattle.fields.proofs.StepLaws.{small, code-rises}
 use Rattle.fields.proofs.CalibrationLaws.{follows-rises}
 use Rattle.build.specs.Build.{pairsLent, pairPieces, tablePieces}
-use Rattle.build.proofs.PairPlans.{codes-planned, pairs-planned, table-planned}
+use Rattle.build.proofs.PairPlans.{Coded, codes-planned, pairs-planned, table-planned}
 use Rattle.line.specs.Certificate.{Neighbours}
+use Rattle.line.specs.Ranges.{Figures, Table}
+use Rattle.line.proofs.Distances.{near-abs}
 use Rattle.distance.specs.declared.ToldDistance.{ToldDistance}
 use Rattle.distance.specs.Distance.{steepest, toldBy, distance}
 use Rattle.distance.specs.Steps.{Step}
 use Rattle.distance.specs.Least.{Least, LeastSlope, NoSlope}
-use Rattle.distance.proofs.Slopes.{steepest-least}
+use Rattle.distance.proofs.Slopes.{steepest-least, steepest-small}
 
 -- ---- one figure
 
@@ -102,6 +104,50 @@ pub table-steps : (domain : Domain) (pairs : List Pair) (ts : List Piece) → ta
 table-steps domain [] ts e = tt
 table-steps domain (p ∷ pairs) ts e = let d = table-planned domain p pairs ts e in steps domain none 0 (p ∷ pairs) (d .pieces) (d .plans)
 
+-- ---- they rise, and they and their deviations are small
+
+size : (B : ℕ) (z : ℤ) → up z ≤ dn z + B → dn z ≤ up z + B → natAbs z ≤ B
+size B z h l = omega (arith, near-abs {b = B} 1 z (omega arith))
+
+figures-taken : (i : ℕ) (p : Pair) (codes : Codes) → Coded i p codes → Figures p
+figures-taken i p codes e =
+    let a = point-taken i (p .point) (codes .point) (e .point) in
+    let s = deviation-taken i (p .deviation) (codes .deviation) (e .deviation) in
+    record {
+      least = parts-≤ℤ (pos 0) (p .point) (a .low);
+      point = size (2 ^ 30) (p .point) (omega (arith, a .low, a .high)) (omega (arith, a .low, a .high));
+      deviation = size (2 ^ 32) (p .deviation) (omega (arith, s .low, s .high)) (omega (arith, s .low, s .high));
+    }
+
+-- A greater code is of a greater figure.
+rises-by : (y z : ℤ) (c d : ℕ) → Taken (pos 0) D 16 y c → Taken (pos 0) D 16 z d → c < d → y <ℤ z
+rises-by y z c d a b h = go (ltZ y z) refl
+  where
+    go : (t : Bool) → ltZ y z ≡ t → y <ℤ z
+    go true t = ltZ-yes (is-true t)
+    go false t =
+        absurd (omega (arith, a .coded, b .coded, code-rises (pos 0) D z y (lit< tt) (le-ltZ z (pos 0) (b .low)) (le-ltZ y (pos 0) (a .low)) (nltZ-parts y z (is-false t))))
+
+lent-table : (domain : Domain) (before : Option Codes) (i : ℕ) (pairs : List Pair) (ps : List Piece) → pairPieces domain before i pairs ≡ good ps → Table pairs
+lent-table domain before i [] ps e = record { rises = tt; figures = tt }
+lent-table domain before i (p ∷ []) ps e =
+    let g = pairs-planned domain before i p [] ps e in
+    record { rises = tt; figures = (figures-taken i p (g .codes) (codes-planned i p (g .codes) (g .first .coded)), tt) }
+lent-table domain before i (p ∷ r ∷ pairs) ps e =
+    let g = pairs-planned domain before i p (r ∷ pairs) ps e in
+    let h = pairs-planned domain (some (g .codes)) (suc i) r pairs (g .rest) (g .others) in
+    let first = codes-planned i p (g .codes) (g .first .coded) in
+    let second = codes-planned (suc i) r (h .codes) (h .first .coded) in
+    let t = lent-table domain (some (g .codes)) (suc i) (r ∷ pairs) (g .rest) (g .others) in
+    record {
+      rises = (
+        rises-by (p .point) (r .point) (g .codes .point) (h .codes .point) (point-taken i (p .point) (g .codes .point) (first .point)) (point-taken (suc i) (r .point) (h .codes .point) (second .point))
+            (follows-rises domain (g .codes) (suc i) (h .codes) (h .first .follows)),
+        t .rises,
+      );
+      figures = (figures-taken i p (g .codes) first, t .figures);
+    }
+
 -- ---- the distance in the order of its rows
 
 module _ (points : List ℤ) where
@@ -144,3 +190,20 @@ least-slope points d e =
 pub no-slope : NoSlope
 unfolding distance tablePieces
 no-slope = (refl, λ a s d e. sym (told-by (a ∷ s ∷ []) d e .is))
+
+-- The points of an accepted list, and how large its K can be.
+pub record Taking (points : List ℤ) (d : ToldDistance) : Type 0 where
+  pub table : Table (pairsLent points)
+  pub slope : d .slope ≤ 2 ^ 43
+
+pub taking : (points : List ℤ) (d : ToldDistance) → distance points ≡ good d → Taking points d
+taking points d e =
+    let t = told-by points d e in
+    record {
+      table = planned (pairsLent points) (t .pieces) (t .table);
+      slope = rw (sym (ap (λ (x : ToldDistance). x .slope) (t .is))) (steepest-small (pairsLent points) (table-steps Electrical (pairsLent points) (t .pieces) (t .table)));
+    }
+  where
+    planned : (pairs : List Pair) (ts : List Piece) → tablePieces Electrical pairs ≡ good ts → Table pairs
+    planned [] ts h = record { rises = tt; figures = tt }
+    planned (p ∷ pairs) ts h = let g = table-planned Electrical p pairs ts h in lent-table Electrical none 0 (p ∷ pairs) (g .pieces) (g .plans)

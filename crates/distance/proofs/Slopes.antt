@@ -1,7 +1,7 @@
 -- The slopes of a list, one pair of neighbours after the other.
 use mathlib.Core.Path.{_≡_, refl, sym, ap, _∙_}
 use mathlib.Core.List.{List, [], _∷_}
-use Prim.Native.Nat.{ℕ, max, _+_, _*_, _/_, _≤_, _<_}
+use Prim.Native.Nat.{ℕ, max, _+_, _*_, _/_, _^_, _≤_, _<_}
 use native.Mathlib.Nat.{mul-le-mul-right}
 use native.Mathlib.Omega.{arith}
 use lib.IntN.{ℤ, natAbs, _-ℤ_}
@@ -14,7 +14,7 @@ use Rattle.line.specs.Certificate.{Neighbours, Slopes}
 use Rattle.distance.specs.Distance.{leastSlope, steepest}
 use Rattle.distance.specs.Steps.{Step}
 use Rattle.distance.specs.Least.{Least}
-use Rattle.distance.proofs.Apart.{ceiling-meets, ceiling-least}
+use Rattle.distance.proofs.Apart.{ceiling-meets, ceiling-least, ceiling-small}
 
 -- ---- the pairs left
 
@@ -60,3 +60,9 @@ steepest-least (p ∷ r ∷ pairs) n =
       meets = (omega (arith, ceiling-meets num den (n .0 .some), mul-le-mul-right den one), meets-more (steepest (r ∷ pairs)) (steepest (p ∷ r ∷ pairs)) (r ∷ pairs) rest (l .meets));
       least = λ k s. omega (arith, ceiling-least num den (n .0 .some) k (s .0), l .least k (s .1));
     }
+
+pub steepest-small : (pairs : List Pair) → Neighbours Step pairs → steepest pairs ≤ 2 ^ 43
+steepest-small [] n = omega arith
+steepest-small (p ∷ []) n = omega arith
+steepest-small (p ∷ r ∷ pairs) n =
+    omega (arith, ceiling-small (1000 * natAbs (r .deviation -ℤ p .deviation)) (natAbs (r .point -ℤ p .point)) (n .0 .some), n .0 .rise, n .0 .run, steepest-small (r ∷ pairs) (n .1))

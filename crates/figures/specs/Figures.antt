@@ -1,7 +1,7 @@
 -- The physical figure beside the exact one: least + (greatest − least) × q / 1,000,000,000 with nothing rounded.
 use mathlib.Core.Path.{_≡_}
 use mathlib.Core.Bool.{true}
-use Prim.Native.Nat.{_+_, _*_, _/_, _^_, _≤_}
+use Prim.Native.Nat.{ℕ, _+_, _*_, _/_, _^_, _≤_}
 use lib.Dec.{T}
 use lib.IntN.{ℤ, pos, natAbs, _+ℤ_, _-ℤ_, _*ℤ_}
 use lib.Signed.{_≤ℤ_}
@@ -42,6 +42,18 @@ FigureNear =
     (least greatest : Float) (q : ℤ) → End least → End greatest → natAbs q ≤ 2 ^ 50
     → 2 ^ 53 * natAbs (units (figure least greatest q) *ℤ pos billion -ℤ exactFigure least greatest q)
     ≤ natAbs (units least) * billion + natAbs (units greatest -ℤ units least) * (4 * natAbs q + 1)
+
+-- The exact figure of num / den billionths of the span, multiplied out by a billion and by den.
+abbrev pub exactFigureAt : Float → Float → ℤ → ℕ → ℤ
+exactFigureAt least greatest num den = units least *ℤ pos (billion * den) +ℤ (units greatest -ℤ units least) *ℤ num
+
+-- Where q is within B / 2000 of num / den: the figure's distance from the exact figure there is at most that of `FigureNear` and
+-- |greatest − least| · B / (2000 · 1,000,000,000), both sides multiplied out by 2000, by 2^53, by a billion and by den.
+abbrev pub FigureNearLine : Type 0
+FigureNearLine =
+    (least greatest : Float) (q num : ℤ) (den B : ℕ) → End least → End greatest → natAbs q ≤ 2 ^ 50 → 2000 * natAbs (q *ℤ pos den -ℤ num) ≤ B * den
+    → 2000 * (2 ^ 53 * natAbs (units (figure least greatest q) *ℤ pos (billion * den) -ℤ exactFigureAt least greatest num den))
+    ≤ (2000 * (natAbs (units least) * billion + natAbs (units greatest -ℤ units least) * (4 * natAbs q + 1)) + 2 ^ 53 * (natAbs (units greatest -ℤ units least) * B)) * den
 
 -- It follows the fraction: with the fraction it rises where greatest is least or more, and falls where it is least or less. That is so
 -- of every finite fraction, as a curve gives it, and so of q.

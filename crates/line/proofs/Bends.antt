@@ -48,6 +48,18 @@ unfolding correctionAfter
 is-start p [] rises = is-held p (at p)
 is-start p (r ∷ pairs) rises = rw (is-up-to (at p) (r .point) (onward p r (rises .0))) (is-left p r (rises .0))
 
+-- A correction is a fraction.
+module _ (x : Fraction) where
+  after-some : (p : Pair) (pairs : List Pair) → Rises (p ∷ pairs) → 0 < correctionAfter (x .num) (x .den) p pairs .run
+  unfolding correctionAfter between
+  after-some p [] rises = omega arith
+  after-some p (r ∷ pairs) rises = by-test x (r .point) (λ (c : Correction). 0 < c .run) (λ h. run-some p r (rises .0)) (λ h. after-some r pairs (rises .1))
+
+  pub correction-some : (pairs : List Pair) → Rises pairs → 0 < correction (x .num) (x .den) pairs .run
+  unfolding correction
+  correction-some [] rises = omega arith
+  correction-some (p ∷ pairs) rises = by-test x (p .point) (λ (c : Correction). 0 < c .run) (λ h. is-held p x .some) (λ h. after-some p pairs rises)
+
 -- A property Q of a position and the correction there and a second one, not before it, holds piece by piece, where neighbours are as S says.
 pub record Piecewise (S : Pair → Pair → Type 0) (Q : Fraction → Correction → Fraction → Correction → Type 0) : Type 0 where
   -- Where the corrections are the same.

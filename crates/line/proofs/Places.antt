@@ -107,7 +107,7 @@ module _ {A : Type 0} (of : Pair → ℤ) (p : ℤ) (ends : Pair → A) (inside 
 
 -- ---- neighbours
 
-rise-at : (pairs : List Pair) → Rises pairs → (i : ℕ) → suc i < length pairs → getD pairs i noPair .point <ℤ getD pairs (suc i) noPair .point
+pub rise-at : (pairs : List Pair) → Rises pairs → (i : ℕ) → suc i < length pairs → getD pairs i noPair .point <ℤ getD pairs (suc i) noPair .point
 rise-at [] h i l = absurd (omega arith)
 rise-at (a ∷ []) h i l = absurd (omega arith)
 rise-at (a ∷ b ∷ pairs) h zero l = h .0

@@ -33,49 +33,64 @@ nearest-small B f some h = go (nearest f) (nearest-low f some) (nearest-high f s
     go (pos n) l g = less n (omega arith)
     go (negsuc n) l g = less (natAbs (negsuc n)) (omega arith)
 
--- A correction is a fraction, from −2^32 to 2^32.
-pub record Small (x : Fraction) (c : Correction) : Type 0 where
+-- A correction is a fraction, from −B to B.
+pub record Small (B : ℕ) (x : Fraction) (c : Correction) : Type 0 where
   pub some : 0 < c .run
-  pub size : Near (up (c .num)) (dn (c .num)) (2 ^ 32 * (x .den * c .run))
+  pub size : Near (up (c .num)) (dn (c .num)) (B * (x .den * c .run))
 
-size : (s : ℤ) → natAbs s ≤ 2 ^ 32 → Near (up s) (dn s) (2 ^ 32)
-size s h = omega (arith, abs-parts s)
+size : (B : ℕ) (s : ℤ) → natAbs s ≤ B → Near (up s) (dn s) B
+size B s h = omega (arith, abs-parts s)
 
-module _ (x : Fraction) where
-  held-small : (p : Pair) → natAbs (p .deviation) ≤ 2 ^ 32 → Small x (atEnd (x .den) p)
-  held-small p h = record { some = omega arith; size = near-as (omega (arith, scaled (p .deviation) (x .den))) (omega arith) (near-times (x .den) (size (p .deviation) h)) }
+-- So is every deviation.
+abbrev pub Deviations : ℕ → List Pair → Type 0
+Deviations B [] = Unit {0}
+Deviations B (p ∷ pairs) = (natAbs (p .deviation) ≤ B) × Deviations B pairs
 
-  between-small : (p r : Pair) → p .point <ℤ r .point → natAbs (p .deviation) ≤ 2 ^ 32 → natAbs (r .deviation) ≤ 2 ^ 32 → AtMost (at p) x → AtMost x (at r) → Small x (between (x .num) (x .den) p r)
+table-deviations : (points : List Pair) → AllFigures points → Deviations (2 ^ 32) points
+table-deviations [] h = tt
+table-deviations (p ∷ points) h = (h .0 .deviation, table-deviations points (h .1))
+
+module _ (B : ℕ) (x : Fraction) where
+  held-small : (p : Pair) → natAbs (p .deviation) ≤ B → Small B x (atEnd (x .den) p)
+  held-small p h = record { some = omega arith; size = near-as (omega (arith, scaled (p .deviation) (x .den))) (omega arith) (near-times (x .den) (size B (p .deviation) h)) }
+
+  between-small : (p r : Pair) → p .point <ℤ r .point → natAbs (p .deviation) ≤ B → natAbs (r .deviation) ≤ B → AtMost (at p) x → AtMost x (at r) → Small B x (between (x .num) (x .den) p r)
   unfolding between
   between-small p r rises h g (u, left) (w, right) = record {
     some = run-some p r rises;
     size =
-        near-as (omega (arith, weights-num p r rises left right)) (omega (arith, weights-run p r rises left right))
-        (near-mean w u (size (p .deviation) h) (size (r .deviation) g));
+        near-as (omega (arith, weights-num p r rises left right)) (omega (arith, ap (λ (k : ℕ). B * k) (weights-run p r rises left right)))
+        (near-mean w u (size B (p .deviation) h) (size B (r .deviation) g));
   }
 
-  after-small : (p : Pair) (pairs : List Pair) → Rises (p ∷ pairs) → AllFigures (p ∷ pairs) → AtMost (at p) x → Small x (correctionAfter (x .num) (x .den) p pairs)
+  after-small : (p : Pair) (pairs : List Pair) → Rises (p ∷ pairs) → Deviations B (p ∷ pairs) → AtMost (at p) x → Small B x (correctionAfter (x .num) (x .den) p pairs)
   unfolding correctionAfter
-  after-small p [] rises figures h = held-small p (figures .0 .deviation)
-  after-small p (r ∷ pairs) rises figures h =
-      by-test x (r .point) (Small x)
-      (between-small p r (rises .0) (figures .0 .deviation) (figures .1 .0 .deviation) h)
-      (λ i. after-small r pairs (rises .1) (figures .1) (i .0))
+  after-small p [] rises deviations h = held-small p (deviations .0)
+  after-small p (r ∷ pairs) rises deviations h =
+      by-test x (r .point) (Small B x)
+      (between-small p r (rises .0) (deviations .0) (deviations .1 .0) h)
+      (λ i. after-small r pairs (rises .1) (deviations .1) (i .0))
 
-  pub correction-small : (points : List Pair) → Table points → Small x (correction (x .num) (x .den) points)
+  correction-within : (points : List Pair) → Rises points → Deviations B points → Small B x (correction (x .num) (x .den) points)
   unfolding correction
-  correction-small [] t = omega arith
-  correction-small (p ∷ pairs) t = by-test x (p .point) (Small x) (λ h. held-small p (t .figures .0 .deviation)) (λ h. after-small p pairs (t .rises) (t .figures) (h .0))
+  correction-within [] rises deviations = omega arith
+  correction-within (p ∷ pairs) rises deviations = by-test x (p .point) (Small B x) (λ h. held-small p (deviations .0)) (λ h. after-small p pairs rises deviations (h .0))
+
+pub correction-small : (x : Fraction) (points : List Pair) → Table points → Small (2 ^ 32) x (correction (x .num) (x .den) points)
+correction-small x points t = correction-within (2 ^ 32) x points (t .rises) (table-deviations points (t .figures))
+
+pub deviation-within : (B : ℕ) (points : List Pair) (p : ℤ) → Rises points → Deviations B points → natAbs (deviation points p) ≤ B
+unfolding deviation
+deviation-within B points p rises deviations =
+    let s = correction-within B (p over 1) points rises deviations in
+    nearest-small B (correction p 1 points .num over correction p 1 points .run) (s .some) (near-as (omega arith) (omega arith) (s .size))
 
 pub deviation-small : (points : List Pair) (p : ℤ) → Table points → natAbs (deviation points p) ≤ 2 ^ 32
-unfolding deviation
-deviation-small points p t =
-    let s = correction-small (p over 1) points t in
-    nearest-small (2 ^ 32) (correction p 1 points .num over correction p 1 points .run) (s .some) (near-as (omega arith) (omega arith) (s .size))
+deviation-small points p t = deviation-within (2 ^ 32) points p (t .rises) (table-deviations points (t .figures))
 
 pub between-deviates : (p : ℤ) (a b : Pair) → Between pointOf p a b → natAbs (nearest (between p 1 a b .num over between p 1 a b .run)) ≤ 2 ^ 32
 between-deviates p a b h =
-    let s = between-small (p over 1) a b (h .rise) (h .first .deviation) (h .second .deviation) (whole-at-most (a .point) p (less (a .point) p (h .past))) (whole-at-most p (b .point) (h .left)) in
+    let s = between-small (2 ^ 32) (p over 1) a b (h .rise) (h .first .deviation) (h .second .deviation) (whole-at-most (a .point) p (less (a .point) p (h .past))) (whole-at-most p (b .point) (h .left)) in
     nearest-small (2 ^ 32) (between p 1 a b .num over between p 1 a b .run) (s .some) (near-as (omega arith) (omega arith) (s .size))
 
 -- The crossing is within 2^32 of p: the line there is at least p, and so it is at p + 2^32.
@@ -92,7 +107,7 @@ crossing-small points p t sums small = omega (arith, near-abs {b = 2 ^ 33} 1 q (
     k : ℤ
     k = p +ℤ pos (2 ^ 32)
 
-    line : (z : ℤ) → Small (z over 1) (correction z 1 points)
+    line : (z : ℤ) → Small (2 ^ 32) (z over 1) (correction z 1 points)
     line z = correction-small (z over 1) points t
 
     low : up p + dn q ≤ dn p + up q + 2 ^ 32

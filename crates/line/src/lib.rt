@@ -8,3 +8,4 @@ pub use crossing::crossing_held;
 pub use crossing::sum;
 pub use line::between;
 pub use line::gap;
+pub use line::weighed;

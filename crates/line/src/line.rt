@@ -18,7 +18,7 @@ pub fn gap(a: i64, b: i64) -> u64
 }
 
 // s × left + t × past.
-fn weighed(s: u64, t: u64, past: u64, left: u64) -> u64
+pub fn weighed(s: u64, t: u64, past: u64, left: u64) -> u64
     requires { ⌜ Weights s t past left ⌝ }
     ensures { λ r. ⌜ (r ≡ s * left + t * past) × (r ≤ 2 ^ 62) ⌝ }
 {

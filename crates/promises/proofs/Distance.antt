@@ -34,13 +34,13 @@ use Rattle.promises.proofs.KeptLent.{kept-lent, ends-read}
 use Rattle.promises.proofs.StoredPoints.{stored-close, stored-rises}
 
 -- The pairs of a table that was planned.
-planned-pairs : (domain : Domain) (pairs : List Pair) (ts : List Piece) → tablePieces domain pairs ≡ good ts → (ps : List Piece) × (pairPieces domain none 0 pairs ≡ good ps)
+pub planned-pairs : (domain : Domain) (pairs : List Pair) (ts : List Piece) → tablePieces domain pairs ≡ good ts → (ps : List Piece) × (pairPieces domain none 0 pairs ≡ good ps)
 unfolding pairPieces
 planned-pairs domain [] ts e = ([], refl)
 planned-pairs domain (p ∷ pairs) ts e = let d = table-planned domain p pairs ts e in (d .pieces, d .plans)
 
 -- Points that the distance is for are not of domain 1.
-straight-lent : (domain : Domain) (lentPoints : List ℤ) → Straight domain lentPoints → domainLent domain (pairsLent lentPoints) ≡ Is Physical → ⊥
+pub straight-lent : (domain : Domain) (lentPoints : List ℤ) → Straight domain lentPoints → domainLent domain (pairsLent lentPoints) ≡ Is Physical → ⊥
 straight-lent domain [] h e = absurd (let z : _≡_ {A = ℕ} 0 1 = cc in omega arith)
 straight-lent domain (a ∷ []) h e = absurd (let z : _≡_ {A = ℕ} 0 1 = cc in omega arith)
 straight-lent Electrical (a ∷ s ∷ l) h e = absurd (let z : _≡_ {A = ℕ} 0 1 = cc in omega arith)
@@ -54,9 +54,8 @@ distance : (domain : Domain) (lent : List Pair) (ps : List Piece) (v e f : ℤ) 
 unfolding position
 distance domain lent ps v e f K h span slopes =
     let rises = stored-rises domain none 0 lent ps h in
-    bound D R K lent (map keptPair lent) ((v -ℤ e) *ℤ pos billion) (natAbs (f -ℤ e))
+    bound D R K lent (map keptPair lent) (stored-close domain none 0 lent ps h) (rises .lent) (rises .kept) slopes ((v -ℤ e) *ℤ pos billion) (natAbs (f -ℤ e))
     (omega (arith, ltZ-parts e f (span .lt), sub-parts-ℤ f e, abs-parts (f -ℤ e)))
-    (stored-close domain none 0 lent ps h) (rises .lent) (rises .kept) slopes
 
 -- The same of what was read, under other names.
 distance-of : (domain : Domain) (lent stored : List Pair) (ps : List Piece) (q v e f low high : ℤ) (K : ℕ) → pairPieces domain none 0 lent ≡ good ps → e <ℤ f → Slopes K lent →

@@ -136,7 +136,7 @@ by-fraction bare p h = refl
 by-fraction (table domain pairs) p h = refl
 by-fraction (curve segments) p h = absurd h
 
-figure-is : (c : Contents) (v : ℤ) (r : Reading) → Taken c v r → NoCurve (c .calibration) → r .figure ≡ figure (low c) (high c) (r .fraction)
+pub figure-is : (c : Contents) (v : ℤ) (r : Reading) → Taken c v r → NoCurve (c .calibration) → r .figure ≡ figure (low c) (high c) (r .fraction)
 figure-is c v r t h = t .shows ∙ ap (physicalFigure (low c) (high c)) (by-fraction (c .calibration) (position v (least c) (greatest c)) h ∙ ap floatFraction (sym (t .counts)))
 
 -- ---- what is promised

@@ -1,6 +1,6 @@
 -- What a reading is taken from: the points that were lent and the ends of the span, as an image holds them after a build and whatever changes and commits.
 use mathlib.Core.Path.{_≡_, sym, ap, _∙_, subst}
-use mathlib.Core.List.{List, map}
+use mathlib.Core.List.{List, [], map}
 use Prim.Native.Nat.{ℕ, _≤_}
 use native.Mathlib.Nat.{le-refl}
 use native.Mathlib.Omega.{arith}
@@ -14,7 +14,7 @@ use Rattle.fields.specs.declared.Domain.{Domain}
 use Rattle.fields.specs.Lines.{lastField}
 use Rattle.fields.proofs.TemplateFacts.{span-listed}
 use Rattle.layout.specs.Contents.{Calibration, Contents}
-use Rattle.layout.specs.Image.{contents, pairIn, pairsIn, points}
+use Rattle.layout.specs.Image.{contents, pairIn, pairsIn, points, segmentIn, segmentsIn, segments}
 use Rattle.sheet.specs.Check.{domainIn}
 use Rattle.sheet.proofs.ReadLaws.{accepted-reads}
 use Rattle.build.specs.declared.Sheet.{Sheet}
@@ -31,6 +31,7 @@ use Rattle.promises.proofs.AfterAlterations.{same-kind, after-alteratio
 pub record KeptLent (domain : Domain) (lentPoints : List ℤ) (c : Contents) : Type 0 where
   pub keepsPoints : points c ≡ map keptPair (pairsLent lentPoints)
   pub keepsDomain : domainIn (c .calibration) ≡ domainLent domain (pairsLent lentPoints)
+  pub keepsSegments : segments c ≡ []
 
 pub kept-lent : (kind : ℕ) (buffer : List ℕ) (sheet : Sheet) (text : List ℕ) (domain : Domain) (lentPoints : List ℤ) (image : List ℕ) (alterations : List Alteration) (readingKind : ℕ) (c : Contents) →
     Lendable sheet → RealAlterations alterations → build kind buffer sheet text domain lentPoints ≡ good image → contents readingKind (altered image alterations) ≡ good c →
@@ -47,6 +48,7 @@ kept-lent kind buffer sheet text domain lentPoints image alterations readingKind
     record {
       keepsPoints = ap (λ (q : Calibration). map pairIn (pairsIn q)) same ∙ w .2 .samePoints;
       keepsDomain = ap domainIn same ∙ w .2 .sameDomain;
+      keepsSegments = ap (λ (q : Calibration). map segmentIn (segmentsIn q)) same ∙ w .2 .sameSegments;
     }
 
 -- e and f as they are read.

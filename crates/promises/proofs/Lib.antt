@@ -21,6 +21,8 @@ pub mod Crossed
 pub mod Needles
 pub mod CurveFigures
 pub mod Figures
+pub mod FigureLines
+pub mod Conforming
 pub mod Lending
 pub mod LentLaws
 pub mod EveryLent

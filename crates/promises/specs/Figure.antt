@@ -6,20 +6,30 @@ use Prim.Native.Nat.{ℕ, _+_, _*_, _^_, _≤_}
 use lib.Dec.{T}
 use lib.IntN.{ℤ, pos, natAbs, _-ℤ_, _*ℤ_}
 use lib.Signed.{_≤ℤ_}
-use lib.Ieee.{Float, le}
-use Rattle.refusal.specs.Outcome.{good}
+use lib.Ieee.{Float, nan, le}
+use Rattle.integers.specs.Nearest.{Fraction}
+use Rattle.refusal.specs.Outcome.{Outcome, good, refused}
+use Rattle.fields.specs.declared.Value.{Value}
+use Rattle.fields.specs.declared.Domain.{Domain}
+use Rattle.fields.specs.Calibration.{D, R}
 use Rattle.fields.specs.Figure.{billion}
 use Rattle.fields.specs.Rules.{finite}
 use Rattle.layout.specs.Contents.{Calibration, bare, table, curve, Contents}
 use Rattle.layout.specs.Image.{contents, field}
 use Rattle.sheet.specs.declared.TableDomain.the-variants.{Is}
-use Rattle.sheet.specs.Check.{domainIn}
+use Rattle.sheet.specs.Check.{readField, domainIn}
+use Rattle.build.specs.declared.Sheet.{Sheet}
+use Rattle.build.specs.Build.{pairsLent, build}
+use Rattle.line.specs.Certificate.{Slopes}
 use Rattle.fields.specs.declared.Domain.the-variants.{Physical}
 use Rattle.reading.specs.declared.Dash.{Dash}
 use Rattle.reading.specs.declared.Reading.{Reading}
 use Rattle.reading.specs.Reading.{float, takeReading}
 use Rattle.promises.specs.Needle.{NeverFalls}
-use Rattle.figures.specs.Figures.{units, exactFigure}
+use Rattle.figures.specs.Figures.{units, exactFigure, exactFigureAt}
+use Rattle.promises.specs.Lent.{Lendable}
+use Rattle.promises.specs.Alterations.{Alteration, RealAlterations, altered}
+use Rattle.promises.specs.Certificate.{Straight, leastIn, greatestIn, lineFor}
 
 abbrev pub NoCurve : Calibration → Type 0
 NoCurve bare = Unit {0}
@@ -43,6 +53,44 @@ abbrev pub ShownNear : Type 0
 ShownNear =
     (kind : ℕ) (image : List ℕ) (c : Contents) (v : ℤ) (dash : Dash) (r : Reading) → contents kind image ≡ good c → NoCurve (c .calibration) →
     takeReading kind image v dash ≡ good r → NearTheExact c r
+
+-- ---- from the certificate to the figure
+
+-- The physical ends as they are read from an image.
+abbrev pub single : Outcome Value → Float
+single (good v) = float v
+single (refused r) = nan
+
+abbrev pub lowIn : ℕ → List ℕ → Float
+lowIn kind image = single (readField kind image 7)
+
+abbrev pub highIn : ℕ → List ℕ → Float
+highIn kind image = single (readField kind image 8)
+
+-- The figure's distance from the exact physical figure of a point of the line is at most 2^−53 of |low| + |high − low| · (4 · Q + 1) / 1,000,000,000, and
+-- |high − low| · B / (2000 · 1,000,000,000): both sides multiplied out by 2000, by 2^53, by a billion and by what the line counts in.
+abbrev pub FigureWithin : ℕ → ℕ → Float → Float → Float → Fraction → Type 0
+FigureWithin B Q low high figure line =
+    2000 * (2 ^ 53 * natAbs (units figure *ℤ pos (billion * line .den) -ℤ exactFigureAt low high (line .num) (line .den)))
+    ≤ (2000 * (natAbs (units low) * billion + natAbs (units high -ℤ units low) * (4 * Q + 1)) + 2 ^ 53 * (natAbs (units high -ℤ units low) * B)) * line .den
+
+-- Where q strays from the line by B / 2000 at most.
+abbrev pub FigureStraysAtMost : ℕ → Float → Float → Reading → Fraction → Type 0
+FigureStraysAtMost B low high r line = FigureWithin B (natAbs (r .fraction)) low high (r .figure) line
+
+-- With demand 3: the float shown against the certificate line, over the Singles read from the image, for every K.
+abbrev pub CertificateFigure : Type 0
+CertificateFigure =
+    (kind : ℕ) (buffer : List ℕ) (sheet : Sheet) (text : List ℕ) (domain : Domain) (points : List ℤ) (built : List ℕ) →
+    (alterations : List Alteration) (readingKind : ℕ) (v : ℤ) (dash : Dash) (r : Reading) (K : ℕ) →
+    Lendable sheet → RealAlterations alterations → Straight domain points →
+    build kind buffer sheet text domain points ≡ good built →
+    let image = altered built alterations in
+    takeReading readingKind image v dash ≡ good r →
+    Slopes K (pairsLent points) →
+    FigureStraysAtMost (2000 + 1000 * R + K * (D + 1)) (lowIn readingKind image) (highIn readingKind image) r (lineFor points v (leastIn readingKind image) (greatestIn readingKind image))
+
+-- ---- every accepted reading
 
 -- No accepted reading shows an infinity or a NaN, by a curve neither.
 abbrev pub ShownFinite : Type 0

@@ -14,6 +14,7 @@ pub mod Beforehand
 pub mod Crossing
 pub mod Needle
 pub mod Figure
+pub mod Conformity
 pub mod Calls
 pub mod Edges
 pub mod Attained

@@ -1,10 +1,10 @@
-//! Recordings of a run at ten and at sixty a second, and lists of points for their distance.
+//! Recordings of a run at ten and at sixty a second, and lists of points for their distance and for the conformity of an image.
 
 use compare::console::Command;
 use compare::layout::BILLION;
 use compare::plain::{self, Dash, Domain};
 
-use crate::{COMPARE, DISTANCE, Differ};
+use crate::{COMPARE, CONFORM, DISTANCE, Differ};
 
 impl Differ {
     /// Some inputs of the image, accepted ones where there are such.
@@ -119,5 +119,44 @@ impl Differ {
         let before = points.clone();
         self.both(DISTANCE, 0, |_| Command::Distance(points.clone()), |calls, _| calls.distance(&points));
         self.untouched(DISTANCE, before == points);
+    }
+
+    /// Points near those of the image, or any.
+    fn certificate(&mut self) -> Vec<i64> {
+        let stored = plain::check(self.kind, self.image()).map_or(0, |summary| summary.points);
+        if stored == 0 || self.random.percent(25) {
+            let layout = self.pick_layout();
+            return self.point_list(layout, Domain::Electrical);
+        }
+        let far = self.random.pick(&[0, 1, 7_000, 20_000, 100_000_000]);
+        let mut points = Vec::new();
+        for index in 0..stored {
+            let Ok((point, deviation)) = plain::pair(self.kind, self.image(), index) else { continue };
+            if self.random.percent(90) {
+                let moved = point + self.random.pick(&[0, 0, 1, -1, 7_649, -7_650]) + self.random.pick(&[0, 0, far, -far]);
+                let bent = deviation + self.random.pick(&[0, 1, -1, 499, -500]) + self.random.pick(&[0, 0, far, -far]);
+                points.extend([moved.clamp(0, 1_002_670_200), bent.clamp(-BILLION, 1_097_150_000)]);
+            }
+        }
+        points
+    }
+
+    pub fn conform(&mut self) {
+        let mut points = self.certificate();
+        if self.random.percent(10) {
+            self.steepen(&mut points);
+        }
+        if self.random.percent(5) {
+            points.pop();
+        }
+        let before = points.clone();
+        let kind = self.chip();
+        self.both(
+            CONFORM,
+            kind,
+            |image| Command::Conform(kind, image.to_vec(), points.clone()),
+            |calls, lent| calls.conformity(kind, lent.image(), &points),
+        );
+        self.untouched(CONFORM, before == points);
     }
 }

@@ -1,0 +1,62 @@
+-- Quotients rounded up.
+use mathlib.Core.Path.{_≡_, sym, ap}
+use Prim.Native.Nat.{ℕ, _+_, _*_, _-_, _/_, _%_, _^_, _≤_, _<_}
+use native.Mathlib.Nat.{div-add-mod', mod-lt, mul-le-mul-left, mul-le-mul-right, le-of-mul-le-mul-right, mul-pos}
+use native.Mathlib.Omega.{arith}
+use Rattle.distance.specs.Distance.{ceiling}
+use Rattle.distance.proofs.Apart.{ceiling-meets, ceiling-least}
+
+-- Equal fractions have equal quotients.
+no-more : (a b c d : ℕ) → 0 < b → 0 < d → a * d ≡ c * b → ceiling a b ≤ ceiling c d
+no-more a b c d hb hd e =
+    ceiling-least a b hb (ceiling c d) (le-of-mul-le-mul-right {k = d} (omega (arith, mul-le-mul-right b (ceiling-meets c d hd))) hd)
+
+pub ceiling-same : (a b c d : ℕ) → 0 < b → 0 < d → a * d ≡ c * b → ceiling a b ≡ ceiling c d
+ceiling-same a b c d hb hd e = omega (arith, no-more a b c d hb hd e, no-more c d a b hd hb (sym e))
+
+-- A quotient rounded up is less than 1 above it.
+pub ceiling-tight : (a b : ℕ) → 0 < b → ceiling a b * b < a + b
+ceiling-tight a b hb = omega (arith, div-add-mod' (a + (b - 1)) b)
+
+-- The whole part and the rest apart.
+module _ (num run : ℕ) (some : 0 < run) where
+  abbrev whole : ℕ
+  whole = num / run
+
+  abbrev rest : ℕ
+  rest = num % run
+
+  parted : num ≡ whole * run + rest
+  parted = sym (div-add-mod' num run)
+
+  pub rest-less : rest < run
+  rest-less = mod-lt num some
+
+  pub parts-up : 2000 * whole + ceiling (2000 * rest) run ≡ ceiling (2000 * num) run
+  parts-up = omega (arith, most, least)
+    where
+      C : ℕ
+      C = ceiling (2000 * num) run
+
+      meets : 2000 * num ≤ C * run
+      meets = ceiling-meets (2000 * num) run some
+
+      wide : 2000 * whole ≤ C
+      wide = le-of-mul-le-mul-right {k = run} (omega (arith, meets, parted)) some
+
+      least : C ≤ 2000 * whole + ceiling (2000 * rest) run
+      least = ceiling-least (2000 * num) run some (2000 * whole + ceiling (2000 * rest) run) (omega (arith, parted, ceiling-meets (2000 * rest) run some))
+
+      left : 2000 * rest ≤ (C - 2000 * whole) * run
+      left =
+          let e : C ≡ (C - 2000 * whole) + 2000 * whole = omega (arith, wide) in
+          omega (arith, meets, parted, ap (λ (n : ℕ). n * run) e)
+
+      most : 2000 * whole + ceiling (2000 * rest) run ≤ C
+      most = omega (arith, wide, ceiling-least (2000 * rest) run some (C - 2000 * whole) left)
+
+  pub whole-small : (W : ℕ) → num ≤ W * run → whole ≤ W
+  whole-small W h = le-of-mul-le-mul-right {k = run} (omega (arith, parted)) some
+
+  pub rest-up-small : ceiling (2000 * rest) run ≤ 2000
+  rest-up-small = ceiling-least (2000 * rest) run some 2000 (omega (arith, rest-less))

@@ -1,0 +1,6 @@
+pub mod Ceilings
+pub mod Exacts
+pub mod Greatest
+pub mod Bounds
+pub mod Filling
+pub mod Orders

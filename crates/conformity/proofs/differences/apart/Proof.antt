@@ -1,0 +1,9 @@
+-- `differences::apart` meets its contract.
+use mathlib.Core.Logic.{inl, inr}
+use borrow.Author.Needs.{needs}
+use native.Mathlib.Omega.{arith}
+use Rattle.conformity.proofs.differences.apart.Statement.{statement}
+use Rattle.conformity.proofs.differences.apart.Tie as tie
+
+pub apart-spec : {M : Type 1} → statement M
+apart-spec = tie.close (tie.spec (λ c. inl (omega arith)) (λ c. search needs) (λ c. inr (omega arith)))

@@ -1,0 +1,3 @@
+pub mod Conformity
+pub mod Tight
+pub mod Steps

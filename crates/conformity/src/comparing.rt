@@ -1,0 +1,104 @@
+// The conformity of an image with a certificate's points, in the order of its refusals.
+use crate::ConformityAnswer;
+use crate::differences::greater;
+use crate::differences::greatest;
+use crate::stored::stored_points;
+use distance::DistanceAnswer;
+use distance::ToldDistance;
+use fields::Domain;
+use fields::Template;
+use sheet::Opened;
+use sheet::OpenedAnswer;
+use sheet::TableDomain;
+ghost use mathlib.Core.Path.{_≡_};
+ghost use mathlib.Core.Bool.{true, false};
+ghost use Prim.Native.Nat.{ℕ, _^_, _≤_};
+ghost use lib.IntN.{ℤ};
+ghost use Rattle.refusal.specs.Outcome.{good};
+ghost use Rattle.build.specs.Build.{pairsLent};
+ghost use Rattle.layout.specs.Contents.{Contents};
+ghost use Rattle.layout.specs.Image.{points as pointsOf};
+ghost use Rattle.line.specs.Ranges.{Table};
+ghost use Rattle.sheet.specs.Opened.{Opens, Held};
+ghost use Rattle.reading.specs.Reading.{isResistance};
+ghost use Rattle.distance.specs.Distance.{distance as distanceOf};
+ghost use Rattle.conformity.specs.Conformity.{comparedWith, conformity as conformityOf, conformitySaid};
+ghost use Rattle.conformity.specs.Steps.{isStraight};
+
+// The first selector's bit: Basic's 64 stand before it.
+const FIRST_SELECTOR: u64 = 64;
+
+// Whether the sheet corrects by a straight table: of domain 0, or without a block.
+fn is_straight(domain: TableDomain, segments: u64) -> bool
+    ensures { λ r. ⌜ r ≡ isStraight domain segments ⌝ }
+{
+    match domain {
+        TableDomain::NoTable => segments == 0,
+        TableDomain::Is(found) => match found {
+            Domain::Electrical => true,
+            Domain::Physical => false,
+        },
+    }
+}
+
+// K and B of an opened sheet's points against those lent, whose K is known.
+fn compared(sheet: Opened, image: &[u8], points: &[i64], slope: u64) -> ToldDistance
+    requires { ⌜ Held sheet (now image) × Table (pairsLent (now points)) × (slope ≤ 2 ^ 43) ⌝ }
+    ensures { λ r. ⌜ ((kind : ℕ) (c : Contents) → Opens kind (now (image .entry)) sheet c → r ≡ comparedWith slope (pointsOf c) (pairsLent (now (points .entry)))) ⌝ }
+{
+    let summary = sheet.summary;
+    let end = 2 * summary.points as usize;
+    let room = stored_points(sheet, image);
+    let stored = &room[..end];
+    let most = greater(greatest(stored, points), greatest(points, stored));
+    ToldDistance {
+        slope,
+        bound: 2000 + slope + most,
+    }
+}
+
+// A list that a build in domain 0 takes, against an opened sheet of template 33.
+fn conformity_to(
+    sheet: Opened,
+    image: &[u8],
+    points: &[i64],
+    told: ToldDistance,
+) -> ConformityAnswer
+    requires { ⌜ Held sheet (now image) × (isResistance (sheet .layout .template) ≡ false) × (distanceOf (now points) ≡ good told) ⌝ }
+    ensures { λ r. ⌜ ((kind : ℕ) (c : Contents) → Opens kind (now (image .entry)) sheet c → conformitySaid r ≡ conformityOf kind (now (image .entry)) (now (points .entry))) ⌝ }
+{
+    let summary = sheet.summary;
+    let domain = summary.domain;
+    if is_straight(domain, summary.segments) {
+        return ConformityAnswer::Is(compared(sheet, image, points, told.slope));
+    }
+    ConformityAnswer::NotStraight
+}
+
+// An opened sheet: 4 at the first selector for template 32, then the list as a build in domain 0 refuses it.
+fn conformity_in(sheet: Opened, image: &[u8], points: &[i64]) -> ConformityAnswer
+    requires { ⌜ Held sheet (now image) ⌝ }
+    ensures { λ r. ⌜ ((kind : ℕ) (c : Contents) → Opens kind (now (image .entry)) sheet c → conformitySaid r ≡ conformityOf kind (now (image .entry)) (now (points .entry))) ⌝ }
+{
+    let layout = sheet.layout;
+    let template = layout.template;
+    match template {
+        Template::Resistance => ConformityAnswer::Refused(refusal::wrong_block(FIRST_SELECTOR)),
+        Template::Bridge => match distance::distance(points) {
+            DistanceAnswer::Refused(r) => ConformityAnswer::Refused(r),
+            DistanceAnswer::Is(told) => conformity_to(sheet, image, points, told),
+        },
+    }
+}
+
+// How far any reading of an image can be from the line through a certificate's points: K and B, or that there is no straight
+// table to compare. Else the check's refusal; 4 for template 32; 16 for a list that is odd or over 254 long; then pair by pair
+// 10 for the point, 10 for its deviation, and 7.
+pub fn conformity(kind: u8, image: &[u8], points: &[i64]) -> ConformityAnswer
+    ensures { λ r. ⌜ conformitySaid r ≡ conformityOf kind (now (image .entry)) (now (points .entry)) ⌝ }
+{
+    match sheet::open(kind, image) {
+        OpenedAnswer::Refused(r) => ConformityAnswer::Refused(r),
+        OpenedAnswer::Sheet(sheet) => conformity_in(sheet, image, points),
+    }
+}

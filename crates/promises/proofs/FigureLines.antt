@@ -1,0 +1,67 @@
+-- From the certificate line to the figure.
+use mathlib.Core.Path.{_≡_, refl, sym, ap, _∙_, subst}
+use mathlib.Core.Bool.{_||_}
+use mathlib.Core.List.{List, [], _∷_, map}
+use mathlib.Core.Option.{Option, none, some}
+use Prim.Native.Nat.{ℕ, _+_, _*_, _^_, _≤_, _<_}
+use native.Mathlib.Nat.{le-refl, mul-le-mul-left, mul-le-mul-right}
+use native.Mathlib.Omega.{arith}
+use lib.IntN.{ℤ, pos, natAbs, _+ℤ_, _-ℤ_, _*ℤ_}
+use lib.Ieee.{Float}
+use Rattle.integers.specs.Nearest.{Fraction}
+use Rattle.refusal.specs.Outcome.{good}
+use Rattle.fields.specs.declared.Domain.{Domain}
+use Rattle.fields.specs.declared.Domain.the-variants.{Electrical, Physical}
+use Rattle.fields.specs.Calibration.{D, R}
+use Rattle.fields.specs.Lines.{lastField}
+use Rattle.fields.proofs.TemplateFacts.{span-listed}
+use Rattle.layout.specs.Contents.{Calibration, bare, table, curve, Contents}
+use Rattle.layout.specs.Image.{contents, field, segmentIn, segmentsIn}
+use Rattle.layout.proofs.Accepted.{contents-accepted}
+use Rattle.layout.proofs.Calibrations.{CalibrationAt}
+use Rattle.sheet.proofs.ReadLaws.{accepted-reads}
+use Rattle.build.specs.Build.{pairsLent}
+use Rattle.reading.specs.declared.Dash.{Dash}
+use Rattle.reading.specs.declared.Reading.{Reading}
+use Rattle.reading.specs.Reading.{takeReading}
+use Rattle.reading.proofs.Orders.{shown}
+use Rattle.figures.specs.Figures.{figure, exactFigureAt, units}
+use Rattle.figures.proofs.LineLaws.{figure-near-line}
+use Rattle.promises.specs.Beforehand.{StraysAtMost}
+use Rattle.promises.specs.Certificate.{lineFor, leastIn, greatestIn}
+use Rattle.promises.specs.Alterations.{altered}
+use Rattle.promises.specs.Figure.{NoCurve, low, high, single, lowIn, highIn, FigureWithin, FigureStraysAtMost, CertificateFigure}
+use Rattle.promises.proofs.Distance.{certificate-distance}
+use Rattle.promises.proofs.KeptLent.{kept-lent}
+use Rattle.promises.proofs.Figures.{taken, figure-is}
+
+-- The physical ends as they are read.
+pub physical-read : (kind : ℕ) (image : List ℕ) (c : Contents) → contents kind image ≡ good c → (lowIn kind image ≡ low c) × (highIn kind image ≡ high c)
+physical-read kind image c e =
+    let read = accepted-reads kind image c e .fields in
+    let many : 11 ≤ lastField (c .template) = span-listed (c .template) (le-refl 11) in
+    (ap single (read 7 (omega arith) (omega (arith, many))), ap single (read 8 (omega arith) (omega (arith, many))))
+
+-- Wherever q is near a point of the line.
+pub figure-strays : (kind : ℕ) (image : List ℕ) (c : Contents) (v : ℤ) (dash : Dash) (r : Reading) (B : ℕ) (line : Fraction) → contents kind image ≡ good c → NoCurve (c .calibration) →
+    takeReading kind image v dash ≡ good r → StraysAtMost B (r .fraction) line → FigureStraysAtMost B (lowIn kind image) (highIn kind image) r line
+figure-strays kind image c v dash r B line accepted plain e strays =
+    let t = taken kind image c v dash r accepted e in
+    let ends = physical-read kind image c accepted in
+    rw (ends .0, ends .1, figure-is c v r t plain) (figure-near-line (low c) (high c) (r .fraction) (line .num) (line .den) B (t .foot) (t .top) (t .small) strays)
+
+-- What a build from a list of points leaves has no curve.
+pub no-curve : (at : ℕ) (k : Calibration) → CalibrationAt at k → map segmentIn (segmentsIn k) ≡ [] → NoCurve k
+no-curve at bare h e = tt
+no-curve at (table domain pairs) h e = tt
+no-curve at (curve []) h e = omega (arith, h .some)
+no-curve at (curve (s ∷ segments)) h e = let z : _≡_ {A = ℕ} 0 1 = cc in omega arith
+
+pub certificate-figure : CertificateFigure
+certificate-figure kind buffer sheet text domain points built alterations readingKind v dash r K lendable real straight made e slopes =
+    let image : List ℕ = altered built alterations in
+    let s = shown readingKind image v dash r e in
+    let k = kept-lent kind buffer sheet text domain points built alterations readingKind (s .holds) lendable real made (s .accepted) in
+    figure-strays readingKind image (s .holds) v dash r (2000 + 1000 * R + K * (D + 1)) _ (s .accepted)
+    (no-curve _ (s .holds .calibration) (contents-accepted readingKind image (s .holds) (s .accepted) .holding .formed .calibrated) (k .keepsSegments)) e
+    (certificate-distance kind buffer sheet text domain points built alterations readingKind v dash r K lendable real straight made e slopes)
