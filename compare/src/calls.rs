@@ -5,10 +5,11 @@ use crate::plain::{
     self, Calibration, Comparison, Conformity, Curve, Dash, Distance, Level, Proposal, Reading, Refusal, Segment, Sheet, Summary,
     Term, Text, Value,
 };
+use crate::rows::{self, Row};
 use crate::structs::{
-    ByFlags, CharacterAnswer, CheckAnswer, CodeAnswer, ComparedAnswer, ConformityAnswer, DistanceAnswer, FieldAnswer, Fields, NO_DOMAIN,
-    PageAnswer, PairAnswer, ProposalAnswer, ReadingAnswer, SegmentAnswer, SheetAnswer, TermAnswer, TextAnswer,
-    WriteAnswer, dash_of, domain_byte, domain_of, level_of, template_of,
+    ByFlags, CharacterAnswer, CheckAnswer, CodeAnswer, ComparedAnswer, ConformityAnswer, DistanceAnswer, FieldAnswer, Fields,
+    NO_DOMAIN, PageAnswer, PairAnswer, ProposalAnswer, ReadingAnswer, RowAnswer, SegmentAnswer, SheetAnswer, TermAnswer,
+    TextAnswer, WriteAnswer, dash_of, domain_byte, domain_of, level_of, template_of,
 };
 
 /// The calls of the header; the provided ones give the plain implementation's types.
@@ -31,6 +32,7 @@ pub trait Calls {
     fn compare(&self, kind: u8, image: &[u8], slow: &[i64], fast: &[i64]) -> ComparedAnswer;
     fn distance(&self, points: &[i64]) -> DistanceAnswer;
     fn conformity(&self, kind: u8, image: &[u8], points: &[i64]) -> ConformityAnswer;
+    fn next_row(&self, kind: u8, present: &[u8], wanted: &[u8]) -> RowAnswer;
     fn text(&self, field: u64, code: u64) -> TextAnswer;
     fn code(&self, field: u64, text: &[u8]) -> CodeAnswer;
     fn page(&self, kind: u8, image: &[u8], page: u64) -> PageAnswer;
@@ -158,6 +160,12 @@ pub trait Calls {
         let ConformityAnswer { number, place, slope, bound, is_straight } = self.conformity(kind, image, points);
         accepted(number, place)?;
         Ok(if is_straight != 0 { Conformity::Is(Distance { slope, bound }) } else { Conformity::NotStraight })
+    }
+
+    fn row_told(&self, kind: u8, present: &[u8], wanted: &[u8]) -> Result<Row, Refusal> {
+        let RowAnswer { number, place, is_done, offset, bytes } = self.next_row(kind, present, wanted);
+        accepted(number, place)?;
+        Ok(if is_done != 0 { Row::Done } else { Row::Write { offset, bytes } })
     }
 
     fn text_of(&self, field: u64, code: u64) -> Result<Text, Refusal> {
@@ -314,6 +322,14 @@ impl Calls for Plain {
             }
             Ok(Conformity::NotStraight) => ConformityAnswer::default(),
             Err(Refusal { number, place }) => ConformityAnswer { number, place, ..ConformityAnswer::default() },
+        }
+    }
+
+    fn next_row(&self, kind: u8, present: &[u8], wanted: &[u8]) -> RowAnswer {
+        match rows::next_row(kind, present, wanted) {
+            Ok(Row::Done) => RowAnswer { is_done: 1, ..RowAnswer::default() },
+            Ok(Row::Write { offset, bytes }) => RowAnswer { offset, bytes, ..RowAnswer::default() },
+            Err(Refusal { number, place }) => RowAnswer { number, place, ..RowAnswer::default() },
         }
     }
 

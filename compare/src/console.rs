@@ -6,6 +6,7 @@ use crate::calls::Calls;
 use crate::plain::{
     Calibration, Comparison, Conformity, Curve, Dash, Distance, Domain, Level, Refusal, Segment, Summary, Template, Term, Value,
 };
+use crate::rows::Row;
 use crate::structs::{ByFlags, Fields};
 
 /// A line's command with what it is handed.
@@ -37,6 +38,8 @@ pub enum Command {
     Compare(u8, Vec<u8>, Vec<i64>, Vec<i64>),
     Distance(Vec<i64>),
     Conform(u8, Vec<u8>, Vec<i64>),
+    /// What the chip holds, and the image to be written.
+    Next(u8, Vec<u8>, Vec<u8>),
     Text(u64, u64),
     Code(u64, Vec<u8>),
     Index(u8, Vec<u8>, Vec<u8>),
@@ -99,6 +102,7 @@ pub fn parse(line: &str) -> Option<Command> {
         ["conform", kind, image, points] => {
             Command::Conform(unsigned(kind)?, bytes(image)?, list(points, signed)?)
         }
+        ["next", kind, present, wanted] => Command::Next(unsigned(kind)?, bytes(present)?, bytes(wanted)?),
         ["text", field, code] => Command::Text(unsigned(field)?, unsigned(code)?),
         ["code", field, text] => Command::Code(unsigned(field)?, bytes(text)?),
         ["index", kind, image, buffer] => Command::Index(unsigned(kind)?, bytes(image)?, bytes(buffer)?),
@@ -359,6 +363,7 @@ impl Display for Command {
             }
             Command::Distance(points) => write!(to, "distance {}", Figures(points)),
             Command::Conform(kind, image, points) => write!(to, "conform {kind} {} {}", Hex(image), Figures(points)),
+            Command::Next(kind, present, wanted) => write!(to, "next {kind} {} {}", Hex(present), Hex(wanted)),
             Command::Text(field, code) => write!(to, "text {field} {code}"),
             Command::Code(field, text) => write!(to, "code {field} {}", Hex(text)),
             Command::Index(kind, image, buffer) => write!(to, "index {kind} {} {}", Hex(image), Hex(buffer)),
@@ -451,6 +456,10 @@ impl Command {
                 Conformity::Is(Distance { slope, bound }) => format!("{slope} {bound}"),
                 Conformity::NotStraight => "none".to_string(),
             },
+            Command::Next(kind, present, wanted) => match calls.row_told(*kind, present, wanted)? {
+                Row::Done => "done".to_string(),
+                Row::Write { offset, bytes } => format!("{offset} {}", Hex(&bytes)),
+            },
             Command::Text(field, code) => {
                 let text = calls.text_of(*field, *code)?;
                 Hex(&text.characters[..text.length]).to_string()
@@ -510,6 +519,10 @@ mod tests {
             "conform 0 - - -",
             "conform 0 - 0,1,",
             "conform 0 - w1",
+            "next 1 00",
+            "next 1 00 0",
+            "next 1 00 00 00",
+            "next x 00 00",
             "text 18 18446744073709551616",
             "text 18 ",
             "change 0 - 1 s0000000 maker",
@@ -577,6 +590,8 @@ mod tests {
             "compare 1 00 - -",
             "compare 2 - 5,-6,7 -9223372036854775808",
             "distance -",
+            "next 1 - 00ff",
+            "next 0 00 -",
             "distance 0,-5,15300,9223372036854775807,3",
             "conform 2 00ff -",
             "conform 1 - 0,-5,15300",

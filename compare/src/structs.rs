@@ -275,6 +275,16 @@ pub struct ConformityAnswer {
 
 #[derive(Clone, Copy, Debug, Default, PartialEq)]
 #[repr(C)]
+pub struct RowAnswer {
+    pub number: u8,
+    pub place: u64,
+    pub is_done: u8,
+    pub offset: u64,
+    pub bytes: [u8; 8],
+}
+
+#[derive(Clone, Copy, Debug, Default, PartialEq)]
+#[repr(C)]
 pub struct TextAnswer {
     pub number: u8,
     pub place: u64,

@@ -17,6 +17,7 @@ use Rattle.reading.specs.Reading.{takeReading}
 use Rattle.recordings.specs.Recordings.{compare}
 use Rattle.distance.specs.Distance.{distance}
 use Rattle.conformity.specs.Conformity.{conformity}
+use Rattle.writing.specs.Steps.{nextRow}
 use Rattle.dartelm.specs.declared.values.DartelmValue.{DartelmValue}
 use Rattle.dartelm.specs.declared.values.DartelmFields.{DartelmFields}
 use Rattle.dartelm.specs.declared.values.DartelmCurve.{DartelmCurve}
@@ -31,15 +32,16 @@ use Rattle.dartelm.specs.declared.answers.DartelmReadingAnswer.{DartelmR
 use Rattle.dartelm.specs.declared.answers.DartelmComparedAnswer.{DartelmComparedAnswer}
 use Rattle.dartelm.specs.declared.answers.DartelmDistanceAnswer.{DartelmDistanceAnswer}
 use Rattle.dartelm.specs.declared.answers.DartelmConformityAnswer.{DartelmConformityAnswer}
+use Rattle.dartelm.specs.declared.answers.DartelmRowAnswer.{DartelmRowAnswer}
 use Rattle.dartelm.specs.declared.answers.DartelmTextAnswer.{DartelmTextAnswer}
 use Rattle.dartelm.specs.declared.answers.DartelmCodeAnswer.{DartelmCodeAnswer}
 use Rattle.dartelm.specs.declared.answers.DartelmPageAnswer.{DartelmPageAnswer}
 use Rattle.dartelm.specs.Values.{levelOf, dashBy, valueOf, sheetOf, curveOf}
-use Rattle.dartelm.specs.Answers.{toldAs, told, numbers, noNumbers, checkAnswer, fieldAnswer, pairAnswer, noPair, segmentAnswer, noSegment, termAnswer, noTerm, characterAnswer, proposalAnswer, noProposal, readingAnswer, noReading, comparedAnswer, noComparison, distanceAnswer, noDistance, conformityAnswer, noConformity, textAnswer, codeAnswer, pageAnswer}
+use Rattle.dartelm.specs.Answers.{toldAs, told, numbers, noNumbers, checkAnswer, fieldAnswer, pairAnswer, noPair, segmentAnswer, noSegment, termAnswer, noTerm, characterAnswer, proposalAnswer, noProposal, readingAnswer, noReading, comparedAnswer, noComparison, distanceAnswer, noDistance, conformityAnswer, noConformity, textAnswer, codeAnswer, pageAnswer, rowAnswer, noRow}
 
 -- The number of this archive and its header.
 abbrev pub version : ℕ
-version = 7
+version = 8
 
 -- ---- kinds
 
@@ -102,7 +104,7 @@ commitCall kind image level field present new = commit kind image (levelOf level
 abbrev pub proposeCall : ℕ → List ℕ → ℕ → ℕ → DartelmValue → DartelmProposalAnswer
 proposeCall kind image level field value = told proposalAnswer noProposal (propose kind image (levelOf level) field (valueOf value))
 
--- ---- a reading, recordings, a distance, a conformity, texts, a page
+-- ---- a reading, recordings, a distance, a conformity, a row, texts, a page
 
 abbrev pub readingCall : ℕ → List ℕ → ℤ → ℕ → DartelmReadingAnswer
 readingCall kind image input dash = told readingAnswer noReading (takeReading kind image input (dashBy dash))
@@ -115,6 +117,9 @@ distanceCall points = told distanceAnswer noDistance (distance points)
 
 abbrev pub conformityCall : ℕ → List ℕ → List ℤ → DartelmConformityAnswer
 conformityCall kind image points = told conformityAnswer noConformity (conformity kind image points)
+
+abbrev pub rowCall : ℕ → List ℕ → List ℕ → DartelmRowAnswer
+rowCall kind present wanted = told rowAnswer noRow (nextRow kind present wanted)
 
 abbrev pub textCall : ℕ → ℕ → DartelmTextAnswer
 textCall field code = told textAnswer [] (textOf field code)

@@ -23,6 +23,7 @@ pub mod CurveFigures
 pub mod Figures
 pub mod FigureLines
 pub mod Conforming
+pub mod Writing
 pub mod Lending
 pub mod LentLaws
 pub mod EveryLent

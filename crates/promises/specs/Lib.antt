@@ -8,6 +8,7 @@ pub mod AlterationsLent
 pub mod Proposals
 pub mod Levels
 pub mod Index
+pub mod Writing
 pub mod Readings
 pub mod Certificate
 pub mod Beforehand
