@@ -1,9 +1,12 @@
-//! Tells rustc where the product's archive is.
+//! Tells rustc where the product's archive is: in target/staticlib, or in the folder that DARTELM_ARCHIVE names.
 
-use std::path::Path;
+use std::env;
+use std::path::{Path, PathBuf};
 
 fn main() {
-    let folder = Path::new(env!("CARGO_MANIFEST_DIR")).join("../target/staticlib");
+    println!("cargo::rerun-if-env-changed=DARTELM_ARCHIVE");
+    let native = Path::new(env!("CARGO_MANIFEST_DIR")).join("../target/staticlib");
+    let folder = env::var_os("DARTELM_ARCHIVE").map_or(native, PathBuf::from);
     let archive = folder.join("libdartelm.a");
     println!("cargo::rerun-if-changed={}", archive.display());
     if !archive.exists() {
