@@ -1,4 +1,5 @@
 """The package: its tables are the header's, its answers are the stored ones, its page's examples run, it installs without a network."""
+import ctypes
 import dataclasses
 import doctest
 import inspect
@@ -20,7 +21,7 @@ import header  # noqa: E402
 import lines  # noqa: E402
 
 import dartelm  # noqa: E402
-from dartelm import answers, calls, declared, library  # noqa: E402
+from dartelm import answers, calls, convert, declared, library, native  # noqa: E402
 
 
 def sample(name):
@@ -154,6 +155,27 @@ class Answers(unittest.TestCase):
             dartelm.build(1, fields, "caf\u00e9")
         self.assertEqual((caught.exception.number, caught.exception.place), (10, 22))
 
+    def test_null_with_length_0(self):
+        """Outside what is proved (docs/FIRMWARE.md): as an empty buffer is answered."""
+        loaded = library.library()
+
+        def made(name, *words):
+            function = getattr(loaded, "dartelm_" + name)
+            function.restype = native.TYPES[declared.CALLS[name][0]]
+            return function(*words)
+
+        image, none = (ctypes.c_uint8 * 128).from_buffer_copy(CELL), (None, ctypes.c_size_t(0))
+        self.assertEqual(made("check", 1, *none).number, 1)
+        self.assertEqual(made("change", 1, *none, 2, ctypes.c_uint64(21), convert.value_struct(7)).number, 1)
+        self.assertEqual(made("code", ctypes.c_uint64(18), *none).number, 9)
+        self.assertEqual(made("distance", *none).bound, 1002000)
+        self.assertEqual(made("index", 1, image, ctypes.c_size_t(128), *none).number, 18)
+        self.assertEqual(made("compare", 1, image, ctypes.c_size_t(128), *none, *none).agrees, 1)
+        fields = dataclasses.replace(dartelm.sheet(CELL).fields, end_bit=False)
+        again = (ctypes.c_uint8 * 128)()
+        answer = made("build", 1, again, ctypes.c_size_t(128), convert.fields_struct(fields), *none, 0, *none)
+        self.assertEqual((answer.number, bytes(again)), (0, dartelm.build(1, fields)))
+
     def test_threads(self):
         found = []
         one = lambda: found.extend(dartelm.reading(CELL, 1000000, 0).fraction for _ in range(200))  # noqa: E731
@@ -220,6 +242,10 @@ class Installed(unittest.TestCase):
         done = run(python, "-c", program, os.path.join(HOME, "samples", "load-cell.kind1"), cwd=room, env={"PATH": room})
         self.assertEqual(done.stdout.split(" ")[0], "500400001", done.stderr)
         self.assertTrue(done.stdout.split(" ")[1].startswith(room), done.stdout)
+        command = os.path.join(room, "venv", "bin", "dartelm")
+        done = run(command, "show", os.path.join(HOME, "samples", "load-cell.kind1"), cwd=room, env={"PATH": room})
+        self.assertEqual((done.returncode, done.stderr), (0, ""))
+        self.assertIn("accepted, kind 1 (128 bytes)", done.stdout)
 
 
 if __name__ == "__main__":
