@@ -1,12 +1,12 @@
-//! Tells rustc where the archive is that is compared: the product's, or the one in the folder that DARTELM_ARCHIVE_FOLDER names.
+//! Tells rustc where the product's archive is: in target/staticlib, or in the folder that DARTELM_ARCHIVE names.
 
 use std::env;
 use std::path::{Path, PathBuf};
 
 fn main() {
-    println!("cargo::rerun-if-env-changed=DARTELM_ARCHIVE_FOLDER");
-    let product = Path::new(env!("CARGO_MANIFEST_DIR")).join("../target/staticlib");
-    let folder = env::var_os("DARTELM_ARCHIVE_FOLDER").map_or(product, PathBuf::from);
+    println!("cargo::rerun-if-env-changed=DARTELM_ARCHIVE");
+    let native = Path::new(env!("CARGO_MANIFEST_DIR")).join("../target/staticlib");
+    let folder = env::var_os("DARTELM_ARCHIVE").map_or(native, PathBuf::from);
     let archive = folder.join("libdartelm.a");
     println!("cargo::rerun-if-changed={}", archive.display());
     if !archive.exists() {

@@ -423,7 +423,7 @@ dartelm_code_answer dartelm_code(uint64_t field, const char *text, size_t text_l
 /* The 31 stream bytes of a page, from 0; none for a wrong kind, image length or page. The image is not checked. */
 dartelm_page_answer dartelm_page(uint8_t kind, const uint8_t *image, size_t image_length, uint64_t page);
 
-/* ---- the archive has the structs so ---- */
+/* ---- the structs lie so, with pointers of 32 and of 64 bits, wherever a 64-bit integer is aligned to 8 bytes ---- */
 
 #if defined(__cplusplus) && __cplusplus >= 201103L
 #define DARTELM_IS(name, fact) static_assert(fact, #name)
@@ -439,7 +439,11 @@ dartelm_page_answer dartelm_page(uint8_t kind, const uint8_t *image, size_t imag
     DARTELM_AT(type, number, 0);    \
     DARTELM_AT(type, place, 8)
 
-DARTELM_IS(pointers, sizeof(size_t) == 8 && sizeof(void *) == 8);
+struct dartelm_alignment {
+    char first;
+    int64_t second;
+};
+DARTELM_IS(int64_t_is_not_aligned_to_8_bytes_here, offsetof(struct dartelm_alignment, second) == 8);
 DARTELM_IS(floats, sizeof(float) == 4 && sizeof(double) == 8);
 DARTELM_SIZE(dartelm_value, 16);
 DARTELM_AT(dartelm_value, whole, 0);
