@@ -3,7 +3,8 @@
 #include <stdbool.h>
 #include <string.h>
 
-/* A float operation must round once, to its own type, to nearest. What follows refuses a compiler that was told otherwise. */
+/* A float operation must round once, to its own type, to nearest. What follows refuses a compiler that was told otherwise; clang,
+ * which does not tell of parts of -ffast-math, is told here. */
 #if defined(__FAST_MATH__) || (defined(__FINITE_MATH_ONLY__) && __FINITE_MATH_ONLY__) || defined(__ASSOCIATIVE_MATH__) || \
     defined(__RECIPROCAL_MATH__) || defined(__NO_SIGNED_ZEROS__)
 #error "Dartelm: -ffast-math, or a part of it, changes what a reading gives"
@@ -13,6 +14,9 @@
 #endif
 #if FLT_RADIX != 2 || FLT_MANT_DIG != 24 || FLT_MAX_EXP != 128 || DBL_MANT_DIG != 53 || DBL_MAX_EXP != 1024
 #error "Dartelm: float and double must be IEEE 754's binary32 and binary64"
+#endif
+#if defined(__clang__)
+#pragma float_control(precise, on)
 #endif
 
 #if defined(__GNUC__) && !defined(__clang__)

@@ -2,6 +2,7 @@
 import ctypes
 import dataclasses
 import doctest
+import hashlib
 import inspect
 import os
 import shutil
@@ -201,6 +202,18 @@ class Library(unittest.TestCase):
     def test_a_library_that_is_none(self):
         with self.assertRaisesRegex(library.NoLibrary, "cannot be loaded"):
             library.load(os.path.join(self.room, "nothing.so"))
+
+    def test_a_newer_source_is_said(self):
+        self.assertIsNone(library.newer_source(self.room))
+        os.makedirs(os.path.join(self.room, "portable", "c"))
+        source = os.path.join(self.room, "a.rt")
+        with open(os.path.join(self.room, "portable", "c", "sources.sha256"), "w", encoding="ascii") as file:
+            file.write(hashlib.sha256(b"fn\n").hexdigest() + "  a.rt\n")
+        self.assertEqual(library.newer_source(self.room), "a.rt")
+        for text, wanted in (("fn\n", None), ("fn \n", "a.rt")):
+            with open(source, "w", encoding="ascii") as file:
+                file.write(text)
+            self.assertEqual(library.newer_source(self.room), wanted)
 
     def test_two_at_once(self):
         program = (
