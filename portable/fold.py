@@ -119,10 +119,13 @@ def sink_returns(fn, body):
     for s in body:
         for inner in mir.bodies(s):
             sink_returns(fn, inner)
+    while len(body) > 3 and isinstance(body[-1], Return) and stored(body[-2]) == 0 and is_copy_of(body[-2], stored(body[-3])) \
+            and is_copy_of(body[-3], None) and not fn.locals[stored(body[-3])].in_memory:
+        body[-3:-1] = [Assign(Place(0, ()), body[-3].value)]
     if len(body) < 3 or not isinstance(body[-1], Return) or not isinstance(body[-3], (If, Switch)):
         return
     last = body[-2]
-    if stored(last) != 0 or not isinstance(last.value, Copy) or last.value.place.steps or not isinstance(last.value.place.base, int):
+    if stored(last) != 0 or not is_copy_of(last, None):
         return
     branches = mir.bodies(body[-3])
     if not any(b and stored(b[-1]) == last.value.place.base for b in branches) \
@@ -133,6 +136,13 @@ def sink_returns(fn, body):
             b += [Assign(Place(0, ()), Copy(last.value.place)), Return(Copy(Place(0, ())))]
             sink_returns(fn, b)
     del body[-2:]
+
+
+def is_copy_of(s, local):
+    """Whether a statement stores a copy of a local, or where that is None of any local, as a whole."""
+    if stored(s) is None or not isinstance(s.value, Copy) or s.value.place.steps or not isinstance(s.value.place.base, int):
+        return False
+    return local is None or s.value.place.base == local
 
 
 def ends(body):

@@ -3,8 +3,7 @@
 #include <stdbool.h>
 #include <string.h>
 
-/* A float operation must round once, to its own type, to nearest. What follows refuses a compiler that was told otherwise; clang,
- * which does not tell of parts of -ffast-math, is told here. */
+/* A float operation must round once, to its own type, to nearest. What follows refuses a compiler that was told otherwise. */
 #if defined(__FAST_MATH__) || (defined(__FINITE_MATH_ONLY__) && __FINITE_MATH_ONLY__) || defined(__ASSOCIATIVE_MATH__) || \
     defined(__RECIPROCAL_MATH__) || defined(__NO_SIGNED_ZEROS__)
 #error "Dartelm: -ffast-math, or a part of it, changes what a reading gives"
@@ -14,9 +13,6 @@
 #endif
 #if FLT_RADIX != 2 || FLT_MANT_DIG != 24 || FLT_MAX_EXP != 128 || DBL_MANT_DIG != 53 || DBL_MAX_EXP != 1024
 #error "Dartelm: float and double must be IEEE 754's binary32 and binary64"
-#endif
-#if defined(__clang__)
-#pragma float_control(precise, on)
 #endif
 
 #if defined(__GNUC__) && !defined(__clang__)
@@ -56,7 +52,10 @@ static inline uint64_t dm_double_bits(double x)
     return bits;
 }
 
-/* Sums of doubles. An Arm core without double hardware adds by integers: libgcc's __aeabi_dsub misrounds some differences of numbers
+/* What a float operation gives goes through a volatile, and a divisor too, so that no compiler rounds two operations at once
+ * (-ffp-contract), regroups them or multiplies by a reciprocal, whatever it was told and does not tell of.
+ *
+ * Sums of doubles. An Arm core without double hardware adds by integers: libgcc's __aeabi_dsub misrounds some differences of numbers
  * whose exponents are 33 apart (gcc-arm-none-eabi 12.2, Cortex-M3 and M4). With DARTELM_SOFT_SUMS any core does. */
 #if defined(DARTELM_SOFT_SUMS) || (defined(__arm__) && !(defined(__ARM_FP) && (__ARM_FP & 8)))
 /* The sum of two doubles by their bits, rounded to nearest, ties to even. The larger magnitude is a, with 3 bits more behind its last:
@@ -139,15 +138,16 @@ static inline double dm_double_sub(double a, double b)
 #else
 static inline double dm_double_add(double a, double b)
 {
-    return a + b;
+    volatile double sum = a + b;
+    return sum;
 }
 static inline double dm_double_sub(double a, double b)
 {
-    return a - b;
+    volatile double difference = a - b;
+    return difference;
 }
 #endif
 
-/* A product goes through a volatile, so that no compiler rounds it and a sum at once, whatever -ffp-contract says. */
 static inline double dm_double_mul(double a, double b)
 {
     volatile double product = a * b;
@@ -156,26 +156,30 @@ static inline double dm_double_mul(double a, double b)
 
 static inline double dm_double_div(double a, double b)
 {
-    return a / b;
+    volatile double divisor = b, quotient = a / divisor;
+    return quotient;
 }
 
 static inline float dm_float_add(float a, float b)
 {
-    return a + b;
+    volatile float sum = a + b;
+    return sum;
 }
 
 static inline float dm_float_sub(float a, float b)
 {
-    return a - b;
-}
-
-static inline float dm_float_div(float a, float b)
-{
-    return a / b;
+    volatile float difference = a - b;
+    return difference;
 }
 
 static inline float dm_float_mul(float a, float b)
 {
     volatile float product = a * b;
     return product;
+}
+
+static inline float dm_float_div(float a, float b)
+{
+    volatile float divisor = b, quotient = a / divisor;
+    return quotient;
 }

@@ -51,7 +51,7 @@ class Program:
         return names
 
     def local_name(self, fn, local):
-        if local == 0:
+        if local == 0 or (local not in fn.named and local in fn.returned):
             return 'result'
         return plain(fn.named[local]) if local in fn.named and re.fullmatch(r'[a-z]\w*', fn.named[local]) else f'v{local}'
 
@@ -114,6 +114,8 @@ class Program:
         fn = self.functions[name]
         self.fold(fn)
         live(fn, fn.body, set())
+        fn.returned = {s.value.place.base for s in mir.statements(fn.body)
+                       if isinstance(s, mir.Return) and isinstance(s.value, mir.Copy) and not s.value.place.steps}
         writer = Statements(self, fn)
         first = self.parameters(fn, writer)
         for local in fn.tables:

@@ -237,11 +237,13 @@ class Statements(Values):
                 self.say(f'case {k}:')
             if n == len(arms) - 1:
                 self.say('default:')
-            self.lines[-1] += ' {'
+            declares = bool(self.declare_in.get(id(body)))
+            self.lines[-1] += ' {' if declares else ''
             self.inner(body)
             if not (body and ends(body[-1])):
                 self.say('    break;')
-            self.say('}')
+            if declares:
+                self.say('}')
         self.say('}')
         if opened:
             self.depth -= 1

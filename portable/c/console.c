@@ -665,16 +665,16 @@ static uint64_t dm_io_least(uint64_t a, uint64_t b)
 
 static uint64_t dm_io_number_decimal(uint64_t n, dm_array_u8_20 *out)
 {
-    uint64_t v3 = dm_io_number_places(n, 10u, 1u);
-    dm_io_number_spell(n, 10u, v3, dm_slice_u8_of(out->at, 20u));
-    return v3;
+    uint64_t result = dm_io_number_places(n, 10u, 1u);
+    dm_io_number_spell(n, 10u, result, dm_slice_u8_of(out->at, 20u));
+    return result;
 }
 
 static uint64_t dm_io_number_hex(uint64_t n, uint64_t width, dm_array_u8_16 *out)
 {
-    uint64_t v4 = dm_io_number_places(n, 16u, dm_io_number_one_to_sixteen(width));
-    dm_io_number_spell(n, 16u, v4, dm_slice_u8_of(out->at, 16u));
-    return v4;
+    uint64_t result = dm_io_number_places(n, 16u, dm_io_number_one_to_sixteen(width));
+    dm_io_number_spell(n, 16u, result, dm_slice_u8_of(out->at, 16u));
+    return result;
 }
 
 static bool dm_io_number_print_decimal(uint32_t fd, uint64_t n)
@@ -693,16 +693,16 @@ static bool dm_io_number_print_hex(uint32_t fd, uint64_t n, uint64_t width)
 
 static uint64_t dm_io_number_places(uint64_t n, uint64_t base, uint64_t least)
 {
-    uint64_t v4 = 1u;
+    uint64_t result = 1u;
     uint64_t v5 = n / base;
     while (0u < v5) {
         v5 /= base;
-        v4 += 1u;
+        result += 1u;
     }
-    if (v4 < least) {
+    if (result < least) {
         return least;
     } else {
-        return v4;
+        return result;
     }
 }
 
@@ -710,14 +710,10 @@ static uint64_t dm_io_number_one_to_sixteen(uint64_t width)
 {
     if (width < 1u) {
         return 1u;
+    } else if (16u < width) {
+        return 16u;
     } else {
-        uint64_t v5;
-        if (16u < width) {
-            v5 = 16u;
-        } else {
-            v5 = width;
-        }
-        return v5;
+        return width;
     }
 }
 
@@ -819,14 +815,14 @@ static dm_words_Figure dm_words_figures_above(const dm_words_Number *number)
             result.tag = dm_words_Figure_Not;
             return result;
         }
-        dm_words_Figure v3;
-        v3.tag = dm_words_Figure_Is;
-        v3.Is.value = dm_integers_parts_difference(n, 0u);
-        return v3;
+        dm_words_Figure result_2;
+        result_2.tag = dm_words_Figure_Is;
+        result_2.Is.value = dm_integers_parts_difference(n, 0u);
+        return result_2;
     } else { /* dm_words_Number_Not */
-        dm_words_Figure v3;
-        v3.tag = dm_words_Figure_Not;
-        return v3;
+        dm_words_Figure result_2;
+        result_2.tag = dm_words_Figure_Not;
+        return result_2;
     }
 }
 
@@ -840,14 +836,14 @@ static dm_words_Figure dm_words_figures_below(const dm_words_Number *number)
             result.tag = dm_words_Figure_Not;
             return result;
         }
-        dm_words_Figure v3;
-        v3.tag = dm_words_Figure_Is;
-        v3.Is.value = dm_integers_parts_difference(0u, n);
-        return v3;
+        dm_words_Figure result_2;
+        result_2.tag = dm_words_Figure_Is;
+        result_2.Is.value = dm_integers_parts_difference(0u, n);
+        return result_2;
     } else { /* dm_words_Number_Not */
-        dm_words_Figure v3;
-        v3.tag = dm_words_Figure_Not;
-        return v3;
+        dm_words_Figure result_2;
+        result_2.tag = dm_words_Figure_Not;
+        return result_2;
     }
 }
 
@@ -1210,14 +1206,14 @@ static dm_words_Worth dm_words_values_single_word(dm_slice_u8 digits)
         dm_fields_Value v23;
         v23.tag = dm_fields_Value_Single;
         v23.Single.value = dm_words_values_single_of(v10);
-        dm_words_Worth v7;
-        v7.tag = dm_words_Worth_Is;
-        v7.Is.value = v23;
-        return v7;
+        dm_words_Worth result_2;
+        result_2.tag = dm_words_Worth_Is;
+        result_2.Is.value = v23;
+        return result_2;
     } else { /* dm_words_Filled_Not */
-        dm_words_Worth v7;
-        v7.tag = dm_words_Worth_Not;
-        return v7;
+        dm_words_Worth result_2;
+        result_2.tag = dm_words_Worth_Not;
+        return result_2;
     }
 }
 
@@ -1230,14 +1226,14 @@ static dm_words_Worth dm_words_values_whole_word(dm_slice_u8 digits)
         dm_fields_Value v5;
         v5.tag = dm_fields_Value_Whole;
         v5.Whole.value = figure;
-        dm_words_Worth v4;
-        v4.tag = dm_words_Worth_Is;
-        v4.Is.value = v5;
-        return v4;
+        dm_words_Worth result;
+        result.tag = dm_words_Worth_Is;
+        result.Is.value = v5;
+        return result;
     } else { /* dm_words_Figure_Not */
-        dm_words_Worth v4;
-        v4.tag = dm_words_Worth_Not;
-        return v4;
+        dm_words_Worth result;
+        result.tag = dm_words_Worth_Not;
+        return result;
     }
 }
 
@@ -1295,10 +1291,9 @@ static void dm_build_building_spread(const dm_array_build_Slot_21 *slots, dm_sli
             break;
         }
         case dm_fields_Value_Missing:
-        default: {
+        default:
             sorts.at[i] = 2u;
             break;
-        }
         }
         i += 1u;
     }
@@ -1448,23 +1443,19 @@ static void dm_shown_listing_print_part(uint8_t kind, dm_slice_u8 image, dm_show
         dm_shown_listing_print_field(kind, image, template_, index);
         break;
     }
-    case dm_shown_listing_Part_Point: {
+    case dm_shown_listing_Part_Point:
         dm_shown_listing_print_point(kind, image, index);
         break;
-    }
-    case dm_shown_listing_Part_Segment: {
+    case dm_shown_listing_Part_Segment:
         dm_shown_listing_print_segment(kind, image, index);
         break;
-    }
-    case dm_shown_listing_Part_Term: {
+    case dm_shown_listing_Part_Term:
         dm_shown_listing_print_term(kind, image, index);
         break;
-    }
     case dm_shown_listing_Part_Character:
-    default: {
+    default:
         dm_shown_listing_print_character(kind, image, index);
         break;
-    }
     }
     return;
 }
@@ -1862,7 +1853,7 @@ static void dm_shown_singles_print_single(float x)
 static uint64_t dm_shown_values_text_field(dm_fields_Template template_, uint64_t field)
 {
     if (template_ == dm_fields_Template_Bridge) {
-        uint64_t v4;
+        uint64_t result;
         do {
             do {
                 if (field == 3u) {
@@ -1877,36 +1868,26 @@ static uint64_t dm_shown_values_text_field(dm_fields_Template template_, uint64_
                         }
                         break;
                     } while (0);
-                    v4 = 0u;
+                    result = 0u;
                     goto out2;
                 }
             } while (0);
             out1: ;
-            v4 = field;
+            result = field;
         } while (0);
         out2: ;
-        return v4;
+        return result;
     } else { /* dm_fields_Template_Resistance */
-        uint64_t v6;
         switch (field) {
-        case 3u: {
-            v6 = 3u;
-            break;
+        case 3u:
+            return 3u;
+        case 16u:
+            return 18u;
+        case 17u:
+            return 19u;
+        default:
+            return 0u;
         }
-        case 16u: {
-            v6 = 18u;
-            break;
-        }
-        case 17u: {
-            v6 = 19u;
-            break;
-        }
-        default: {
-            v6 = 0u;
-            break;
-        }
-        }
-        return v6;
     }
 }
 
@@ -1963,10 +1944,9 @@ static void dm_shown_values_print_value(dm_fields_Template template_, uint64_t f
         break;
     }
     case dm_fields_Value_Missing:
-    default: {
+    default:
         dm_shown_output_put(dm_slice_u8_of((uint8_t *)"missing", 7u));
         break;
-    }
     }
     return;
 }
@@ -2073,15 +2053,15 @@ static dm_build_Slot dm_bench_builds_slot(dm_slice_u8 line, uint64_t index)
 {
     dm_words_Worth v4 = dm_words_values_value_of(dm_words_parts_word(line, index));
     if (v4.tag == dm_words_Worth_Is) {
-        dm_build_Slot v6;
-        v6.value = v4.Is.value;
-        return v6;
+        dm_build_Slot result;
+        result.value = v4.Is.value;
+        return result;
     } else { /* dm_words_Worth_Not */
         dm_fields_Value v7;
         v7.tag = dm_fields_Value_Missing;
-        dm_build_Slot v6;
-        v6.value = v7;
-        return v6;
+        dm_build_Slot result;
+        result.value = v7;
+        return result;
     }
 }
 
@@ -2278,44 +2258,35 @@ static void dm_bench_commands_answer(dm_slice_u8 line)
 {
     dm_slice_u8 name = dm_words_parts_word(line, 0u);
     switch (dm_words_parts_word_count(line)) {
-    case 1u: {
+    case 1u:
         dm_bench_commands_of_nothing(name);
         break;
-    }
-    case 2u: {
+    case 2u:
         dm_bench_commands_of_one(line, name);
         break;
-    }
-    case 3u: {
+    case 3u:
         dm_bench_commands_of_two(line, name);
         break;
-    }
-    case 4u: {
+    case 4u:
         dm_bench_commands_of_three(line, name);
         break;
-    }
-    case 5u: {
+    case 5u:
         dm_bench_commands_of_four(line, name);
         break;
-    }
-    case 6u: {
+    case 6u:
         dm_bench_commands_of_five(line, name);
         break;
-    }
-    case 7u: {
+    case 7u:
         dm_bench_commands_of_six(line, name);
         break;
-    }
     case 28u:
     case 30u:
-    case 32u: {
+    case 32u:
         dm_bench_commands_of_sheet(line, name);
         break;
-    }
-    default: {
+    default:
         dm_bench_printing_unknown();
         break;
-    }
     }
     return;
 }
@@ -3092,10 +3063,9 @@ static void dm_bench_printing_value(const dm_fields_Value *v)
         break;
     }
     case dm_fields_Value_Missing:
-    default: {
+    default:
         dm_shown_output_put(dm_slice_u8_of((uint8_t *)"m", 1u));
         break;
-    }
     }
     dm_bench_printing_end();
     return;
@@ -3294,10 +3264,9 @@ static void dm_bench_runs_compared(uint8_t kind, dm_slice_u8 image, dm_slice_u64
 {
     dm_recordings_ComparedAnswer v9 = dm_recordings_comparing_compare(kind, image, slow, fast);
     switch (v9.tag) {
-    case dm_recordings_ComparedAnswer_Agree: {
+    case dm_recordings_ComparedAnswer_Agree:
         dm_shown_output_put(dm_slice_u8_of((uint8_t *)"agree\n", 6u));
         break;
-    }
     case dm_recordings_ComparedAnswer_Tick: {
         uint64_t tick = v9.Tick.value;
         dm_shown_output_put(dm_slice_u8_of((uint8_t *)"tick ", 5u));
@@ -3305,10 +3274,9 @@ static void dm_bench_runs_compared(uint8_t kind, dm_slice_u8 image, dm_slice_u64
         break;
     }
     case dm_recordings_ComparedAnswer_Refused:
-    default: {
+    default:
         dm_bench_printing_refused(&v9.Refused.value);
         break;
-    }
     }
     return;
 }

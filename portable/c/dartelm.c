@@ -7,8 +7,7 @@
 #include <stdbool.h>
 #include <string.h>
 
-/* A float operation must round once, to its own type, to nearest. What follows refuses a compiler that was told otherwise; clang,
- * which does not tell of parts of -ffast-math, is told here. */
+/* A float operation must round once, to its own type, to nearest. What follows refuses a compiler that was told otherwise. */
 #if defined(__FAST_MATH__) || (defined(__FINITE_MATH_ONLY__) && __FINITE_MATH_ONLY__) || defined(__ASSOCIATIVE_MATH__) || \
     defined(__RECIPROCAL_MATH__) || defined(__NO_SIGNED_ZEROS__)
 #error "Dartelm: -ffast-math, or a part of it, changes what a reading gives"
@@ -18,9 +17,6 @@
 #endif
 #if FLT_RADIX != 2 || FLT_MANT_DIG != 24 || FLT_MAX_EXP != 128 || DBL_MANT_DIG != 53 || DBL_MAX_EXP != 1024
 #error "Dartelm: float and double must be IEEE 754's binary32 and binary64"
-#endif
-#if defined(__clang__)
-#pragma float_control(precise, on)
 #endif
 
 #if defined(__GNUC__) && !defined(__clang__)
@@ -53,7 +49,10 @@ static inline uint32_t dm_float_bits(float x)
     return bits;
 }
 
-/* Sums of doubles. An Arm core without double hardware adds by integers: libgcc's __aeabi_dsub misrounds some differences of numbers
+/* What a float operation gives goes through a volatile, and a divisor too, so that no compiler rounds two operations at once
+ * (-ffp-contract), regroups them or multiplies by a reciprocal, whatever it was told and does not tell of.
+ *
+ * Sums of doubles. An Arm core without double hardware adds by integers: libgcc's __aeabi_dsub misrounds some differences of numbers
  * whose exponents are 33 apart (gcc-arm-none-eabi 12.2, Cortex-M3 and M4). With DARTELM_SOFT_SUMS any core does. */
 #if defined(DARTELM_SOFT_SUMS) || (defined(__arm__) && !(defined(__ARM_FP) && (__ARM_FP & 8)))
 /* The sum of two doubles by their bits, rounded to nearest, ties to even. The larger magnitude is a, with 3 bits more behind its last:
@@ -136,15 +135,16 @@ static inline double dm_double_sub(double a, double b)
 #else
 static inline double dm_double_add(double a, double b)
 {
-    return a + b;
+    volatile double sum = a + b;
+    return sum;
 }
 static inline double dm_double_sub(double a, double b)
 {
-    return a - b;
+    volatile double difference = a - b;
+    return difference;
 }
 #endif
 
-/* A product goes through a volatile, so that no compiler rounds it and a sum at once, whatever -ffp-contract says. */
 static inline double dm_double_mul(double a, double b)
 {
     volatile double product = a * b;
@@ -153,12 +153,14 @@ static inline double dm_double_mul(double a, double b)
 
 static inline double dm_double_div(double a, double b)
 {
-    return a / b;
+    volatile double divisor = b, quotient = a / divisor;
+    return quotient;
 }
 
 static inline float dm_float_div(float a, float b)
 {
-    return a / b;
+    volatile float divisor = b, quotient = a / divisor;
+    return quotient;
 }
 
 /* A refusal gives only these two. */
@@ -1939,48 +1941,29 @@ static double dm_fields_figure_physical_figure(float least, float greatest, doub
 static bool dm_fields_levels_may_write(dm_fields_Level level, dm_fields_Mark mark)
 {
     switch (level) {
-    case dm_fields_Level_Maker: {
+    case dm_fields_Level_Maker:
         return true;
-    }
-    case dm_fields_Level_CalibrationRoom: {
-        bool v4;
+    case dm_fields_Level_CalibrationRoom:
         switch (mark) {
-        case dm_fields_Mark_Id: {
-            v4 = false;
-            break;
-        }
-        case dm_fields_Mark_Cal: {
-            v4 = true;
-            break;
-        }
+        case dm_fields_Mark_Id:
+            return false;
+        case dm_fields_Mark_Cal:
+            return true;
         case dm_fields_Mark_Usr:
-        default: {
-            v4 = true;
-            break;
+        default:
+            return true;
         }
-        }
-        return v4;
-    }
     case dm_fields_Level_Owner:
-    default: {
-        bool v5;
+    default:
         switch (mark) {
-        case dm_fields_Mark_Id: {
-            v5 = false;
-            break;
-        }
-        case dm_fields_Mark_Cal: {
-            v5 = false;
-            break;
-        }
+        case dm_fields_Mark_Id:
+            return false;
+        case dm_fields_Mark_Cal:
+            return false;
         case dm_fields_Mark_Usr:
-        default: {
-            v5 = true;
-            break;
+        default:
+            return true;
         }
-        }
-        return v5;
-    }
     }
 }
 
@@ -2225,9 +2208,8 @@ static dm_fields_Row dm_fields_templates_basic_row(uint64_t field)
         v3.Plain.f2 = 16381u;
         return dm_fields_rows_always(14u, &v3);
     }
-    case 2u: {
+    case 2u:
         return dm_fields_rows_any(15u);
-    }
     case 3u: {
         dm_fields_Rule v4;
         v4.tag = dm_fields_Rule_Plain;
@@ -2235,12 +2217,10 @@ static dm_fields_Row dm_fields_templates_basic_row(uint64_t field)
         v4.Plain.f2 = 26u;
         return dm_fields_rows_always(5u, &v4);
     }
-    case 4u: {
+    case 4u:
         return dm_fields_rows_any(6u);
-    }
-    default: {
+    default:
         return dm_fields_rows_any(24u);
-    }
     }
 }
 
@@ -2272,12 +2252,10 @@ static dm_fields_Row dm_fields_templates_bridge_row(uint64_t precision, uint64_t
         v7.Plain.f2 = 2u;
         return dm_fields_rows_always(2u, &v7);
     }
-    case 10u: {
+    case 10u:
         return dm_fields_rows_bridge_end(precision);
-    }
-    case 11u: {
+    case 11u:
         return dm_fields_rows_bridge_end(precision);
-    }
     case 12u: {
         dm_fields_Rule v8;
         v8.tag = dm_fields_Rule_Plain;
@@ -2292,9 +2270,8 @@ static dm_fields_Row dm_fields_templates_bridge_row(uint64_t precision, uint64_t
         v9.Stepped.f2 = 1u;
         return dm_fields_rows_optional(18u, &v9);
     }
-    case 14u: {
+    case 14u:
         return dm_fields_rows_scaled(dm_fields_Scale_ResponseTime);
-    }
     case 15u: {
         dm_fields_Rule v11;
         v11.tag = dm_fields_Rule_Stepped;
@@ -2323,15 +2300,12 @@ static dm_fields_Row dm_fields_templates_bridge_row(uint64_t precision, uint64_t
         v14.Plain.f2 = 65534u;
         return dm_fields_rows_optional(16u, &v14);
     }
-    case 19u: {
+    case 19u:
         return dm_fields_rows_any(15u);
-    }
-    case 20u: {
+    case 20u:
         return dm_fields_rows_any(12u);
-    }
-    default: {
+    default:
         return dm_fields_rows_any(11u);
-    }
     }
 }
 
@@ -2356,27 +2330,20 @@ static dm_fields_Row dm_fields_templates_resistance_row(uint64_t precision, uint
         v6.tag = dm_fields_Rule_Single;
         return dm_fields_rows_optional(32u, &v6);
     }
-    case 9u: {
+    case 9u:
         return dm_fields_rows_any(2u);
-    }
-    case 10u: {
+    case 10u:
         return dm_fields_rows_resistance_end(precision);
-    }
-    case 11u: {
+    case 11u:
         return dm_fields_rows_resistance_end(precision);
-    }
-    case 12u: {
+    case 12u:
         return dm_fields_rows_any(2u);
-    }
-    case 13u: {
+    case 13u:
         return dm_fields_rows_scaled(dm_fields_Scale_ResponseTime);
-    }
-    case 14u: {
+    case 14u:
         return dm_fields_rows_scaled(dm_fields_Scale_Current);
-    }
-    case 15u: {
+    case 15u:
         return dm_fields_rows_scaled(dm_fields_Scale_Current);
-    }
     case 16u: {
         dm_fields_Rule v10;
         v10.tag = dm_fields_Rule_Plain;
@@ -2384,15 +2351,12 @@ static dm_fields_Row dm_fields_templates_resistance_row(uint64_t precision, uint
         v10.Plain.f2 = 65534u;
         return dm_fields_rows_optional(16u, &v10);
     }
-    case 17u: {
+    case 17u:
         return dm_fields_rows_any(15u);
-    }
-    case 18u: {
+    case 18u:
         return dm_fields_rows_any(12u);
-    }
-    default: {
+    default:
         return dm_fields_rows_any(11u);
-    }
     }
 }
 
@@ -2431,72 +2395,50 @@ static uint64_t dm_fields_templates_last_closed(dm_fields_Template template_)
 static uint64_t dm_fields_templates_bridge_bits(uint64_t field)
 {
     switch (field) {
-    case 1u: {
+    case 1u:
         return 0u;
-    }
-    case 2u: {
+    case 2u:
         return 14u;
-    }
-    case 3u: {
+    case 3u:
         return 29u;
-    }
-    case 4u: {
+    case 4u:
         return 34u;
-    }
-    case 5u: {
+    case 5u:
         return 40u;
-    }
-    case 6u: {
+    case 6u:
         return 64u;
-    }
-    case 7u: {
+    case 7u:
         return 70u;
-    }
-    case 8u: {
+    case 8u:
         return 102u;
-    }
-    case 9u: {
+    case 9u:
         return 134u;
-    }
-    case 10u: {
+    case 10u:
         return 136u;
-    }
-    case 11u: {
+    case 11u:
         return 136u;
-    }
-    case 12u: {
+    case 12u:
         return 136u;
-    }
-    case 13u: {
+    case 13u:
         return 138u;
-    }
-    case 14u: {
+    case 14u:
         return 156u;
-    }
-    case 15u: {
+    case 15u:
         return 162u;
-    }
-    case 16u: {
+    case 16u:
         return 171u;
-    }
-    case 17u: {
+    case 17u:
         return 180u;
-    }
-    case 18u: {
+    case 18u:
         return 189u;
-    }
-    case 19u: {
+    case 19u:
         return 205u;
-    }
-    case 20u: {
+    case 20u:
         return 220u;
-    }
-    case 21u: {
+    case 21u:
         return 232u;
-    }
-    default: {
+    default:
         return 243u;
-    }
     }
 }
 
@@ -2504,66 +2446,46 @@ static uint64_t dm_fields_templates_bridge_bits(uint64_t field)
 static uint64_t dm_fields_templates_resistance_bits(uint64_t field)
 {
     switch (field) {
-    case 1u: {
+    case 1u:
         return 0u;
-    }
-    case 2u: {
+    case 2u:
         return 14u;
-    }
-    case 3u: {
+    case 3u:
         return 29u;
-    }
-    case 4u: {
+    case 4u:
         return 34u;
-    }
-    case 5u: {
+    case 5u:
         return 40u;
-    }
-    case 6u: {
+    case 6u:
         return 64u;
-    }
-    case 7u: {
+    case 7u:
         return 70u;
-    }
-    case 8u: {
+    case 8u:
         return 102u;
-    }
-    case 9u: {
+    case 9u:
         return 134u;
-    }
-    case 10u: {
+    case 10u:
         return 136u;
-    }
-    case 11u: {
+    case 11u:
         return 136u;
-    }
-    case 12u: {
+    case 12u:
         return 136u;
-    }
-    case 13u: {
+    case 13u:
         return 138u;
-    }
-    case 14u: {
+    case 14u:
         return 144u;
-    }
-    case 15u: {
+    case 15u:
         return 152u;
-    }
-    case 16u: {
+    case 16u:
         return 160u;
-    }
-    case 17u: {
+    case 17u:
         return 176u;
-    }
-    case 18u: {
+    case 18u:
         return 191u;
-    }
-    case 19u: {
+    case 19u:
         return 203u;
-    }
-    default: {
+    default:
         return 214u;
-    }
     }
 }
 
@@ -2617,10 +2539,10 @@ static dm_memory_kinds_SizesAnswer dm_memory_kinds_image_sizes(uint8_t kind, uin
         return dm_memory_kinds_fitting(&v6, bytes);
     }
     default: {
-        dm_memory_kinds_SizesAnswer v3;
-        v3.tag = dm_memory_kinds_SizesAnswer_Refused;
-        v3.Refused.value = dm_refusal_rows_wrong_image();
-        return v3;
+        dm_memory_kinds_SizesAnswer result;
+        result.tag = dm_memory_kinds_SizesAnswer_Refused;
+        result.Refused.value = dm_refusal_rows_wrong_image();
+        return result;
     }
     }
 }
@@ -2708,16 +2630,13 @@ static dm_memory_pages_PageTest dm_memory_pages_test_page(const dm_memory_Sizes 
 static bool dm_memory_pages_is_good(dm_memory_pages_PageTest test)
 {
     switch (test) {
-    case dm_memory_pages_PageTest_Good: {
+    case dm_memory_pages_PageTest_Good:
         return true;
-    }
-    case dm_memory_pages_PageTest_Wrong: {
+    case dm_memory_pages_PageTest_Wrong:
         return false;
-    }
     case dm_memory_pages_PageTest_Blank:
-    default: {
+    default:
         return false;
-    }
     }
 }
 
@@ -3648,10 +3567,10 @@ static dm_texts_CodeAnswer dm_texts_code_if_shown(uint64_t field, uint64_t code,
     dm_texts_Text shown = dm_texts_text_of(field, code);
     if (shown.answer.tag == dm_texts_TextAnswer_Refused) {
         dm_refusal_Refusal r = shown.answer.Refused.value;
-        dm_texts_CodeAnswer v10;
-        v10.tag = dm_texts_CodeAnswer_Refused;
-        v10.Refused.value = r;
-        return v10;
+        dm_texts_CodeAnswer result_2;
+        result_2.tag = dm_texts_CodeAnswer_Refused;
+        result_2.Refused.value = r;
+        return result_2;
     } else { /* dm_texts_TextAnswer_Length */
         uint64_t n = shown.answer.Length.value;
         uint64_t end = n;
@@ -3661,10 +3580,10 @@ static dm_texts_CodeAnswer dm_texts_code_if_shown(uint64_t field, uint64_t code,
             result.Code.value = code;
             return result;
         }
-        dm_texts_CodeAnswer v10;
-        v10.tag = dm_texts_CodeAnswer_Refused;
-        v10.Refused.value = dm_refusal_rows_out_of_range(field);
-        return v10;
+        dm_texts_CodeAnswer result_2;
+        result_2.tag = dm_texts_CodeAnswer_Refused;
+        result_2.Refused.value = dm_refusal_rows_out_of_range(field);
+        return result_2;
     }
 }
 
@@ -3786,9 +3705,9 @@ static dm_fields_Judged dm_coding_calibration_climbs(dm_fields_Domain domain, dm
     dm_fields_Codes next)
 {
     if (domain == dm_fields_Domain_Electrical) {
-        dm_fields_Judged v5;
-        v5.tag = dm_fields_Judged_Stands;
-        return v5;
+        dm_fields_Judged result_2;
+        result_2.tag = dm_fields_Judged_Stands;
+        return result_2;
     } else { /* dm_fields_Domain_Physical */
         uint64_t v6 = dm_coding_calibration_sum_above(next);
         if (v6 <= dm_coding_calibration_sum_above(before)) {
@@ -3797,9 +3716,9 @@ static dm_fields_Judged dm_coding_calibration_climbs(dm_fields_Domain domain, dm
             result.Refused.value = dm_refusal_rows_sums_not_rising(place);
             return result;
         }
-        dm_fields_Judged v5;
-        v5.tag = dm_fields_Judged_Stands;
-        return v5;
+        dm_fields_Judged result_2;
+        result_2.tag = dm_fields_Judged_Stands;
+        return result_2;
     }
 }
 
@@ -3809,9 +3728,9 @@ static dm_fields_Judged dm_coding_calibration_follows(dm_fields_Domain domain, c
     uint64_t place, dm_fields_Codes next)
 {
     if (before->tag == dm_fields_Previous_Nothing) {
-        dm_fields_Judged v6;
-        v6.tag = dm_fields_Judged_Stands;
-        return v6;
+        dm_fields_Judged result;
+        result.tag = dm_fields_Judged_Stands;
+        return result;
     } else { /* dm_fields_Previous_Pair */
         dm_fields_Codes codes = before->Pair.value;
         if ((uint32_t)next.point <= (uint32_t)codes.point) {
@@ -4088,15 +4007,14 @@ static dm_fields_Decoded dm_coding_decoding_decode_unscaled(const dm_fields_Row 
     case dm_fields_Rule_Geometric: {
         dm_fields_Value v13;
         v13.tag = dm_fields_Value_Missing;
-        dm_fields_Decoded v12;
-        v12.tag = dm_fields_Decoded_Means;
-        v12.Means.value = v13;
-        return v12;
+        dm_fields_Decoded result;
+        result.tag = dm_fields_Decoded_Means;
+        result.Means.value = v13;
+        return result;
     }
     case dm_fields_Rule_Single:
-    default: {
+    default:
         return dm_coding_decoding_single(at, code);
-    }
     }
 }
 
@@ -4104,12 +4022,10 @@ static dm_fields_Decoded dm_coding_decoding_decode_unscaled(const dm_fields_Row 
 static dm_fields_Decoded dm_coding_decoding_decode(const dm_fields_Row *row, uint64_t at, uint64_t code)
 {
     switch (row->rule.tag) {
-    case dm_fields_Rule_Plain: {
+    case dm_fields_Rule_Plain:
         return dm_coding_decoding_decode_unscaled(row, at, code);
-    }
-    case dm_fields_Rule_Stepped: {
+    case dm_fields_Rule_Stepped:
         return dm_coding_decoding_decode_unscaled(row, at, code);
-    }
     case dm_fields_Rule_Geometric: {
         dm_fields_Scale scale = row->rule.Geometric.value;
         if (dm_coding_judging_is_missing(row, code)) {
@@ -4123,9 +4039,8 @@ static dm_fields_Decoded dm_coding_decoding_decode(const dm_fields_Row *row, uin
         return dm_coding_decoding_geometric(scale, row->width, at, code);
     }
     case dm_fields_Rule_Single:
-    default: {
+    default:
         return dm_coding_decoding_decode_unscaled(row, at, code);
-    }
     }
 }
 
@@ -4271,28 +4186,23 @@ static uint64_t dm_coding_encoding_swift_whole(const dm_fields_Row *row, uint64_
         dm_fields_Encoded v10 = dm_coding_encoding_stepped(start, step, row->width, 0u, figure);
         return dm_coding_encoding_code_or_none(&v10);
     }
-    case dm_fields_Rule_Geometric: {
+    case dm_fields_Rule_Geometric:
         return 4294967296u;
-    }
     case dm_fields_Rule_Single:
-    default: {
+    default:
         return 4294967296u;
-    }
     }
 }
 
 static uint64_t dm_coding_encoding_swift_single(const dm_fields_Row *row, float x)
 {
     switch (row->rule.tag) {
-    case dm_fields_Rule_Plain: {
+    case dm_fields_Rule_Plain:
         return 4294967296u;
-    }
-    case dm_fields_Rule_Stepped: {
+    case dm_fields_Rule_Stepped:
         return 4294967296u;
-    }
-    case dm_fields_Rule_Geometric: {
+    case dm_fields_Rule_Geometric:
         return 4294967296u;
-    }
     case dm_fields_Rule_Single:
     default: {
         dm_fields_Encoded v5 = dm_coding_encoding_bits(0u, x);
@@ -4319,9 +4229,8 @@ static uint64_t dm_coding_encoding_swift(const dm_fields_Row *row, const dm_fiel
         return dm_coding_encoding_swift_single(row, x);
     }
     case dm_fields_Value_Missing:
-    default: {
+    default:
         return dm_coding_encoding_swift_missing(row);
-    }
     }
 }
 
@@ -4334,13 +4243,11 @@ static dm_fields_Encoded dm_coding_encoding_encode_plain(const dm_fields_Row *ro
         uint64_t figure = value->Whole.value;
         return dm_coding_encoding_plain(least, greatest, place, figure);
     }
-    case dm_fields_Value_Single: {
+    case dm_fields_Value_Single:
         return dm_coding_encoding_wrong_sort(place);
-    }
     case dm_fields_Value_Missing:
-    default: {
+    default:
         return dm_coding_encoding_missing_code(row, place);
-    }
     }
 }
 
@@ -4352,13 +4259,11 @@ static dm_fields_Encoded dm_coding_encoding_encode_stepped(const dm_fields_Row *
         uint64_t figure = value->Whole.value;
         return dm_coding_encoding_stepped(start, step, row->width, place, figure);
     }
-    case dm_fields_Value_Single: {
+    case dm_fields_Value_Single:
         return dm_coding_encoding_wrong_sort(place);
-    }
     case dm_fields_Value_Missing:
-    default: {
+    default:
         return dm_coding_encoding_missing_code(row, place);
-    }
     }
 }
 
@@ -4370,13 +4275,11 @@ static dm_fields_Encoded dm_coding_encoding_encode_geometric(const dm_fields_Row
         uint64_t figure = value->Whole.value;
         return dm_coding_encoding_geometric(scale, row->width, place, figure);
     }
-    case dm_fields_Value_Single: {
+    case dm_fields_Value_Single:
         return dm_coding_encoding_wrong_sort(place);
-    }
     case dm_fields_Value_Missing:
-    default: {
+    default:
         return dm_coding_encoding_missing_code(row, place);
-    }
     }
 }
 
@@ -4384,17 +4287,15 @@ static dm_fields_Encoded dm_coding_encoding_encode_single(const dm_fields_Row *r
     const dm_fields_Value *value)
 {
     switch (value->tag) {
-    case dm_fields_Value_Whole: {
+    case dm_fields_Value_Whole:
         return dm_coding_encoding_wrong_sort(place);
-    }
     case dm_fields_Value_Single: {
         float x = value->Single.value;
         return dm_coding_encoding_bits(place, x);
     }
     case dm_fields_Value_Missing:
-    default: {
+    default:
         return dm_coding_encoding_missing_code(row, place);
-    }
     }
 }
 
@@ -4420,9 +4321,8 @@ static dm_fields_Encoded dm_coding_encoding_encode_by(const dm_fields_Row *row, 
         return dm_coding_encoding_encode_geometric(row, scale, place, value);
     }
     case dm_fields_Rule_Single:
-    default: {
+    default:
         return dm_coding_encoding_encode_single(row, place, value);
-    }
     }
 }
 
@@ -4517,16 +4417,13 @@ static dm_fields_Judged dm_coding_judging_by_rule(const dm_fields_Row *row, uint
         uint64_t greatest = row->rule.Plain.f2;
         return dm_coding_judging_in_table(least, greatest, at, code);
     }
-    case dm_fields_Rule_Stepped: {
+    case dm_fields_Rule_Stepped:
         return dm_coding_judging_up_to_top(width, at, code);
-    }
-    case dm_fields_Rule_Geometric: {
+    case dm_fields_Rule_Geometric:
         return dm_coding_judging_up_to_top(width, at, code);
-    }
     case dm_fields_Rule_Single:
-    default: {
+    default:
         return dm_coding_judging_finite_bits(at, code);
-    }
     }
 }
 
@@ -4536,19 +4433,19 @@ static dm_fields_Judged dm_coding_judging_judge(const dm_fields_Row *row, uint64
 {
     dm_fields_Judged v5 = dm_coding_judging_by_rule(row, at, code);
     if (v5.tag == dm_fields_Judged_Stands) {
-        dm_fields_Judged v6;
-        v6.tag = dm_fields_Judged_Stands;
-        return v6;
+        dm_fields_Judged result_2;
+        result_2.tag = dm_fields_Judged_Stands;
+        return result_2;
     } else { /* dm_fields_Judged_Refused */
         if (dm_coding_judging_is_missing(row, code)) {
             dm_fields_Judged result;
             result.tag = dm_fields_Judged_Stands;
             return result;
         }
-        dm_fields_Judged v6;
-        v6.tag = dm_fields_Judged_Refused;
-        v6.Refused.value = v5.Refused.value;
-        return v6;
+        dm_fields_Judged result_2;
+        result_2.tag = dm_fields_Judged_Refused;
+        result_2.Refused.value = v5.Refused.value;
+        return result_2;
     }
 }
 
@@ -4635,10 +4532,10 @@ static dm_refusal_Written dm_build_building_build_in(const dm_memory_Sizes *size
     dm_build_plan_Planned v20 = dm_build_plan_plan_fields(template_, sorts, wholes, singles,
         dm_slice_u64_of(fields.at, 21u));
     if (v20.tag == dm_build_plan_Planned_Refused) {
-        dm_refusal_Written v23;
-        v23.tag = dm_refusal_Written_Refused;
-        v23.Refused.value = v20.Refused.value;
-        return v23;
+        dm_refusal_Written result;
+        result.tag = dm_refusal_Written_Refused;
+        result.Refused.value = v20.Refused.value;
+        return result;
     } else { /* dm_build_plan_Planned_Bits */
         uint64_t bits = v20.Bits.value;
         dm_fields_Judged v24 = dm_build_plan_check_ending(template_, end_bit, text);
@@ -4672,10 +4569,10 @@ static dm_refusal_Written dm_build_building_build_curve_in(const dm_memory_Sizes
     dm_build_plan_Planned v17 = dm_build_plan_plan_fields(template_, sorts, wholes, singles,
         dm_slice_u64_of(fields.at, 21u));
     if (v17.tag == dm_build_plan_Planned_Refused) {
-        dm_refusal_Written v20;
-        v20.tag = dm_refusal_Written_Refused;
-        v20.Refused.value = v17.Refused.value;
-        return v20;
+        dm_refusal_Written result;
+        result.tag = dm_refusal_Written_Refused;
+        result.Refused.value = v17.Refused.value;
+        return result;
     } else { /* dm_build_plan_Planned_Bits */
         uint64_t bits = v17.Bits.value;
         dm_fields_Judged v21 = dm_build_plan_check_ending(template_, end_bit, text);
@@ -4706,10 +4603,10 @@ static dm_refusal_Written dm_build_building_build_lent(uint8_t kind, dm_slice_u8
 {
     dm_memory_kinds_SizesAnswer v13 = dm_memory_kinds_image_sizes(kind, image.length);
     if (v13.tag == dm_memory_kinds_SizesAnswer_Refused) {
-        dm_refusal_Written v15;
-        v15.tag = dm_refusal_Written_Refused;
-        v15.Refused.value = v13.Refused.value;
-        return v15;
+        dm_refusal_Written result;
+        result.tag = dm_refusal_Written_Refused;
+        result.Refused.value = v13.Refused.value;
+        return result;
     } else { /* dm_memory_kinds_SizesAnswer_Are */
         return dm_build_building_build_in(&v13.Are.value, image, template_, end_bit, sorts, wholes, singles, text,
             domain, points);
@@ -4723,10 +4620,10 @@ static dm_refusal_Written dm_build_building_build_curve_lent(uint8_t kind, dm_sl
 {
     dm_memory_kinds_SizesAnswer v12 = dm_memory_kinds_image_sizes(kind, image.length);
     if (v12.tag == dm_memory_kinds_SizesAnswer_Refused) {
-        dm_refusal_Written v14;
-        v14.tag = dm_refusal_Written_Refused;
-        v14.Refused.value = v12.Refused.value;
-        return v14;
+        dm_refusal_Written result;
+        result.tag = dm_refusal_Written_Refused;
+        result.Refused.value = v12.Refused.value;
+        return result;
     } else { /* dm_memory_kinds_SizesAnswer_Are */
         return dm_build_building_build_curve_in(&v12.Are.value, image, template_, end_bit, sorts, wholes, singles,
             text, curve);
@@ -4763,30 +4660,30 @@ static dm_fields_Encoded dm_build_drawing_code_start(const dm_fields_Earlier *be
 {
     dm_fields_Encoded v8 = dm_coding_curves_encode_start(i, segment->start);
     if (v8.tag == dm_fields_Encoded_Refused) {
-        dm_fields_Encoded v9;
-        v9.tag = dm_fields_Encoded_Refused;
-        v9.Refused.value = v8.Refused.value;
-        return v9;
+        dm_fields_Encoded result;
+        result.tag = dm_fields_Encoded_Refused;
+        result.Refused.value = v8.Refused.value;
+        return result;
     } else { /* dm_fields_Encoded_Code */
         uint64_t start = v8.Code.value;
         if (dm_coding_curves_start_follows(before, start)) {
             dm_fields_Judged v11 = dm_build_drawing_check_count(i, total, segment->terms);
             if (v11.tag == dm_fields_Judged_Refused) {
-                dm_fields_Encoded v12;
-                v12.tag = dm_fields_Encoded_Refused;
-                v12.Refused.value = v11.Refused.value;
-                return v12;
+                dm_fields_Encoded result_2;
+                result_2.tag = dm_fields_Encoded_Refused;
+                result_2.Refused.value = v11.Refused.value;
+                return result_2;
             } else { /* dm_fields_Judged_Stands */
-                dm_fields_Encoded v12;
-                v12.tag = dm_fields_Encoded_Code;
-                v12.Code.value = start;
-                return v12;
+                dm_fields_Encoded result_2;
+                result_2.tag = dm_fields_Encoded_Code;
+                result_2.Code.value = start;
+                return result_2;
             }
         }
-        dm_fields_Encoded v9;
-        v9.tag = dm_fields_Encoded_Refused;
-        v9.Refused.value = dm_refusal_rows_wrong_curve(i);
-        return v9;
+        dm_fields_Encoded result;
+        result.tag = dm_fields_Encoded_Refused;
+        result.Refused.value = dm_refusal_rows_wrong_curve(i);
+        return result;
     }
 }
 
@@ -4796,10 +4693,10 @@ static dm_build_drawing_TwoAnswer dm_build_drawing_code_segment(const dm_fields_
 {
     dm_fields_Encoded v7 = dm_build_drawing_code_start(before, i, total, segment);
     if (v7.tag == dm_fields_Encoded_Refused) {
-        dm_build_drawing_TwoAnswer v8;
-        v8.tag = dm_build_drawing_TwoAnswer_Refused;
-        v8.Refused.value = v7.Refused.value;
-        return v8;
+        dm_build_drawing_TwoAnswer result;
+        result.tag = dm_build_drawing_TwoAnswer_Refused;
+        result.Refused.value = v7.Refused.value;
+        return result;
     } else { /* dm_fields_Encoded_Code */
         uint64_t start = v7.Code.value;
         dm_build_plan_CodedField v10;
@@ -4808,11 +4705,11 @@ static dm_build_drawing_TwoAnswer dm_build_drawing_code_segment(const dm_fields_
         dm_build_plan_CodedField v12;
         v12.width = dm_coding_curves_term_count().width;
         v12.code = segment->terms;
-        dm_build_drawing_TwoAnswer v8;
-        v8.tag = dm_build_drawing_TwoAnswer_Are;
-        v8.Are.f1 = v10;
-        v8.Are.f2 = v12;
-        return v8;
+        dm_build_drawing_TwoAnswer result;
+        result.tag = dm_build_drawing_TwoAnswer_Are;
+        result.Are.f1 = v10;
+        result.Are.f2 = v12;
+        return result;
     }
 }
 
@@ -4823,17 +4720,18 @@ static dm_build_drawing_TwoAnswer dm_build_drawing_code_term(const dm_fields_Ear
 {
     dm_fields_Encoded v8 = dm_coding_curves_encode_exponent(before, i, term->exponent);
     if (v8.tag == dm_fields_Encoded_Refused) {
-        dm_build_drawing_TwoAnswer v9;
-        v9.tag = dm_build_drawing_TwoAnswer_Refused;
-        v9.Refused.value = v8.Refused.value;
-        return v9;
+        dm_build_drawing_TwoAnswer result;
+        result.tag = dm_build_drawing_TwoAnswer_Refused;
+        result.Refused.value = v8.Refused.value;
+        return result;
     } else { /* dm_fields_Encoded_Code */
         uint64_t power = v8.Code.value;
         dm_fields_Encoded v10 = dm_coding_curves_encode_coefficient(i, term->coefficient);
-        dm_build_drawing_TwoAnswer v11;
         if (v10.tag == dm_fields_Encoded_Refused) {
-            v11.tag = dm_build_drawing_TwoAnswer_Refused;
-            v11.Refused.value = v10.Refused.value;
+            dm_build_drawing_TwoAnswer result;
+            result.tag = dm_build_drawing_TwoAnswer_Refused;
+            result.Refused.value = v10.Refused.value;
+            return result;
         } else { /* dm_fields_Encoded_Code */
             uint64_t factor = v10.Code.value;
             dm_build_plan_CodedField v13;
@@ -4842,11 +4740,12 @@ static dm_build_drawing_TwoAnswer dm_build_drawing_code_term(const dm_fields_Ear
             dm_build_plan_CodedField v15;
             v15.width = dm_coding_curves_term_coefficient().width;
             v15.code = factor;
-            v11.tag = dm_build_drawing_TwoAnswer_Are;
-            v11.Are.f1 = v13;
-            v11.Are.f2 = v15;
+            dm_build_drawing_TwoAnswer result;
+            result.tag = dm_build_drawing_TwoAnswer_Are;
+            result.Are.f1 = v13;
+            result.Are.f2 = v15;
+            return result;
         }
-        return v11;
     }
 }
 
@@ -4857,20 +4756,20 @@ static dm_array_build_plan_CodedField_104 dm_build_drawing_first_four(uint64_t c
     dm_build_plan_CodedField v3;
     v3.width = 1u;
     v3.code = 0u;
-    dm_array_build_plan_CodedField_104 v2;
+    dm_array_build_plan_CodedField_104 result;
     for (size_t i1 = 0; i1 < 104u; i1++) {
-        v2.at[i1] = v3;
+        result.at[i1] = v3;
     }
     v3.width = 2u;
     v3.code = 0u;
-    v2.at[0u] = v3;
+    result.at[0u] = v3;
     v3.width = 8u;
     v3.code = 41u;
-    v2.at[1u] = v3;
+    result.at[1u] = v3;
     v3.width = 8u;
     v3.code = count;
-    v2.at[3u] = v3;
-    return v2;
+    result.at[3u] = v3;
+    return result;
 }
 
 /* A curve that is turned down, whatever was coded of it. */
@@ -4969,21 +4868,21 @@ static dm_fields_Value dm_build_plan_value_at(dm_slice_u8 sorts, dm_slice_u64 wh
 {
     switch (sorts.at[i]) {
     case 0u: {
-        dm_fields_Value v8;
-        v8.tag = dm_fields_Value_Whole;
-        v8.Whole.value = wholes.at[i];
-        return v8;
+        dm_fields_Value result;
+        result.tag = dm_fields_Value_Whole;
+        result.Whole.value = wholes.at[i];
+        return result;
     }
     case 1u: {
-        dm_fields_Value v8;
-        v8.tag = dm_fields_Value_Single;
-        v8.Single.value = singles.at[i];
-        return v8;
+        dm_fields_Value result;
+        result.tag = dm_fields_Value_Single;
+        result.Single.value = singles.at[i];
+        return result;
     }
     default: {
-        dm_fields_Value v8;
-        v8.tag = dm_fields_Value_Missing;
-        return v8;
+        dm_fields_Value result;
+        result.tag = dm_fields_Value_Missing;
+        return result;
     }
     }
 }
@@ -5088,10 +4987,10 @@ static dm_build_plan_Planned dm_build_plan_plan_fields(dm_fields_Template templa
             bits += row.width;
             i += 1u;
         }
-        dm_build_plan_Planned v38;
-        v38.tag = dm_build_plan_Planned_Bits;
-        v38.Bits.value = bits;
-        return v38;
+        dm_build_plan_Planned result_2;
+        result_2.tag = dm_build_plan_Planned_Bits;
+        result_2.Bits.value = bits;
+        return result_2;
     } else { /* dm_fields_Template_Resistance */
         uint64_t last = dm_fields_templates_last_field(dm_fields_Template_Resistance);
         while (i < last) {
@@ -5116,10 +5015,10 @@ static dm_build_plan_Planned dm_build_plan_plan_fields(dm_fields_Template templa
             bits += row.width;
             i += 1u;
         }
-        dm_build_plan_Planned v38;
-        v38.tag = dm_build_plan_Planned_Bits;
-        v38.Bits.value = bits;
-        return v38;
+        dm_build_plan_Planned result_2;
+        result_2.tag = dm_build_plan_Planned_Bits;
+        result_2.Bits.value = bits;
+        return result_2;
     }
 }
 
@@ -5173,26 +5072,28 @@ static dm_build_plan_PairAnswer dm_build_plan_code_pair(dm_slice_u64 points, uin
     uint64_t place = i;
     dm_fields_Encoded v9 = dm_coding_calibration_encode_point(place, points.at[at]);
     if (v9.tag == dm_fields_Encoded_Refused) {
-        dm_build_plan_PairAnswer v13;
-        v13.tag = dm_build_plan_PairAnswer_Refused;
-        v13.Refused.value = v9.Refused.value;
-        return v13;
+        dm_build_plan_PairAnswer result;
+        result.tag = dm_build_plan_PairAnswer_Refused;
+        result.Refused.value = v9.Refused.value;
+        return result;
     } else { /* dm_fields_Encoded_Code */
         uint64_t point = v9.Code.value;
         dm_fields_Encoded v14 = dm_coding_calibration_encode_deviation(place, points.at[at + 1u]);
-        dm_build_plan_PairAnswer v19;
         if (v14.tag == dm_fields_Encoded_Refused) {
-            v19.tag = dm_build_plan_PairAnswer_Refused;
-            v19.Refused.value = v14.Refused.value;
+            dm_build_plan_PairAnswer result;
+            result.tag = dm_build_plan_PairAnswer_Refused;
+            result.Refused.value = v14.Refused.value;
+            return result;
         } else { /* dm_fields_Encoded_Code */
             uint64_t deviation = v14.Code.value;
             dm_fields_Codes v22;
             v22.point = (uint16_t)point;
             v22.deviation = (uint32_t)deviation;
-            v19.tag = dm_build_plan_PairAnswer_Are;
-            v19.Are.value = v22;
+            dm_build_plan_PairAnswer result;
+            result.tag = dm_build_plan_PairAnswer_Are;
+            result.Are.value = v22;
+            return result;
         }
-        return v19;
     }
 }
 
@@ -5203,22 +5104,24 @@ static dm_build_plan_PairAnswer dm_build_plan_check_pair(dm_fields_Domain domain
 {
     dm_build_plan_PairAnswer v8 = dm_build_plan_code_pair(points, i);
     if (v8.tag == dm_build_plan_PairAnswer_Refused) {
-        dm_build_plan_PairAnswer v9;
-        v9.tag = dm_build_plan_PairAnswer_Refused;
-        v9.Refused.value = v8.Refused.value;
-        return v9;
+        dm_build_plan_PairAnswer result;
+        result.tag = dm_build_plan_PairAnswer_Refused;
+        result.Refused.value = v8.Refused.value;
+        return result;
     } else { /* dm_build_plan_PairAnswer_Are */
         dm_fields_Codes codes = v8.Are.value;
         dm_fields_Judged v10 = dm_coding_calibration_follows(domain, before, i, codes);
-        dm_build_plan_PairAnswer v12;
         if (v10.tag == dm_fields_Judged_Refused) {
-            v12.tag = dm_build_plan_PairAnswer_Refused;
-            v12.Refused.value = v10.Refused.value;
+            dm_build_plan_PairAnswer result;
+            result.tag = dm_build_plan_PairAnswer_Refused;
+            result.Refused.value = v10.Refused.value;
+            return result;
         } else { /* dm_fields_Judged_Stands */
-            v12.tag = dm_build_plan_PairAnswer_Are;
-            v12.Are.value = codes;
+            dm_build_plan_PairAnswer result;
+            result.tag = dm_build_plan_PairAnswer_Are;
+            result.Are.value = codes;
+            return result;
         }
-        return v12;
     }
 }
 
@@ -5460,10 +5363,10 @@ static dm_sheet_block_BlockStep dm_sheet_block_take_block(const dm_memory_Sizes 
 {
     dm_stream_cursor_Taken v8 = dm_stream_cursor_Cursor_take(cursor, sizes, image, 8u);
     if (v8.tag == dm_stream_cursor_Taken_Refused) {
-        dm_sheet_block_BlockStep v9;
-        v9.tag = dm_sheet_block_BlockStep_Refused;
-        v9.Refused.value = v8.Refused.value;
-        return v9;
+        dm_sheet_block_BlockStep result;
+        result.tag = dm_sheet_block_BlockStep_Refused;
+        result.Refused.value = v8.Refused.value;
+        return result;
     } else { /* dm_stream_cursor_Taken_Field */
         uint64_t number = v8.Field.f1;
         dm_stream_cursor_Cursor next = v8.Field.f2;
@@ -5473,10 +5376,10 @@ static dm_sheet_block_BlockStep dm_sheet_block_take_block(const dm_memory_Sizes 
         if (number == 41u) {
             return dm_sheet_curve_take_curve(sizes, image, next);
         }
-        dm_sheet_block_BlockStep v9;
-        v9.tag = dm_sheet_block_BlockStep_Refused;
-        v9.Refused.value = dm_refusal_rows_wrong_block(at);
-        return v9;
+        dm_sheet_block_BlockStep result;
+        result.tag = dm_sheet_block_BlockStep_Refused;
+        result.Refused.value = dm_refusal_rows_wrong_block(at);
+        return result;
     }
 }
 
@@ -5486,24 +5389,26 @@ static dm_sheet_block_BlockStep dm_sheet_block_take_only_block(const dm_memory_S
 {
     dm_sheet_block_BlockStep v10 = dm_sheet_block_take_block(sizes, image, cursor, at);
     if (v10.tag == dm_sheet_block_BlockStep_Refused) {
-        dm_sheet_block_BlockStep v11;
-        v11.tag = dm_sheet_block_BlockStep_Refused;
-        v11.Refused.value = v10.Refused.value;
-        return v11;
+        dm_sheet_block_BlockStep result;
+        result.tag = dm_sheet_block_BlockStep_Refused;
+        result.Refused.value = v10.Refused.value;
+        return result;
     } else { /* dm_sheet_block_BlockStep_Found */
         dm_stream_cursor_Cursor last = v10.Found.f2;
         dm_sheet_walk_MarkStep v12 = dm_sheet_walk_take_mark(sizes, image, last, 2u, 3u, last.at);
-        dm_sheet_block_BlockStep v14;
         if (v12.tag == dm_sheet_walk_MarkStep_Refused) {
-            v14.tag = dm_sheet_block_BlockStep_Refused;
-            v14.Refused.value = v12.Refused.value;
+            dm_sheet_block_BlockStep result;
+            result.tag = dm_sheet_block_BlockStep_Refused;
+            result.Refused.value = v12.Refused.value;
+            return result;
         } else { /* dm_sheet_walk_MarkStep_Behind */
             dm_stream_cursor_Cursor end = v12.Behind.value;
-            v14.tag = dm_sheet_block_BlockStep_Found;
-            v14.Found.f1 = v10.Found.f1;
-            v14.Found.f2 = end;
+            dm_sheet_block_BlockStep result;
+            result.tag = dm_sheet_block_BlockStep_Found;
+            result.Found.f1 = v10.Found.f1;
+            result.Found.f2 = end;
+            return result;
         }
-        return v14;
     }
 }
 
@@ -5514,10 +5419,10 @@ static dm_sheet_block_BlockStep dm_sheet_block_take_calibration(const dm_memory_
     uint64_t at = cursor.at;
     dm_stream_cursor_Taken v9 = dm_stream_cursor_Cursor_take(cursor, sizes, image, 2u);
     if (v9.tag == dm_stream_cursor_Taken_Refused) {
-        dm_sheet_block_BlockStep v10;
-        v10.tag = dm_sheet_block_BlockStep_Refused;
-        v10.Refused.value = v9.Refused.value;
-        return v10;
+        dm_sheet_block_BlockStep result_2;
+        result_2.tag = dm_sheet_block_BlockStep_Refused;
+        result_2.Refused.value = v9.Refused.value;
+        return result_2;
     } else { /* dm_stream_cursor_Taken_Field */
         uint64_t selector = v9.Field.f1;
         dm_stream_cursor_Cursor next = v9.Field.f2;
@@ -5538,10 +5443,10 @@ static dm_sheet_block_BlockStep dm_sheet_block_take_calibration(const dm_memory_
             result.Found.f2 = next;
             return result;
         }
-        dm_sheet_block_BlockStep v10;
-        v10.tag = dm_sheet_block_BlockStep_Refused;
-        v10.Refused.value = dm_refusal_rows_wrong_block(at);
-        return v10;
+        dm_sheet_block_BlockStep result_2;
+        result_2.tag = dm_sheet_block_BlockStep_Refused;
+        result_2.Refused.value = dm_refusal_rows_wrong_block(at);
+        return result_2;
     }
 }
 
@@ -5553,16 +5458,16 @@ static dm_sheet_Checked dm_sheet_calls_check(uint8_t kind, dm_slice_u8 image)
 {
     dm_sheet_opening_OpenedAnswer v6 = dm_sheet_opening_open(kind, image);
     if (v6.tag == dm_sheet_opening_OpenedAnswer_Refused) {
-        dm_sheet_Checked v7;
-        v7.tag = dm_sheet_Checked_Refused;
-        v7.Refused.value = v6.Refused.value;
-        return v7;
+        dm_sheet_Checked result;
+        result.tag = dm_sheet_Checked_Refused;
+        result.Refused.value = v6.Refused.value;
+        return result;
     } else { /* dm_sheet_opening_OpenedAnswer_Sheet */
         dm_sheet_Summary summary = v6.Sheet.value.summary;
-        dm_sheet_Checked v7;
-        v7.tag = dm_sheet_Checked_Accepted;
-        v7.Accepted.value = summary;
-        return v7;
+        dm_sheet_Checked result;
+        result.tag = dm_sheet_Checked_Accepted;
+        result.Accepted.value = summary;
+        return result;
     }
 }
 
@@ -5571,10 +5476,10 @@ static dm_sheet_FieldAnswer dm_sheet_calls_read_field(uint8_t kind, dm_slice_u8 
 {
     dm_sheet_opening_OpenedAnswer v8 = dm_sheet_opening_open(kind, image);
     if (v8.tag == dm_sheet_opening_OpenedAnswer_Refused) {
-        dm_sheet_FieldAnswer v9;
-        v9.tag = dm_sheet_FieldAnswer_Refused;
-        v9.Refused.value = v8.Refused.value;
-        return v9;
+        dm_sheet_FieldAnswer result_2;
+        result_2.tag = dm_sheet_FieldAnswer_Refused;
+        result_2.Refused.value = v8.Refused.value;
+        return result_2;
     } else { /* dm_sheet_opening_OpenedAnswer_Sheet */
         dm_fields_Layout layout = v8.Sheet.value.layout;
         dm_fields_Template template_ = layout.template_;
@@ -5590,10 +5495,10 @@ static dm_sheet_FieldAnswer dm_sheet_calls_read_field(uint8_t kind, dm_slice_u8 
             result.Refused.value = dm_refusal_rows_no_such(field);
             return result;
         }
-        dm_sheet_FieldAnswer v9;
-        v9.tag = dm_sheet_FieldAnswer_Holds;
-        v9.Holds.value = dm_sheet_held_value_in(&v8.Sheet.value, image, field);
-        return v9;
+        dm_sheet_FieldAnswer result_2;
+        result_2.tag = dm_sheet_FieldAnswer_Holds;
+        result_2.Holds.value = dm_sheet_held_value_in(&v8.Sheet.value, image, field);
+        return result_2;
     }
 }
 
@@ -5602,10 +5507,10 @@ static dm_sheet_PairAnswer dm_sheet_calls_read_pair(uint8_t kind, dm_slice_u8 im
 {
     dm_sheet_opening_OpenedAnswer v7 = dm_sheet_opening_open(kind, image);
     if (v7.tag == dm_sheet_opening_OpenedAnswer_Refused) {
-        dm_sheet_PairAnswer v8;
-        v8.tag = dm_sheet_PairAnswer_Refused;
-        v8.Refused.value = v7.Refused.value;
-        return v8;
+        dm_sheet_PairAnswer result_2;
+        result_2.tag = dm_sheet_PairAnswer_Refused;
+        result_2.Refused.value = v7.Refused.value;
+        return result_2;
     } else { /* dm_sheet_opening_OpenedAnswer_Sheet */
         dm_sheet_Summary summary = v7.Sheet.value.summary;
         if (summary.points <= index) {
@@ -5614,10 +5519,10 @@ static dm_sheet_PairAnswer dm_sheet_calls_read_pair(uint8_t kind, dm_slice_u8 im
             result.Refused.value = dm_refusal_rows_no_such(index);
             return result;
         }
-        dm_sheet_PairAnswer v8;
-        v8.tag = dm_sheet_PairAnswer_Holds;
-        v8.Holds.value = dm_sheet_held_pair_in(&v7.Sheet.value, image, index);
-        return v8;
+        dm_sheet_PairAnswer result_2;
+        result_2.tag = dm_sheet_PairAnswer_Holds;
+        result_2.Holds.value = dm_sheet_held_pair_in(&v7.Sheet.value, image, index);
+        return result_2;
     }
 }
 
@@ -5626,10 +5531,10 @@ static dm_sheet_CharacterAnswer dm_sheet_calls_read_character(uint8_t kind, dm_s
 {
     dm_sheet_opening_OpenedAnswer v7 = dm_sheet_opening_open(kind, image);
     if (v7.tag == dm_sheet_opening_OpenedAnswer_Refused) {
-        dm_sheet_CharacterAnswer v8;
-        v8.tag = dm_sheet_CharacterAnswer_Refused;
-        v8.Refused.value = v7.Refused.value;
-        return v8;
+        dm_sheet_CharacterAnswer result_2;
+        result_2.tag = dm_sheet_CharacterAnswer_Refused;
+        result_2.Refused.value = v7.Refused.value;
+        return result_2;
     } else { /* dm_sheet_opening_OpenedAnswer_Sheet */
         dm_sheet_Summary summary = v7.Sheet.value.summary;
         if (summary.characters <= index) {
@@ -5638,10 +5543,10 @@ static dm_sheet_CharacterAnswer dm_sheet_calls_read_character(uint8_t kind, dm_s
             result.Refused.value = dm_refusal_rows_no_such(index);
             return result;
         }
-        dm_sheet_CharacterAnswer v8;
-        v8.tag = dm_sheet_CharacterAnswer_Holds;
-        v8.Holds.value = dm_sheet_held_character_in(&v7.Sheet.value, image, index);
-        return v8;
+        dm_sheet_CharacterAnswer result_2;
+        result_2.tag = dm_sheet_CharacterAnswer_Holds;
+        result_2.Holds.value = dm_sheet_held_character_in(&v7.Sheet.value, image, index);
+        return result_2;
     }
 }
 
@@ -5650,10 +5555,10 @@ static dm_sheet_SegmentAnswer dm_sheet_calls_read_segment(uint8_t kind, dm_slice
 {
     dm_sheet_opening_OpenedAnswer v7 = dm_sheet_opening_open(kind, image);
     if (v7.tag == dm_sheet_opening_OpenedAnswer_Refused) {
-        dm_sheet_SegmentAnswer v8;
-        v8.tag = dm_sheet_SegmentAnswer_Refused;
-        v8.Refused.value = v7.Refused.value;
-        return v8;
+        dm_sheet_SegmentAnswer result_2;
+        result_2.tag = dm_sheet_SegmentAnswer_Refused;
+        result_2.Refused.value = v7.Refused.value;
+        return result_2;
     } else { /* dm_sheet_opening_OpenedAnswer_Sheet */
         dm_sheet_Summary summary = v7.Sheet.value.summary;
         if (summary.segments <= index) {
@@ -5662,10 +5567,10 @@ static dm_sheet_SegmentAnswer dm_sheet_calls_read_segment(uint8_t kind, dm_slice
             result.Refused.value = dm_refusal_rows_no_such(index);
             return result;
         }
-        dm_sheet_SegmentAnswer v8;
-        v8.tag = dm_sheet_SegmentAnswer_Holds;
-        v8.Holds.value = dm_sheet_segments_segment_in(&v7.Sheet.value, image, index);
-        return v8;
+        dm_sheet_SegmentAnswer result_2;
+        result_2.tag = dm_sheet_SegmentAnswer_Holds;
+        result_2.Holds.value = dm_sheet_segments_segment_in(&v7.Sheet.value, image, index);
+        return result_2;
     }
 }
 
@@ -5674,10 +5579,10 @@ static dm_sheet_TermAnswer dm_sheet_calls_read_term(uint8_t kind, dm_slice_u8 im
 {
     dm_sheet_opening_OpenedAnswer v7 = dm_sheet_opening_open(kind, image);
     if (v7.tag == dm_sheet_opening_OpenedAnswer_Refused) {
-        dm_sheet_TermAnswer v8;
-        v8.tag = dm_sheet_TermAnswer_Refused;
-        v8.Refused.value = v7.Refused.value;
-        return v8;
+        dm_sheet_TermAnswer result_2;
+        result_2.tag = dm_sheet_TermAnswer_Refused;
+        result_2.Refused.value = v7.Refused.value;
+        return result_2;
     } else { /* dm_sheet_opening_OpenedAnswer_Sheet */
         dm_sheet_Summary summary = v7.Sheet.value.summary;
         if (summary.terms <= index) {
@@ -5686,10 +5591,10 @@ static dm_sheet_TermAnswer dm_sheet_calls_read_term(uint8_t kind, dm_slice_u8 im
             result.Refused.value = dm_refusal_rows_no_such(index);
             return result;
         }
-        dm_sheet_TermAnswer v8;
-        v8.tag = dm_sheet_TermAnswer_Holds;
-        v8.Holds.value = dm_sheet_segments_term_in(&v7.Sheet.value, image, index);
-        return v8;
+        dm_sheet_TermAnswer result_2;
+        result_2.tag = dm_sheet_TermAnswer_Holds;
+        result_2.Holds.value = dm_sheet_segments_term_in(&v7.Sheet.value, image, index);
+        return result_2;
     }
 }
 
@@ -5718,10 +5623,10 @@ static dm_sheet_walk_CodeStep dm_sheet_curve_take_segment_count(const dm_memory_
     dm_fields_Row v8 = dm_coding_curves_segment_count();
     dm_sheet_walk_CodeStep v7 = dm_sheet_walk_take_code(sizes, image, cursor, &v8);
     if (v7.tag == dm_sheet_walk_CodeStep_Refused) {
-        dm_sheet_walk_CodeStep v9;
-        v9.tag = dm_sheet_walk_CodeStep_Refused;
-        v9.Refused.value = v7.Refused.value;
-        return v9;
+        dm_sheet_walk_CodeStep result;
+        result.tag = dm_sheet_walk_CodeStep_Refused;
+        result.Refused.value = v7.Refused.value;
+        return result;
     } else { /* dm_sheet_walk_CodeStep_Code */
         uint64_t code = v7.Code.f1;
         dm_stream_cursor_Cursor next = v7.Code.f2;
@@ -5736,10 +5641,10 @@ static dm_sheet_walk_CodeStep dm_sheet_curve_take_start(const dm_memory_Sizes *s
     dm_fields_Row v9 = dm_coding_curves_segment_start();
     dm_sheet_walk_CodeStep v8 = dm_sheet_walk_take_code(sizes, image, cursor, &v9);
     if (v8.tag == dm_sheet_walk_CodeStep_Refused) {
-        dm_sheet_walk_CodeStep v10;
-        v10.tag = dm_sheet_walk_CodeStep_Refused;
-        v10.Refused.value = v8.Refused.value;
-        return v10;
+        dm_sheet_walk_CodeStep result;
+        result.tag = dm_sheet_walk_CodeStep_Refused;
+        result.Refused.value = v8.Refused.value;
+        return result;
     } else { /* dm_sheet_walk_CodeStep_Code */
         uint64_t code = v8.Code.f1;
         dm_stream_cursor_Cursor next = v8.Code.f2;
@@ -5754,10 +5659,10 @@ static dm_sheet_walk_CodeStep dm_sheet_curve_take_term_count(const dm_memory_Siz
     dm_fields_Row v8 = dm_coding_curves_term_count();
     dm_sheet_walk_CodeStep v7 = dm_sheet_walk_take_code(sizes, image, cursor, &v8);
     if (v7.tag == dm_sheet_walk_CodeStep_Refused) {
-        dm_sheet_walk_CodeStep v9;
-        v9.tag = dm_sheet_walk_CodeStep_Refused;
-        v9.Refused.value = v7.Refused.value;
-        return v9;
+        dm_sheet_walk_CodeStep result;
+        result.tag = dm_sheet_walk_CodeStep_Refused;
+        result.Refused.value = v7.Refused.value;
+        return result;
     } else { /* dm_sheet_walk_CodeStep_Code */
         uint64_t code = v7.Code.f1;
         dm_stream_cursor_Cursor next = v7.Code.f2;
@@ -5772,10 +5677,10 @@ static dm_sheet_walk_CodeStep dm_sheet_curve_take_exponent(const dm_memory_Sizes
     dm_fields_Row v9 = dm_coding_curves_term_exponent();
     dm_sheet_walk_CodeStep v8 = dm_sheet_walk_take_code(sizes, image, cursor, &v9);
     if (v8.tag == dm_sheet_walk_CodeStep_Refused) {
-        dm_sheet_walk_CodeStep v10;
-        v10.tag = dm_sheet_walk_CodeStep_Refused;
-        v10.Refused.value = v8.Refused.value;
-        return v10;
+        dm_sheet_walk_CodeStep result;
+        result.tag = dm_sheet_walk_CodeStep_Refused;
+        result.Refused.value = v8.Refused.value;
+        return result;
     } else { /* dm_sheet_walk_CodeStep_Code */
         uint64_t code = v8.Code.f1;
         dm_stream_cursor_Cursor next = v8.Code.f2;
@@ -5789,29 +5694,31 @@ static dm_sheet_curve_EarlierStep dm_sheet_curve_take_term(const dm_memory_Sizes
 {
     dm_sheet_walk_CodeStep v10 = dm_sheet_curve_take_exponent(sizes, image, cursor, before);
     if (v10.tag == dm_sheet_walk_CodeStep_Refused) {
-        dm_sheet_curve_EarlierStep v11;
-        v11.tag = dm_sheet_curve_EarlierStep_Refused;
-        v11.Refused.value = v10.Refused.value;
-        return v11;
+        dm_sheet_curve_EarlierStep result;
+        result.tag = dm_sheet_curve_EarlierStep_Refused;
+        result.Refused.value = v10.Refused.value;
+        return result;
     } else { /* dm_sheet_walk_CodeStep_Code */
         uint64_t code = v10.Code.f1;
         dm_stream_cursor_Cursor middle = v10.Code.f2;
         dm_fields_Row v13 = dm_coding_curves_term_coefficient();
         dm_sheet_walk_CodeStep v12 = dm_sheet_walk_take_code(sizes, image, middle, &v13);
-        dm_sheet_curve_EarlierStep v14;
         if (v12.tag == dm_sheet_walk_CodeStep_Refused) {
-            v14.tag = dm_sheet_curve_EarlierStep_Refused;
-            v14.Refused.value = v12.Refused.value;
+            dm_sheet_curve_EarlierStep result;
+            result.tag = dm_sheet_curve_EarlierStep_Refused;
+            result.Refused.value = v12.Refused.value;
+            return result;
         } else { /* dm_sheet_walk_CodeStep_Code */
             dm_stream_cursor_Cursor next = v12.Code.f2;
             dm_fields_Earlier v15;
             v15.tag = dm_fields_Earlier_Code;
             v15.Code.value = code;
-            v14.tag = dm_sheet_curve_EarlierStep_Behind;
-            v14.Behind.f1 = v15;
-            v14.Behind.f2 = next;
+            dm_sheet_curve_EarlierStep result;
+            result.tag = dm_sheet_curve_EarlierStep_Behind;
+            result.Behind.f1 = v15;
+            result.Behind.f2 = next;
+            return result;
         }
-        return v14;
     }
 }
 
@@ -5852,18 +5759,19 @@ static dm_sheet_curve_SegmentStep dm_sheet_curve_take_segment(const dm_memory_Si
 {
     dm_sheet_walk_CodeStep v15 = dm_sheet_curve_take_start(sizes, image, cursor, before);
     if (v15.tag == dm_sheet_walk_CodeStep_Refused) {
-        dm_sheet_curve_SegmentStep v16;
-        v16.tag = dm_sheet_curve_SegmentStep_Refused;
-        v16.Refused.value = v15.Refused.value;
-        return v16;
+        dm_sheet_curve_SegmentStep result;
+        result.tag = dm_sheet_curve_SegmentStep_Refused;
+        result.Refused.value = v15.Refused.value;
+        return result;
     } else { /* dm_sheet_walk_CodeStep_Code */
         uint64_t start = v15.Code.f1;
         dm_stream_cursor_Cursor second = v15.Code.f2;
         dm_sheet_walk_CodeStep v17 = dm_sheet_curve_take_term_count(sizes, image, second);
-        dm_sheet_curve_SegmentStep v18;
         if (v17.tag == dm_sheet_walk_CodeStep_Refused) {
-            v18.tag = dm_sheet_curve_SegmentStep_Refused;
-            v18.Refused.value = v17.Refused.value;
+            dm_sheet_curve_SegmentStep result;
+            result.tag = dm_sheet_curve_SegmentStep_Refused;
+            result.Refused.value = v17.Refused.value;
+            return result;
         } else { /* dm_sheet_walk_CodeStep_Code */
             uint64_t count = v17.Code.f1;
             dm_stream_cursor_Cursor third = v17.Code.f2;
@@ -5875,23 +5783,24 @@ static dm_sheet_curve_SegmentStep dm_sheet_curve_take_segment(const dm_memory_Si
                 return result;
             }
             dm_sheet_curve_EarlierStep v21 = dm_sheet_curve_take_terms(sizes, image, third, count);
-            dm_sheet_curve_SegmentStep v22;
             if (v21.tag == dm_sheet_curve_EarlierStep_Refused) {
-                v22.tag = dm_sheet_curve_SegmentStep_Refused;
-                v22.Refused.value = v21.Refused.value;
+                dm_sheet_curve_SegmentStep result;
+                result.tag = dm_sheet_curve_SegmentStep_Refused;
+                result.Refused.value = v21.Refused.value;
+                return result;
             } else { /* dm_sheet_curve_EarlierStep_Behind */
                 dm_stream_cursor_Cursor next = v21.Behind.f2;
                 dm_fields_Earlier v23;
                 v23.tag = dm_fields_Earlier_Code;
                 v23.Code.value = start;
-                v22.tag = dm_sheet_curve_SegmentStep_Behind;
-                v22.Behind.f1 = v23;
-                v22.Behind.f2 = total;
-                v22.Behind.f3 = next;
+                dm_sheet_curve_SegmentStep result;
+                result.tag = dm_sheet_curve_SegmentStep_Behind;
+                result.Behind.f1 = v23;
+                result.Behind.f2 = total;
+                result.Behind.f3 = next;
+                return result;
             }
-            v18 = v22;
         }
-        return v18;
     }
 }
 
@@ -5937,25 +5846,27 @@ static dm_sheet_block_BlockStep dm_sheet_curve_take_curve(const dm_memory_Sizes 
     dm_fields_Row v14 = dm_coding_curves_curve_domain();
     dm_sheet_walk_CodeStep v13 = dm_sheet_walk_take_code(sizes, image, cursor, &v14);
     if (v13.tag == dm_sheet_walk_CodeStep_Refused) {
-        dm_sheet_block_BlockStep v15;
-        v15.tag = dm_sheet_block_BlockStep_Refused;
-        v15.Refused.value = v13.Refused.value;
-        return v15;
+        dm_sheet_block_BlockStep result;
+        result.tag = dm_sheet_block_BlockStep_Refused;
+        result.Refused.value = v13.Refused.value;
+        return result;
     } else { /* dm_sheet_walk_CodeStep_Code */
         dm_stream_cursor_Cursor second = v13.Code.f2;
         dm_sheet_walk_CodeStep v16 = dm_sheet_curve_take_segment_count(sizes, image, second);
-        dm_sheet_block_BlockStep v17;
         if (v16.tag == dm_sheet_walk_CodeStep_Refused) {
-            v17.tag = dm_sheet_block_BlockStep_Refused;
-            v17.Refused.value = v16.Refused.value;
+            dm_sheet_block_BlockStep result;
+            result.tag = dm_sheet_block_BlockStep_Refused;
+            result.Refused.value = v16.Refused.value;
+            return result;
         } else { /* dm_sheet_walk_CodeStep_Code */
             uint64_t count = v16.Code.f1;
             dm_stream_cursor_Cursor third = v16.Code.f2;
             dm_sheet_curve_SegmentStep v18 = dm_sheet_curve_take_segments(sizes, image, third, count);
-            dm_sheet_block_BlockStep v19;
             if (v18.tag == dm_sheet_curve_SegmentStep_Refused) {
-                v19.tag = dm_sheet_block_BlockStep_Refused;
-                v19.Refused.value = v18.Refused.value;
+                dm_sheet_block_BlockStep result;
+                result.tag = dm_sheet_block_BlockStep_Refused;
+                result.Refused.value = v18.Refused.value;
+                return result;
             } else { /* dm_sheet_curve_SegmentStep_Behind */
                 uint64_t terms = v18.Behind.f2;
                 dm_stream_cursor_Cursor end = v18.Behind.f3;
@@ -5966,13 +5877,13 @@ static dm_sheet_block_BlockStep dm_sheet_curve_take_curve(const dm_memory_Sizes 
                 counts.points = 0u;
                 counts.segments = count;
                 counts.terms = terms;
-                v19.tag = dm_sheet_block_BlockStep_Found;
-                v19.Found.f1 = counts;
-                v19.Found.f2 = end;
+                dm_sheet_block_BlockStep result;
+                result.tag = dm_sheet_block_BlockStep_Found;
+                result.Found.f1 = counts;
+                result.Found.f2 = end;
+                return result;
             }
-            v17 = v19;
         }
-        return v17;
     }
 }
 
@@ -6034,28 +5945,30 @@ static dm_sheet_ending_EndStep dm_sheet_ending_take_ending(const dm_memory_Sizes
 {
     dm_stream_cursor_Taken v11 = dm_stream_cursor_Cursor_take(cursor, sizes, image, 1u);
     if (v11.tag == dm_stream_cursor_Taken_Refused) {
-        dm_sheet_ending_EndStep v12;
-        v12.tag = dm_sheet_ending_EndStep_Refused;
-        v12.Refused.value = v11.Refused.value;
-        return v12;
+        dm_sheet_ending_EndStep result;
+        result.tag = dm_sheet_ending_EndStep_Refused;
+        result.Refused.value = v11.Refused.value;
+        return result;
     } else { /* dm_stream_cursor_Taken_Field */
         uint64_t bit = v11.Field.f1;
         dm_stream_cursor_Cursor next = v11.Field.f2;
         uint64_t most = dm_sheet_ending_most_characters(sizes, next, bit);
         dm_sheet_table_CountStep v13 = dm_sheet_ending_take_text(sizes, image, next, most);
-        dm_sheet_ending_EndStep v14;
         if (v13.tag == dm_sheet_table_CountStep_Refused) {
-            v14.tag = dm_sheet_ending_EndStep_Refused;
-            v14.Refused.value = v13.Refused.value;
+            dm_sheet_ending_EndStep result;
+            result.tag = dm_sheet_ending_EndStep_Refused;
+            result.Refused.value = v13.Refused.value;
+            return result;
         } else { /* dm_sheet_table_CountStep_Counted */
             uint64_t n = v13.Counted.f1;
             dm_stream_cursor_Cursor end = v13.Counted.f2;
-            v14.tag = dm_sheet_ending_EndStep_Ended;
-            v14.Ended.f1 = bit == 1u;
-            v14.Ended.f2 = n;
-            v14.Ended.f3 = end;
+            dm_sheet_ending_EndStep result;
+            result.tag = dm_sheet_ending_EndStep_Ended;
+            result.Ended.f1 = bit == 1u;
+            result.Ended.f2 = n;
+            result.Ended.f3 = end;
+            return result;
         }
-        return v14;
     }
 }
 
@@ -6069,19 +5982,19 @@ static dm_fields_Value dm_sheet_held_value_at(const dm_memory_Sizes *sizes, dm_s
     cursor.at = at;
     dm_stream_cursor_Taken v8 = dm_stream_cursor_Cursor_take(cursor, sizes, image, row->width);
     if (v8.tag == dm_stream_cursor_Taken_Refused) {
-        dm_fields_Value v10;
-        v10.tag = dm_fields_Value_Missing;
-        return v10;
+        dm_fields_Value result;
+        result.tag = dm_fields_Value_Missing;
+        return result;
     } else { /* dm_stream_cursor_Taken_Field */
         uint64_t code = v8.Field.f1;
         dm_fields_Decoded v11 = dm_coding_decoding_decode(row, at, code);
-        dm_fields_Value v13;
         if (v11.tag == dm_fields_Decoded_Refused) {
-            v13.tag = dm_fields_Value_Missing;
+            dm_fields_Value result;
+            result.tag = dm_fields_Value_Missing;
+            return result;
         } else { /* dm_fields_Decoded_Means */
-            v13 = v11.Means.value;
+            return v11.Means.value;
         }
-        return v13;
     }
 }
 
@@ -6093,19 +6006,19 @@ static dm_fields_Value dm_sheet_held_unscaled_at(const dm_memory_Sizes *sizes, d
     cursor.at = at;
     dm_stream_cursor_Taken v8 = dm_stream_cursor_Cursor_take(cursor, sizes, image, row->width);
     if (v8.tag == dm_stream_cursor_Taken_Refused) {
-        dm_fields_Value v10;
-        v10.tag = dm_fields_Value_Missing;
-        return v10;
+        dm_fields_Value result;
+        result.tag = dm_fields_Value_Missing;
+        return result;
     } else { /* dm_stream_cursor_Taken_Field */
         uint64_t code = v8.Field.f1;
         dm_fields_Decoded v11 = dm_coding_decoding_decode_unscaled(row, at, code);
-        dm_fields_Value v13;
         if (v11.tag == dm_fields_Decoded_Refused) {
-            v13.tag = dm_fields_Value_Missing;
+            dm_fields_Value result;
+            result.tag = dm_fields_Value_Missing;
+            return result;
         } else { /* dm_fields_Decoded_Means */
-            v13 = v11.Means.value;
+            return v11.Means.value;
         }
-        return v13;
     }
 }
 
@@ -6117,13 +6030,11 @@ static uint64_t dm_sheet_held_figure(const dm_fields_Value *value)
         uint64_t z = value->Whole.value;
         return z;
     }
-    case dm_fields_Value_Single: {
+    case dm_fields_Value_Single:
         return 0u;
-    }
     case dm_fields_Value_Missing:
-    default: {
+    default:
         return 0u;
-    }
     }
 }
 
@@ -6151,10 +6062,10 @@ static dm_fields_Pair dm_sheet_held_pair_in(const dm_sheet_opening_Opened *sheet
     cursor.at = dm_sheet_places_locate_pair(&sheet->layout, index);
     dm_stream_cursor_Taken v9 = dm_stream_cursor_Cursor_take(cursor, &sheet->sizes, image, 37u);
     if (v9.tag == dm_stream_cursor_Taken_Refused) {
-        dm_fields_Pair v10;
-        v10.point = 0u;
-        v10.deviation = 0u;
-        return v10;
+        dm_fields_Pair result;
+        result.point = 0u;
+        result.deviation = 0u;
+        return result;
     } else { /* dm_stream_cursor_Taken_Field */
         uint64_t code = v9.Field.f1;
         return dm_coding_calibration_pair_of(code);
@@ -6183,38 +6094,42 @@ static dm_sheet_opening_OpenedAnswer dm_sheet_opening_walk_sheet(const dm_memory
 {
     dm_fields_Judged v19 = dm_sheet_walk_judge_basic(sizes, image);
     if (v19.tag == dm_fields_Judged_Refused) {
-        dm_sheet_opening_OpenedAnswer v20;
-        v20.tag = dm_sheet_opening_OpenedAnswer_Refused;
-        v20.Refused.value = v19.Refused.value;
-        return v20;
+        dm_sheet_opening_OpenedAnswer result;
+        result.tag = dm_sheet_opening_OpenedAnswer_Refused;
+        result.Refused.value = v19.Refused.value;
+        return result;
     } else { /* dm_fields_Judged_Stands */
         dm_sheet_walk_TemplateStep v21 = dm_sheet_walk_take_template(sizes, image);
-        dm_sheet_opening_OpenedAnswer v22;
         if (v21.tag == dm_sheet_walk_TemplateStep_Refused) {
-            v22.tag = dm_sheet_opening_OpenedAnswer_Refused;
-            v22.Refused.value = v21.Refused.value;
+            dm_sheet_opening_OpenedAnswer result;
+            result.tag = dm_sheet_opening_OpenedAnswer_Refused;
+            result.Refused.value = v21.Refused.value;
+            return result;
         } else { /* dm_sheet_walk_TemplateStep_Named */
             dm_fields_Template template_ = v21.Named.value;
             dm_sheet_walk_ChoiceStep v23 = dm_sheet_walk_take_own(sizes, image, template_);
-            dm_sheet_opening_OpenedAnswer v24;
             if (v23.tag == dm_sheet_walk_ChoiceStep_Refused) {
-                v24.tag = dm_sheet_opening_OpenedAnswer_Refused;
-                v24.Refused.value = v23.Refused.value;
+                dm_sheet_opening_OpenedAnswer result;
+                result.tag = dm_sheet_opening_OpenedAnswer_Refused;
+                result.Refused.value = v23.Refused.value;
+                return result;
             } else { /* dm_sheet_walk_ChoiceStep_Chosen */
                 uint64_t precision = v23.Chosen.f1;
                 dm_stream_cursor_Cursor fields_end = v23.Chosen.f2;
                 dm_sheet_block_BlockStep v25 = dm_sheet_block_take_calibration(sizes, image, fields_end);
-                dm_sheet_opening_OpenedAnswer v26;
                 if (v25.tag == dm_sheet_block_BlockStep_Refused) {
-                    v26.tag = dm_sheet_opening_OpenedAnswer_Refused;
-                    v26.Refused.value = v25.Refused.value;
+                    dm_sheet_opening_OpenedAnswer result;
+                    result.tag = dm_sheet_opening_OpenedAnswer_Refused;
+                    result.Refused.value = v25.Refused.value;
+                    return result;
                 } else { /* dm_sheet_block_BlockStep_Found */
                     dm_stream_cursor_Cursor last = v25.Found.f2;
                     dm_sheet_ending_EndStep v27 = dm_sheet_ending_take_ending(sizes, image, last);
-                    dm_sheet_opening_OpenedAnswer v28;
                     if (v27.tag == dm_sheet_ending_EndStep_Refused) {
-                        v28.tag = dm_sheet_opening_OpenedAnswer_Refused;
-                        v28.Refused.value = v27.Refused.value;
+                        dm_sheet_opening_OpenedAnswer result;
+                        result.tag = dm_sheet_opening_OpenedAnswer_Refused;
+                        result.Refused.value = v27.Refused.value;
+                        return result;
                     } else { /* dm_sheet_ending_EndStep_Ended */
                         bool end_bit = v27.Ended.f1;
                         uint64_t characters = v27.Ended.f2;
@@ -6236,16 +6151,14 @@ static dm_sheet_opening_OpenedAnswer dm_sheet_opening_walk_sheet(const dm_memory
                         v30.sizes = *sizes;
                         v30.layout = layout;
                         v30.summary = summary;
-                        v28.tag = dm_sheet_opening_OpenedAnswer_Sheet;
-                        v28.Sheet.value = v30;
+                        dm_sheet_opening_OpenedAnswer result;
+                        result.tag = dm_sheet_opening_OpenedAnswer_Sheet;
+                        result.Sheet.value = v30;
+                        return result;
                     }
-                    v26 = v28;
                 }
-                v24 = v26;
             }
-            v22 = v24;
         }
-        return v22;
     }
 }
 
@@ -6254,32 +6167,30 @@ static dm_sheet_opening_OpenedAnswer dm_sheet_opening_open(uint8_t kind, dm_slic
 {
     dm_memory_kinds_SizesAnswer v6 = dm_memory_kinds_image_sizes(kind, image.length);
     if (v6.tag == dm_memory_kinds_SizesAnswer_Refused) {
-        dm_sheet_opening_OpenedAnswer v8;
-        v8.tag = dm_sheet_opening_OpenedAnswer_Refused;
-        v8.Refused.value = v6.Refused.value;
-        return v8;
+        dm_sheet_opening_OpenedAnswer result;
+        result.tag = dm_sheet_opening_OpenedAnswer_Refused;
+        result.Refused.value = v6.Refused.value;
+        return result;
     } else { /* dm_memory_kinds_SizesAnswer_Are */
         dm_memory_pages_Sums v9 = dm_memory_pages_check_sums(&v6.Are.value, image);
-        dm_sheet_opening_OpenedAnswer v10;
         switch (v9.tag) {
         case dm_memory_pages_Sums_Blank: {
-            v10.tag = dm_sheet_opening_OpenedAnswer_Refused;
-            v10.Refused.value = dm_refusal_rows_blank_chip();
-            break;
+            dm_sheet_opening_OpenedAnswer result;
+            result.tag = dm_sheet_opening_OpenedAnswer_Refused;
+            result.Refused.value = dm_refusal_rows_blank_chip();
+            return result;
         }
         case dm_memory_pages_Sums_Wrong: {
             uint64_t page = v9.Wrong.value;
-            v10.tag = dm_sheet_opening_OpenedAnswer_Refused;
-            v10.Refused.value = dm_refusal_rows_wrong_sum(page);
-            break;
+            dm_sheet_opening_OpenedAnswer result;
+            result.tag = dm_sheet_opening_OpenedAnswer_Refused;
+            result.Refused.value = dm_refusal_rows_wrong_sum(page);
+            return result;
         }
         case dm_memory_pages_Sums_Right:
-        default: {
-            v10 = dm_sheet_opening_walk_sheet(&v6.Are.value, image);
-            break;
+        default:
+            return dm_sheet_opening_walk_sheet(&v6.Are.value, image);
         }
-        }
-        return v10;
     }
 }
 
@@ -6379,17 +6290,15 @@ static dm_fields_Segment dm_sheet_segments_segment_at(const dm_memory_Sizes *siz
 static float dm_sheet_segments_float(const dm_fields_Value *value)
 {
     switch (value->tag) {
-    case dm_fields_Value_Whole: {
+    case dm_fields_Value_Whole:
         return dm_float_div(dm_float_from_bits(0x00000000u), dm_float_from_bits(0x00000000u));
-    }
     case dm_fields_Value_Single: {
         float x = value->Single.value;
         return x;
     }
     case dm_fields_Value_Missing:
-    default: {
+    default:
         return dm_float_div(dm_float_from_bits(0x00000000u), dm_float_from_bits(0x00000000u));
-    }
     }
 }
 
@@ -6463,19 +6372,20 @@ static dm_sheet_table_CodesStep dm_sheet_table_take_codes(const dm_memory_Sizes 
     dm_fields_Row v15 = dm_coding_calibration_cal_point();
     dm_sheet_walk_CodeStep v14 = dm_sheet_walk_take_code(sizes, image, cursor, &v15);
     if (v14.tag == dm_sheet_walk_CodeStep_Refused) {
-        dm_sheet_table_CodesStep v16;
-        v16.tag = dm_sheet_table_CodesStep_Refused;
-        v16.Refused.value = v14.Refused.value;
-        return v16;
+        dm_sheet_table_CodesStep result;
+        result.tag = dm_sheet_table_CodesStep_Refused;
+        result.Refused.value = v14.Refused.value;
+        return result;
     } else { /* dm_sheet_walk_CodeStep_Code */
         uint64_t point = v14.Code.f1;
         dm_stream_cursor_Cursor middle = v14.Code.f2;
         dm_fields_Row v18 = dm_coding_calibration_cal_deviation();
         dm_sheet_walk_CodeStep v17 = dm_sheet_walk_take_code(sizes, image, middle, &v18);
-        dm_sheet_table_CodesStep v19;
         if (v17.tag == dm_sheet_walk_CodeStep_Refused) {
-            v19.tag = dm_sheet_table_CodesStep_Refused;
-            v19.Refused.value = v17.Refused.value;
+            dm_sheet_table_CodesStep result;
+            result.tag = dm_sheet_table_CodesStep_Refused;
+            result.Refused.value = v17.Refused.value;
+            return result;
         } else { /* dm_sheet_walk_CodeStep_Code */
             uint64_t deviation = v17.Code.f1;
             dm_stream_cursor_Cursor next = v17.Code.f2;
@@ -6483,18 +6393,19 @@ static dm_sheet_table_CodesStep dm_sheet_table_take_codes(const dm_memory_Sizes 
             codes.point = (uint16_t)point;
             codes.deviation = (uint32_t)deviation;
             dm_fields_Judged v22 = dm_coding_calibration_follows(domain, before, cursor.at, codes);
-            dm_sheet_table_CodesStep v24;
             if (v22.tag == dm_fields_Judged_Refused) {
-                v24.tag = dm_sheet_table_CodesStep_Refused;
-                v24.Refused.value = v22.Refused.value;
+                dm_sheet_table_CodesStep result;
+                result.tag = dm_sheet_table_CodesStep_Refused;
+                result.Refused.value = v22.Refused.value;
+                return result;
             } else { /* dm_fields_Judged_Stands */
-                v24.tag = dm_sheet_table_CodesStep_Stand;
-                v24.Stand.f1 = codes;
-                v24.Stand.f2 = next;
+                dm_sheet_table_CodesStep result;
+                result.tag = dm_sheet_table_CodesStep_Stand;
+                result.Stand.f1 = codes;
+                result.Stand.f2 = next;
+                return result;
             }
-            v19 = v24;
         }
-        return v19;
     }
 }
 
@@ -6600,10 +6511,10 @@ static dm_sheet_block_BlockStep dm_sheet_table_take_listed(const dm_memory_Sizes
 {
     dm_sheet_table_CountStep v10 = dm_sheet_table_take_pairs(sizes, image, start, domain, count);
     if (v10.tag == dm_sheet_table_CountStep_Refused) {
-        dm_sheet_block_BlockStep v11;
-        v11.tag = dm_sheet_block_BlockStep_Refused;
-        v11.Refused.value = v10.Refused.value;
-        return v11;
+        dm_sheet_block_BlockStep result;
+        result.tag = dm_sheet_block_BlockStep_Refused;
+        result.Refused.value = v10.Refused.value;
+        return result;
     } else { /* dm_sheet_table_CountStep_Counted */
         uint64_t n = v10.Counted.f1;
         dm_stream_cursor_Cursor end = v10.Counted.f2;
@@ -6615,11 +6526,11 @@ static dm_sheet_block_BlockStep dm_sheet_table_take_listed(const dm_memory_Sizes
         counts.points = n;
         counts.segments = 0u;
         counts.terms = 0u;
-        dm_sheet_block_BlockStep v11;
-        v11.tag = dm_sheet_block_BlockStep_Found;
-        v11.Found.f1 = counts;
-        v11.Found.f2 = end;
-        return v11;
+        dm_sheet_block_BlockStep result;
+        result.tag = dm_sheet_block_BlockStep_Found;
+        result.Found.f1 = counts;
+        result.Found.f2 = end;
+        return result;
     }
 }
 
@@ -6630,25 +6541,25 @@ static dm_sheet_block_BlockStep dm_sheet_table_take_table(const dm_memory_Sizes 
     dm_fields_Row v11 = dm_coding_calibration_cal_domain();
     dm_sheet_walk_CodeStep v10 = dm_sheet_walk_take_code(sizes, image, cursor, &v11);
     if (v10.tag == dm_sheet_walk_CodeStep_Refused) {
-        dm_sheet_block_BlockStep v12;
-        v12.tag = dm_sheet_block_BlockStep_Refused;
-        v12.Refused.value = v10.Refused.value;
-        return v12;
+        dm_sheet_block_BlockStep result;
+        result.tag = dm_sheet_block_BlockStep_Refused;
+        result.Refused.value = v10.Refused.value;
+        return result;
     } else { /* dm_sheet_walk_CodeStep_Code */
         uint64_t code = v10.Code.f1;
         dm_stream_cursor_Cursor count = v10.Code.f2;
         dm_fields_Row v14 = dm_coding_calibration_point_count();
         dm_sheet_walk_CodeStep v13 = dm_sheet_walk_take_code(sizes, image, count, &v14);
-        dm_sheet_block_BlockStep v15;
         if (v13.tag == dm_sheet_walk_CodeStep_Refused) {
-            v15.tag = dm_sheet_block_BlockStep_Refused;
-            v15.Refused.value = v13.Refused.value;
+            dm_sheet_block_BlockStep result;
+            result.tag = dm_sheet_block_BlockStep_Refused;
+            result.Refused.value = v13.Refused.value;
+            return result;
         } else { /* dm_sheet_walk_CodeStep_Code */
             uint64_t n = v13.Code.f1;
             dm_stream_cursor_Cursor pairs = v13.Code.f2;
-            v15 = dm_sheet_table_take_listed(sizes, image, pairs, dm_coding_calibration_domain_of(code), n);
+            return dm_sheet_table_take_listed(sizes, image, pairs, dm_coding_calibration_domain_of(code), n);
         }
-        return v15;
     }
 }
 
@@ -6659,24 +6570,26 @@ static dm_sheet_walk_CodeStep dm_sheet_walk_judged(const dm_fields_Row *row, uin
     const dm_stream_cursor_Taken *taken)
 {
     if (taken->tag == dm_stream_cursor_Taken_Refused) {
-        dm_sheet_walk_CodeStep v8;
-        v8.tag = dm_sheet_walk_CodeStep_Refused;
-        v8.Refused.value = taken->Refused.value;
-        return v8;
+        dm_sheet_walk_CodeStep result;
+        result.tag = dm_sheet_walk_CodeStep_Refused;
+        result.Refused.value = taken->Refused.value;
+        return result;
     } else { /* dm_stream_cursor_Taken_Field */
         uint64_t code = taken->Field.f1;
         dm_stream_cursor_Cursor next = taken->Field.f2;
         dm_fields_Judged v9 = dm_coding_judging_judge(row, at, code);
-        dm_sheet_walk_CodeStep v10;
         if (v9.tag == dm_fields_Judged_Refused) {
-            v10.tag = dm_sheet_walk_CodeStep_Refused;
-            v10.Refused.value = v9.Refused.value;
+            dm_sheet_walk_CodeStep result;
+            result.tag = dm_sheet_walk_CodeStep_Refused;
+            result.Refused.value = v9.Refused.value;
+            return result;
         } else { /* dm_fields_Judged_Stands */
-            v10.tag = dm_sheet_walk_CodeStep_Code;
-            v10.Code.f1 = code;
-            v10.Code.f2 = next;
+            dm_sheet_walk_CodeStep result;
+            result.tag = dm_sheet_walk_CodeStep_Code;
+            result.Code.f1 = code;
+            result.Code.f2 = next;
+            return result;
         }
-        return v10;
     }
 }
 
@@ -6694,10 +6607,10 @@ static dm_sheet_walk_MarkStep dm_sheet_walk_take_mark(const dm_memory_Sizes *siz
 {
     dm_stream_cursor_Taken v10 = dm_stream_cursor_Cursor_take(cursor, sizes, image, width);
     if (v10.tag == dm_stream_cursor_Taken_Refused) {
-        dm_sheet_walk_MarkStep v11;
-        v11.tag = dm_sheet_walk_MarkStep_Refused;
-        v11.Refused.value = v10.Refused.value;
-        return v11;
+        dm_sheet_walk_MarkStep result_2;
+        result_2.tag = dm_sheet_walk_MarkStep_Refused;
+        result_2.Refused.value = v10.Refused.value;
+        return result_2;
     } else { /* dm_stream_cursor_Taken_Field */
         uint64_t code = v10.Field.f1;
         dm_stream_cursor_Cursor next = v10.Field.f2;
@@ -6707,10 +6620,10 @@ static dm_sheet_walk_MarkStep dm_sheet_walk_take_mark(const dm_memory_Sizes *siz
             result.Behind.value = next;
             return result;
         }
-        dm_sheet_walk_MarkStep v11;
-        v11.tag = dm_sheet_walk_MarkStep_Refused;
-        v11.Refused.value = dm_refusal_rows_wrong_block(at);
-        return v11;
+        dm_sheet_walk_MarkStep result_2;
+        result_2.tag = dm_sheet_walk_MarkStep_Refused;
+        result_2.Refused.value = dm_refusal_rows_wrong_block(at);
+        return result_2;
     }
 }
 
@@ -6722,25 +6635,27 @@ static dm_sheet_walk_CodeStep dm_sheet_walk_take_field(const dm_memory_Sizes *si
     dm_stream_cursor_Taken v10 = dm_stream_cursor_Cursor_take(cursor, sizes, image,
         dm_fields_templates_row_of(layout, field).width);
     if (v10.tag == dm_stream_cursor_Taken_Refused) {
-        dm_sheet_walk_CodeStep v13;
-        v13.tag = dm_sheet_walk_CodeStep_Refused;
-        v13.Refused.value = v10.Refused.value;
-        return v13;
+        dm_sheet_walk_CodeStep result;
+        result.tag = dm_sheet_walk_CodeStep_Refused;
+        result.Refused.value = v10.Refused.value;
+        return result;
     } else { /* dm_stream_cursor_Taken_Field */
         uint64_t code = v10.Field.f1;
         dm_stream_cursor_Cursor next = v10.Field.f2;
         dm_fields_Row v15 = dm_fields_templates_row_of(layout, field);
         dm_fields_Judged v14 = dm_coding_judging_judge(&v15, cursor.at, code);
-        dm_sheet_walk_CodeStep v17;
         if (v14.tag == dm_fields_Judged_Refused) {
-            v17.tag = dm_sheet_walk_CodeStep_Refused;
-            v17.Refused.value = v14.Refused.value;
+            dm_sheet_walk_CodeStep result;
+            result.tag = dm_sheet_walk_CodeStep_Refused;
+            result.Refused.value = v14.Refused.value;
+            return result;
         } else { /* dm_fields_Judged_Stands */
-            v17.tag = dm_sheet_walk_CodeStep_Code;
-            v17.Code.f1 = code;
-            v17.Code.f2 = next;
+            dm_sheet_walk_CodeStep result;
+            result.tag = dm_sheet_walk_CodeStep_Code;
+            result.Code.f1 = code;
+            result.Code.f2 = next;
+            return result;
         }
-        return v17;
     }
 }
 
@@ -6893,15 +6808,15 @@ static dm_sheet_walk_TemplateStep dm_sheet_walk_take_template(const dm_memory_Si
     dm_fields_TemplateAnswer v10 = dm_fields_templates_template_of(block / 4u);
     if (v10.tag == dm_fields_TemplateAnswer_Is) {
         dm_fields_Template template_ = v10.Is.value;
-        dm_sheet_walk_TemplateStep v11;
-        v11.tag = dm_sheet_walk_TemplateStep_Named;
-        v11.Named.value = template_;
-        return v11;
+        dm_sheet_walk_TemplateStep result;
+        result.tag = dm_sheet_walk_TemplateStep_Named;
+        result.Named.value = template_;
+        return result;
     } else { /* dm_fields_TemplateAnswer_Unknown */
-        dm_sheet_walk_TemplateStep v11;
-        v11.tag = dm_sheet_walk_TemplateStep_Refused;
-        v11.Refused.value = dm_refusal_rows_wrong_block(64u);
-        return v11;
+        dm_sheet_walk_TemplateStep result;
+        result.tag = dm_sheet_walk_TemplateStep_Refused;
+        result.Refused.value = dm_refusal_rows_wrong_block(64u);
+        return result;
     }
 }
 
@@ -6923,18 +6838,18 @@ static dm_sheet_walk_ChoiceStep dm_sheet_walk_take_own(const dm_memory_Sizes *si
     }
     dm_fields_Judged v16 = dm_sheet_walk_judge_own(sizes, image, &layout);
     if (v16.tag == dm_fields_Judged_Refused) {
-        dm_sheet_walk_ChoiceStep v17;
-        v17.tag = dm_sheet_walk_ChoiceStep_Refused;
-        v17.Refused.value = v16.Refused.value;
-        return v17;
+        dm_sheet_walk_ChoiceStep result;
+        result.tag = dm_sheet_walk_ChoiceStep_Refused;
+        result.Refused.value = v16.Refused.value;
+        return result;
     } else { /* dm_fields_Judged_Stands */
         dm_stream_cursor_Cursor v18;
         v18.at = end;
-        dm_sheet_walk_ChoiceStep v17;
-        v17.tag = dm_sheet_walk_ChoiceStep_Chosen;
-        v17.Chosen.f1 = precision;
-        v17.Chosen.f2 = v18;
-        return v17;
+        dm_sheet_walk_ChoiceStep result;
+        result.tag = dm_sheet_walk_ChoiceStep_Chosen;
+        result.Chosen.f1 = precision;
+        result.Chosen.f2 = v18;
+        return result;
     }
 }
 
@@ -6990,34 +6905,36 @@ static dm_refusal_Written dm_change_changing_change(uint8_t kind, dm_slice_u8 im
 {
     dm_sheet_opening_OpenedAnswer v15 = dm_sheet_opening_open(kind, image);
     if (v15.tag == dm_sheet_opening_OpenedAnswer_Refused) {
-        dm_refusal_Written v18;
-        v18.tag = dm_refusal_Written_Refused;
-        v18.Refused.value = v15.Refused.value;
-        return v18;
+        dm_refusal_Written result;
+        result.tag = dm_refusal_Written_Refused;
+        result.Refused.value = v15.Refused.value;
+        return result;
     } else { /* dm_sheet_opening_OpenedAnswer_Sheet */
         dm_fields_Layout layout = v15.Sheet.value.layout;
         dm_fields_Template template_ = layout.template_;
         dm_change_changing_Allowed v19 = dm_change_changing_may_change(template_, level, field);
-        dm_refusal_Written v20;
         if (v19.tag == dm_change_changing_Allowed_Refused) {
-            v20.tag = dm_refusal_Written_Refused;
-            v20.Refused.value = v19.Refused.value;
+            dm_refusal_Written result;
+            result.tag = dm_refusal_Written_Refused;
+            result.Refused.value = v19.Refused.value;
+            return result;
         } else { /* dm_change_changing_Allowed_Free */
             dm_fields_Row row = dm_fields_templates_row_of(&layout, field);
             dm_fields_Encoded v21 = dm_coding_encoding_encode_by(&row, field, value);
-            dm_refusal_Written v22;
             if (v21.tag == dm_fields_Encoded_Refused) {
-                v22.tag = dm_refusal_Written_Refused;
-                v22.Refused.value = v21.Refused.value;
+                dm_refusal_Written result;
+                result.tag = dm_refusal_Written_Refused;
+                result.Refused.value = v21.Refused.value;
+                return result;
             } else { /* dm_fields_Encoded_Code */
                 uint64_t code = v21.Code.value;
                 dm_memory_Sizes sizes = v15.Sheet.value.sizes;
                 dm_stream_writing_rewrite(&sizes, image, dm_sheet_places_locate(&layout, field), row.width, code);
-                v22.tag = dm_refusal_Written_Done;
+                dm_refusal_Written result;
+                result.tag = dm_refusal_Written_Done;
+                return result;
             }
-            v20 = v22;
         }
-        return v20;
     }
 }
 
@@ -7064,10 +6981,10 @@ static dm_fields_Judged dm_change_committing_may_commit(const dm_sheet_opening_O
     dm_fields_Template template_ = sheet->layout.template_;
     dm_change_changing_Allowed v10 = dm_change_changing_may_change(template_, level, field);
     if (v10.tag == dm_change_changing_Allowed_Refused) {
-        dm_fields_Judged v11;
-        v11.tag = dm_fields_Judged_Refused;
-        v11.Refused.value = v10.Refused.value;
-        return v11;
+        dm_fields_Judged result;
+        result.tag = dm_fields_Judged_Refused;
+        result.Refused.value = v10.Refused.value;
+        return result;
     } else { /* dm_change_changing_Allowed_Free */
         dm_fields_Row v12 = dm_fields_templates_row_of(&sheet->layout, field);
         return dm_change_committing_may_follow(&v12, dm_change_standing_code_in(sheet, image, field), field, present,
@@ -7084,24 +7001,26 @@ static dm_refusal_Written dm_change_committing_commit(uint8_t kind, dm_slice_u8 
 {
     dm_sheet_opening_OpenedAnswer v13 = dm_sheet_opening_open(kind, image);
     if (v13.tag == dm_sheet_opening_OpenedAnswer_Refused) {
-        dm_refusal_Written v16;
-        v16.tag = dm_refusal_Written_Refused;
-        v16.Refused.value = v13.Refused.value;
-        return v16;
+        dm_refusal_Written result;
+        result.tag = dm_refusal_Written_Refused;
+        result.Refused.value = v13.Refused.value;
+        return result;
     } else { /* dm_sheet_opening_OpenedAnswer_Sheet */
         dm_fields_Judged v17 = dm_change_committing_may_commit(&v13.Sheet.value, image, level, field, present, new_);
-        dm_refusal_Written v20;
         if (v17.tag == dm_fields_Judged_Refused) {
-            v20.tag = dm_refusal_Written_Refused;
-            v20.Refused.value = v17.Refused.value;
+            dm_refusal_Written result;
+            result.tag = dm_refusal_Written_Refused;
+            result.Refused.value = v17.Refused.value;
+            return result;
         } else { /* dm_fields_Judged_Stands */
             dm_memory_Sizes sizes = v13.Sheet.value.sizes;
             dm_fields_Layout layout = v13.Sheet.value.layout;
             dm_fields_Row row = dm_fields_templates_row_of(&layout, field);
             dm_stream_writing_rewrite(&sizes, image, dm_sheet_places_locate(&layout, field), row.width, new_);
-            v20.tag = dm_refusal_Written_Done;
+            dm_refusal_Written result;
+            result.tag = dm_refusal_Written_Done;
+            return result;
         }
-        return v20;
     }
 }
 
@@ -7115,10 +7034,10 @@ static dm_fields_Encoded dm_change_proposing_code_for(const dm_fields_Layout *la
     dm_fields_Template template_ = layout->template_;
     dm_change_changing_Allowed v7 = dm_change_changing_may_change(template_, level, field);
     if (v7.tag == dm_change_changing_Allowed_Refused) {
-        dm_fields_Encoded v8;
-        v8.tag = dm_fields_Encoded_Refused;
-        v8.Refused.value = v7.Refused.value;
-        return v8;
+        dm_fields_Encoded result;
+        result.tag = dm_fields_Encoded_Refused;
+        result.Refused.value = v7.Refused.value;
+        return result;
     } else { /* dm_change_changing_Allowed_Free */
         return dm_coding_encoding_encode(layout, field, value);
     }
@@ -7132,19 +7051,19 @@ static dm_change_ProposalAnswer dm_change_proposing_proposed(const dm_fields_Lay
     uint64_t at = dm_sheet_places_locate(layout, field);
     dm_fields_Decoded v9 = dm_coding_decoding_decode(&row, at, new_);
     if (v9.tag == dm_fields_Decoded_Refused) {
-        dm_change_ProposalAnswer v11;
-        v11.tag = dm_change_ProposalAnswer_Refused;
-        v11.Refused.value = v9.Refused.value;
-        return v11;
+        dm_change_ProposalAnswer result;
+        result.tag = dm_change_ProposalAnswer_Refused;
+        result.Refused.value = v9.Refused.value;
+        return result;
     } else { /* dm_fields_Decoded_Means */
         dm_change_Proposal v12;
         v12.present = present;
         v12.new_ = new_;
         v12.value = v9.Means.value;
-        dm_change_ProposalAnswer v11;
-        v11.tag = dm_change_ProposalAnswer_Proposed;
-        v11.Proposed.value = v12;
-        return v11;
+        dm_change_ProposalAnswer result;
+        result.tag = dm_change_ProposalAnswer_Proposed;
+        result.Proposed.value = v12;
+        return result;
     }
 }
 
@@ -7155,23 +7074,23 @@ static dm_change_ProposalAnswer dm_change_proposing_propose(uint8_t kind, dm_sli
 {
     dm_sheet_opening_OpenedAnswer v11 = dm_sheet_opening_open(kind, image);
     if (v11.tag == dm_sheet_opening_OpenedAnswer_Refused) {
-        dm_change_ProposalAnswer v12;
-        v12.tag = dm_change_ProposalAnswer_Refused;
-        v12.Refused.value = v11.Refused.value;
-        return v12;
+        dm_change_ProposalAnswer result;
+        result.tag = dm_change_ProposalAnswer_Refused;
+        result.Refused.value = v11.Refused.value;
+        return result;
     } else { /* dm_sheet_opening_OpenedAnswer_Sheet */
         dm_fields_Layout layout = v11.Sheet.value.layout;
         dm_fields_Encoded v13 = dm_change_proposing_code_for(&layout, level, field, value);
-        dm_change_ProposalAnswer v14;
         if (v13.tag == dm_fields_Encoded_Refused) {
-            v14.tag = dm_change_ProposalAnswer_Refused;
-            v14.Refused.value = v13.Refused.value;
+            dm_change_ProposalAnswer result;
+            result.tag = dm_change_ProposalAnswer_Refused;
+            result.Refused.value = v13.Refused.value;
+            return result;
         } else { /* dm_fields_Encoded_Code */
             uint64_t new_ = v13.Code.value;
-            v14 = dm_change_proposing_proposed(&layout, field, dm_change_standing_code_in(&v11.Sheet.value, image,
+            return dm_change_proposing_proposed(&layout, field, dm_change_standing_code_in(&v11.Sheet.value, image,
                 field), new_);
         }
-        return v14;
     }
 }
 
@@ -7267,15 +7186,15 @@ static dm_distance_DistanceAnswer dm_distance_telling_distance(dm_slice_u64 poin
     }
     dm_fields_Judged v7 = dm_build_plan_check_points(dm_fields_Domain_Electrical, points);
     if (v7.tag == dm_fields_Judged_Refused) {
-        dm_distance_DistanceAnswer v9;
-        v9.tag = dm_distance_DistanceAnswer_Refused;
-        v9.Refused.value = v7.Refused.value;
-        return v9;
+        dm_distance_DistanceAnswer result;
+        result.tag = dm_distance_DistanceAnswer_Refused;
+        result.Refused.value = v7.Refused.value;
+        return result;
     } else { /* dm_fields_Judged_Stands */
-        dm_distance_DistanceAnswer v9;
-        v9.tag = dm_distance_DistanceAnswer_Is;
-        v9.Is.value = dm_distance_telling_told(dm_distance_telling_steepest(points));
-        return v9;
+        dm_distance_DistanceAnswer result;
+        result.tag = dm_distance_DistanceAnswer_Is;
+        result.Is.value = dm_distance_telling_told(dm_distance_telling_steepest(points));
+        return result;
     }
 }
 
@@ -7384,22 +7303,24 @@ static dm_sheet_FieldAnswer dm_index_fetching_bits_at(const dm_memory_Sizes *siz
     cursor.at = offset;
     dm_stream_cursor_Taken v11 = dm_stream_cursor_Cursor_take(cursor, sizes, image, entry->length);
     if (v11.tag == dm_stream_cursor_Taken_Refused) {
-        dm_sheet_FieldAnswer v12;
-        v12.tag = dm_sheet_FieldAnswer_Refused;
-        v12.Refused.value = dm_refusal_rows_outside_table(offset);
-        return v12;
+        dm_sheet_FieldAnswer result;
+        result.tag = dm_sheet_FieldAnswer_Refused;
+        result.Refused.value = dm_refusal_rows_outside_table(offset);
+        return result;
     } else { /* dm_stream_cursor_Taken_Field */
         uint64_t code = v11.Field.f1;
         dm_fields_Decoded v14 = dm_coding_decoding_decode(row, offset, code);
-        dm_sheet_FieldAnswer v15;
         if (v14.tag == dm_fields_Decoded_Refused) {
-            v15.tag = dm_sheet_FieldAnswer_Refused;
-            v15.Refused.value = v14.Refused.value;
+            dm_sheet_FieldAnswer result;
+            result.tag = dm_sheet_FieldAnswer_Refused;
+            result.Refused.value = v14.Refused.value;
+            return result;
         } else { /* dm_fields_Decoded_Means */
-            v15.tag = dm_sheet_FieldAnswer_Holds;
-            v15.Holds.value = v14.Means.value;
+            dm_sheet_FieldAnswer result;
+            result.tag = dm_sheet_FieldAnswer_Holds;
+            result.Holds.value = v14.Means.value;
+            return result;
         }
-        return v15;
     }
 }
 
@@ -7430,10 +7351,10 @@ static dm_sheet_FieldAnswer dm_index_fetching_fetch_in(const dm_memory_Sizes *si
     dm_index_Entry entry = dm_index_entries_entry_at(index, field - 1u);
     dm_index_fetching_RowAnswer v18 = dm_index_fetching_row_of_length(template_, field, &entry);
     if (v18.tag == dm_index_fetching_RowAnswer_Refused) {
-        dm_sheet_FieldAnswer v19;
-        v19.tag = dm_sheet_FieldAnswer_Refused;
-        v19.Refused.value = v18.Refused.value;
-        return v19;
+        dm_sheet_FieldAnswer result;
+        result.tag = dm_sheet_FieldAnswer_Refused;
+        result.Refused.value = v18.Refused.value;
+        return result;
     } else { /* dm_index_fetching_RowAnswer_Is */
         return dm_index_fetching_bits_at(sizes, image, &v18.Is.value, &entry);
     }
@@ -7447,32 +7368,30 @@ static dm_sheet_FieldAnswer dm_index_fetching_fetch(uint8_t kind, dm_slice_u8 im
 {
     dm_memory_kinds_SizesAnswer v8 = dm_memory_kinds_image_sizes(kind, image.length);
     if (v8.tag == dm_memory_kinds_SizesAnswer_Refused) {
-        dm_sheet_FieldAnswer v10;
-        v10.tag = dm_sheet_FieldAnswer_Refused;
-        v10.Refused.value = v8.Refused.value;
-        return v10;
+        dm_sheet_FieldAnswer result;
+        result.tag = dm_sheet_FieldAnswer_Refused;
+        result.Refused.value = v8.Refused.value;
+        return result;
     } else { /* dm_memory_kinds_SizesAnswer_Are */
         dm_memory_pages_Sums v11 = dm_memory_pages_check_sums(&v8.Are.value, image);
-        dm_sheet_FieldAnswer v12;
         switch (v11.tag) {
         case dm_memory_pages_Sums_Blank: {
-            v12.tag = dm_sheet_FieldAnswer_Refused;
-            v12.Refused.value = dm_refusal_rows_blank_chip();
-            break;
+            dm_sheet_FieldAnswer result;
+            result.tag = dm_sheet_FieldAnswer_Refused;
+            result.Refused.value = dm_refusal_rows_blank_chip();
+            return result;
         }
         case dm_memory_pages_Sums_Wrong: {
             uint64_t page = v11.Wrong.value;
-            v12.tag = dm_sheet_FieldAnswer_Refused;
-            v12.Refused.value = dm_refusal_rows_wrong_sum(page);
-            break;
+            dm_sheet_FieldAnswer result;
+            result.tag = dm_sheet_FieldAnswer_Refused;
+            result.Refused.value = dm_refusal_rows_wrong_sum(page);
+            return result;
         }
         case dm_memory_pages_Sums_Right:
-        default: {
-            v12 = dm_index_fetching_fetch_in(&v8.Are.value, image, index, field);
-            break;
+        default:
+            return dm_index_fetching_fetch_in(&v8.Are.value, image, index, field);
         }
-        }
-        return v12;
     }
 }
 
@@ -7577,10 +7496,10 @@ static dm_refusal_Written dm_index_making_make_index(uint8_t kind, dm_slice_u8 i
 {
     dm_sheet_opening_OpenedAnswer v10 = dm_sheet_opening_open(kind, image);
     if (v10.tag == dm_sheet_opening_OpenedAnswer_Refused) {
-        dm_refusal_Written v11;
-        v11.tag = dm_refusal_Written_Refused;
-        v11.Refused.value = v10.Refused.value;
-        return v11;
+        dm_refusal_Written result_2;
+        result_2.tag = dm_refusal_Written_Refused;
+        result_2.Refused.value = v10.Refused.value;
+        return result_2;
     } else { /* dm_sheet_opening_OpenedAnswer_Sheet */
         dm_fields_Layout layout = v10.Sheet.value.layout;
         dm_fields_Template template_ = layout.template_;
@@ -7593,9 +7512,9 @@ static dm_refusal_Written dm_index_making_make_index(uint8_t kind, dm_slice_u8 i
             return result;
         }
         dm_index_making_write_entries(&layout, buffer, count);
-        dm_refusal_Written v11;
-        v11.tag = dm_refusal_Written_Done;
-        return v11;
+        dm_refusal_Written result_2;
+        result_2.tag = dm_refusal_Written_Done;
+        return result_2;
     }
 }
 
@@ -7619,16 +7538,13 @@ static bool dm_reading_dashes_is_too_many(dm_reading_Dash dash, uint64_t points)
 static bool dm_reading_ends_is_missing(const dm_fields_Value *value)
 {
     switch (value->tag) {
-    case dm_fields_Value_Whole: {
+    case dm_fields_Value_Whole:
         return false;
-    }
-    case dm_fields_Value_Single: {
+    case dm_fields_Value_Single:
         return false;
-    }
     case dm_fields_Value_Missing:
-    default: {
+    default:
         return true;
-    }
     }
 }
 
@@ -7638,10 +7554,10 @@ static dm_fields_Rounded dm_reading_ends_end_of(const dm_fields_Value *value)
     switch (value->tag) {
     case dm_fields_Value_Whole: {
         uint64_t figure = value->Whole.value;
-        dm_fields_Rounded v4;
-        v4.tag = dm_fields_Rounded_To;
-        v4.To.value = figure;
-        return v4;
+        dm_fields_Rounded result;
+        result.tag = dm_fields_Rounded_To;
+        result.To.value = figure;
+        return result;
     }
     case dm_fields_Value_Single: {
         float x = value->Single.value;
@@ -7649,10 +7565,10 @@ static dm_fields_Rounded dm_reading_ends_end_of(const dm_fields_Value *value)
     }
     case dm_fields_Value_Missing:
     default: {
-        dm_fields_Rounded v4;
-        v4.tag = dm_fields_Rounded_To;
-        v4.To.value = 0u;
-        return v4;
+        dm_fields_Rounded result;
+        result.tag = dm_fields_Rounded_To;
+        result.To.value = 0u;
+        return result;
     }
     }
 }
@@ -7915,20 +7831,20 @@ static dm_reading_span_SpanAnswer dm_reading_span_span_in(const dm_sheet_opening
     dm_fields_Value v13 = dm_sheet_held_unscaled_in(sheet, image, 11u);
     dm_reading_ends_EndsAnswer v11 = dm_reading_ends_ends_of(&v12, &v13);
     if (v11.tag == dm_reading_ends_EndsAnswer_Refused) {
-        dm_reading_span_SpanAnswer v14;
-        v14.tag = dm_reading_span_SpanAnswer_Refused;
-        v14.Refused.value = v11.Refused.value;
-        return v14;
+        dm_reading_span_SpanAnswer result;
+        result.tag = dm_reading_span_SpanAnswer_Refused;
+        result.Refused.value = v11.Refused.value;
+        return result;
     } else { /* dm_reading_ends_EndsAnswer_Are */
         dm_reading_span_Span v15;
         v15.low = low;
         v15.high = high;
         v15.least = v11.Are.value.least;
         v15.greatest = v11.Are.value.greatest;
-        dm_reading_span_SpanAnswer v14;
-        v14.tag = dm_reading_span_SpanAnswer_Is;
-        v14.Is.value = v15;
-        return v14;
+        dm_reading_span_SpanAnswer result;
+        result.tag = dm_reading_span_SpanAnswer_Is;
+        result.Is.value = v15;
+        return result;
     }
 }
 
@@ -7963,10 +7879,10 @@ static dm_reading_ReadingAnswer dm_reading_taking_bridge_reading(const dm_sheet_
     (void)dash;
     dm_reading_span_SpanAnswer v7 = dm_reading_span_span_in(sheet, image);
     if (v7.tag == dm_reading_span_SpanAnswer_Refused) {
-        dm_reading_ReadingAnswer v8;
-        v8.tag = dm_reading_ReadingAnswer_Refused;
-        v8.Refused.value = v7.Refused.value;
-        return v8;
+        dm_reading_ReadingAnswer result_2;
+        result_2.tag = dm_reading_ReadingAnswer_Refused;
+        result_2.Refused.value = v7.Refused.value;
+        return result_2;
     } else { /* dm_reading_span_SpanAnswer_Is */
         if (dm_reading_position_is_too_far(input, &v7.Is.value)) {
             dm_reading_ReadingAnswer result;
@@ -7974,10 +7890,10 @@ static dm_reading_ReadingAnswer dm_reading_taking_bridge_reading(const dm_sheet_
             result.Refused.value = dm_refusal_rows_outside_span();
             return result;
         }
-        dm_reading_ReadingAnswer v8;
-        v8.tag = dm_reading_ReadingAnswer_Shows;
-        v8.Shows.value = dm_reading_taking_shown(sheet, image, &v7.Is.value, input);
-        return v8;
+        dm_reading_ReadingAnswer result_2;
+        result_2.tag = dm_reading_ReadingAnswer_Shows;
+        result_2.Shows.value = dm_reading_taking_shown(sheet, image, &v7.Is.value, input);
+        return result_2;
     }
 }
 
@@ -8018,10 +7934,10 @@ static dm_reading_ReadingAnswer dm_reading_taking_take_reading(uint8_t kind, dm_
 {
     dm_sheet_opening_OpenedAnswer v7 = dm_sheet_opening_open(kind, image);
     if (v7.tag == dm_sheet_opening_OpenedAnswer_Refused) {
-        dm_reading_ReadingAnswer v8;
-        v8.tag = dm_reading_ReadingAnswer_Refused;
-        v8.Refused.value = v7.Refused.value;
-        return v8;
+        dm_reading_ReadingAnswer result;
+        result.tag = dm_reading_ReadingAnswer_Refused;
+        result.Refused.value = v7.Refused.value;
+        return result;
     } else { /* dm_sheet_opening_OpenedAnswer_Sheet */
         return dm_reading_taking_reading_in(&v7.Sheet.value, image, input, dash);
     }
@@ -8136,10 +8052,10 @@ static dm_recordings_ComparedAnswer dm_recordings_comparing_compare(uint8_t kind
 {
     dm_sheet_opening_OpenedAnswer v7 = dm_sheet_opening_open(kind, image);
     if (v7.tag == dm_sheet_opening_OpenedAnswer_Refused) {
-        dm_recordings_ComparedAnswer v8;
-        v8.tag = dm_recordings_ComparedAnswer_Refused;
-        v8.Refused.value = v7.Refused.value;
-        return v8;
+        dm_recordings_ComparedAnswer result;
+        result.tag = dm_recordings_ComparedAnswer_Refused;
+        result.Refused.value = v7.Refused.value;
+        return result;
     } else { /* dm_sheet_opening_OpenedAnswer_Sheet */
         return dm_recordings_comparing_compare_in(&v7.Sheet.value, image, slow, fast);
     }
@@ -8154,13 +8070,11 @@ static uint8_t dm_dartelm_answers_domain_number(dm_sheet_TableDomain domain)
         return 255u;
     } else { /* dm_sheet_TableDomain_Is */
         dm_fields_Domain found = domain.Is.value;
-        uint8_t v4;
         if (found == dm_fields_Domain_Electrical) {
-            v4 = 0u;
+            return 0u;
         } else { /* dm_fields_Domain_Physical */
-            v4 = 1u;
+            return 1u;
         }
-        return v4;
     }
 }
 
@@ -8176,18 +8090,14 @@ uint32_t dartelm_version(void)
 uint8_t dartelm_kind_of(size_t bytes)
 {
     switch ((uint64_t)bytes) {
-    case 40u: {
+    case 40u:
         return 0u;
-    }
-    case 128u: {
+    case 128u:
         return 1u;
-    }
-    case 512u: {
+    case 512u:
         return 2u;
-    }
-    default: {
+    default:
         return 255u;
-    }
     }
 }
 
@@ -8197,34 +8107,34 @@ dartelm_check_answer dartelm_check(uint8_t kind, const uint8_t *image, size_t im
     dm_slice_u8 image_lent = dm_slice_u8_of((uint8_t *)image, image_length);
     dm_sheet_Checked v7 = dm_sheet_calls_check(kind, image_lent);
     if (v7.tag == dm_sheet_Checked_Refused) {
-        dartelm_check_answer v8;
-        v8.number = v7.Refused.value.number;
-        v8.place = v7.Refused.value.place;
-        v8.bits = 0u;
-        v8.points = 0u;
-        v8.characters = 0u;
-        v8.end_bit = 0u;
-        v8.template_id = 0u;
-        v8.domain = 0u;
-        v8.segments = 0u;
-        v8.terms = 0u;
-        return v8;
+        dartelm_check_answer result;
+        result.number = v7.Refused.value.number;
+        result.place = v7.Refused.value.place;
+        result.bits = 0u;
+        result.points = 0u;
+        result.characters = 0u;
+        result.end_bit = 0u;
+        result.template_id = 0u;
+        result.domain = 0u;
+        result.segments = 0u;
+        result.terms = 0u;
+        return result;
     } else { /* dm_sheet_Checked_Accepted */
         dm_fields_Template template_ = v7.Accepted.value.template_;
         dm_sheet_TableDomain domain = v7.Accepted.value.domain;
         uint8_t v11 = (uint8_t)dm_fields_templates_template_number(template_);
-        dartelm_check_answer v8;
-        v8.number = 0u;
-        v8.place = 0u;
-        v8.bits = v7.Accepted.value.bits;
-        v8.points = v7.Accepted.value.points;
-        v8.characters = v7.Accepted.value.characters;
-        v8.end_bit = (uint8_t)v7.Accepted.value.end_bit;
-        v8.template_id = v11;
-        v8.domain = dm_dartelm_answers_domain_number(domain);
-        v8.segments = v7.Accepted.value.segments;
-        v8.terms = v7.Accepted.value.terms;
-        return v8;
+        dartelm_check_answer result;
+        result.number = 0u;
+        result.place = 0u;
+        result.bits = v7.Accepted.value.bits;
+        result.points = v7.Accepted.value.points;
+        result.characters = v7.Accepted.value.characters;
+        result.end_bit = (uint8_t)v7.Accepted.value.end_bit;
+        result.template_id = v11;
+        result.domain = dm_dartelm_answers_domain_number(domain);
+        result.segments = v7.Accepted.value.segments;
+        result.terms = v7.Accepted.value.terms;
+        return result;
     }
 }
 
@@ -8232,17 +8142,17 @@ dartelm_check_answer dartelm_check(uint8_t kind, const uint8_t *image, size_t im
 static dartelm_field_answer dm_dartelm_held(const dm_sheet_FieldAnswer *answer)
 {
     if (answer->tag == dm_sheet_FieldAnswer_Refused) {
-        dartelm_field_answer v4;
-        v4.number = answer->Refused.value.number;
-        v4.place = answer->Refused.value.place;
-        v4.value = dm_dartelm_values_no_value();
-        return v4;
+        dartelm_field_answer result;
+        result.number = answer->Refused.value.number;
+        result.place = answer->Refused.value.place;
+        result.value = dm_dartelm_values_no_value();
+        return result;
     } else { /* dm_sheet_FieldAnswer_Holds */
-        dartelm_field_answer v4;
-        v4.number = 0u;
-        v4.place = 0u;
-        v4.value = dm_dartelm_values_by_flags(&answer->Holds.value);
-        return v4;
+        dartelm_field_answer result;
+        result.number = 0u;
+        result.place = 0u;
+        result.value = dm_dartelm_values_by_flags(&answer->Holds.value);
+        return result;
     }
 }
 
@@ -8282,19 +8192,19 @@ dartelm_pair_answer dartelm_pair(uint8_t kind, const uint8_t *image, size_t imag
     dm_slice_u8 image_lent = dm_slice_u8_of((uint8_t *)image, image_length);
     dm_sheet_PairAnswer v6 = dm_sheet_calls_read_pair(kind, image_lent, index);
     if (v6.tag == dm_sheet_PairAnswer_Refused) {
-        dartelm_pair_answer v7;
-        v7.number = v6.Refused.value.number;
-        v7.place = v6.Refused.value.place;
-        v7.point = (int64_t)0u;
-        v7.deviation = (int64_t)0u;
-        return v7;
+        dartelm_pair_answer result;
+        result.number = v6.Refused.value.number;
+        result.place = v6.Refused.value.place;
+        result.point = (int64_t)0u;
+        result.deviation = (int64_t)0u;
+        return result;
     } else { /* dm_sheet_PairAnswer_Holds */
-        dartelm_pair_answer v7;
-        v7.number = 0u;
-        v7.place = 0u;
-        v7.point = (int64_t)v6.Holds.value.point;
-        v7.deviation = (int64_t)v6.Holds.value.deviation;
-        return v7;
+        dartelm_pair_answer result;
+        result.number = 0u;
+        result.place = 0u;
+        result.point = (int64_t)v6.Holds.value.point;
+        result.deviation = (int64_t)v6.Holds.value.deviation;
+        return result;
     }
 }
 
@@ -8304,19 +8214,19 @@ dartelm_segment_answer dartelm_segment(uint8_t kind, const uint8_t *image, size_
     dm_slice_u8 image_lent = dm_slice_u8_of((uint8_t *)image, image_length);
     dm_sheet_SegmentAnswer v6 = dm_sheet_calls_read_segment(kind, image_lent, index);
     if (v6.tag == dm_sheet_SegmentAnswer_Refused) {
-        dartelm_segment_answer v7;
-        v7.number = v6.Refused.value.number;
-        v7.place = v6.Refused.value.place;
-        v7.start = (int64_t)0u;
-        v7.terms = 0u;
-        return v7;
+        dartelm_segment_answer result;
+        result.number = v6.Refused.value.number;
+        result.place = v6.Refused.value.place;
+        result.start = (int64_t)0u;
+        result.terms = 0u;
+        return result;
     } else { /* dm_sheet_SegmentAnswer_Holds */
-        dartelm_segment_answer v7;
-        v7.number = 0u;
-        v7.place = 0u;
-        v7.start = (int64_t)v6.Holds.value.start;
-        v7.terms = v6.Holds.value.terms;
-        return v7;
+        dartelm_segment_answer result;
+        result.number = 0u;
+        result.place = 0u;
+        result.start = (int64_t)v6.Holds.value.start;
+        result.terms = v6.Holds.value.terms;
+        return result;
     }
 }
 
@@ -8326,19 +8236,19 @@ dartelm_term_answer dartelm_term(uint8_t kind, const uint8_t *image, size_t imag
     dm_slice_u8 image_lent = dm_slice_u8_of((uint8_t *)image, image_length);
     dm_sheet_TermAnswer v6 = dm_sheet_calls_read_term(kind, image_lent, index);
     if (v6.tag == dm_sheet_TermAnswer_Refused) {
-        dartelm_term_answer v7;
-        v7.number = v6.Refused.value.number;
-        v7.place = v6.Refused.value.place;
-        v7.exponent = (int64_t)0u;
-        v7.coefficient = dm_float_from_bits(0x00000000u);
-        return v7;
+        dartelm_term_answer result;
+        result.number = v6.Refused.value.number;
+        result.place = v6.Refused.value.place;
+        result.exponent = (int64_t)0u;
+        result.coefficient = dm_float_from_bits(0x00000000u);
+        return result;
     } else { /* dm_sheet_TermAnswer_Holds */
-        dartelm_term_answer v7;
-        v7.number = 0u;
-        v7.place = 0u;
-        v7.exponent = (int64_t)v6.Holds.value.exponent;
-        v7.coefficient = v6.Holds.value.coefficient;
-        return v7;
+        dartelm_term_answer result;
+        result.number = 0u;
+        result.place = 0u;
+        result.exponent = (int64_t)v6.Holds.value.exponent;
+        result.coefficient = v6.Holds.value.coefficient;
+        return result;
     }
 }
 
@@ -8348,18 +8258,18 @@ dartelm_character_answer dartelm_character(uint8_t kind, const uint8_t *image, s
     dm_slice_u8 image_lent = dm_slice_u8_of((uint8_t *)image, image_length);
     dm_sheet_CharacterAnswer v6 = dm_sheet_calls_read_character(kind, image_lent, index);
     if (v6.tag == dm_sheet_CharacterAnswer_Refused) {
-        dartelm_character_answer v7;
-        v7.number = v6.Refused.value.number;
-        v7.place = v6.Refused.value.place;
-        v7.character = (char)0u;
-        return v7;
+        dartelm_character_answer result;
+        result.number = v6.Refused.value.number;
+        result.place = v6.Refused.value.place;
+        result.character = (char)0u;
+        return result;
     } else { /* dm_sheet_CharacterAnswer_Holds */
         uint8_t character = v6.Holds.value;
-        dartelm_character_answer v7;
-        v7.number = 0u;
-        v7.place = 0u;
-        v7.character = (char)character;
-        return v7;
+        dartelm_character_answer result;
+        result.number = 0u;
+        result.place = 0u;
+        result.character = (char)character;
+        return result;
     }
 }
 
@@ -8367,15 +8277,15 @@ dartelm_character_answer dartelm_character(uint8_t kind, const uint8_t *image, s
 static dartelm_write_answer dm_dartelm_wrote(const dm_refusal_Written *written)
 {
     if (written->tag == dm_refusal_Written_Refused) {
-        dartelm_write_answer v3;
-        v3.number = written->Refused.value.number;
-        v3.place = written->Refused.value.place;
-        return v3;
+        dartelm_write_answer result;
+        result.number = written->Refused.value.number;
+        result.place = written->Refused.value.place;
+        return result;
     } else { /* dm_refusal_Written_Done */
-        dartelm_write_answer v3;
-        v3.number = 0u;
-        v3.place = 0u;
-        return v3;
+        dartelm_write_answer result;
+        result.number = 0u;
+        result.place = 0u;
+        return result;
     }
 }
 
@@ -8461,22 +8371,22 @@ dartelm_proposal_answer dartelm_propose(uint8_t kind, const uint8_t *image, size
     dm_fields_Value v11 = dm_dartelm_values_value_of(&value);
     dm_change_ProposalAnswer v9 = dm_change_proposing_propose(kind, image_lent, v10, field, &v11);
     if (v9.tag == dm_change_ProposalAnswer_Refused) {
-        dartelm_proposal_answer v12;
-        v12.number = v9.Refused.value.number;
-        v12.place = v9.Refused.value.place;
-        v12.present_code = 0u;
-        v12.new_code = 0u;
-        v12.value = dm_dartelm_values_no_value();
-        return v12;
+        dartelm_proposal_answer result;
+        result.number = v9.Refused.value.number;
+        result.place = v9.Refused.value.place;
+        result.present_code = 0u;
+        result.new_code = 0u;
+        result.value = dm_dartelm_values_no_value();
+        return result;
     } else { /* dm_change_ProposalAnswer_Proposed */
         dm_fields_Value back = v9.Proposed.value.value;
-        dartelm_proposal_answer v12;
-        v12.number = 0u;
-        v12.place = 0u;
-        v12.present_code = v9.Proposed.value.present;
-        v12.new_code = v9.Proposed.value.new_;
-        v12.value = dm_dartelm_values_by_flags(&back);
-        return v12;
+        dartelm_proposal_answer result;
+        result.number = 0u;
+        result.place = 0u;
+        result.present_code = v9.Proposed.value.present;
+        result.new_code = v9.Proposed.value.new_;
+        result.value = dm_dartelm_values_by_flags(&back);
+        return result;
     }
 }
 
@@ -8498,19 +8408,19 @@ dartelm_reading_answer dartelm_reading(uint8_t kind, const uint8_t *image, size_
     dm_reading_Dash taker = dm_dartelm_values_dash_of(dash);
     dm_reading_ReadingAnswer v8 = dm_reading_taking_take_reading(kind, image_lent, (uint64_t)input, taker);
     if (v8.tag == dm_reading_ReadingAnswer_Refused) {
-        dartelm_reading_answer v9;
-        v9.number = v8.Refused.value.number;
-        v9.place = v8.Refused.value.place;
-        v9.fraction = (int64_t)0u;
-        v9.figure = dm_double_from_bits(0x0000000000000000u);
-        return v9;
+        dartelm_reading_answer result;
+        result.number = v8.Refused.value.number;
+        result.place = v8.Refused.value.place;
+        result.fraction = (int64_t)0u;
+        result.figure = dm_double_from_bits(0x0000000000000000u);
+        return result;
     } else { /* dm_reading_ReadingAnswer_Shows */
-        dartelm_reading_answer v9;
-        v9.number = 0u;
-        v9.place = 0u;
-        v9.fraction = (int64_t)v8.Shows.value.fraction;
-        v9.figure = v8.Shows.value.figure;
-        return v9;
+        dartelm_reading_answer result;
+        result.number = 0u;
+        result.place = 0u;
+        result.fraction = (int64_t)v8.Shows.value.fraction;
+        result.figure = v8.Shows.value.figure;
+        return result;
     }
 }
 
@@ -8524,30 +8434,30 @@ dartelm_compared_answer dartelm_compare(uint8_t kind, const uint8_t *image, size
     dm_recordings_ComparedAnswer v7 = dm_recordings_comparing_compare(kind, image_lent, slow_lent, fast_lent);
     switch (v7.tag) {
     case dm_recordings_ComparedAnswer_Refused: {
-        dartelm_compared_answer v8;
-        v8.number = v7.Refused.value.number;
-        v8.place = v7.Refused.value.place;
-        v8.agrees = 0u;
-        v8.tick = 0u;
-        return v8;
+        dartelm_compared_answer result;
+        result.number = v7.Refused.value.number;
+        result.place = v7.Refused.value.place;
+        result.agrees = 0u;
+        result.tick = 0u;
+        return result;
     }
     case dm_recordings_ComparedAnswer_Tick: {
         uint64_t tick = v7.Tick.value;
-        dartelm_compared_answer v8;
-        v8.number = 0u;
-        v8.place = 0u;
-        v8.agrees = 0u;
-        v8.tick = tick;
-        return v8;
+        dartelm_compared_answer result;
+        result.number = 0u;
+        result.place = 0u;
+        result.agrees = 0u;
+        result.tick = tick;
+        return result;
     }
     case dm_recordings_ComparedAnswer_Agree:
     default: {
-        dartelm_compared_answer v8;
-        v8.number = 0u;
-        v8.place = 0u;
-        v8.agrees = 1u;
-        v8.tick = 0u;
-        return v8;
+        dartelm_compared_answer result;
+        result.number = 0u;
+        result.place = 0u;
+        result.agrees = 1u;
+        result.tick = 0u;
+        return result;
     }
     }
 }
@@ -8558,19 +8468,19 @@ dartelm_distance_answer dartelm_distance(const int64_t *points, size_t points_le
     dm_slice_u64 points_lent = dm_slice_u64_of((uint64_t *)points, points_length);
     dm_distance_DistanceAnswer v4 = dm_distance_telling_distance(points_lent);
     if (v4.tag == dm_distance_DistanceAnswer_Refused) {
-        dartelm_distance_answer v5;
-        v5.number = v4.Refused.value.number;
-        v5.place = v4.Refused.value.place;
-        v5.slope = 0u;
-        v5.bound = 0u;
-        return v5;
+        dartelm_distance_answer result;
+        result.number = v4.Refused.value.number;
+        result.place = v4.Refused.value.place;
+        result.slope = 0u;
+        result.bound = 0u;
+        return result;
     } else { /* dm_distance_DistanceAnswer_Is */
-        dartelm_distance_answer v5;
-        v5.number = 0u;
-        v5.place = 0u;
-        v5.slope = v4.Is.value.slope;
-        v5.bound = v4.Is.value.bound;
-        return v5;
+        dartelm_distance_answer result;
+        result.number = 0u;
+        result.place = 0u;
+        result.slope = v4.Is.value.slope;
+        result.bound = v4.Is.value.bound;
+        return result;
     }
 }
 
@@ -8583,22 +8493,22 @@ dartelm_text_answer dartelm_text(uint64_t field, uint64_t code)
         dm_refusal_Refusal r = text.answer.Refused.value;
         dm_array_u8_11 v10;
         memset(v10.at, 0, sizeof v10.at);
-        dartelm_text_answer v9;
-        v9.number = r.number;
-        v9.place = r.place;
-        v9.length = 0u;
-        memcpy(&v9.characters, &v10, sizeof v9.characters);
-        return v9;
+        dartelm_text_answer result;
+        result.number = r.number;
+        result.place = r.place;
+        result.length = 0u;
+        memcpy(&result.characters, &v10, sizeof result.characters);
+        return result;
     } else { /* dm_texts_TextAnswer_Length */
         uint64_t length = text.answer.Length.value;
         memset(characters.at, 0, sizeof characters.at);
         (void)dm_bytes_copy(dm_slice_u8_of(text.characters.at, 10u), dm_slice_u8_of(characters.at, 11u));
-        dartelm_text_answer v9;
-        v9.number = 0u;
-        v9.place = 0u;
-        v9.length = length;
-        memcpy(&v9.characters, &characters, sizeof v9.characters);
-        return v9;
+        dartelm_text_answer result;
+        result.number = 0u;
+        result.place = 0u;
+        result.length = length;
+        memcpy(&result.characters, &characters, sizeof result.characters);
+        return result;
     }
 }
 
@@ -8608,18 +8518,18 @@ dartelm_code_answer dartelm_code(uint64_t field, const char *text, size_t text_l
     dm_slice_u8 text_lent = dm_slice_u8_of((uint8_t *)text, text_length);
     dm_texts_CodeAnswer v5 = dm_texts_code_of(field, text_lent);
     if (v5.tag == dm_texts_CodeAnswer_Refused) {
-        dartelm_code_answer v6;
-        v6.number = v5.Refused.value.number;
-        v6.place = v5.Refused.value.place;
-        v6.code = 0u;
-        return v6;
+        dartelm_code_answer result;
+        result.number = v5.Refused.value.number;
+        result.place = v5.Refused.value.place;
+        result.code = 0u;
+        return result;
     } else { /* dm_texts_CodeAnswer_Code */
         uint64_t code = v5.Code.value;
-        dartelm_code_answer v6;
-        v6.number = 0u;
-        v6.place = 0u;
-        v6.code = code;
-        return v6;
+        dartelm_code_answer result;
+        result.number = 0u;
+        result.place = 0u;
+        result.code = code;
+        return result;
     }
 }
 
@@ -8714,15 +8624,12 @@ static bool dm_dartelm_values_is_yes(uint8_t given)
 static dm_fields_Level dm_dartelm_values_level_of(uint8_t given)
 {
     switch (given) {
-    case 1u: {
+    case 1u:
         return dm_fields_Level_CalibrationRoom;
-    }
-    case 2u: {
+    case 2u:
         return dm_fields_Level_Maker;
-    }
-    default: {
+    default:
         return dm_fields_Level_Owner;
-    }
     }
 }
 
@@ -8770,30 +8677,30 @@ static dartelm_value dm_dartelm_values_by_flags(const dm_fields_Value *value)
     switch (value->tag) {
     case dm_fields_Value_Whole: {
         uint64_t whole = value->Whole.value;
-        dartelm_value v4;
-        v4.whole = (int64_t)whole;
-        v4.single = dm_float_from_bits(0x00000000u);
-        v4.is_single = 0u;
-        v4.is_missing = 0u;
-        return v4;
+        dartelm_value result;
+        result.whole = (int64_t)whole;
+        result.single = dm_float_from_bits(0x00000000u);
+        result.is_single = 0u;
+        result.is_missing = 0u;
+        return result;
     }
     case dm_fields_Value_Single: {
         float single = value->Single.value;
-        dartelm_value v4;
-        v4.whole = (int64_t)0u;
-        v4.single = single;
-        v4.is_single = 1u;
-        v4.is_missing = 0u;
-        return v4;
+        dartelm_value result;
+        result.whole = (int64_t)0u;
+        result.single = single;
+        result.is_single = 1u;
+        result.is_missing = 0u;
+        return result;
     }
     case dm_fields_Value_Missing:
     default: {
-        dartelm_value v4;
-        v4.whole = (int64_t)0u;
-        v4.single = dm_float_from_bits(0x00000000u);
-        v4.is_single = 0u;
-        v4.is_missing = 1u;
-        return v4;
+        dartelm_value result;
+        result.whole = (int64_t)0u;
+        result.single = dm_float_from_bits(0x00000000u);
+        result.is_single = 0u;
+        result.is_missing = 1u;
+        return result;
     }
     }
 }
@@ -8852,17 +8759,17 @@ static dm_array_fields_Segment_20 dm_dartelm_values_segments_of(const dm_array_d
     dm_fields_Segment v6;
     v6.start = 0u;
     v6.terms = 0u;
-    dm_array_fields_Segment_20 v3;
+    dm_array_fields_Segment_20 result;
     for (size_t i1 = 0; i1 < 20u; i1++) {
-        v3.at[i1] = v6;
+        result.at[i1] = v6;
     }
     uint64_t v4 = 0u;
     while (v4 < 20u) {
         dartelm_curve_segment v5 = given->at[v4];
-        v3.at[v4] = dm_dartelm_values_segment_of(&v5);
+        result.at[v4] = dm_dartelm_values_segment_of(&v5);
         v4 += 1u;
     }
-    return v3;
+    return result;
 }
 
 static dm_array_fields_Term_30 dm_dartelm_values_terms_of(const dm_array_dartelm_curve_term_30 *given)
@@ -8870,17 +8777,17 @@ static dm_array_fields_Term_30 dm_dartelm_values_terms_of(const dm_array_dartelm
     dm_fields_Term v6;
     v6.exponent = 0u;
     v6.coefficient = dm_float_from_bits(0x00000000u);
-    dm_array_fields_Term_30 v3;
+    dm_array_fields_Term_30 result;
     for (size_t i1 = 0; i1 < 30u; i1++) {
-        v3.at[i1] = v6;
+        result.at[i1] = v6;
     }
     uint64_t v4 = 0u;
     while (v4 < 30u) {
         dartelm_curve_term v5 = given->at[v4];
-        v3.at[v4] = dm_dartelm_values_term_of(&v5);
+        result.at[v4] = dm_dartelm_values_term_of(&v5);
         v4 += 1u;
     }
-    return v3;
+    return result;
 }
 
 /* The curve that C hands in. */

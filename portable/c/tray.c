@@ -339,23 +339,23 @@ static bool dm_io_write_all(uint32_t fd, dm_slice_u8 buf)
 
 static uint64_t dm_io_read_full(uint32_t fd, dm_slice_u8 buf)
 {
-    uint64_t v3 = dm_io_clamp(dm_libc_read(fd, buf), buf.length);
-    if (v3 == 0u) {
+    uint64_t result = dm_io_clamp(dm_libc_read(fd, buf), buf.length);
+    if (result == 0u) {
         return 0u;
     }
-    if (v3 == buf.length) {
-        return v3;
+    if (result == buf.length) {
+        return result;
     }
     dm_array_u8_4096 v4 = dm_io_buffer();
     dm_slice_u8 v5 = dm_slice_u8_of(v4.at, 4096u);
-    while (v3 < buf.length) {
-        uint64_t v6 = dm_io_read_to(fd, buf, v3, v5);
+    while (result < buf.length) {
+        uint64_t v6 = dm_io_read_to(fd, buf, result, v5);
         if (v6 == 0u) {
             break;
         }
-        v3 += v6;
+        result += v6;
     }
-    return v3;
+    return result;
 }
 
 static uint64_t dm_io_write_from(uint32_t fd, dm_slice_u8 buf, uint64_t from, dm_slice_u8 chunk)
@@ -368,9 +368,9 @@ static uint64_t dm_io_write_from(uint32_t fd, dm_slice_u8 buf, uint64_t from, dm
 static uint64_t dm_io_read_to(uint32_t fd, dm_slice_u8 buf, uint64_t to, dm_slice_u8 chunk)
 {
     uint64_t v5 = dm_io_least(buf.length - to, chunk.length);
-    uint64_t v6 = dm_io_clamp(dm_libc_read(fd, dm_slice_u8_of(chunk.at, v5)), v5);
-    dm_io_copy(chunk, 0u, buf, to, v6);
-    return v6;
+    uint64_t result = dm_io_clamp(dm_libc_read(fd, dm_slice_u8_of(chunk.at, v5)), v5);
+    dm_io_copy(chunk, 0u, buf, to, result);
+    return result;
 }
 
 static void dm_io_copy(dm_slice_u8 src, uint64_t from, dm_slice_u8 dst, uint64_t to, uint64_t n)
@@ -405,23 +405,23 @@ static uint64_t dm_io_least(uint64_t a, uint64_t b)
 
 static uint64_t dm_io_number_decimal(uint64_t n, dm_array_u8_20 *out)
 {
-    uint64_t v3 = dm_io_number_places(n, 10u, 1u);
-    dm_io_number_spell(n, 10u, v3, dm_slice_u8_of(out->at, 20u));
-    return v3;
+    uint64_t result = dm_io_number_places(n, 10u, 1u);
+    dm_io_number_spell(n, 10u, result, dm_slice_u8_of(out->at, 20u));
+    return result;
 }
 
 static uint64_t dm_io_number_places(uint64_t n, uint64_t base, uint64_t least)
 {
-    uint64_t v4 = 1u;
+    uint64_t result = 1u;
     uint64_t v5 = n / base;
     while (0u < v5) {
         v5 /= base;
-        v4 += 1u;
+        result += 1u;
     }
-    if (v4 < least) {
+    if (result < least) {
         return least;
     } else {
-        return v4;
+        return result;
     }
 }
 
@@ -472,18 +472,14 @@ static dm_slice_u8 dm_words_parts_front_mut(dm_slice_u8 bytes, uint64_t count)
 static uint64_t dm_report_judging_image_bytes(uint8_t kind)
 {
     switch (kind) {
-    case 0u: {
+    case 0u:
         return 40u;
-    }
-    case 1u: {
+    case 1u:
         return 128u;
-    }
-    case 2u: {
+    case 2u:
         return 512u;
-    }
-    default: {
+    default:
         return 0u;
-    }
     }
 }
 
