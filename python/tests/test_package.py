@@ -110,6 +110,16 @@ class Answers(unittest.TestCase):
                 again = dartelm.build(kind, sheet.fields, text, points, sheet.domain)
             self.assertEqual(again, image, name)
 
+    def test_a_curve_by_whole_numbers(self):
+        curve = dartelm.Curve([dartelm.SegmentAnswer(0, 1)], [dartelm.TermAnswer(0, 1)])
+        image = dartelm.build_curve(1, dartelm.sheet(CELL).fields, curve, "x")
+        self.assertEqual(dartelm.term(image, 0), dartelm.TermAnswer(0, 1.0))
+        for count, wanted in ((21, (24, 21)), (0, (24, 0))):
+            many = dartelm.Curve([dartelm.SegmentAnswer(123000 * at, 1) for at in range(count)], [dartelm.TermAnswer(0, 0.0)] * count)
+            with self.assertRaises(dartelm.Refusal) as caught:
+                dartelm.build_curve(2, dartelm.sheet(CELL).fields, many, "x")
+            self.assertEqual((caught.exception.number, caught.exception.place), wanted)
+
     def test_a_refusal(self):
         with self.assertRaises(dartelm.Refusal) as caught:
             dartelm.check(sample("damaged.kind1"))
