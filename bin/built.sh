@@ -26,7 +26,7 @@ version() {
     ready
     local number
     number="$(sed -n 's/^#define DARTELM_VERSION \([0-9]*\)$/\1/p' "$home/include/dartelm.h")"
-    if [ "$program" = "$compiled" ]; then
+    if [ "$program" = "$compiled" ] || [ ! -d "$home/crates" ]; then
         echo "Dartelm $number, $name compiled from portable/c"
     else
         echo "Dartelm $number, $name as the toolchain built it"

@@ -2,8 +2,7 @@
  *
  * Makes the image of a load cell's chip of kind 1, checks it, and writes it to NEW. The sheet is that of samples/load-cell.kind1.
  *
- *     rt staticlib dartelm
- *     cc -Iinclude examples/build.c target/staticlib/libdartelm.a -o target/build
+ *     cc -Iinclude examples/build.c portable/c/dartelm.c -o target/build
  */
 #include <inttypes.h>
 #include <stdio.h>

@@ -4,8 +4,7 @@
  * has one, "missing", a Single with a point in it (0.5), or a whole number in the field's unit. LEVEL says who writes: owner,
  * calibration or maker. Prints what the field then reads, or the refusal's number and place; on a refusal nothing is written.
  *
- *     rt staticlib dartelm
- *     cc -Iinclude examples/change.c target/staticlib/libdartelm.a -o target/change
+ *     cc -Iinclude examples/change.c portable/c/dartelm.c -o target/change
  */
 #include <errno.h>
 #include <inttypes.h>

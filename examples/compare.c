@@ -4,8 +4,7 @@
  * the fraction that the dash showed; one of ten refreshes a second, one of sixty. Prints that they agree, or the first fast tick
  * that fails, or the refusal's number and place.
  *
- *     rt staticlib dartelm
- *     cc -Iinclude examples/compare.c target/staticlib/libdartelm.a -o target/compare-recordings
+ *     cc -Iinclude examples/compare.c portable/c/dartelm.c -o target/compare-recordings
  */
 #include <inttypes.h>
 #include <stdio.h>

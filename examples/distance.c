@@ -3,8 +3,7 @@
  * The points are those of the certificate, in billionths of the span, as a build would be handed them. Prints the steepest slope
  * and the distance, or the refusal's number and place. Nothing need have been built.
  *
- *     rt staticlib dartelm
- *     cc -Iinclude examples/distance.c target/staticlib/libdartelm.a -o target/distance
+ *     cc -Iinclude examples/distance.c portable/c/dartelm.c -o target/distance
  */
 #include <errno.h>
 #include <inttypes.h>

@@ -3,8 +3,7 @@
  * FILE holds a chip's image, INPUT is in nV/V, and DASH is large or small. Prints the fraction in billionths of the span and the
  * physical figure, or the refusal's number and place.
  *
- *     rt staticlib dartelm
- *     cc -Iinclude examples/reading.c target/staticlib/libdartelm.a -o target/reading
+ *     cc -Iinclude examples/reading.c portable/c/dartelm.c -o target/reading
  */
 #include <errno.h>
 #include <inttypes.h>

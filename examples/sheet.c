@@ -3,8 +3,7 @@
  * FILE holds a chip's image; its length says which kind of chip. Prints every field with its unit, the calibration points or the
  * curve, and the closing text, or the refusal's number and place. The image is checked once for all fields.
  *
- *     rt staticlib dartelm
- *     cc -Iinclude examples/sheet.c target/staticlib/libdartelm.a -o target/sheet
+ *     cc -Iinclude examples/sheet.c portable/c/dartelm.c -o target/sheet
  */
 #include <inttypes.h>
 #include <stdio.h>

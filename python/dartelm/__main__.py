@@ -4,7 +4,12 @@ import sys
 
 
 def main() -> int:
-    return importlib.import_module("dartelm.command.dartelm.main").main(sys.argv[1:])
+    try:
+        command = importlib.import_module("dartelm.command.dartelm.main")
+    except ModuleNotFoundError:
+        print("dartelm: the package is not installed: run bin/dartelm", file=sys.stderr)
+        return 3
+    return command.main(sys.argv[1:])
 
 
 if __name__ == "__main__":

@@ -6,7 +6,7 @@ import operator
 
 from . import answers
 from .declared import CURVE_SEGMENTS, CURVE_TERMS, FIELDS, NO_DOMAIN, STRUCTS, Domain, Level, Template
-from .native import TYPES, whole
+from .native import FLOATS, INTEGERS, TYPES, whole
 
 
 def to_struct(name, given):
@@ -14,9 +14,14 @@ def to_struct(name, given):
     struct = TYPES[name]()
     for member, sort, _ in STRUCTS[name]:
         if member in given:
-            value = given[member]
-            setattr(struct, member, whole(value, sort, member) if isinstance(value, int) else value)
+            setattr(struct, member, to_member(given[member], sort, member))
     return struct
+
+
+def to_member(value, sort, what):
+    if sort in INTEGERS:
+        return whole(value, sort, what)
+    return float(value) if sort in FLOATS else value
 
 
 def value_struct(value):

@@ -4,7 +4,8 @@ It is the first of these that there is:
   - the file that DARTELM_LIBRARY names;
   - the one beside this module, compiled when the package was installed;
   - in a release, lib/libdartelm.so, on x86-64 Linux;
-  - in the repository or a release, one compiled from portable/c/dartelm.c into target/python/ (CC, or cc).
+  - in the repository or a release, one compiled from portable/c/dartelm.c into target/python/ (CC, or cc); in the repository a
+    RuntimeWarning says if a source is newer than that C.
 """
 import ctypes
 import hashlib
@@ -15,6 +16,7 @@ import subprocess
 import sys
 import tempfile
 import threading
+import warnings
 
 from .declared import VERSION
 
@@ -50,7 +52,27 @@ def path():
     found = os.path.join(HOME, "lib", "libdartelm.so")
     if os.path.exists(found) and (sys.platform, platform.machine()) == ("linux", "x86_64"):
         return found
+    newer = newer_source(HOME)
+    if newer:
+        warnings.warn(f"{newer} is newer than portable/c: run bin/portable", RuntimeWarning, stacklevel=4)
     return compiled(HOME, os.path.join(HOME, "target", "python"))
+
+
+def newer_source(home):
+    """The first source of a repository that is not the one that its C was made from; None if there is none."""
+    try:
+        with open(os.path.join(home, "portable", "c", "sources.sha256"), encoding="utf-8") as file:
+            sums = dict(reversed(line.rstrip("\n").split("  ", 1)) for line in file)
+    except OSError:
+        return None
+    for name, wanted in sums.items():
+        try:
+            with open(os.path.join(home, name), "rb") as file:
+                if hashlib.sha256(file.read()).hexdigest() != wanted:
+                    return name
+        except OSError:
+            return name
+    return None
 
 
 def load(found):

@@ -1,6 +1,8 @@
 """The package: its tables are the header's, its answers are the stored ones, its page's examples run, it installs without a network."""
+import ctypes
 import dataclasses
 import doctest
+import hashlib
 import inspect
 import os
 import shutil
@@ -20,7 +22,7 @@ import header  # noqa: E402
 import lines  # noqa: E402
 
 import dartelm  # noqa: E402
-from dartelm import answers, calls, declared, library  # noqa: E402
+from dartelm import answers, calls, convert, declared, library, native  # noqa: E402
 
 
 def sample(name):
@@ -108,6 +110,16 @@ class Answers(unittest.TestCase):
                 again = dartelm.build(kind, sheet.fields, text, points, sheet.domain)
             self.assertEqual(again, image, name)
 
+    def test_a_curve_by_whole_numbers(self):
+        curve = dartelm.Curve([dartelm.SegmentAnswer(0, 1)], [dartelm.TermAnswer(0, 1)])
+        image = dartelm.build_curve(1, dartelm.sheet(CELL).fields, curve, "x")
+        self.assertEqual(dartelm.term(image, 0), dartelm.TermAnswer(0, 1.0))
+        for count, wanted in ((21, (24, 21)), (0, (24, 0))):
+            many = dartelm.Curve([dartelm.SegmentAnswer(123000 * at, 1) for at in range(count)], [dartelm.TermAnswer(0, 0.0)] * count)
+            with self.assertRaises(dartelm.Refusal) as caught:
+                dartelm.build_curve(2, dartelm.sheet(CELL).fields, many, "x")
+            self.assertEqual((caught.exception.number, caught.exception.place), wanted)
+
     def test_a_refusal(self):
         with self.assertRaises(dartelm.Refusal) as caught:
             dartelm.check(sample("damaged.kind1"))
@@ -154,6 +166,27 @@ class Answers(unittest.TestCase):
             dartelm.build(1, fields, "caf\u00e9")
         self.assertEqual((caught.exception.number, caught.exception.place), (10, 22))
 
+    def test_null_with_length_0(self):
+        """Outside what is proved (docs/FIRMWARE.md): as an empty buffer is answered."""
+        loaded = library.library()
+
+        def made(name, *words):
+            function = getattr(loaded, "dartelm_" + name)
+            function.restype = native.TYPES[declared.CALLS[name][0]]
+            return function(*words)
+
+        image, none = (ctypes.c_uint8 * 128).from_buffer_copy(CELL), (None, ctypes.c_size_t(0))
+        self.assertEqual(made("check", 1, *none).number, 1)
+        self.assertEqual(made("change", 1, *none, 2, ctypes.c_uint64(21), convert.value_struct(7)).number, 1)
+        self.assertEqual(made("code", ctypes.c_uint64(18), *none).number, 9)
+        self.assertEqual(made("distance", *none).bound, 1002000)
+        self.assertEqual(made("index", 1, image, ctypes.c_size_t(128), *none).number, 18)
+        self.assertEqual(made("compare", 1, image, ctypes.c_size_t(128), *none, *none).agrees, 1)
+        fields = dataclasses.replace(dartelm.sheet(CELL).fields, end_bit=False)
+        again = (ctypes.c_uint8 * 128)()
+        answer = made("build", 1, again, ctypes.c_size_t(128), convert.fields_struct(fields), *none, 0, *none)
+        self.assertEqual((answer.number, bytes(again)), (0, dartelm.build(1, fields)))
+
     def test_threads(self):
         found = []
         one = lambda: found.extend(dartelm.reading(CELL, 1000000, 0).fraction for _ in range(200))  # noqa: E731
@@ -179,6 +212,18 @@ class Library(unittest.TestCase):
     def test_a_library_that_is_none(self):
         with self.assertRaisesRegex(library.NoLibrary, "cannot be loaded"):
             library.load(os.path.join(self.room, "nothing.so"))
+
+    def test_a_newer_source_is_said(self):
+        self.assertIsNone(library.newer_source(self.room))
+        os.makedirs(os.path.join(self.room, "portable", "c"))
+        source = os.path.join(self.room, "a.rt")
+        with open(os.path.join(self.room, "portable", "c", "sources.sha256"), "w", encoding="ascii") as file:
+            file.write(hashlib.sha256(b"fn\n").hexdigest() + "  a.rt\n")
+        self.assertEqual(library.newer_source(self.room), "a.rt")
+        for text, wanted in (("fn\n", None), ("fn \n", "a.rt")):
+            with open(source, "w", encoding="ascii") as file:
+                file.write(text)
+            self.assertEqual(library.newer_source(self.room), wanted)
 
     def test_two_at_once(self):
         program = (
@@ -220,6 +265,10 @@ class Installed(unittest.TestCase):
         done = run(python, "-c", program, os.path.join(HOME, "samples", "load-cell.kind1"), cwd=room, env={"PATH": room})
         self.assertEqual(done.stdout.split(" ")[0], "500400001", done.stderr)
         self.assertTrue(done.stdout.split(" ")[1].startswith(room), done.stdout)
+        command = os.path.join(room, "venv", "bin", "dartelm")
+        done = run(command, "show", os.path.join(HOME, "samples", "load-cell.kind1"), cwd=room, env={"PATH": room})
+        self.assertEqual((done.returncode, done.stderr), (0, ""))
+        self.assertIn("accepted, kind 1 (128 bytes)", done.stdout)
 
 
 if __name__ == "__main__":
