@@ -74,6 +74,20 @@ class Sheet:
         return sheet
 
 
+FULL_PRECISION = {33: 2, 32: 3}
+
+
+def plain_sheet(template, precision):
+    """A sheet with a value in every field, the least in most, from 0 to 1 of whatever is measured."""
+    sheet = Sheet()
+    sheet.template = template
+    ends = ["s00000000", "s3f800000"] if precision == FULL_PRECISION[template] else ["w0", "w1000"]
+    values = [f"w{n}" for n in (17, 0, 1, 0, 0, 0)] + ["s00000000", "s3f800000", f"w{precision}"] + ends + ["w0"]
+    values += [f"w{n}" for n in ((10, 100, 1, 1, 1) if template == 33 else (100, 10000, 10000))] + ["w0"] * 4
+    sheet.values = dict(enumerate(values, 1))
+    return sheet
+
+
 def build(console, sheet, kind=None):
     answer = parsed(console.ask_all([sheet.build_line(kind)])[0])
     return Image(bytes.fromhex(answer[1]), sheet.kind if kind is None else kind)

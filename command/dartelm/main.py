@@ -49,7 +49,7 @@ def parser():
         help="who writes: the owner the location alone (this if nothing is said), the calibration room also the ends "
         "of the span, date, initials and period, the maker all that is changed alone",
     )
-    add_output(change)
+    add_trial(change)
     add_today(change)
 
     read = command(commands, "read", "readings of a chip")
@@ -78,7 +78,7 @@ def parser():
     make = command(commands, "make", "an image from the lines of a sheet")
     make.add_argument("sheet", metavar="SHEET", help="lines as export writes them")
     make.add_argument("--kind", type=int, choices=(0, 1, 2), help="for another chip: 0 of 40 bytes, 1 of 128, 2 of 512")
-    add_output(make)
+    add_trial(make)
     add_today(make)
 
     report = command(commands, "report", "one page in HTML, to be printed or kept")
@@ -97,6 +97,12 @@ def command(commands, name, about):
 def add_output(to, required=True, about="the file to write"):
     to.add_argument("-o", dest="output", metavar="NEW", required=required, help=about)
     to.add_argument("--force", action="store_true", help="replace NEW if it is there")
+
+
+def add_trial(to):
+    add_output(to, required=False)
+    to.add_argument("--dry-run", action="store_true", help="show what would be stored, and write nothing")
+    to.add_argument("--exact", action="store_true", help="write nothing where a figure is not stored as it is given")
 
 
 def add_columns(to):
@@ -131,6 +137,8 @@ MODULES = {"set": "setting"}
 
 def answer(words):
     given = parser().parse_args(in_order(words))
+    if hasattr(given, "dry_run") and (given.output is not None) == given.dry_run:
+        parser().error(f"{given.command} takes either -o NEW or --dry-run")
     module = importlib.import_module("." + MODULES.get(given.command, given.command), __package__)
     files.must_be_no_input(getattr(given, "output", None), inputs_of(given))
     with Console() as console, said_elsewhere(given):

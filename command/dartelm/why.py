@@ -3,9 +3,9 @@ import re
 
 from . import dumps, files, refusals
 from .console import refusal_in
-from .fields import FIELDS, MISSING, Around, whole
+from .fields import FIELDS, Around, whole
 from .files import read_bytes
-from .image import BYTES, KINDS, Image, Sheet, build, read_sheet, refusal_of, write_image, wrote
+from .image import BYTES, KINDS, Image, build, plain_sheet, read_sheet, refusal_of, write_image, wrote
 from .show import summary
 from .trouble import ACCEPTED, REFUSED, Refusal, refused
 
@@ -15,13 +15,12 @@ GOOD, WRONG, BLANK = "adds up", "does not add up", "blank (every byte FF)"
 CUT = "is not there whole"
 WHOLE = "to do: read the chip again, whole: 40 bytes (register first) are kind 0, 128 kind 1, 512 kind 2"
 BUILD = ": 'dartelm export' that of a sender like it, edit its lines and 'dartelm make' the image"
-FULL = {33: 2, 32: 3}
 # The first bit behind the first template's number: a sheet that is refused before it has no template that is known.
 BEHIND_TEMPLATE = 74
 
 
 def run(console, given):
-    if given.output:
+    if given.output is not None:
         files.must_be_new(given.output, given.force)
     lines, found = told(console, given.file, read_bytes(given.file))
     print("\n".join(lines))
@@ -139,14 +138,8 @@ class Places:
     """Where the fields of a template stand, by the index of a sheet that is built for it."""
 
     def __init__(self, console, template, precision):
-        sheet = Sheet()
-        sheet.template = template
-        full = precision == FULL[template]
-        ends = ["s00000000", "s3f800000"] if full else ["w0", "w1000"]
-        values = [f"w{n}" for n in (17, 0, 1, 0, 0, 0)] + ["s00000000", "s3f800000", f"w{precision}"] + ends + ["w0"]
-        values += [MISSING] * (len(FIELDS[template]) - len(values) - 3) + ["w0"] * 3
-        sheet.values = dict(enumerate(values, 1))
-        size = 4 * len(values)
+        sheet = plain_sheet(template, precision)
+        size = 4 * len(sheet.values)
         self.index = console.ask("index", build(console, sheet), "00" * size)[1]
         data = bytes.fromhex(self.index)
         pairs = [
