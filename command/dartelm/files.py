@@ -23,6 +23,10 @@ def read_bytes(path):
         raise unread(f"cannot read {path}: {reason(error)}") from None
 
 
+def is_there(path):
+    return path == "-" or os.path.lexists(path)
+
+
 def read_text(path):
     """UTF-8, or what a spreadsheet writes in its place."""
     data = read_bytes(path)

@@ -14,6 +14,7 @@ from .refusals import headline
 from .trouble import REFUSED, UNREAD, Refusal, Trouble, misused
 
 VALUED = ("-o", "--level", "--table", "--dash", "--kind", "--today", "--point", "--deviation", "--error")
+VALUED += ("--certificate", "--within", "--span")
 STATUS = "Ends with 0 if accepted, 1 if refused or different, 2 if it is not understood, 3 if a file cannot be read or written."
 
 
@@ -78,8 +79,19 @@ def parser():
     make = command(commands, "make", "an image from the lines of a sheet")
     make.add_argument("sheet", metavar="SHEET", help="lines as export writes them")
     make.add_argument("--kind", type=int, choices=(0, 1, 2), help="for another chip: 0 of 40 bytes, 1 of 128, 2 of 512")
+    make.add_argument("--certificate", metavar="CERT.csv", help="take the points from a certificate")
+    add_columns(make)
+    add_within(make)
     add_trial(make)
     add_today(make)
+
+    distance = command(commands, "distance", "how far readings of a chip built from a certificate can stray from it")
+    distance.add_argument("certificate", metavar="CERT.csv", help="as certificate takes it")
+    distance.add_argument(
+        "--span", required=True, metavar="SPAN", help="as 0..5000N, or 16MPa, which is from 0; or an image or a sheet that has it"
+    )
+    add_columns(distance)
+    add_within(distance)
 
     report = command(commands, "report", "one page in HTML, to be printed or kept")
     report.add_argument("file", metavar="FILE", help="an image of 40, 128 or 512 bytes")
@@ -111,6 +123,10 @@ def add_columns(to):
     to.add_argument("--error", metavar="COLUMN", help="its column of errors, which are deviations with the sign turned")
 
 
+def add_within(to):
+    to.add_argument("--within", metavar="TOLERANCE", help="the most that is allowed, as 0.05%% of the span, or 2N")
+
+
 def add_today(to):
     to.add_argument(
         "--today", metavar="DATE", default=datetime.date.today().isoformat(), help="the day to judge dates by (today)"
@@ -125,8 +141,9 @@ def in_order(words):
         if re.match(r"-[0-9.]", word):
             others.append(" " + word)
         elif word.startswith("-") and word != "-":
-            options.append(word)
-            options += [next(left, None)] if word in VALUED else []
+            value = next(left, None) if word in VALUED else None
+            joined = value is not None and word.startswith("--") and value.startswith("-")
+            options += [f"{word}={value}"] if joined else [word, value]
         else:
             others.append(word)
     return others + [word for word in options if word is not None]

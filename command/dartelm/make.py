@@ -1,5 +1,5 @@
 """make: an image from the lines of a sheet."""
-from . import fields, files, refusals, rules, sheets, singles
+from . import bounds, certificate, fields, files, refusals, rules, sheets, singles, tables
 from .console import Unknown, refusal_in
 from .fields import FIELDS
 from .image import BYTES, STREAM_BITS, build, read_sheet, write_image, wrote
@@ -13,6 +13,10 @@ def run(console, given):
     if given.output is not None:
         files.must_be_new(given.output, given.force)
     draft = sheets.parsed(console, given.sheet, files.read_text(given.sheet), given.kind)
+    if given.certificate:
+        from_certificate(console, draft, given)
+    elif given.within is not None:
+        raise misused("--within needs --certificate CERT.csv")
     try:
         image = made(console, draft)
     except Refused as why:
@@ -31,6 +35,23 @@ def run(console, given):
         print(line)
     print(f"{wrote(given.output)}, accepted: kind {stored.kind} ({BYTES[stored.kind]} bytes), {stored.bits} bits")
     return ACCEPTED
+
+
+def from_certificate(console, draft, given):
+    """The points of a certificate, for a table against the electrical figure, and how far readings can stray from them."""
+    sheet = draft.sheet
+    if sheet.points or sheet.curve():
+        raise misused(f"{draft.name}: it has {'points' if sheet.points else 'a curve'} of its own; leave them out, or --certificate")
+    table = tables.read_table(given.certificate, tables.asked_in(given))
+    sheet.domain, sheet.points = 0, certificate.points_of(table, certificate.Scale(console, sheet))
+    for index, ((line, *_), (point, deviation)) in enumerate(zip(table.rows, sheet.points)):
+        draft.exact["point", index], draft.exact["deviation", index] = uncounted(point, -7), uncounted(deviation, -7)
+        draft.elsewhere["point", index] = f"{table.path}:{line}"
+    told = bounds.told_beforehand(console, sheet, given.certificate, sheet.points)
+    for line in (*table.told(), told.line()):
+        print(line)
+    if given.within is not None and not told.is_within(given.within):
+        raise refused(f"nothing is written: {told.verdict(given.within)}")
 
 
 class Refused(Exception):

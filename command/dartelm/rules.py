@@ -1,5 +1,6 @@
 """A refusal in the words of what it is about: the field and its rule, the point and its range, the ends of the span."""
 from .fields import FIELDS, MISSING, is_single, whole
+from .refusals import PLACES
 from .storing import Billionths, Reference
 from .units import PERCENT, in_unit, uncounted
 
@@ -9,7 +10,7 @@ LARGEST_SINGLE = 0x7F7FFFFF
 
 def numbered(refusal, said):
     """The number and the place, then the rule."""
-    place = "field" if refusal.number in (9, 10, 13, 21) else "place"
+    place = "field" if refusal.number in (9, 10) else PLACES.get(refusal.number, "place")
     return f"refused: {refusal.number} at {place} {refusal.place}: {said}"
 
 

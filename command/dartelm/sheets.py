@@ -47,12 +47,15 @@ class Draft:
         self.segments = []
         self.terms = []
         self.exact = {}
+        self.elsewhere = {}
 
     def wrong(self, line, text):
         return misused(f"{self.name}:{line}: {text}")
 
     def at(self, key):
-        """Where a part stands, for a message."""
+        """Where a part stands, for a message: a point may come from a certificate."""
+        if key in self.elsewhere:
+            return self.elsewhere[key]
         return f"{self.name}:{self.lines[key]}" if key in self.lines else self.name
 
 
