@@ -22,7 +22,7 @@ build() {
     command -v rt > /dev/null || fail 'it has to be built, and there is no rt (the Rattle toolchain) on the path'
     echo "$name: proving and building it, which can take some minutes" >&2
     [ -x "$program" ] || rm -f "$home/target/stamp/$name"
-    began="$(mktemp)" || fail 'there is no room for a temporary file'
+    began="$(mktemp)" || fail "there is no room for a temporary file in ${TMPDIR:-/tmp}"
     log="$(cd "$home" && rt check "$name" < /dev/null 2>&1 && touch -r "$began" "$program" 2>&1)"
     local status=$?
     rm -f "$began"

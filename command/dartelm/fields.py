@@ -142,6 +142,14 @@ class Measurand(Choice):
         code = measurands.code_of(text)
         return super().code(text, by) if code is None else code
 
+    def parsed(self, text, by, what):
+        """A quantity's name alone has the units of all its cases."""
+        fit = [code for code, (name, _) in enumerate(measurands.CASES) if name.lower() == text.lower()]
+        if len(fit) > 1:
+            cases = [f"{code} ({measurands.unit_of(code).name})" for code in fit]
+            raise misused(f"{what}: '{text}' fits {', '.join(cases[:-1])} and {cases[-1]}")
+        return f"w{fit[0]}" if fit else super().parsed(text, by, what)
+
 
 class Figure:
     """A value with a unit. What was given is shown to its last digit, which a Single may not have."""

@@ -1,4 +1,5 @@
 """Files: read whole, and written whole or not at all."""
+import errno
 import os
 import stat
 import sys
@@ -14,12 +15,14 @@ standard = sys.stdout
 
 
 def read_bytes(path):
+    if path == "-" and sys.stdin is None:
+        raise unread("cannot read -: standard input is closed")
     try:
         if path == "-":
             return sys.stdin.buffer.read(LONGEST)
         with open(path, "rb") as file:
             return file.read(LONGEST)
-    except (OSError, ValueError, AttributeError) as error:
+    except (OSError, ValueError) as error:
         raise unread(f"cannot read {path}: {reason(error)}") from None
 
 
@@ -114,7 +117,10 @@ def write_new(path, data, force):
     except FileExistsError:
         raise unread(f"{path} is there already; --force replaces it") from None
     except OSError as error:
-        raise unread(f"cannot write {path}: {reason(error)}") from None
+        room = error.errno in (errno.ENOSPC, errno.EDQUOT)
+        folder = os.path.dirname(path) or "."
+        why = f"no room for a temporary file in {folder}: {reason(error)}" if room else reason(error)
+        raise unread(f"cannot write {path}: {why}") from None
 
 
 def write_standard(data):

@@ -11,7 +11,7 @@ import sys
 from . import files, version
 from .console import Console, Unknown
 from .refusals import headline
-from .trouble import REFUSED, UNREAD, Refusal, Trouble, misused
+from .trouble import ACCEPTED, REFUSED, UNREAD, Refusal, Trouble, misused
 
 VALUED = ("-o", "--level", "--table", "--dash", "--kind", "--today", "--point", "--deviation", "--error")
 VALUED += ("--certificate", "--within", "--span")
@@ -203,8 +203,9 @@ def main(words):
     except Unknown as unknown:
         return said(f"the console that is built here does not know what this asks for: {unknown}".rstrip(": "), UNREAD)
     except BrokenPipeError:
+        # A reader that has seen enough, as head.
         os.dup2(os.open(os.devnull, os.O_WRONLY), 1)
-        return said("the answer cannot be written", UNREAD)
+        return ACCEPTED
     except OSError as error:
         return said(f"{error.filename or 'the answer cannot be written'}: {error.strerror}", UNREAD)
     except KeyboardInterrupt:

@@ -72,7 +72,8 @@ def run(console, given):
         body = sheet_body(console, given, image, sheet, against)
     page = document(title, [*body, footer(given, data)]).encode("utf-8")
     files.write_new(given.output, page, given.force)
-    print(("standard output" if given.output == "-" else given.output) + ": written" + (f"; {refusals.headline(refusal)}" if refusal else ""))
+    where = "standard output" if given.output == "-" else given.output
+    print(f"{where}: written" + (f"; {refusals.headline(refusal)}" if refusal else ""))
     if against:
         for line in (*against.told, against.verdict()):
             print(line)

@@ -75,15 +75,15 @@ def points_rule(count):
     return f"{count} points; a chip takes {MOST_POINTS}"
 
 
-def ends_rule(sheet, refusal, by):
+def ends_rule(sheet, refusal):
     """Why no reading is taken: an end that is missing or outside, or ends that do not rise."""
     named = FIELDS[sheet.template][refusal.place - 1]
     value = sheet.values[refusal.place]
     if refusal.number == 21:
-        return f"{named.name} is {named.shown(value, by)}; it has to be -2000 mV/V to 2000 mV/V"
+        return f"{named.name} is {named.shown(value, None)}; it has to be -2000 mV/V to 2000 mV/V"
     if value == MISSING:
         return f"{named.name} is missing"
-    low, high = (FIELDS[33][n - 1].shown(sheet.values[n], by) for n in (10, 11))
+    low, high = (FIELDS[33][n - 1].shown(sheet.values[n], None) for n in (10, 11))
     if low == high:
         return f"minimum and maximum electrical value are both {low}"
     return f"minimum electrical value, {low}, is not below the maximum, {high}"

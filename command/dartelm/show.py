@@ -137,7 +137,7 @@ def curve_lines(console, sheet, image, by):
         return
     refusal = readings.why_no_reading(console, sheet, image)
     if refusal:
-        yield f"no curve: {refusals.headline(refusal)}"
+        yield f"no curve: {readings.no_reading_text(sheet, refusal)}"
         return
     taken = readings.take(console, sheet, image, readings.evenly(readings.ends_of(sheet), 61))
     if sheet.curve():
@@ -163,6 +163,6 @@ def dash_lines(console, sheet, image):
     if refusal and refusal.number == 23:
         yield "dashes: large only (the small one takes 32 points)"
     elif refusal:
-        yield f"dashes: no reading: {refusals.headline(refusal)}"
+        yield f"dashes: none: {readings.no_reading_text(sheet, refusal)}"
     else:
         yield "dashes: large and small"
