@@ -2,7 +2,7 @@
 import math
 from fractions import Fraction
 
-from . import bounds, fields, readings, tables
+from . import bounds, fields, objects, readings, tables
 from .image import build, open_image
 from .readings import WHOLE_SPAN
 from .trouble import ACCEPTED, REFUSED, Refusal, Trouble, misused, refused
@@ -17,6 +17,9 @@ HEADS = ("point", "at", "input", "certificate", "chip", "difference", "of the sp
 def run(console, given):
     image, sheet = open_image(console, given.file)
     beside = against(console, image, sheet, given.certificate, tables.asked_in(given))
+    if given.json:
+        objects.tell(objects.certificate(given.file, given.certificate, beside))
+        return ACCEPTED if beside.agrees() else REFUSED
     print(f"{given.file} against {given.certificate}, {many(len(beside.points), 'point')}")
     for line in beside.told:
         print(line)

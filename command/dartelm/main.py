@@ -14,7 +14,7 @@ from .refusals import headline
 from .trouble import ACCEPTED, REFUSED, UNREAD, Refusal, Trouble, misused
 
 VALUED = ("-o", "--level", "--table", "--dash", "--kind", "--today", "--point", "--deviation", "--error")
-VALUED += ("--certificate", "--within", "--span")
+VALUED += ("--certificate", "--within", "--span", "--certificates")
 STATUS = "Ends with 0 if accepted, 1 if refused or different, 2 if it is not understood, 3 if a file cannot be read or written."
 
 
@@ -28,10 +28,12 @@ def parser():
     show.add_argument("files", metavar="FILE", nargs="+", help="an image of 40, 128 or 512 bytes")
     show.add_argument("--curve", action="store_true", help="draw the correction over the span")
     show.add_argument("--points", action="store_true", help="show every calibration point, however many")
+    add_json(show)
     add_today(show)
 
     why = command(commands, "why", "why an image is refused, what is still whole, and what to do")
     why.add_argument("file", metavar="FILE", help="any file")
+    add_json(why)
     add_output(why, required=False, about="write the image that a dump or a longer file holds, if it is accepted")
 
     change = command(commands, "set", "a copy of an image with some fields changed, all of them or none")
@@ -58,12 +60,17 @@ def parser():
     read.add_argument("inputs", metavar="INPUT", nargs="*", help="with its unit, as 1.0mV/V")
     read.add_argument("--table", metavar="N", type=int, help="at N inputs from end to end of the span")
     read.add_argument("--dash", choices=("large", "small"), default="large", help="where it is shown (large)")
+    add_json(read)
 
     tray = command(commands, "tray", "a line for each of many chips")
     tray.add_argument(
         "files", metavar="FILE", nargs="+", help="an image, or a folder of them (folders inside it are not looked into)"
     )
     tray.add_argument("--csv", action="store_true", help="as comma-separated values")
+    tray.add_argument("--certificates", metavar="FOLDER", help="hold each chip against the certificate that names its serial")
+    tray.add_argument("--strict", action="store_true", help="end with 1 where a chip is worth a look")
+    add_json(tray)
+    add_today(tray)
 
     certificate = command(commands, "certificate", "a chip against its certificate's points")
     certificate.add_argument("file", metavar="FILE", help="an image of 40, 128 or 512 bytes")
@@ -71,6 +78,7 @@ def parser():
         "certificate", metavar="CERT.csv", help="columns like 'point (%%)' and 'deviation (%%)', or in the sender's unit"
     )
     add_columns(certificate)
+    add_json(certificate)
 
     export = command(commands, "export", "the sheet as lines 'name = value unit', which make takes")
     export.add_argument("file", metavar="FILE", help="an image of 40, 128 or 512 bytes")
@@ -121,6 +129,10 @@ def add_columns(to):
     to.add_argument("--point", metavar="COLUMN", help="the certificate's column of points, by its head")
     to.add_argument("--deviation", metavar="COLUMN", help="its column of deviations")
     to.add_argument("--error", metavar="COLUMN", help="its column of errors, which are deviations with the sign turned")
+
+
+def add_json(to):
+    to.add_argument("--json", action="store_true", help="as JSON, for a program (docs/JSON.md)")
 
 
 def add_within(to):

@@ -1,5 +1,5 @@
 """show: the sheet in plain words and units."""
-from . import fields, readings, refusals, singles
+from . import fields, objects, readings, refusals, singles
 from .drawing import text_curve
 from .fields import FIELDS, PERIOD
 from .image import BYTES, STREAM_BITS, read_image, read_sheet
@@ -14,6 +14,10 @@ SENDERS = {33: "a bridge sender", 32: "a resistance sender"}
 def run(console, given):
     status = ACCEPTED
     images = [read_image(path) for path in given.files]
+    if given.json:
+        found = [one_object(console, path, image, given.today) for path, image in zip(given.files, images)]
+        objects.tell(found)
+        return ACCEPTED if all(one["accepted"] for one in found) else REFUSED
     for number, (path, image) in enumerate(zip(given.files, images)):
         if number:
             print()
@@ -26,6 +30,13 @@ def run(console, given):
             continue
         print("\n".join(lines_of(console, path, image, sheet, given)))
     return status
+
+
+def one_object(console, path, image, today):
+    try:
+        return objects.sheet(console, path, image, read_sheet(console, image), today)
+    except Refusal as refusal:
+        return objects.refused(path, refusal)
 
 
 def lines_of(console, path, image, sheet, given):

@@ -1,7 +1,8 @@
 """why: each page's verdict, what the whole pages still say, the likely cause, and what to do."""
 import re
+import sys
 
-from . import dumps, files, refusals
+from . import dumps, files, objects, refusals
 from .console import refusal_in
 from .fields import FIELDS, Around, whole
 from .files import read_bytes
@@ -22,14 +23,19 @@ BEHIND_TEMPLATE = 74
 def run(console, given):
     if given.output is not None:
         files.must_be_new(given.output, given.force)
-    lines, found = told(console, given.file, read_bytes(given.file))
-    print("\n".join(lines))
+    data = read_bytes(given.file)
+    lines, found = told(console, given.file, data)
+    if given.json:
+        objects.tell(objects.why(given.file, lines, bool(found and not found.inside), refusal_of(console, Image(data))))
+    else:
+        print("\n".join(lines))
     if not given.output:
         return ACCEPTED if found and not found.inside else REFUSED
     if not found:
         raise refused(f"nothing is written: there is no accepted image in {given.file}")
     sheet = write_image(console, given.output, found.image, given.force)
-    print(f"{wrote(given.output)}, accepted, {summary(sheet)}")
+    said = f"{wrote(given.output)}, accepted, {summary(sheet)}"
+    print(said, file=sys.stderr if given.json else sys.stdout)
     return ACCEPTED
 
 

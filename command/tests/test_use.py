@@ -66,7 +66,6 @@ class Use(support.Case):
             ("show", support.SAMPLES),
             ("certificate", sample("load-cell.kind1"), "nope"),
             ("show", ""),
-            ("tray", "nope"),
             ("show", sample("load-cell.kind1"), "nope"),
         ):
             out, err = self.gives(3, *words)
