@@ -1,5 +1,6 @@
 """Files: read whole, and written whole or not at all."""
 import errno
+import functools
 import os
 import stat
 import sys
@@ -19,11 +20,17 @@ def read_bytes(path):
         raise unread("cannot read -: standard input is closed")
     try:
         if path == "-":
-            return sys.stdin.buffer.read(LONGEST)
+            return standard_input()
         with open(path, "rb") as file:
             return file.read(LONGEST)
     except (OSError, ValueError) as error:
         raise unread(f"cannot read {path}: {reason(error)}") from None
+
+
+@functools.lru_cache(maxsize=1)
+def standard_input():
+    """Read once, however often it is asked for."""
+    return sys.stdin.buffer.read(LONGEST)
 
 
 def is_there(path):

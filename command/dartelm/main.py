@@ -14,7 +14,7 @@ from .refusals import headline
 from .trouble import ACCEPTED, REFUSED, UNREAD, Refusal, Trouble, misused
 
 VALUED = ("-o", "--level", "--table", "--dash", "--kind", "--today", "--point", "--deviation", "--error")
-VALUED += ("--certificate", "--within", "--span", "--certificates")
+VALUED += ("--certificate", "--within", "--span", "--certificates", "--customer", "--job")
 STATUS = "Ends with 0 if accepted, 1 if refused or different, 2 if it is not understood, 3 if a file cannot be read or written."
 
 
@@ -104,6 +104,8 @@ def parser():
     report = command(commands, "report", "one page in HTML, to be printed or kept")
     report.add_argument("file", metavar="FILE", help="an image of 40, 128 or 512 bytes")
     report.add_argument("certificate", metavar="CERT.csv", nargs="?", help="as certificate takes it")
+    report.add_argument("--customer", metavar="NAME", help="whose sender it is, for the page")
+    report.add_argument("--job", metavar="NAME", help="which job it is, for the page")
     add_columns(report)
     add_output(report)
     add_today(report)
