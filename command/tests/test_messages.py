@@ -60,9 +60,12 @@ class Messages(support.Case):
         self.gives(1, "make", self.file("sheet", many), "--dry-run", err="refused: 16 at length 300: 150 points; a chip takes 127\n")
 
     def test_streams(self):
-        for words in ("show -", "why -", "tray -", f"certificate {CELL} -", "make - --dry-run"):
+        for words in ("show -", "why -", f"certificate {CELL} -", "make - --dry-run"):
             done = subprocess.run(f"'{support.PROGRAM}' {words} <&-", shell=True, capture_output=True, text=True, check=False)
             self.assertEqual((done.returncode, done.stderr), (3, "dartelm: cannot read -: standard input is closed\n"))
+
+        done = subprocess.run(f"'{support.PROGRAM}' tray - <&-", shell=True, capture_output=True, text=True, check=False)
+        self.assertEqual((done.returncode, "-  cannot read -: standard input is closed\n" in done.stdout), (3, True))
 
     def test_a_reader_that_has_seen_enough(self):
         done = subprocess.run(
