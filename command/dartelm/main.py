@@ -14,7 +14,7 @@ from .refusals import headline
 from .trouble import ACCEPTED, REFUSED, UNREAD, Refusal, Trouble, misused
 
 VALUED = ("-o", "--level", "--table", "--dash", "--kind", "--today", "--point", "--deviation", "--error")
-VALUED += ("--certificate", "--within", "--span", "--certificates", "--customer", "--job")
+VALUED += ("--certificate", "--within", "--span", "--certificates", "--customer", "--job", "--make")
 STATUS = "Ends with 0 if accepted, 1 if refused or different, 2 if it is not understood, 3 if a file cannot be read or written."
 
 
@@ -101,6 +101,13 @@ def parser():
     add_columns(distance)
     add_within(distance)
 
+    compare = command(commands, "compare", "two recordings of a run, at ten and at sixty refreshes a second, against the chip")
+    compare.add_argument("file", metavar="IMAGE", help="an image of 40, 128 or 512 bytes")
+    compare.add_argument("ten", metavar="TEN", help="input and shown fraction, a line a refresh, as a logger writes them")
+    compare.add_argument("sixty", metavar="SIXTY", help="the same at sixty a second")
+    compare.add_argument("--make", metavar="INPUTS", help="write both recordings, as the chip would show these inputs")
+    compare.add_argument("--force", action="store_true", help="with --make: replace TEN and SIXTY if they are there")
+
     report = command(commands, "report", "one page in HTML, to be printed or kept")
     report.add_argument("file", metavar="FILE", help="an image of 40, 128 or 512 bytes")
     report.add_argument("certificate", metavar="CERT.csv", nargs="?", help="as certificate takes it")
@@ -171,7 +178,8 @@ def answer(words):
     if hasattr(given, "dry_run") and (given.output is not None) == given.dry_run:
         parser().error(f"{given.command} takes either -o NEW or --dry-run")
     module = importlib.import_module("." + MODULES.get(given.command, given.command), __package__)
-    files.must_be_no_input(getattr(given, "output", None), inputs_of(given))
+    for output in outputs_of(given):
+        files.must_be_no_input(output, inputs_of(given))
     with Console() as console, said_elsewhere(given):
         if getattr(given, "today", None):
             try:
@@ -183,11 +191,17 @@ def answer(words):
     return status
 
 
+def outputs_of(given):
+    if getattr(given, "make", None) is not None:
+        return [given.ten, given.sixty]
+    return [getattr(given, "output", None)]
+
+
 def inputs_of(given):
     """The files that a command reads and must not replace; `set --force` may replace its own image."""
     named = [given.file] if hasattr(given, "file") else list(getattr(given, "files", ()))
     named = [] if given.command == "set" and given.force else named
-    return named + [name for name in (getattr(given, "sheet", None), getattr(given, "certificate", None)) if name]
+    return named + [name for name in (getattr(given, other, None) for other in ("sheet", "certificate", "make")) if name]
 
 
 def said_elsewhere(given):
