@@ -6,6 +6,7 @@ from .trouble import refused, unread
 
 BYTES = {0: 40, 1: 128, 2: 512}
 STREAM_BITS = {0: 312, 1: 992, 2: 3968}
+STREAM_BYTES = {39: 0, 124: 1, 496: 2}
 KINDS = {size: kind for kind, size in BYTES.items()}
 LAST_FIELD = {33: 21, 32: 19}
 MOST_SEGMENTS, MOST_TERMS = 20, 30
@@ -21,6 +22,20 @@ class Image:
 
     def __str__(self):
         return f"{self.kind} {hexadecimal(self.data[:BYTES[2] + 1])}"
+
+
+def from_stream(stream):
+    """The image of a chip's stream: check bytes are put in, by which a page's bytes add up to 0 modulo 256; the register of
+    kind 0 counts with its page. None where no chip has a stream so long."""
+    kind = STREAM_BYTES.get(len(stream))
+    if kind is None:
+        return None
+    register = stream[:8] if kind == 0 else b""
+    data = register
+    for start in range(len(register), len(stream), 31):
+        page = stream[start : start + 31]
+        data += bytes([-sum(register + page) % 256]) + page
+    return Image(data, kind)
 
 
 def read_image(path):

@@ -22,6 +22,8 @@ def parser():
     about = "A sender's chip at the bench, in plain words and units. " + STATUS
     top = argparse.ArgumentParser(prog="dartelm", description=about, allow_abbrev=False)
     top.add_argument("--version", action="version", version=version.line())
+    top.add_argument("--man", action=Made, help="write the manual page, for man -l -")
+    top.add_argument("--completion", action=Made, help="write what bash needs to complete words, for eval or source")
     commands = top.add_subparsers(dest="command", metavar="COMMAND", required=True)
 
     show = command(commands, "show", "the sheet in plain words and units")
@@ -117,6 +119,18 @@ def parser():
     add_output(report)
     add_today(report)
     return top
+
+
+class Made(argparse.Action):
+    """Writes a text that is made from the same table as the help, and ends."""
+
+    def __init__(self, **words):
+        super().__init__(nargs=0, **words)
+
+    def __call__(self, made, *_):
+        manual = importlib.import_module(".manual", __package__)
+        print(manual.page(made) if self.dest == "man" else manual.completion(made), end="")
+        made.exit()
 
 
 def command(commands, name, about):

@@ -6,7 +6,7 @@ from . import dumps, files, objects, refusals
 from .console import refusal_in
 from .fields import FIELDS, Around, whole
 from .files import read_bytes
-from .image import BYTES, KINDS, Image, build, plain_sheet, read_sheet, refusal_of, write_image, wrote
+from .image import BYTES, KINDS, Image, build, from_stream, plain_sheet, read_sheet, refusal_of, write_image, wrote
 from .show import summary
 from .trouble import ACCEPTED, REFUSED, Refusal, refused
 
@@ -63,6 +63,9 @@ def told(console, path, data):
         size = len(other.data)
         likely = f"likely: another kind's image: the first {size} bytes are an accepted one of kind {other.kind}"
         return [head, likely, to_write(path, other)], Found(other, True)
+    whole = from_stream(dump or data)
+    if whole:
+        return stream_told(console, path, head, whole)
     if dump:
         short = f"likely: a dump in hexadecimal text, of {len(dump)} bytes, which no chip has; {wanted(len(dump))}"
         return [head, short, WHOLE], None
@@ -78,6 +81,16 @@ def dump_told(console, path, image):
     if refusal is None:
         return [likely + "accepted", to_write(path, image)], Found(image, True)
     return [likely + refusals.headline(refusal), *chip_lines(console, image, refusal)], None
+
+
+def stream_told(console, path, head, image):
+    """A sheet without check bytes, as a file .ted has it, judged with them."""
+    refusal = refusal_of(console, image)
+    count = len(image.data) - BYTES[image.kind] // PAGE
+    likely = f"likely: {count} bytes are a chip's stream, without the check bytes: a dump of the sheet alone (.ted); with them it is "
+    if refusal is None:
+        return [head, likely + f"an accepted image of kind {image.kind}", to_write(path, image)], Found(image, True)
+    return [head, likely + refusals.headline(refusal), WHOLE], None
 
 
 def chip_lines(console, image, refusal):
@@ -272,8 +285,6 @@ def length_lines(console, data):
     size = len(data)
     if size == 0:
         yield "likely: nothing was read: the file is empty"
-    elif size in (39, 124, 496):
-        yield f"likely: {size} bytes are a chip's stream, without the check bytes: a dump of the sheet alone"
     elif size == PAGE:
         yield "likely: one page: a chip of kind 0 without its register of 8 bytes, or a part of a larger chip"
     elif size < BYTES[2]:
