@@ -5,6 +5,7 @@ import os
 import stat
 import sys
 
+from . import owserver
 from .trouble import misused, unread
 
 # More than any chip's image, dump, sheet or certificate has.
@@ -16,6 +17,8 @@ standard = sys.stdout
 
 
 def read_bytes(path):
+    if path.startswith(owserver.PREFIX):
+        return owserver.read_bytes(path)
     if path == "-" and sys.stdin is None:
         raise unread("cannot read -: standard input is closed")
     try:
@@ -34,7 +37,7 @@ def standard_input():
 
 
 def is_there(path):
-    return path == "-" or os.path.lexists(path)
+    return path == "-" or path.startswith(owserver.PREFIX) or os.path.lexists(path)
 
 
 def read_text(path):
@@ -64,6 +67,8 @@ def must_be_new(path, force):
     """Said before anything is worked out, so that no work is lost; `write_new` holds to it again."""
     if path == "":
         raise misused("-o takes a file's name, or - for standard output")
+    if path.startswith(owserver.PREFIX):
+        raise misused(f"-o {path} is no file: 'dartelm write FILE --to {path}' writes a chip")
     if path != "-" and os.path.lexists(path):
         target = replaceable(path)
         if not force:

@@ -8,12 +8,12 @@ import re
 import signal
 import sys
 
-from . import files, version
+from . import files, owserver, version
 from .console import Console, Unknown
 from .refusals import headline
 from .trouble import ACCEPTED, REFUSED, UNREAD, Refusal, Trouble, misused
 
-VALUED = ("-o", "--level", "--table", "--dash", "--kind", "--today", "--point", "--deviation", "--error")
+VALUED = ("-o", "-s", "--level", "--table", "--dash", "--kind", "--today", "--point", "--deviation", "--error")
 VALUED += ("--certificate", "--within", "--span", "--certificates", "--customer", "--job", "--make")
 STATUS = "Ends with 0 if accepted, 1 if refused or different, 2 if it is not understood, 3 if a file cannot be read or written."
 
@@ -110,6 +110,12 @@ def parser():
     compare.add_argument("--make", metavar="INPUTS", help="write both recordings, as the chip would show these inputs")
     compare.add_argument("--force", action="store_true", help="with --make: replace TEN and SIXTY if they are there")
 
+    command(commands, "chips", "the chips on a 1-Wire bus, through owserver")
+
+    save = command(commands, "save", "a chip's bytes as they are, into a file")
+    save.add_argument("file", metavar="ow:ID", help="a chip as chips lists it, or ow: for the only one")
+    add_output(save)
+
     report = command(commands, "report", "one page in HTML, to be printed or kept")
     report.add_argument("file", metavar="FILE", help="an image of 40, 128 or 512 bytes")
     report.add_argument("certificate", metavar="CERT.csv", nargs="?", help="as certificate takes it")
@@ -134,7 +140,10 @@ class Made(argparse.Action):
 
 
 def command(commands, name, about):
-    return commands.add_parser(name, help=about, description=about[:1].upper() + about[1:] + ". " + STATUS, allow_abbrev=False)
+    description = about[:1].upper() + about[1:] + ". " + STATUS
+    made = commands.add_parser(name, help=about, description=description, allow_abbrev=False)
+    made.add_argument("-s", dest="server", metavar="HOST:PORT", help="where owserver is, for a chip ow:ID in place of a FILE")
+    return made
 
 
 def add_output(to, required=True, about="the file to write"):
@@ -192,6 +201,7 @@ def answer(words):
     if hasattr(given, "dry_run") and (given.output is not None) == given.dry_run:
         parser().error(f"{given.command} takes either -o NEW or --dry-run")
     module = importlib.import_module("." + MODULES.get(given.command, given.command), __package__)
+    owserver.PLACE = given.server or "localhost"
     for output in outputs_of(given):
         files.must_be_no_input(output, inputs_of(given))
     with Console() as console, said_elsewhere(given):
