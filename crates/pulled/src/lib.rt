@@ -1,0 +1,3 @@
+pub fn nothing() -> u8 {
+    0
+}

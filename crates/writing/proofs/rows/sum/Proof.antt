@@ -1,0 +1,60 @@
+-- `rows::sum` meets its contract. The loop's invariant: the sum so far and the sum of the rest are the whole sum.
+use borrow.Author.Needs.{needs}
+use mathlib.Core.Path.{_≡_, ap}
+use Prim.Native.Nat.{_+_, _-_, _%_, _≤_, _<_}
+use native.Mathlib.Omega.{arith}
+use native.Mathlib.Numerals.{add-one}
+use lib.ListN.{length, getD, drop}
+use lib.Seq.{drop-cons, drop-length}
+use Rattle.memory.specs.Image.{total}
+use Rattle.writing.proofs.rows.sum.Statement.{statement}
+use Rattle.writing.proofs.rows.sum.Tie as tie
+
+abbrev Inv-loop : tie.InvT-loop
+Inv-loop bytes acc₀ i₀ acc i = (i ≤ length bytes) × ((acc + total (drop i bytes)) % 256 ≡ total bytes % 256) × (acc < 256)
+
+abbrev μ-loop : tie.MeasureT-loop
+μ-loop bytes acc₀ i₀ acc i = length bytes - i
+
+loop-holds : tie.Need-loop-holds Inv-loop μ-loop
+loop-holds c = search needs
+
+shared-slice-read-wrapping-add-u8 : tie.Need-shared-slice-read-wrapping-add-u8 Inv-loop μ-loop
+shared-slice-read-wrapping-add-u8 c = search needs
+
+wrapping-add-u8-requires : tie.Need-wrapping-add-u8-requires Inv-loop μ-loop
+wrapping-add-u8-requires c κs = search needs
+
+add-i : tie.Need-add-i Inv-loop μ-loop
+add-i c = search needs
+
+loop-less : tie.Need-loop-less Inv-loop μ-loop
+loop-less c = search needs
+
+loop-again : tie.Need-loop-again Inv-loop μ-loop
+loop-again c =
+    let bytes = c .before .before .before .before .before .args .bytes .now in
+    let i = c .before .before .before .loop .i in
+    let e : total (drop i bytes) ≡ getD bytes i 0 + total (drop (i + 1) bytes) = rw (add-one i) (ap total (drop-cons bytes i 0 (omega arith))) in
+    omega arith
+
+returns : tie.Need-returns Inv-loop μ-loop
+returns c =
+    let bytes = c .before .before .before .args .bytes .now in
+    let d : c .before .loop .i ≡ length bytes = omega arith in
+    let e : total (drop (c .before .loop .i) bytes) ≡ 0 = rw d (ap total (drop-length bytes)) in
+    omega arith
+
+pub sum-spec : {M : Type 1} → statement M
+sum-spec =
+    tie.close
+    (tie.spec
+    Inv-loop
+    μ-loop
+    loop-holds
+    shared-slice-read-wrapping-add-u8
+    wrapping-add-u8-requires
+    add-i
+    loop-less
+    loop-again
+    returns)
