@@ -2,7 +2,7 @@
 import math
 from fractions import Fraction
 
-from . import fields, readings, refusals, tables
+from . import bounds, fields, objects, readings, tables
 from .image import build, open_image
 from .readings import WHOLE_SPAN
 from .trouble import ACCEPTED, REFUSED, Refusal, Trouble, misused, refused
@@ -17,6 +17,9 @@ HEADS = ("point", "at", "input", "certificate", "chip", "difference", "of the sp
 def run(console, given):
     image, sheet = open_image(console, given.file)
     beside = against(console, image, sheet, given.certificate, tables.asked_in(given))
+    if given.json:
+        objects.tell(objects.certificate(given.file, given.certificate, beside))
+        return ACCEPTED if beside.agrees() else REFUSED
     print(f"{given.file} against {given.certificate}, {many(len(beside.points), 'point')}")
     for line in beside.told:
         print(line)
@@ -43,12 +46,8 @@ def beside_points(console, image, sheet, path, points):
             return AgainstTwin(console, image, sheet, points)
         bound = console.distance(points)[1]
     except Refusal as refusal:
-        raise refused(f"{path}: {point_name(refusal)}{refusals.headline(refusal)}") from None
+        raise refused(f"{path}: {bounds.list_rule(console, points, refusal)}") from None
     return AgainstCurve(console, image, sheet, points) if sheet.curve() else AgainstTable(console, image, sheet, points, bound)
-
-
-def point_name(refusal):
-    return f"point {refusal.place + 1}: " if refusal.number in (7, 10, 22) else ""
 
 
 def points_of(table, scale):
@@ -91,6 +90,8 @@ class Scale:
         return text.rstrip().endswith((tables.SPAN, *(PERCENT.spellings if self.unit.name != "%" else ())))
 
     def place(self, figure, text):
+        if self.ruler is None:
+            raise misused(f"'{text}' has no place: an end of the physical span is missing")
         found = self.ruler.place(figure)
         if found is None:
             raise misused(f"'{text}' is neither on the span nor within a tenth of it")

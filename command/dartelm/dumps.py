@@ -12,7 +12,7 @@ def bytes_of(data):
         lines = [line.rstrip() for line in data.decode("ascii").splitlines() if line.strip()]
     except UnicodeDecodeError:
         return None
-    for found in (intel(lines), *offsets(lines), plain(lines)):
+    for found in (intel(lines), *offsets(lines), listed(lines), plain(lines)):
         if found and len(found) >= LEAST:
             return found
     return None
@@ -62,6 +62,16 @@ def offset(lines, base, words):
             last = b"".join(last[n : n + 2][::-1] for n in range(0, len(last), 2))
         found += last
     return found
+
+
+def listed(lines):
+    """The bytes between braces, as `xxd -i` has them in C, with an array's name before and its length behind."""
+    found = re.fullmatch(r"[^{}]*\{([^{}]*)\}[^{}]*", " ".join(lines))
+    items = [item.strip() for item in found.group(1).split(",")] if found else []
+    items = items[:-1] if items and not items[-1] else items
+    if not items or not all(re.fullmatch("0[xX][0-9a-fA-F]{1,2}", item) for item in items):
+        return None
+    return bytes(int(item, 16) for item in items)
 
 
 def plain(lines):

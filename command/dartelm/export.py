@@ -9,7 +9,7 @@ REST = "bits behind the sheet's end are not all 0: made again, the image differs
 
 
 def run(console, given):
-    if given.output:
+    if given.output is not None:
         files.must_be_new(given.output, given.force)
     text, same = exported(console, *open_image(console, given.file))
     if given.output:

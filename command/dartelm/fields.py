@@ -5,10 +5,12 @@ Single, m for missing.
 """
 import difflib
 import re
+from fractions import Fraction
 
 from . import measurands, singles
+from .storing import Reference
 from .trouble import Refusal, misused
-from .units import AMPERE, DAY, OHM, RATIO, SECOND, VOLT, counted, figure_of, in_unit, uncounted
+from .units import AMPERE, DAY, EXACT, OHM, RATIO, SECOND, VOLT, figure_of, in_unit, plain, split, uncounted
 
 MISSING = "m"
 
@@ -37,6 +39,13 @@ class Around:
         self.template = template
         self.measurand = measurand
         self.precision = precision
+        self.references = {}
+
+    def settled(self, number, count, geometric):
+        """The whole number to hand in for a count that is none."""
+        if self.precision not in self.references:
+            self.references[self.precision] = Reference(self.console, self.template, self.precision)
+        return self.references[self.precision].settled(number, count, geometric)
 
     def unit(self):
         if self.measurand is None or self.measurand >= len(measurands.CASES):
@@ -133,6 +142,14 @@ class Measurand(Choice):
         code = measurands.code_of(text)
         return super().code(text, by) if code is None else code
 
+    def parsed(self, text, by, what):
+        """A quantity's name alone has the units of all its cases."""
+        fit = [code for code, (name, _) in enumerate(measurands.CASES) if name.lower() == text.lower()]
+        if len(fit) > 1:
+            cases = [f"{code} ({measurands.unit_of(code).name})" for code in fit]
+            raise misused(f"{what}: '{text}' fits {', '.join(cases[:-1])} and {cases[-1]}")
+        return f"w{fit[0]}" if fit else super().parsed(text, by, what)
+
 
 class Figure:
     """A value with a unit. What was given is shown to its last digit, which a Single may not have."""
@@ -140,25 +157,51 @@ class Figure:
     def unit_by(self, by):
         raise NotImplementedError
 
+    def exact(self, text, by, what):
+        """The decimal that was given, in the unit without a prefix."""
+        return figure_of(text, self.unit_by(by), what)
+
+    def decimal(self, value):
+        """The decimal that a value is shown as."""
+        return singles.digits(bits(value))
+
     def given(self, text, by, what):
-        return in_unit(figure_of(text, self.unit_by(by), what), self.unit_by(by))
+        unit = self.unit_by(by)
+        shown = in_unit(self.exact(text, by, what), unit)
+        number, word = split(text)
+        return shown if unit.exponent(word) is not None else f"{plain(number)} {word} = {shown}"
+
+    def difference(self, text, value, by, what):
+        """What is stored minus what was given."""
+        unit = self.unit_by(by)
+        stored = self.decimal(value)
+        return in_unit(EXACT.subtract(stored, self.exact(text, by, what)), unit, unit.prefix_for(stored), True)
 
 
 class Quantity(Figure):
-    """A whole number of 10^exponent units."""
+    """A whole number of 10^exponent units. Geometric: steps of a ratio."""
 
-    def __init__(self, unit, exponent):
+    def __init__(self, unit, exponent, geometric=False):
         self.unit = unit
         self.exponent = exponent
+        self.geometric = geometric
 
     def unit_by(self, _):
         return self.unit
 
-    def shown(self, value, _):
-        return in_unit(uncounted(whole(value), self.exponent), self.unit)
+    def decimal(self, value):
+        return super().decimal(value) if is_single(value) else uncounted(whole(value), self.exponent)
 
-    def parsed(self, text, _, what):
-        return f"w{counted(figure_of(text, self.unit, what), self.exponent, self.unit, what)}"
+    def shown(self, value, _):
+        return in_unit(self.decimal(value), self.unit)
+
+    def parsed(self, text, by, what):
+        """A value; between two whole counts the count."""
+        figure = figure_of(text, self.unit, what)
+        count = Fraction(figure) / Fraction(10) ** self.exponent
+        if abs(count) >= 1 << 62:
+            raise misused(f"{what}: {in_unit(figure, self.unit)} is far outside what it counts")
+        return f"w{count.numerator}" if count.denominator == 1 else count
 
 
 class Electrical(Quantity):
@@ -167,11 +210,6 @@ class Electrical(Quantity):
     def __init__(self, unit, exponent, full):
         super().__init__(unit, exponent)
         self.full = full
-
-    def shown(self, value, by):
-        if is_single(value):
-            return in_unit(singles.digits(bits(value)), self.unit)
-        return super().shown(value, by)
 
     def parsed(self, text, by, what):
         if by.precision == self.full:
@@ -203,13 +241,20 @@ class Field:
 
     def parsed(self, text, by, what=None):
         text = text.strip()
-        return MISSING if text == "missing" else self.form.parsed(text, by, what or self.name)
+        value = MISSING if text == "missing" else self.form.parsed(text, by, what or self.name)
+        return value if isinstance(value, str) else f"w{by.settled(self.number, value, self.form.geometric)}"
 
     def given(self, text, by):
         """A text that is understood, as `shown` would have it."""
         if isinstance(self.form, Figure) and text.strip() != "missing":
             return self.form.given(text.strip(), by, self.name)
         return self.shown(self.parsed(text, by), by)
+
+    def difference(self, text, value, by):
+        """Of a figure what is stored minus what was given."""
+        if not isinstance(self.form, Figure) or MISSING in (text.strip(), value):
+            return ""
+        return self.form.difference(text.strip(), value, by, self.name)
 
 
 PRECISION = Choice(
@@ -248,7 +293,7 @@ FIELDS = {
         Field(11, "maximum electrical value", Electrical(RATIO, -9, 2)),
         Field(12, "bridge type", Choice({33: ("quarter", "half", "full")})),
         Field(13, "bridge element impedance", Quantity(OHM, -1)),
-        Field(14, "response time", Quantity(SECOND, -8)),
+        Field(14, "response time", Quantity(SECOND, -8, True)),
         Field(15, "excitation level, nominal", Quantity(VOLT, -1)),
         Field(16, "excitation level, minimum", Quantity(VOLT, -1)),
         Field(17, "excitation level, maximum", Quantity(VOLT, -1)),
@@ -259,9 +304,9 @@ FIELDS = {
         Field(10, "minimum electrical value", Electrical(OHM, 0, 3)),
         Field(11, "maximum electrical value", Electrical(OHM, 0, 3)),
         Field(12, "mapping method", Choice({32: ("linear", "inverse m/(x+b)", "inverse b+m/x", "inverse 1/(b+m/x)")})),
-        Field(13, "response time", Quantity(SECOND, -8)),
-        Field(14, "excitation current, nominal", Quantity(AMPERE, -10)),
-        Field(15, "excitation current, maximum", Quantity(AMPERE, -10)),
+        Field(13, "response time", Quantity(SECOND, -8, True)),
+        Field(14, "excitation current, nominal", Quantity(AMPERE, -10, True)),
+        Field(15, "excitation current, maximum", Quantity(AMPERE, -10, True)),
     )
     + calibration(16),
 }

@@ -1,8 +1,11 @@
 """Files: read whole, and written whole or not at all."""
+import errno
+import functools
 import os
 import stat
 import sys
 
+from . import owserver
 from .trouble import misused, unread
 
 # More than any chip's image, dump, sheet or certificate has.
@@ -14,13 +17,27 @@ standard = sys.stdout
 
 
 def read_bytes(path):
+    if path.startswith(owserver.PREFIX):
+        return owserver.read_bytes(path)
+    if path == "-" and sys.stdin is None:
+        raise unread("cannot read -: standard input is closed")
     try:
         if path == "-":
-            return sys.stdin.buffer.read(LONGEST)
+            return standard_input()
         with open(path, "rb") as file:
             return file.read(LONGEST)
-    except (OSError, ValueError, AttributeError) as error:
+    except (OSError, ValueError) as error:
         raise unread(f"cannot read {path}: {reason(error)}") from None
+
+
+@functools.lru_cache(maxsize=1)
+def standard_input():
+    """Read once, however often it is asked for."""
+    return sys.stdin.buffer.read(LONGEST)
+
+
+def is_there(path):
+    return path == "-" or path.startswith(owserver.PREFIX) or os.path.lexists(path)
 
 
 def read_text(path):
@@ -50,6 +67,8 @@ def must_be_new(path, force):
     """Said before anything is worked out, so that no work is lost; `write_new` holds to it again."""
     if path == "":
         raise misused("-o takes a file's name, or - for standard output")
+    if path.startswith(owserver.PREFIX):
+        raise misused(f"-o {path} is no file: 'dartelm write FILE --to {path}' writes a chip")
     if path != "-" and os.path.lexists(path):
         target = replaceable(path)
         if not force:
@@ -110,7 +129,10 @@ def write_new(path, data, force):
     except FileExistsError:
         raise unread(f"{path} is there already; --force replaces it") from None
     except OSError as error:
-        raise unread(f"cannot write {path}: {reason(error)}") from None
+        room = error.errno in (errno.ENOSPC, errno.EDQUOT)
+        folder = os.path.dirname(path) or "."
+        why = f"no room for a temporary file in {folder}: {reason(error)}" if room else reason(error)
+        raise unread(f"cannot write {path}: {why}") from None
 
 
 def write_standard(data):

@@ -6,6 +6,7 @@ from .trouble import refused, unread
 
 BYTES = {0: 40, 1: 128, 2: 512}
 STREAM_BITS = {0: 312, 1: 992, 2: 3968}
+STREAM_BYTES = {39: 0, 124: 1, 496: 2}
 KINDS = {size: kind for kind, size in BYTES.items()}
 LAST_FIELD = {33: 21, 32: 19}
 MOST_SEGMENTS, MOST_TERMS = 20, 30
@@ -21,6 +22,20 @@ class Image:
 
     def __str__(self):
         return f"{self.kind} {hexadecimal(self.data[:BYTES[2] + 1])}"
+
+
+def from_stream(stream):
+    """The image of a chip's stream: check bytes are put in, by which a page's bytes add up to 0 modulo 256; the register of
+    kind 0 counts with its page. None where no chip has a stream so long."""
+    kind = STREAM_BYTES.get(len(stream))
+    if kind is None:
+        return None
+    register = stream[:8] if kind == 0 else b""
+    data = register
+    for start in range(len(register), len(stream), 31):
+        page = stream[start : start + 31]
+        data += bytes([-sum(register + page) % 256]) + page
+    return Image(data, kind)
 
 
 def read_image(path):
@@ -72,6 +87,20 @@ class Sheet:
         sheet.segments = self.segments
         sheet.terms = [(exponent, ONE) for _, count in self.segments for exponent in range(count)]
         return sheet
+
+
+FULL_PRECISION = {33: 2, 32: 3}
+
+
+def plain_sheet(template, precision):
+    """A sheet with a value in every field, the least in most, from 0 to 1 of whatever is measured."""
+    sheet = Sheet()
+    sheet.template = template
+    ends = ["s00000000", "s3f800000"] if precision == FULL_PRECISION[template] else ["w0", "w1000"]
+    values = [f"w{n}" for n in (17, 0, 1, 0, 0, 0)] + ["s00000000", "s3f800000", f"w{precision}"] + ends + ["w0"]
+    values += [f"w{n}" for n in ((10, 100, 1, 1, 1) if template == 33 else (100, 10000, 10000))] + ["w0"] * 4
+    sheet.values = dict(enumerate(values, 1))
+    return sheet
 
 
 def build(console, sheet, kind=None):

@@ -1,14 +1,23 @@
 """What is accepted and yet worth a look. None of it is a refusal."""
-from . import fields, singles
+from . import fields, readings, rules, singles
 from .fields import DATE, FIELDS, MISSING, PERIOD, whole
+from .image import build
 from .trouble import Refusal
+from .units import percent
 
 # The number by which the console turns dates into text and back, whatever the template.
 DATES = 18
 
 
 def look_lines(console, sheet, today):
-    return [f"look at: {line}" for line in (*dates(console, sheet, console.code(DATES, today)), *orders(console, sheet))]
+    return [f"look at: {line}" for line in looks(console, sheet, today)]
+
+
+def looks(console, sheet, today):
+    yield from dates(console, sheet, console.code(DATES, today))
+    yield from orders(console, sheet)
+    yield from no_reading(console, sheet)
+    yield from sums(sheet)
 
 
 def due_code(sheet):
@@ -38,17 +47,42 @@ def dates(console, sheet, now):
 
 
 def orders(console, sheet):
-    """Values that stand in another order than their names say."""
+    """Values that stand in another order than their names say, and a physical span of nothing."""
     values = sheet.values
     for low, high, what in pairs(sheet):
         if MISSING not in (values[low], values[high]) and order(values[low]) > order(values[high]):
             ends = f"{shown(console, sheet, low)} is above {shown(console, sheet, high)}"
             yield f"{what}: {ends} (fields {low} and {high})"
+    if MISSING not in (values[7], values[8]) and order(values[7]) == order(values[8]):
+        yield f"minimum and maximum physical value are both {shown(console, sheet, 7)}: every reading shows it"
     if sheet.template == 33 and MISSING not in (values[15], values[16], values[17]):
         low, nominal, high = (whole(values[n]) for n in (16, 15, 17))
         if low <= high and not low <= nominal <= high:
             nominal, low, high = (shown(console, sheet, number) for number in (15, 16, 17))
             yield f"the nominal excitation, {nominal}, is not between {low} and {high}"
+
+
+def no_reading(console, sheet):
+    """An end that is missing or outside, or ends that do not rise. A resistance sender is read in ohms."""
+    if sheet.template == 32:
+        return
+    refusal = readings.why_no_reading(console, sheet, build(console, sheet))
+    if refusal and refusal.number in (13, 21):
+        yield f"no reading is possible: {rules.ends_rule(sheet, refusal)}"
+
+
+def sums(sheet):
+    """A table against the electrical figure whose points plus deviations fall: the pointer drops back as the input rises."""
+    if sheet.domain != 0:
+        return
+    moved = [point + deviation for point, deviation in sheet.points]
+    falls = [n for n in range(1, len(moved)) if moved[n] < moved[n - 1]]
+    if falls:
+        first = falls[0]
+        yield (
+            f"the pointer drops back between calibration points {first - 1} and {first}: point plus deviation falls from "
+            f"{percent(moved[first - 1])} to {percent(moved[first])}"
+        )
 
 
 def pairs(sheet):

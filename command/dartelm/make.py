@@ -1,24 +1,61 @@
 """make: an image from the lines of a sheet."""
-from . import fields, files, refusals, sheets, singles
-from .console import Unknown
+from . import bounds, certificate, fields, files, refusals, rules, sheets, singles, tables
+from .console import Unknown, refusal_in
 from .fields import FIELDS
-from .image import BYTES, STREAM_BITS, build, write_image, wrote
+from .image import BYTES, STREAM_BITS, build, read_sheet, write_image, wrote
 from .looks import look_lines
+from .storing import Reference, Row, exact_or_nothing, table
 from .trouble import ACCEPTED, Refusal, misused, refused
-from .units import percent, plain, split
+from .units import EXACT, PERCENT, in_unit, percent, plain, split, uncounted
 
 
 def run(console, given):
-    files.must_be_new(given.output, given.force)
+    if given.output is not None:
+        files.must_be_new(given.output, given.force)
     draft = sheets.parsed(console, given.sheet, files.read_text(given.sheet), given.kind)
-    image = made(console, draft)
+    if given.certificate:
+        from_certificate(console, draft, given)
+    elif given.within is not None:
+        raise misused("--within needs --certificate CERT.csv")
+    try:
+        image = made(console, draft)
+    except Refused as why:
+        if given.dry_run:
+            tell(field_rows(console, draft))
+        raise refused(f"nothing is written: {why}") from None
+    rows = list(stored_rows(console, draft, read_sheet(console, image)))
+    tell(rows)
+    if given.exact:
+        exact_or_nothing(rows)
+    if given.dry_run:
+        print("nothing is written (--dry-run)")
+        return ACCEPTED
     stored = write_image(console, given.output, image, given.force)
-    for line in (*nearest(console, draft, stored), *look_lines(console, stored, given.today)):
+    for line in look_lines(console, stored, given.today):
         print(line)
-    print(
-        f"{wrote(given.output)}, accepted: kind {stored.kind} ({BYTES[stored.kind]} bytes), {stored.bits} bits"
-    )
+    print(f"{wrote(given.output)}, accepted: kind {stored.kind} ({BYTES[stored.kind]} bytes), {stored.bits} bits")
     return ACCEPTED
+
+
+def from_certificate(console, draft, given):
+    """The points of a certificate, for a table against the electrical figure, and how far readings can stray from them."""
+    sheet = draft.sheet
+    if sheet.points or sheet.curve():
+        raise misused(f"{draft.name}: it has {'points' if sheet.points else 'a curve'} of its own; leave them out, or --certificate")
+    table = tables.read_table(given.certificate, tables.asked_in(given))
+    sheet.domain, sheet.points = 0, certificate.points_of(table, certificate.Scale(console, sheet))
+    for index, ((line, *_), (point, deviation)) in enumerate(zip(table.rows, sheet.points)):
+        draft.exact["point", index], draft.exact["deviation", index] = uncounted(point, -7), uncounted(deviation, -7)
+        draft.elsewhere["point", index] = f"{table.path}:{line}"
+    told = bounds.told_beforehand(console, sheet, given.certificate, sheet.points)
+    for line in (*table.told(), told.line()):
+        print(line)
+    if given.within is not None and not told.is_within(given.within):
+        raise refused(f"nothing is written: {told.verdict(given.within)}")
+
+
+class Refused(Exception):
+    """Why a sheet cannot be built, in words."""
 
 
 def made(console, draft):
@@ -27,24 +64,34 @@ def made(console, draft):
     except Unknown:
         raise misused(f"{draft.name}: more than any chip holds") from None
     except Refusal as refusal:
-        where, word = about(console, draft, refusal)
-        room = f"; kind {draft.sheet.kind} has {STREAM_BITS[draft.sheet.kind]}" if refusal.number == 11 else ""
-        raise refused(f"nothing is written: {where}: {refusals.headline(refusal, word)}{room}") from None
+        raise Refused(reason(console, draft, refusal)) from None
 
 
-def about(console, draft, refusal):
-    """The line that a build's refusal is about, and the word for which of its row's cases it is. A place may be a field's
-    number or a point's: without points it is a field's."""
+def reason(console, draft, refusal):
+    """The line that a build's refusal is about, and the rule. A place may be a field's number or a point's: without points it is
+    a field's."""
     sheet = draft.sheet
     if refusal.number in (9, 10) and refused_alike(console, sheet.bare_with_text(), refusal):
         if refusal.place > len(FIELDS[sheet.template]):
-            return draft.at("text"), "character"
-        return draft.at(refusal.place), refusals.about(sheet.values[refusal.place])
-    if refusal.number in (7, 10, 22) and sheet.points:
-        return draft.at(("point", refusal.place)), "figure"
+            return f"{draft.at('text')}: {refusals.headline(refusal, 'character')}"
+        field = FIELDS[sheet.template][refusal.place - 1]
+        return f"{draft.at(refusal.place)}: {rules.numbered(refusal, said_of(console, draft, field))}"
+    if refusal.number == 10 and sheet.points:
+        said = rules.point_rule(console, sheet.points[refusal.place])
+        return f"{draft.at(('point', refusal.place))}: refused: 10 at point {refusal.place}: {said}"
+    if refusal.number in (7, 22) and sheet.points:
+        return f"{draft.at(('point', refusal.place))}: {refusals.headline(refusal)}"
+    if refusal.number == 16:
+        return f"{draft.name}: {rules.numbered(refusal, rules.points_rule(len(sheet.points)))}"
     if refusal.number in (10, 24) and sheet.curve():
-        return draft.at(curve_line(console, draft, refusal)), None
-    return draft.name, None
+        return f"{draft.at(curve_line(console, draft, refusal))}: {refusals.headline(refusal)}"
+    room = f"; kind {sheet.kind} has {STREAM_BITS[sheet.kind]}" if refusal.number == 11 else ""
+    return f"{draft.name}: {refusals.headline(refusal)}{room}"
+
+
+def said_of(console, draft, field):
+    by = fields.around(console, draft.sheet)
+    return rules.field_rule(by, field, draft.sheet.values[field.number], draft.texts[field.number])
 
 
 def curve_line(console, draft, refusal):
@@ -61,25 +108,52 @@ def refused_alike(console, sheet, refusal):
     return False
 
 
-def nearest(console, draft, stored):
-    """What is stored otherwise than it was written: at the nearest step."""
+def tell(rows):
+    for line in table(rows, now=False):
+        print(line)
+
+
+def field_rows(console, draft):
+    """The fields of a sheet that is refused, each by a proposal of its own on a plain chip."""
+    by = fields.around(console, draft.sheet)
+    reference = Reference(console, draft.sheet.template, by.precision)
+    rows = []
+    for field in FIELDS[draft.sheet.template]:
+        text, value = draft.texts[field.number], draft.sheet.values[field.number]
+        answer = reference.propose(field.number, value)
+        refusal = refusal_in(answer)
+        if refusal and refusal.number != 12:
+            said = rules.field_rule(by, field, value, text)
+            rows.append(Row(field.name, "", field.given(text, by), "refused", said.rpartition("; ")[2], refused=said))
+            continue
+        stored = value if refusal else answer.split(" ")[2]
+        rows.append(Row(field.name, "", field.given(text, by), field.shown(stored, by), field.difference(text, stored, by)))
+    return rows
+
+
+def stored_rows(console, draft, stored):
+    """A row for each field, point, segment and term."""
     by = fields.around(console, stored)
-    wanted = draft.sheet
     for field in FIELDS[stored.template]:
-        was, now = field.given(draft.texts[field.number], by), field.shown(stored.values[field.number], by)
-        if was != now:
-            yield f"{field.name}: {was}, stored as {now} (nearest step)"
-    for index, (was, now) in enumerate(zip(wanted.points, stored.points)):
-        if was != now:
-            yield f"point {index}: {pair(was)}, stored as {pair(now)} (nearest step)"
-    for index, (was, now) in enumerate(zip(wanted.segments, stored.segments)):
-        if was != now:
-            yield f"segment {index}: {percent(was[0])}, stored as {percent(now[0])} (nearest step)"
+        text, value = draft.texts[field.number], stored.values[field.number]
+        yield Row(field.name, "", field.given(text, by), field.shown(value, by), field.difference(text, value, by))
+    for index, (point, deviation) in enumerate(stored.points):
+        yield pair_row(f"point {index}", [draft.exact["point", index], draft.exact["deviation", index]], [point, deviation])
+    for index, (start, _) in enumerate(stored.segments):
+        yield pair_row(f"segment {index}", [draft.exact["segment", index]], [start])
     for index, (_, text) in enumerate(draft.terms):
-        was, now = plain(split(text.split(",")[1])[0]), plain(singles.digits(int(stored.terms[index][1], 16)))
-        if was != now:
-            yield f"term {index}: {was}, stored as {now} (nearest step)"
+        given, kept = split(text.split(",")[1])[0], singles.digits(int(stored.terms[index][1], 16))
+        yield Row(f"term {index}", "", plain(given), plain(kept), plain(EXACT.subtract(kept, given)))
 
 
-def pair(point):
-    return f"{percent(point[0])} {percent(point[1], True)}"
+def pair_row(name, given, stored):
+    """Figures in per cent of the span; the second is a deviation, with its sign."""
+    kept = [uncounted(one, -7) for one in stored]
+    return Row(
+        name,
+        "",
+        ", ".join(in_unit(one, PERCENT, "", bool(n)) for n, one in enumerate(given)),
+        ", ".join(percent(one, bool(n)) for n, one in enumerate(stored)),
+        ", ".join(in_unit(EXACT.subtract(now, was), PERCENT, "", True) for was, now in zip(given, kept)),
+    )
+

@@ -1,5 +1,5 @@
 """read: readings of a chip, at inputs that are given or from end to end of the span."""
-from . import fields, readings, refusals
+from . import fields, objects, readings, refusals
 from .image import open_image
 from .trouble import ACCEPTED, REFUSED, Refusal, misused, refused
 from .units import RATIO, counted, figure_of, in_unit, percent, uncounted
@@ -20,6 +20,11 @@ def run(console, given):
     if given.table is not None:
         asked += readings.evenly(readings.ends_of(sheet), given.table)
     taken = readings.take(console, sheet, image, asked, given.dash)
+    if given.json:
+        unit = fields.around(console, sheet).unit()
+        found = [objects.reading(at, one, unit) for at, one in zip(asked, taken)]
+        objects.tell({"file": given.file, "dash": given.dash, "readings": found})
+        return REFUSED if any(one["refusal"] for one in found) else ACCEPTED
     print(f"{given.file}, {given.dash} dash")
     for line in table(list(cells_of(sheet, fields.around(console, sheet), asked, taken))):
         print(line)

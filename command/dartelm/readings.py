@@ -6,6 +6,7 @@ from . import singles
 from .fields import MISSING, bits, from_bits, is_single, whole
 from .image import Sheet, build
 from .refusals import headline
+from .rules import ends_rule, numbered
 from .trouble import Refusal
 from .units import float_text, in_unit, rounded, uncounted
 
@@ -126,6 +127,8 @@ def no_reading_text(sheet, refusal):
     """Why no reading is taken. 4 is a block that is not built here, or, of a reading, a resistance sender's."""
     if sheet.template == 32 and refusal.number == 4:
         return f"refused: 4 at bit {refusal.place}: no reading is taken from a resistance sender"
+    if refusal.number in (13, 21):
+        return numbered(refusal, f"no reading: {ends_rule(sheet, refusal)}")
     return headline(refusal)
 
 

@@ -1,10 +1,11 @@
 """set: a copy of an image with some fields changed, through proposal and commit; all of them or none."""
-from . import fields, files, refusals
+from . import fields, files, refusals, rules
 from .console import refusal_in
-from .fields import field_named, is_single, whole
+from .fields import field_named, whole
 from .image import Image, open_image, write_image, wrote
 from .looks import look_lines
-from .trouble import ACCEPTED, Refusal, misused, refused, unread
+from .storing import Row, exact_or_nothing, table
+from .trouble import ACCEPTED, REFUSED, Refusal, misused, refused, unread
 
 LEVELS = ("owner", "calibration", "maker")
 REBUILD = "; 'dartelm export' the sheet, edit it and 'dartelm make' the image anew"
@@ -12,35 +13,84 @@ WHOLE_SHEET = (["text"], ["closing", "text"], ["point"], ["points"], ["domain"],
 
 
 def run(console, given):
-    files.must_be_new(given.output, given.force)
+    if given.output is not None:
+        files.must_be_new(given.output, given.force)
     image, sheet = open_image(console, given.file)
     asked = [assignment(sheet.template, word) for word in given.changes]
     once(asked)
-    before, by = fields.around(console, sheet), fields.around(console, sheet)
-    for field, text in asked:
-        if field.number == 6 and field.parsed(text, by) != fields.MISSING:
-            by.measurand = whole(field.parsed(text, by))
-    lines, stored = [], {}
-    for field, text, value in [(field, text, field.parsed(text, by)) for field, text in asked]:
-        try:
-            image, stored[field.number] = changed(console, image, field, value, given.level)
-        except Refusal as refusal:
-            raise refused(reason(console, image, sheet, field, value, text, given.level, refusal)) from None
-        shown, kept = field.given(text, by), field.shown(stored[field.number], by)
-        nearest = "" if shown == kept else f", stored as {kept} (nearest step)"
-        lines.append(f"{field.name}: {field.shown(sheet.values[field.number], before)} -> {shown}{nearest}")
-    again = write_image(console, given.output, image, given.force)
-    if any(again.values[number] != value for number, value in stored.items()):
+    changes = Changes(console, image, sheet, given.level)
+    changes.measure_by(asked)
+    for field, text, value in [(field, text, field.parsed(text, changes.by)) for field, text in asked]:
+        changes.make(field, text, value, given.dry_run)
+    for line in table(changes.rows):
+        print(line)
+    if given.dry_run:
+        for said in changes.refused:
+            print(said)
+        if given.exact and not changes.refused:
+            exact_or_nothing(changes.rows)
+        print("nothing is written (--dry-run)")
+        return REFUSED if changes.refused else ACCEPTED
+    if given.exact:
+        exact_or_nothing(changes.rows)
+    written(console, given, changes)
+    return ACCEPTED
+
+
+def written(console, given, changes):
+    """Writes the image, reads it again, and says what is worth a look and was not before."""
+    again = write_image(console, given.output, changes.image, given.force)
+    if any(again.values[number] != value for number, value in changes.stored.items()):
         raise unread(f"{given.output}: what stands in the file is not what was written")
-    print("\n".join(lines))
-    were = look_lines(console, sheet, given.today)
+    were = look_lines(console, changes.sheet, given.today)
     for line in look_lines(console, again, given.today):
         if line not in were:
             print(line)
-    if 6 in stored and not {7, 8} <= set(stored):
+    if 6 in changes.stored and not {7, 8} <= set(changes.stored):
         print("look at: the physical values that were not set keep their numbers, in the new unit")
     print(f"{wrote(given.output)}, accepted")
-    return ACCEPTED
+
+
+class Changes:
+    """An image with the changes made so far, and a row for each."""
+
+    def __init__(self, console, image, sheet, level):
+        self.console, self.image, self.sheet, self.level = console, image, sheet, level
+        self.before, self.by = fields.around(console, sheet), fields.around(console, sheet)
+        self.rows, self.refused, self.stored = [], [], {}
+
+    def measure_by(self, asked):
+        """Physical values are in the unit of the measurand that is set with them."""
+        for field, text in asked:
+            if field.number == 6 and field.parsed(text, self.by) != fields.MISSING:
+                self.by.measurand = whole(field.parsed(text, self.by))
+
+    def make(self, field, text, value, dry):
+        """A refusal ends the command; of a dry run it is a row."""
+        now, given = field.shown(self.sheet.values[field.number], self.before), field.given(text, self.by)
+        try:
+            self.image, kept = changed(self.console, self.image, field, value, self.level)
+        except Refusal as refusal:
+            said = self.reason(field, value, text, refusal)
+            if not dry:
+                raise refused(f"nothing is written: {said}") from None
+            self.refused.append(said)
+            self.rows.append(Row(field.name, now, given, "refused", refused=said))
+            return
+        self.stored[field.number] = kept
+        difference = field.difference(text, kept, self.by)
+        self.rows.append(Row(field.name, now, given, field.shown(kept, self.by), difference))
+
+    def reason(self, field, value, text, refusal):
+        if refusal.number in (9, 10):
+            return rules.numbered(refusal, rules.field_rule(self.by, field, value, text))
+        said = f"{field.name} = {text.strip()}: {refusals.headline(refusal, refusals.about(value))}"
+        if refusal.number == 12:
+            return said + REBUILD
+        for higher in LEVELS[LEVELS.index(self.level) + 1 :]:
+            if refusal.number == 20 and refusal_number(self.console, self.image, field, value, higher) != 20:
+                return said + f"; --level {higher} may"
+        return said
 
 
 def assignment(template, word):
@@ -62,43 +112,11 @@ def once(asked):
 def changed(console, image, field, value, level):
     """The image with one field changed, and the value that it reads back."""
     present, new, stored = console.ask("propose", image, field.number, value, level)
-    written = console.ask("commit", image, field.number, present, new, level)[1]
-    return Image(bytes.fromhex(written), image.kind), stored
-
-
-def reason(console, image, sheet, field, value, text, level, refusal):
-    said = f"nothing is written: {field.name} = {text.strip()}: {refusals.headline(refusal, refusals.about(value))}"
-    if refusal.number == 12:
-        return said + REBUILD
-    if refusal.number == 10 and not is_single(value):
-        return said + range_text(console, image, sheet, field, level)
-    if refusal.number == 20:
-        for higher in LEVELS[LEVELS.index(level) + 1 :]:
-            if refusal_number(console, image, field, value, higher) != 20:
-                return said + f"; --level {higher} may"
-    return said
+    committed = console.ask("commit", image, field.number, present, new, level)[1]
+    return Image(bytes.fromhex(committed), image.kind), stored
 
 
 def refusal_number(console, image, field, value, level):
     """Of a proposal; 0 where it is accepted."""
     refusal = refusal_in(console.ask_all([f"propose {image} {field.number} {value} {level}"])[0])
     return refusal.number if refusal else 0
-
-
-def range_text(console, image, sheet, field, level):
-    """The least and the greatest figure that a field takes: those that proposals are accepted to, from the present one on."""
-    present = sheet.values[field.number]
-    if present == fields.MISSING:
-        return ""
-    by = fields.around(console, sheet)
-    ends = []
-    for way in (-1, 1):
-        taken, step = whole(present), 1
-        while step < 1 << 40 and not refusal_number(console, image, field, f"w{taken + way * step}", level):
-            taken, step = taken + way * step, 2 * step
-        while step:
-            if not refusal_number(console, image, field, f"w{taken + way * step}", level):
-                taken += way * step
-            step //= 2
-        ends.append(field.shown(f"w{taken}", by))
-    return f"; it takes {ends[0]} to {ends[1]}"

@@ -1,12 +1,14 @@
 """A sheet as lines `name = value unit`, and back. docs/BENCH.md has the form."""
 import re
+from fractions import Fraction
 
 from . import fields, singles
 from .fields import FIELDS, Around, field_named, from_bits, whole
 from .image import BYTES, LAST_FIELD, Sheet
 from .show import quoted
+from .storing import Billionths
 from .trouble import Trouble, misused
-from .units import PERCENT, counted, figure_of, percent, plain, split
+from .units import PERCENT, figure_of, percent, plain, split
 
 DOMAINS = ("electrical", "physical")
 
@@ -33,7 +35,7 @@ def written(console, sheet):
 
 
 class Draft:
-    """A sheet that is read from lines, and the line of each of its parts."""
+    """A sheet that is read from lines, the line of each of its parts, and points and starts as they were given, in per cent."""
 
     def __init__(self, name):
         self.name = name
@@ -44,12 +46,16 @@ class Draft:
         self.points = []
         self.segments = []
         self.terms = []
+        self.exact = {}
+        self.elsewhere = {}
 
     def wrong(self, line, text):
         return misused(f"{self.name}:{line}: {text}")
 
     def at(self, key):
-        """Where a part stands, for a message."""
+        """Where a part stands, for a message: a point may come from a certificate."""
+        if key in self.elsewhere:
+            return self.elsewhere[key]
         return f"{self.name}:{self.lines[key]}" if key in self.lines else self.name
 
 
@@ -63,7 +69,7 @@ def parsed(console, name, text, kind=None):
     sheet.kind = numbered(draft, "kind", BYTES) if kind is None else kind
     sheet.template = numbered(draft, "template", LAST_FIELD)
     values(console, draft)
-    table(draft)
+    table(console, draft)
     if "text" in draft.given:
         sheet.text = text_of(draft, draft.given["text"])
     return draft
@@ -143,7 +149,7 @@ def value_of(draft, by, field, line, text):
         raise draft.wrong(line, str(trouble)) from None
 
 
-def table(draft):
+def table(console, draft):
     """The points with their domain, or the curve."""
     sheet = draft.sheet
     if draft.points and draft.segments:
@@ -156,11 +162,12 @@ def table(draft):
         sheet.domain = DOMAINS.index(domain)
     elif "domain" in draft.given:
         raise draft.wrong(draft.lines["domain"], "a domain without points")
-    sheet.points = [point(draft, line, *two(draft, line, value, "point")) for line, value in draft.points]
+    taken = Billionths(console)
+    sheet.points = [point(draft, taken, index, *row) for index, row in enumerate(draft.points)]
     owners = [max((n for n, (start, _) in enumerate(draft.segments) if start < line), default=None) for line, _ in draft.terms]
     if None in owners:
         raise draft.wrong(draft.terms[owners.index(None)][0], "a term before the first segment")
-    starts = [billionths(draft, line, value, "segment") for line, value in draft.segments]
+    starts = [taken.start(billionths(draft, ("segment", n), *row)) for n, row in enumerate(draft.segments)]
     sheet.segments = [(start, owners.count(n)) for n, start in enumerate(starts)]
     sheet.terms = [term(draft, line, *two(draft, line, value, "term")) for line, value in draft.terms]
 
@@ -172,15 +179,22 @@ def two(draft, line, text, what):
     return parts
 
 
-def point(draft, line, place, deviation):
-    return billionths(draft, line, place, "point"), billionths(draft, line, deviation, "deviation")
+def point(draft, taken, index, line, text):
+    place, deviation = two(draft, line, text, "point")
+    place = billionths(draft, ("point", index), line, place)
+    return taken.point(place), taken.deviation(billionths(draft, ("deviation", index), line, deviation))
 
 
-def billionths(draft, line, text, what):
+def billionths(draft, part, line, text):
+    """A figure in per cent as billionths of the span, which need not be whole."""
     try:
-        return counted(figure_of(text, PERCENT, what), -7, PERCENT, what)
+        draft.exact[part] = figure_of(text, PERCENT, part[0])
     except Trouble as trouble:
         raise draft.wrong(line, str(trouble)) from None
+    count = Fraction(draft.exact[part]) * 10**7
+    if abs(count) >= 1 << 62:
+        raise draft.wrong(line, f"{part[0]}: '{text}' is far outside the span")
+    return count
 
 
 def term(draft, line, exponent, coefficient):

@@ -1,5 +1,5 @@
 """show: the sheet in plain words and units."""
-from . import fields, readings, refusals, singles
+from . import fields, objects, readings, refusals, singles
 from .drawing import text_curve
 from .fields import FIELDS, PERIOD
 from .image import BYTES, STREAM_BITS, read_image, read_sheet
@@ -14,6 +14,10 @@ SENDERS = {33: "a bridge sender", 32: "a resistance sender"}
 def run(console, given):
     status = ACCEPTED
     images = [read_image(path) for path in given.files]
+    if given.json:
+        found = [one_object(console, path, image, given.today) for path, image in zip(given.files, images)]
+        objects.tell(found)
+        return ACCEPTED if all(one["accepted"] for one in found) else REFUSED
     for number, (path, image) in enumerate(zip(given.files, images)):
         if number:
             print()
@@ -26,6 +30,13 @@ def run(console, given):
             continue
         print("\n".join(lines_of(console, path, image, sheet, given)))
     return status
+
+
+def one_object(console, path, image, today):
+    try:
+        return objects.sheet(console, path, image, read_sheet(console, image), today)
+    except Refusal as refusal:
+        return objects.refused(path, refusal)
 
 
 def lines_of(console, path, image, sheet, given):
@@ -137,15 +148,15 @@ def curve_lines(console, sheet, image, by):
         return
     refusal = readings.why_no_reading(console, sheet, image)
     if refusal:
-        yield f"no curve: {refusals.headline(refusal)}"
+        yield f"no curve: {readings.no_reading_text(sheet, refusal)}"
         return
     taken = readings.take(console, sheet, image, readings.evenly(readings.ends_of(sheet), 61))
     if sheet.curve():
-        unit = by.unit()
+        unit, prefix = by.unit(), readings.sheet_prefix(sheet, by.unit())
         drawn = readings.curve_corrections(taken)
         if drawn:
-            yield f"correction over the span, in {unit.name}:"
-            yield from text_curve(drawn, lambda y: in_unit(float_text(y, 4), unit, "", True))
+            yield f"correction over the span, in {unit.named(prefix)}:"
+            yield from text_curve(drawn, lambda y: in_unit(float_text(y, 4), unit, prefix, True))
         return
     yield "correction over the span:"
     yield from text_curve([(one.position / readings.WHOLE_SPAN, one.correction) for one in taken], tenths)
@@ -163,6 +174,6 @@ def dash_lines(console, sheet, image):
     if refusal and refusal.number == 23:
         yield "dashes: large only (the small one takes 32 points)"
     elif refusal:
-        yield f"dashes: no reading: {refusals.headline(refusal)}"
+        yield f"dashes: none: {readings.no_reading_text(sheet, refusal)}"
     else:
         yield "dashes: large and small"

@@ -1,50 +1,104 @@
 """tray: a line for each of many chips, by the proved tray program (docs/TRAY.md)."""
 import csv
 import os
+import re
 import subprocess
 import sys
 
-from . import refusals
-from .console import HOME, parsed
+from . import certificate, files, looks, objects, refusals
+from .console import HOME
 from .files import read_bytes, reason
-from .image import KINDS, Image
-from .trouble import ACCEPTED, REFUSED, Refusal, misused, unread
+from .image import KINDS, Image, read_sheet
+from .looks import due_date, shown
+from .trouble import ACCEPTED, REFUSED, UNREAD, Refusal, Trouble, misused, unread
 from .units import many
 
 # A tray ends after 1,000 images; fewer let the progress be seen.
 AT_ONCE = 200
 ENDINGS = (".kind0", ".kind1", ".kind2", ".bin", ".img")
+CERTIFICATES = (".csv", ".tsv", ".txt")
+SERIAL = re.compile(r"\bserial(?:\s+(?:number|no\b\.?|nr\b\.?))?[\s:;,=#\"]*([0-9]{1,8})\b", re.IGNORECASE)
+DATE, LOCATION = {33: 18, 32: 16}, {33: 21, 32: 19}
+HEADS = (
+    "file", "bytes", "bits", "refused", "why", "manufacturer", "model", "version", "serial", "location", "date", "due", "points",
+    "look at", "certificate", "verdict",
+)  # fmt: skip
+
+
+class Chip:
+    """A file of a tray, and what is found of it."""
+
+    def __init__(self, path):
+        self.path = path
+        self.image = None
+        self.trouble = None
+        self.bits = None
+        self.number = None
+        self.sheet = None
+        self.looks = []
+        self.certificate = ""
+        self.verdict = ""
+        self.status = ACCEPTED
+        self.names = {}
+
+    def fails(self, status):
+        self.status = max(self.status, status)
 
 
 def run(console, given):
-    paths, passed = found(given.files)
+    paths, passed, chips = found(given.files)
     if passed:
         print(f"dartelm: passed over, no image by name or length: {', '.join(passed)}", file=sys.stderr)
-    if not paths:
+    chips += [Chip(path) for path in paths]
+    if not chips:
         raise misused("there is no image in " + ", ".join(given.files))
-    images = [Image(read_bytes(path)) for path in paths]
-    rows, total = [], 0
-    for start in range(0, len(images), AT_ONCE):
-        some = images[start : start + AT_ONCE]
-        told, bits = judged(some)
-        total += bits
-        rows += zip(paths[start : start + AT_ONCE], some, told, serials(console, some, told))
-        if len(images) > AT_ONCE:
-            print(f"dartelm: {len(rows)} of {len(images)} chips", file=sys.stderr)
-    refused = sum(number < 0 for _, _, number, _ in rows)
-    ending = f"{many(len(rows), 'chip')}: {len(rows) - refused} accepted, {refused} refused; total {total} bits"
-    if given.csv:
-        as_csv(rows)
-        print(f"dartelm: {ending}", file=sys.stderr)
+    certified = Certificates(given.certificates) if given.certificates else None
+    total = 0
+    for start in range(0, len(chips), AT_ONCE):
+        some = chips[start : start + AT_ONCE]
+        total += judged(some)
+        for chip in some:
+            looked_at(console, chip, given.today, certified)
+        if len(chips) > AT_ONCE:
+            print(f"dartelm: {start + len(some)} of {len(chips)} chips", file=sys.stderr)
+    same_serials(chips)
+    tell(chips, total, given)
+    if given.strict and any(chip.looks for chip in chips):
+        return max(REFUSED, *(chip.status for chip in chips))
+    return max(chip.status for chip in chips)
+
+
+def tell(chips, total, given):
+    ending = summary(chips, total)
+    if given.json:
+        objects.tell({"chips": [objects.chip(chip) for chip in chips], "total_bits": total})
+    elif given.csv:
+        as_csv(chips)
     else:
-        as_lines(rows)
+        as_lines(chips)
         print(ending)
-    return REFUSED if refused else ACCEPTED
+        return
+    print(f"dartelm: {ending}", file=sys.stderr)
+
+
+def summary(chips, total):
+    refused = sum(chip.number is not None for chip in chips)
+    accepted = sum(chip.sheet is not None for chip in chips)
+    lost = sum(chip.trouble is not None for chip in chips)
+    looked = sum(bool(chip.looks) for chip in chips)
+    verdicts = [chip.verdict.partition(":")[0] for chip in chips if chip.verdict]
+    said = f"{many(len(chips), 'chip')}: {accepted} accepted, {refused} refused"
+    said += f", {lost} not read" if lost else ""
+    said += f"; total {total} bits"
+    for word, name in (("AGREES", "agree with their certificate"), ("DIFFERS", "differ"), ("NO VERDICT", "without a verdict")):
+        said += f"; {verdicts.count(word)} {name}" if word in verdicts else ""
+    return said + (f"; {looked} to look at" if looked else "")
 
 
 def found(names):
-    """The files that are asked for, and those of folders; of these the ones that neither name nor length makes an image."""
-    paths, passed = [], []
+    """The files that are asked for, and those of folders; of these the ones that neither name nor length makes an image. A
+    folder that cannot be read is a line like a file."""
+    paths, passed, lost = [], [], []
     for name in names:
         if not os.path.isdir(name):
             paths.append(name)
@@ -52,22 +106,39 @@ def found(names):
         try:
             inside = sorted(entry.path for entry in os.scandir(name) if entry.is_file())
         except OSError as error:
-            raise unread(f"cannot read {name}: {reason(error)}") from None
+            lost.append(unreadable(Chip(name), unread(f"cannot read {name}: {reason(error)}")))
+            continue
         for path in inside:
             (paths if path.endswith(ENDINGS) or os.path.getsize(path) in KINDS else passed).append(path)
-    return paths, passed
+    return paths, passed, lost
 
 
-def judged(images):
-    """For each image its bits, or its refusal's number with a minus sign, and the sum of the bits, as the tray program tells
-    them. An image that no chip has would end the tray: it is told as 1 and not sent."""
-    sent = [image for image in images if len(image.data) in KINDS]
-    lines = report(b"".join(bytes([image.kind]) + image.data for image in sent)).splitlines()
+def unreadable(chip, trouble):
+    chip.trouble = str(trouble)
+    chip.fails(UNREAD)
+    return chip
+
+
+def judged(chips):
+    """Each image's bits, or its refusal's number, and the sum of the bits, as the tray program tells them. An image that no chip
+    has would end the tray: it is told as 1 and not sent."""
+    for chip in chips:
+        try:
+            chip.image = Image(read_bytes(chip.path)) if chip.trouble is None else None
+        except Trouble as trouble:
+            unreadable(chip, trouble)
+    sent = [chip for chip in chips if chip.image and len(chip.image.data) in KINDS]
+    lines = report(b"".join(bytes([chip.image.kind]) + chip.image.data for chip in sent)).splitlines()
     numbers = [int(line.split(" ")[1]) for line in lines]
     if len(lines) != len(sent) + 1 or not lines[-1].startswith("total "):
         raise unread("the tray program did not answer for each image")
     told = iter(numbers[:-1])
-    return [next(told) if len(image.data) in KINDS else -1 for image in images], numbers[-1]
+    for chip in chips:
+        if chip.image:
+            number = next(told) if len(chip.image.data) in KINDS else -1
+            chip.bits, chip.number = (number, None) if number >= 0 else (None, -number)
+            chip.fails(REFUSED if number < 0 else ACCEPTED)
+    return numbers[-1]
 
 
 def report(tray):
@@ -82,36 +153,111 @@ def report(tray):
     return done.stdout.decode("ascii")
 
 
-def serials(console, images, told):
-    answers = iter(console.ask_all(f"field {image} 5" for image, number in zip(images, told) if number >= 0))
-    return [serial(next(answers)) if number >= 0 else "" for number in told]
+def looked_at(console, chip, today, certified):
+    """The sheet of an accepted chip, what is worth a look, and its certificate."""
+    if chip.bits is None:
+        return
+    chip.sheet = sheet = read_sheet(console, chip.image)
+
+    def text(number):
+        return shown(console, sheet, number)
+
+    chip.names = {
+        "manufacturer": text(1),
+        "model": text(2),
+        "version": text(3) + text(4),
+        "serial": text(5),
+        "location": text(LOCATION[sheet.template]),
+        "date": text(DATE[sheet.template]),
+        "due": due_date(console, sheet) or "",
+        "points": str(len(sheet.points)),
+    }
+    chip.looks = list(looks.looks(console, sheet, today))
+    if certified:
+        certified.hold(console, chip)
 
 
-def serial(answer):
-    try:
-        return parsed(answer)[0][1:]
-    except Refusal:
-        return ""
+def same_serials(chips):
+    """The same maker, model and serial number on more than one chip."""
+    first = {}
+    for chip in chips:
+        if chip.sheet is None:
+            continue
+        key = tuple(chip.sheet.values[number] for number in (1, 2, 5))
+        if key in first:
+            chip.looks.append(f"serial {chip.names['serial']} is that of {first[key].path} too")
+            first[key].looks.append(f"serial {chip.names['serial']} is that of {chip.path} too")
+        first.setdefault(key, chip)
+
+
+class Certificates:
+    """The certificates of a folder, by the serial numbers that they name."""
+
+    def __init__(self, folder):
+        self.by_serial = {}
+        try:
+            inside = sorted(entry.path for entry in os.scandir(folder) if entry.is_file())
+        except OSError as error:
+            raise unread(f"cannot read {folder}: {reason(error)}") from None
+        for path in inside:
+            if path.lower().endswith(CERTIFICATES):
+                for serial in {int(word) for word in SERIAL.findall(files.read_text(path))}:
+                    self.by_serial.setdefault(serial, []).append(path)
+
+    def hold(self, console, chip):
+        """A chip against the one certificate that names its serial number."""
+        named = self.by_serial.get(int(chip.names["serial"]), [])
+        if len(named) != 1:
+            where = f"{' and '.join(named)} name it" if named else "no certificate names it"
+            chip.looks.append(f"serial {chip.names['serial']}: {where}")
+            if named:
+                chip.verdict = "NO VERDICT: more than one certificate names it"
+                chip.fails(REFUSED)
+            return
+        chip.certificate = named[0]
+        try:
+            beside = certificate.against(console, chip.image, chip.sheet, named[0])
+            chip.verdict = beside.verdict()
+            chip.fails(ACCEPTED if beside.agrees() else REFUSED)
+        except Trouble as trouble:
+            chip.verdict = f"NO VERDICT: {trouble}"
+            chip.fails(UNREAD if trouble.status == UNREAD else REFUSED)
 
 
 def why(number):
-    return refusals.shortened(refusals.meaning(Refusal(-number, 0))) or "refused"
+    return refusals.shortened(refusals.meaning(Refusal(number, 0))) or "refused"
 
 
-def as_lines(rows):
-    width = max(len(path) for path, *_ in rows)
-    for path, _, number, name in rows:
-        if number < 0:
-            print(f"{path:<{width}}  refused: {-number}: {why(number)}")
-        else:
-            print(f"{path:<{width}}  {number:>5} bits  serial {name}")
+def as_lines(chips):
+    width = max(len(chip.path) for chip in chips)
+    for chip in chips:
+        print(f"{chip.path:<{width}}  {line_of(chip)}")
+        for look in chip.looks:
+            print(f"    look at: {look}")
+        if chip.verdict:
+            print(f"    {chip.certificate or 'certificate'}: {chip.verdict}")
 
 
-def as_csv(rows):
+def line_of(chip):
+    if chip.trouble is not None:
+        return chip.trouble
+    if chip.number is not None:
+        return f"refused: {chip.number}: {why(chip.number)}"
+    names = chip.names
+    due = f", due {names['due']}" if names["due"] else ""
+    return (
+        f"{chip.bits:>5} bits  model {names['model']} {names['version']}  serial {names['serial']}  location {names['location']}  "
+        f"calibrated {names['date']}{due}  {many(int(names['points']), 'point')}"
+    )
+
+
+def as_csv(chips):
     out = csv.writer(sys.stdout, lineterminator="\n")
-    out.writerow(("file", "bytes", "bits", "refused", "why", "serial"))
-    for path, image, number, name in rows:
-        if number < 0:
-            out.writerow((path, len(image.data), "", -number, why(number), ""))
-        else:
-            out.writerow((path, len(image.data), number, "", "", name))
+    out.writerow(HEADS)
+    for chip in chips:
+        size = len(chip.image.data) if chip.image else ""
+        number = "" if chip.number is None else chip.number
+        said = chip.trouble or ("" if chip.number is None else why(chip.number))
+        names = [chip.names.get(head, "") for head in HEADS[5:13]]
+        bits = "" if chip.bits is None else chip.bits
+        out.writerow((chip.path, size, bits, number, said, *names, "; ".join(chip.looks), chip.certificate, chip.verdict))

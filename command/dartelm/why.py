@@ -1,11 +1,12 @@
 """why: each page's verdict, what the whole pages still say, the likely cause, and what to do."""
 import re
+import sys
 
-from . import dumps, files, refusals
+from . import dumps, files, objects, refusals
 from .console import refusal_in
-from .fields import FIELDS, MISSING, Around, whole
+from .fields import FIELDS, Around, whole
 from .files import read_bytes
-from .image import BYTES, KINDS, Image, Sheet, build, read_sheet, refusal_of, write_image, wrote
+from .image import BYTES, KINDS, Image, build, from_stream, plain_sheet, read_sheet, refusal_of, write_image, wrote
 from .show import summary
 from .trouble import ACCEPTED, REFUSED, Refusal, refused
 
@@ -15,22 +16,26 @@ GOOD, WRONG, BLANK = "adds up", "does not add up", "blank (every byte FF)"
 CUT = "is not there whole"
 WHOLE = "to do: read the chip again, whole: 40 bytes (register first) are kind 0, 128 kind 1, 512 kind 2"
 BUILD = ": 'dartelm export' that of a sender like it, edit its lines and 'dartelm make' the image"
-FULL = {33: 2, 32: 3}
 # The first bit behind the first template's number: a sheet that is refused before it has no template that is known.
 BEHIND_TEMPLATE = 74
 
 
 def run(console, given):
-    if given.output:
+    if given.output is not None:
         files.must_be_new(given.output, given.force)
-    lines, found = told(console, given.file, read_bytes(given.file))
-    print("\n".join(lines))
+    data = read_bytes(given.file)
+    lines, found = told(console, given.file, data)
+    if given.json:
+        objects.tell(objects.why(given.file, lines, bool(found and not found.inside), refusal_of(console, Image(data))))
+    else:
+        print("\n".join(lines))
     if not given.output:
         return ACCEPTED if found and not found.inside else REFUSED
     if not found:
         raise refused(f"nothing is written: there is no accepted image in {given.file}")
     sheet = write_image(console, given.output, found.image, given.force)
-    print(f"{wrote(given.output)}, accepted, {summary(sheet)}")
+    said = f"{wrote(given.output)}, accepted, {summary(sheet)}"
+    print(said, file=sys.stderr if given.json else sys.stdout)
     return ACCEPTED
 
 
@@ -58,6 +63,9 @@ def told(console, path, data):
         size = len(other.data)
         likely = f"likely: another kind's image: the first {size} bytes are an accepted one of kind {other.kind}"
         return [head, likely, to_write(path, other)], Found(other, True)
+    whole = from_stream(dump or data)
+    if whole:
+        return stream_told(console, path, head, whole)
     if dump:
         short = f"likely: a dump in hexadecimal text, of {len(dump)} bytes, which no chip has; {wanted(len(dump))}"
         return [head, short, WHOLE], None
@@ -73,6 +81,16 @@ def dump_told(console, path, image):
     if refusal is None:
         return [likely + "accepted", to_write(path, image)], Found(image, True)
     return [likely + refusals.headline(refusal), *chip_lines(console, image, refusal)], None
+
+
+def stream_told(console, path, head, image):
+    """A sheet without check bytes, as a file .ted has it, judged with them."""
+    refusal = refusal_of(console, image)
+    count = len(image.data) - BYTES[image.kind] // PAGE
+    likely = f"likely: {count} bytes are a chip's stream, without the check bytes: a dump of the sheet alone (.ted); with them it is "
+    if refusal is None:
+        return [head, likely + f"an accepted image of kind {image.kind}", to_write(path, image)], Found(image, True)
+    return [head, likely + refusals.headline(refusal), WHOLE], None
 
 
 def chip_lines(console, image, refusal):
@@ -139,14 +157,8 @@ class Places:
     """Where the fields of a template stand, by the index of a sheet that is built for it."""
 
     def __init__(self, console, template, precision):
-        sheet = Sheet()
-        sheet.template = template
-        full = precision == FULL[template]
-        ends = ["s00000000", "s3f800000"] if full else ["w0", "w1000"]
-        values = [f"w{n}" for n in (17, 0, 1, 0, 0, 0)] + ["s00000000", "s3f800000", f"w{precision}"] + ends + ["w0"]
-        values += [MISSING] * (len(FIELDS[template]) - len(values) - 3) + ["w0"] * 3
-        sheet.values = dict(enumerate(values, 1))
-        size = 4 * len(values)
+        sheet = plain_sheet(template, precision)
+        size = 4 * len(sheet.values)
         self.index = console.ask("index", build(console, sheet), "00" * size)[1]
         data = bytes.fromhex(self.index)
         pairs = [
@@ -273,8 +285,6 @@ def length_lines(console, data):
     size = len(data)
     if size == 0:
         yield "likely: nothing was read: the file is empty"
-    elif size in (39, 124, 496):
-        yield f"likely: {size} bytes are a chip's stream, without the check bytes: a dump of the sheet alone"
     elif size == PAGE:
         yield "likely: one page: a chip of kind 0 without its register of 8 bytes, or a part of a larger chip"
     elif size < BYTES[2]:

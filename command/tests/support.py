@@ -5,10 +5,12 @@ import io
 import os
 import random
 import shutil
+import struct
 import subprocess
 import sys
 import tempfile
 import unittest
+from fractions import Fraction
 from unittest import mock
 
 HERE = os.path.dirname(os.path.realpath(__file__))
@@ -93,10 +95,15 @@ class Case(unittest.TestCase):
         self.assertEqual(found, status, f"{words}: {said}{wrong}")
         self.assertNotIn("Traceback", said + wrong)
         for part in [out] if isinstance(out, str) else out or []:
-            self.assertIn(part, said)
+            self.assertTrue(part in said or part in squeezed(said), f"{part!r} is not in {said}{wrong}")
         for part in [err] if isinstance(err, str) else err or []:
             self.assertIn(part, wrong)
         return said, wrong
+
+
+def squeezed(text):
+    """With one blank between the cells of a table."""
+    return "".join(" ".join(line.split()) + "\n" for line in text.splitlines())
 
 
 def run_program(*words, program=PROGRAM, data=b"", env=None, stdout=subprocess.PIPE):

@@ -46,8 +46,8 @@ class Curves(support.Case):
         )
 
     def test_what_goes_to_a_step(self):
-        self.made(0, CURVE.replace("49.9995", "50"), out="segment 1: 50 %, stored as 49.9995 % (nearest step)")
-        self.made(0, CURVE.replace("-0.002", "-0.002000000123"), out="term 1: -0.002000000123, stored as -0.002 (nearest step)")
+        self.made(0, CURVE.replace("49.9995", "50"), out="segment 1 50 % 49.9995 % -0.0005 %\n")
+        self.made(0, CURVE.replace("-0.002", "-0.002000000123"), out="term 1 -0.002000000123 -0.002 1.23e-10\n")
 
     def test_shown_read_and_drawn(self):
         self.gives(

@@ -122,6 +122,8 @@ class Values(support.Case):
         by = self.by(33, 1)
         for number, text, value in (
             (13, "350.5ohm", "w3505"),
+            (13, "350.55ohm", "w3506"),
+            (13, "350.54ohm", "w3505"),
             (13, "0.35 kohm", "w3500"),
             (13, "350 \u03a9", "w3500"),
             (11, "2mV/V", "w2000000"),
@@ -156,13 +158,10 @@ class Values(support.Case):
         for number, text, part in (
             (13, "351", "has no unit; write it in ohm"),
             (13, "351V", "not understood"),
-            (13, "350.55ohm", "350.5 ohm or 350.6 ohm"),
             (13, "ohm", "no number"),
             (13, "1,5ohm", "has a comma; write it with a decimal point, as 1.5ohm"),
             (11, "2", "mV/V"),
             (11, "2mV", "not understood"),
-            (11, "0.5nV/V", "finer"),
-            (14, "5ns", "finer"),
             (15, "1e99V", "far outside"),
             (15, "1e999V", "no"),
             (18, "16.11.2026", "2018-01-02"),

@@ -120,7 +120,7 @@ class Write(support.Case):
                 [support.PROGRAM, "report", "-", "-o", chip, "--force"], stdin=file, capture_output=True, check=False
             )
         self.assertEqual(done.returncode, 2)
-        self.gives(0, "set", chip, "location=1", "-o", chip, "--force", out="12 -> 1")
+        self.gives(0, "set", chip, "location=1", "-o", chip, "--force", out="measurement location ID 12 1 1\n")
         self.assertEqual(len(self.bytes("chip")), 128)
 
     def test_standard_output(self):
@@ -130,7 +130,7 @@ class Write(support.Case):
 
         image, said = run("set", CELL, "location=5")
         self.assertEqual(support.console().ask("field", "1", image.hex(), "21"), ["w5"])
-        self.assertIn("measurement location ID: 12 -> 5", said)
+        self.assertIn("measurement location ID 12 5 5\n", support.squeezed(said))
         self.assertIn("standard output: written, accepted", said)
         sheet = self.file("sheet", run("export", CELL)[0])
         self.assertEqual(run("make", sheet)[0], support.sample_bytes("load-cell.kind1"))

@@ -1,6 +1,10 @@
 """report: one page that needs nothing else."""
+import hashlib
 import html.parser
 import os
+import re
+import shutil
+import subprocess
 
 import support
 from support import ACCEPTED, REFUSED, sample
@@ -31,6 +35,49 @@ class Page(html.parser.HTMLParser):
         self.open.pop()
 
 
+class Drawing:
+    """A picture's figures, by the labels of its own axes: ticks on the left, per cent of the span below."""
+
+    def __init__(self, svg):
+        self.svg = svg
+        texts = re.findall(r'<text x="([^"]*)" y="([^"]*)" text-anchor="(\w+)">([^<]*)</text>', svg)
+        self.left = {label: float(y) - 4 for x, y, anchor, label in texts if anchor == "end" and re.match(r"[+-]?[0-9.]", label)}
+        feet = [(float(x), label) for x, y, _, label in texts if re.fullmatch(r"[0-9.]+ %", label) and label in FEET]
+        self.feet = dict((label, x) for x, label in feet)
+        self.words = [label for *_, label in texts]
+        self.left = {label: y for label, y in self.left.items() if label not in FEET or y < self.floor()}
+
+    def floor(self):
+        return float(re.search(r'class="frame" x="[^"]*" y="([^"]*)"', self.svg).group(1)) + float(
+            re.search(r'class="frame"[^>]*height="([^"]*)"', self.svg).group(1)
+        )
+
+    def up(self, y):
+        """The figure at a height."""
+        figures = {float(label.split(" ")[0]): at for label, at in self.left.items() if at < self.floor() + 1}
+        low, high = min(figures), max(figures)
+        return low + (high - low) * (y - figures[low]) / (figures[high] - figures[low])
+
+    def across(self, x):
+        return 100 * (x - self.feet["0 %"]) / (self.feet["100 %"] - self.feet["0 %"])
+
+    def dots(self):
+        found = re.findall(r'<circle class="dot" cx="([^"]*)" cy="([^"]*)"', self.svg)
+        return [(self.across(float(x)), self.up(float(y))) for x, y in found]
+
+    def line(self):
+        found = re.search(r'<polyline class="line" points="([^"]*)"', self.svg).group(1)
+        pairs = (pair.split(",") for pair in found.split(" "))
+        return [(self.across(float(x)), self.up(float(y))) for x, y in pairs]
+
+    def band(self):
+        top, height = re.search(r'<rect class="band" [^>]*y="([^"]*)" [^>]*height="([^"]*)"', self.svg).groups()
+        return self.up(float(top)), self.up(float(top) + float(height))
+
+
+FEET = ("0 %", "25 %", "50 %", "75 %", "100 %")
+
+
 class Report(support.Case):
     def page(self, status, path, *words):
         self.gives(status, "report", path, "-o", self.path("page.html"), "--force", *words)
@@ -46,8 +93,8 @@ class Report(support.Case):
         for name in ACCEPTED:
             text = self.page(0, sample(name))
             for part in ("ACCEPTED", "SHA-256", "Dartelm ", "serial number"):
-                self.assertIn(part, text)
-            self.assertEqual(text.count("<svg"), 1)
+                self.assertTrue(part in text, part)
+            self.assertEqual(text.count("<svg"), 2)
         for name in REFUSED:
             text = self.page(1, sample(name))
             self.assertIn("REFUSED: ", text)
@@ -56,9 +103,9 @@ class Report(support.Case):
     def test_with_a_certificate(self):
         cert = self.file("cert", PERCENT)
         text = self.page(0, sample("load-cell.kind1"), cert)
-        for part in ("Certificate: AGREES", 'class="band"', "Chip minus certificate", "0.002585\u00a0N", "certificate " + cert):
-            self.assertIn(part, text)
-        self.assertEqual(text.count("<svg"), 2)
+        for part in ("Certificate: AGREES", 'class="band"', "Chip minus certificate", "0.002585\u00a0N", "SHA-256 of the certificate, " + cert):
+            self.assertTrue(part in text, part)
+        self.assertEqual(text.count("<svg"), 4)
         for name, verdict in (
             ("many-points.kind2", "DIFFERS"),
             ("oil-pressure.kind0", "DIFFERS"),
@@ -68,11 +115,118 @@ class Report(support.Case):
             text = self.page(1, sample(name), cert)
             self.assertEqual(
                 (text.count("<svg"), verdict in text, 'class="band"' in text),
-                (2, True, verdict == "DIFFERS" and name != "torque.kind1"),
+                (4, True, verdict == "DIFFERS" and name != "torque.kind1"),
             )
         self.page(1, sample("damaged.kind1"), cert)
         self.gives(1, "report", sample("temperature.kind1"), cert, "-o", self.path("other.html"), err="refused: 4")
         self.assertFalse(os.path.exists(self.path("other.html")))
+
+    def drawings(self, text):
+        return [Drawing(svg) for svg in re.findall(r"<svg .*?</svg>", text)]
+
+    def near(self, found, wanted, room):
+        self.assertEqual(len(found), len(wanted))
+        for (x, y), (place, figure) in zip(found, wanted):
+            self.assertAlmostEqual(x, place, delta=0.05)
+            self.assertAlmostEqual(y, figure, delta=room)
+
+    def test_the_correction_as_drawn(self):
+        """The load cell's stored points, and its line by document 01 between them."""
+        points = [(0, 0), (20.00016, 0.015), (40.00032, 0.042), (60.00048, 0.038), (80.00064, 0.009), (99.99927, -0.021)]
+        drawings = self.drawings(self.page(0, sample("load-cell.kind1")))
+        self.assertEqual([re.search('class="([a-z]+)"', one.svg).group(1) for one in drawings], ["wide", "narrow"])
+        for one in drawings:
+            self.near(one.dots(), points, 0.0003)
+            line = one.line()
+            self.assertEqual((len(line), round(line[0][0]), round(line[-1][0])), (241, 0, 100))
+            for x, y in line:
+                low, high = next(pair for pair in zip(points, points[1:]) if x <= pair[1][0] + 0.1)
+                wanted = low[1] + (high[1] - low[1]) * (x - low[0]) / (high[0] - low[0])
+                self.assertAlmostEqual(y, wanted, delta=0.0006)
+            about = re.search('aria-label="([^"]*)"', one.svg).group(1)
+            self.assertIn("from 0 % at 0 % of the span to -0.021 % at 100 % of the span", about)
+            self.assertIn("greatest +0.042 % at 40 % of the span, least -0.021 % at 100 % of the span", about)
+        self.assertEqual([label for label in drawings[0].words if label.endswith(" N")], ["0 N", "1250 N", "2500 N", "3750 N", "5000 N"])
+        self.assertEqual([label for label in drawings[1].words if label.endswith(" N")], ["0 N", "2500 N", "5000 N"])
+
+    def test_a_curve_as_drawn(self):
+        """In the sender's unit, by the curve's own terms: 300 kPa, in per cent of the span."""
+        image = support.images.read_image(sample("exhaust-pressure.kind1"))
+        terms = [support.console().ask("term", image, index) for index in range(5)]
+        counts = [support.console().ask("segment", image, index) for index in range(2)]
+        first = int(counts[0][1])
+
+        def correction(x):
+            own = terms[:first] if x < int(counts[1][0]) / 1e7 else terms[first:]
+            exact = sum(support.struct.unpack(">f", bytes.fromhex(word))[0] * x ** int(power) for power, word in own)
+            return 300 * exact / 100
+
+        for one in self.drawings(self.page(0, sample("exhaust-pressure.kind1"))):
+            self.assertTrue(any(label.endswith(" kPa") and label[0] in "+-" for label in one.words))
+            for x, y in one.line():
+                self.assertAlmostEqual(y, correction(x), delta=0.02)
+            self.assertIn(f"from {kilopascals(correction(0))} at 0 %", one.svg)
+
+    def test_ohms_have_no_physical_figures_below(self):
+        text = self.page(0, sample("temperature.kind1"))
+        for one in self.drawings(text):
+            self.assertFalse(any("\u00b0C" in label for label in one.words))
+            self.assertEqual(len(one.dots()), 5)
+        caption = "Deviation at each stored point, in per cent of the span. A reading is refused: 4 at bit 64"
+        self.assertTrue(caption in text.replace("\u00a0", " "))
+
+    def test_the_certificate_as_drawn(self):
+        """A chip that is 0.004 % below at 40 %, by a certificate that has 0.046 % there: the band is 517 billionths."""
+        cert = self.file("cert", PERCENT.replace("0.042", "0.046"))
+        text = self.page(1, sample("load-cell.kind1"), cert)
+        self.assertLess(text.index("Certificate: DIFFERS"), text.index("ACCEPTED: "))
+        for one in self.drawings(text)[2:]:
+            self.near(one.dots(), [(0, 0), (20, 0), (40, -0.004), (60, 0), (80, 0), (100, 0)], 0.00005)
+            self.near([(0, figure) for figure in one.band()], [(0, 0.0000517), (0, -0.0000517)], 0.00002)
+            for x, y in one.line():
+                wanted = -0.004 * max(0, 1 - abs(x - 40) / 20)
+                self.assertAlmostEqual(y, wanted, delta=0.00008)
+            self.assertIn("least -0.004 % at 40 % of the span", one.svg)
+            self.assertIn("the proved band is 0.0000517 % either way, and the line leaves it", one.svg)
+        far = re.findall(r'<tr class="far">(.*?)</tr>', text)
+        self.assertEqual(len(far), 2)
+        self.assertIn('<td data-name="difference">-0.2 N</td><td data-name="of the span">-0.0040004 % !</td>', far[0])
+        for one in self.drawings(self.page(0, sample("load-cell.kind1"), self.file("cert", PERCENT)))[2:]:
+            self.near([(0, figure) for figure in one.band()], [(0, 0.0000517), (0, -0.0000517)], 0.0000004)
+            self.assertIn("the line stays in it", one.svg)
+
+    def test_one_unit_for_one_thing(self):
+        text = self.page(0, sample("load-cell.kind1"), self.file("cert", PERCENT))
+        self.assertFalse("ppm" in text)
+
+    def test_whose_it_is(self):
+        cert = self.file("cert", PERCENT)
+        text = self.page(0, sample("load-cell.kind1"), cert, "--customer", "A & B", "--job", "RR-118")
+        for part in ("Customer: A &amp; B</p>", "Job: RR-118</p>", "Date and signature: </p>"):
+            self.assertTrue(part in text, part)
+        for what, path in (("the chip's image", sample("load-cell.kind1")), ("the certificate", cert)):
+            with open(path, "rb") as file:
+                data = file.read()
+            digest = hashlib.sha256(data).hexdigest()
+            self.assertTrue(f"SHA-256 of {what}, {path} ({len(data)}\u00a0bytes): {digest}</p>" in text, what)
+        self.assertTrue("<title>Maker 1451, model 77, serial 555</title>" in text)
+        self.assertTrue("<title>A chip that is refused, serial 555</title>" in self.page(1, sample("damaged.kind1")))
+        self.assertTrue("<title>A chip that is refused</title>" in self.page(1, sample("blank.kind1")))
+
+    def test_screens(self):
+        """What a phone, a dark screen and paper need; that nothing is wider than the page a browser says, where there is one."""
+        text = self.page(1, sample("load-cell.kind1"), self.file("cert", PERCENT.replace("0.042", "0.046")))
+        for part in ("prefers-color-scheme: dark", "max-width: 40em", "@media print", "svg.narrow { display: none; }"):
+            self.assertTrue(part in text, part)
+        browser = next(filter(None, map(shutil.which, ("chromium", "chromium-browser", "google-chrome"))), None)
+        for width in (360, 1200) if browser else ():
+            script = "<script>onerror = e => document.title = 'error ' + e</script>"
+            tell = "<script>document.title += '|' + document.documentElement.scrollWidth + '|' + innerWidth</script>"
+            copy = self.file("copy.html", text.replace("<head>", "<head>" + script).replace("</body>", tell + "</body>"))
+            words = [browser, "--headless", "--no-sandbox", "--disable-gpu", f"--window-size={width},900", "--dump-dom", copy]
+            said = subprocess.run(words, capture_output=True, text=True, check=True, timeout=60).stdout
+            title, wide, room = re.search("<title>(.*?)</title>", said).group(1).split("|")
+            self.assertLessEqual(int(wide), int(room), (title, width))
 
     def test_random_images(self):
         for image in support.built_images(40, 9):
@@ -94,6 +248,10 @@ class Report(support.Case):
         )
         self.assertFalse(os.path.exists(self.path("page.html")))
         self.gives(2, "report", sample("load-cell.kind1"), err="-o")
+
+
+def kilopascals(figure):
+    return "0 kPa" if round(figure, 4) == 0 else f"{figure:+.4g} kPa"
 
 
 if __name__ == "__main__":

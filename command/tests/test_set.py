@@ -19,20 +19,20 @@ class Set(support.Case):
             "date=2026-11-16",
             "--level",
             "calibration",
-            out=("calibration date: 2025-11-03 -> 2026-11-16", "written and read again, accepted"),
+            out=("calibration date 2025-11-03 2026-11-16 2026-11-16\n", "written and read again, accepted"),
         )
         self.assertEqual(len(self.bytes("new")), 128)
         self.gives(0, "show", self.path("new"), out="2026-11-16")
         self.assertEqual(sorted(os.listdir(self.room)), ["new"])
 
     def test_it_is_what_a_change_writes(self):
-        self.set(0, "impedance=350.5ohm", "--level", "maker", out="350 ohm -> 350.5 ohm")
+        self.set(0, "impedance=350.5ohm", "--level", "maker", out="350 ohm 350.5 ohm 350.5 ohm 0 ohm")
         cell = sample_bytes("load-cell.kind1").hex()
         self.assertEqual(support.console().ask("change", "1", cell, "13", "w3505", "maker")[1], self.bytes("new").hex())
 
     def test_each_sample(self):
         for name in support.ACCEPTED:
-            self.gives(0, "set", sample(name), "location=77", "-o", self.path(name), out="-> 77")
+            self.gives(0, "set", sample(name), "location=77", "-o", self.path(name), out=" 77 77\n")
             self.gives(0, "show", self.path(name), out="measurement location ID                77")
 
     def test_what_is_worth_a_look_afterwards(self):
@@ -44,13 +44,14 @@ class Set(support.Case):
 
     def test_the_range_is_told(self):
         for word, part in (
-            ("location=3000", "a figure outside the field's range; it takes 0 to 2047"),
-            ("impedance=0.5ohm", "it takes 1 ohm to 26215.2 ohm"),
-            ("response=8s", "it takes 1 us to 7.91180996 s"),
-            ("max elec=-7mV/V", "it takes -6.55 mV/V to 6.55715 mV/V"),
-            ("measurand=46", "it takes temperature, K (0) to power, W (45)"),
-            ("max phys=1e39N", "a Single that is not finite"),
-            ("bridge type=missing", "missing where it may not be"),
+            ("location=3000", "measurement location ID is 3000; it has to be 0 to 2047\n"),
+            ("impedance=0.5ohm", "bridge element impedance is 0.5 ohm; it has to be 1 ohm to 26215.2 ohm\n"),
+            ("response=8s", "response time is 8 s; it has to be 1 us to 7.91180996 s\n"),
+            ("max elec=-7mV/V", "maximum electrical value is -7 mV/V; it has to be -6.55 mV/V to 6.55715 mV/V\n"),
+            ("measurand=46", "physical measurand is 46; it has to be temperature, K (0) to power, W (45)\n"),
+            ("max phys=1e39N", "is 1e+33 MN; it has to be -3.4028235e+32 MN to 3.4028235e+32 MN\n"),
+            ("bridge type=missing", "bridge type is missing, and has to have a value\n"),
+            ("maker=0", "refused: 10 at field 1: manufacturer ID is 0; it has to be 17 to 16381\n"),
         ):
             self.unwritten(1, word, "--level", "maker", err=part)
 
@@ -66,10 +67,10 @@ class Set(support.Case):
             "--level",
             "maker",
             out=(
-                "1 us -> 1.14 us, stored as 1.29 us (nearest step)",
-                "2 mV/V -> 2.00039 mV/V, stored as 2.0004 mV/V (nearest step)",
-                "full (2) -> half (1)",
-                "555 -> 7",
+                "1 us 1.14 us 1.29 us +0.15 us\n",
+                "2 mV/V 2.00039 mV/V 2.0004 mV/V +0.00001 mV/V\n",
+                "full (2) half (1) half (1)\n",
+                "555 7 7\n",
             ),
         )
 
@@ -82,7 +83,7 @@ class Set(support.Case):
             "--level",
             "maker",
             source="temperature.kind1",
-            out="stored as",
+            out="1 mA 1.01 mA 1 mA -0.01 mA\n",
         )
         self.gives(
             0,
@@ -93,9 +94,9 @@ class Set(support.Case):
             "calibration",
             "-o",
             self.path("p2"),
-            out="1.9876 mV/V -> 2.1 mV/V",
+            out="1.9876 mV/V 2.1 mV/V 2.1 mV/V 0 mV/V\n",
         )
-        self.gives(0, "set", sample("oil-pressure.kind0"), "location=9", "-o", self.path("k0"), out="3 -> 9")
+        self.gives(0, "set", sample("oil-pressure.kind0"), "location=9", "-o", self.path("k0"), out=" 3 9 9\n")
 
     def test_digits_that_a_single_has_not(self):
         self.set(
@@ -103,7 +104,7 @@ class Set(support.Case):
             "max phys=5000.123456789N",
             "--level",
             "calibration",
-            out="5000 N -> 5000.123456789 N, stored as 5000.1235 N (nearest step)",
+            out="5000 N 5000.123456789 N 5000.1235 N +0.000043211 N\n",
         )
 
     def test_the_measurand_gives_the_unit(self):
@@ -113,7 +114,7 @@ class Set(support.Case):
             "measurand=Pa",
             "--level",
             "maker",
-            out=("5000 N -> 7000 Pa", "force/weight, N (4) -> pressure, Pa (12)", "look at:"),
+            out=("5000 N 7000 Pa 7000 Pa 0 Pa\n", "force/weight, N (4) pressure, Pa (12) pressure, Pa (12)\n", "look at:"),
         )
 
     def test_measurands_that_are_none(self):
@@ -159,7 +160,7 @@ class Set(support.Case):
             (("=5",), "no field"),
         ):
             self.unwritten(2, *words, err=part)
-        self.gives(2, "set", sample("load-cell.kind1"), "location=1", err="-o")
+        self.gives(2, "set", sample("load-cell.kind1"), "location=1", err="-o NEW or --dry-run")
         self.gives(2, "set", sample("load-cell.kind1"), "location=1", "-o", "", err="-o takes a file's name")
 
     def test_files(self):

@@ -27,7 +27,8 @@ class Again(support.Case):
             self.assertEqual(again.data, image.data, text)
             if number % 8 == 0:
                 self.assertEqual(export.exported(support.console(), image, sheet), (text, True))
-                self.assertEqual(list(make.nearest(support.console(), draft, read_sheet(support.console(), again))), [])
+                rows = make.stored_rows(support.console(), draft, read_sheet(support.console(), again))
+                self.assertEqual([row.told() for row in rows if not row.is_exact], [])
             sorts |= {(sheet.template, sheet.values[9]), (sheet.kind,), (sheet.template, sheet.domain, sheet.curve())}
         self.assertEqual(len(sorts), 3 + 4 + 3 + 2 * 4)
 
@@ -84,14 +85,14 @@ class Make(support.Case):
         self.make(0, self.edited("= 350 ohm", "= 350 ohm  # measured"))
         self.make(0, self.edited('left drum"', 'left # drum" # where it is'))
         self.make(0, self.edited("bridge element impedance", "13"))
-        self.make(0, self.edited("= 1 us", "= 1.14us"), out="response time: 1.14 us, stored as 1.29 us (nearest step)")
+        self.make(0, self.edited("= 1 us", "= 1.14us"), out="response time 1.14 us 1.29 us +0.15 us\n")
         self.make(
             0,
             self.edited("= 5000 N", "= 5.000123456789 kN"),
-            out="maximum physical value: 5000.123456789 N, stored as 5000.1235 N (nearest step)",
+            out="maximum physical value 5000.123456789 N 5000.1235 N +0.000043211 N\n",
         )
         self.make(
-            0, self.edited("20.00016 %", "20%"), out="point 1: 20 % +0.015 %, stored as 20.00016 % +0.015 % (nearest step)"
+            0, self.edited("20.00016 %", "20%"), out="point 1 20 %, +0.015 % 20.00016 %, +0.015 % +0.00016 %, 0 %\n"
         )
         self.make(0, "\n".join(reversed(self.text.splitlines()[:23])), out="kind 1")
         self.make(0, self.text, "--kind", "2", out="kind 2 (512 bytes)")
@@ -113,7 +114,7 @@ class Make(support.Case):
             ("domain = electrical", "domain = both", 24, "domain"),
             ("point = 0 %, 0 %", "point = 0, 0", 25, "has no unit"),
             ("point = 0 %, 0 %", "point = 0 %", 25, "two parts"),
-            ("point = 0 %, 0 %", "point = 0.00000001 %, 0 %", 25, "finer"),
+            ("point = 0 %, 0 %", "point = 1e40 %, 0 %", 25, "far outside"),
             ('text = "rolling', "text = rolling", 31, "between"),
             ("rolling road", "r\u00f6lling road", 31, "cannot stand"),
             ("rolling road", "r\\ad", 31, "cannot stand"),

@@ -137,7 +137,7 @@ class Read(support.Case):
             chip = self.path(str(number))
             self.gives(0, "set", sample("brake-pressure.kind1"), change, "--level", "maker", "-o", chip)
             self.gives(1, "read", chip, "1mV/V", err=f"refused: {part}")
-            self.gives(0, "show", chip, "--curve", out=("dashes: no reading", f"no curve: refused: {part}"))
+            self.gives(0, "show", chip, "--curve", out=(f"dashes: none: refused: {part}: no reading: ", f"no curve: refused: {part}"))
             self.gives(0, "report", chip, "-o", self.path("page"), "--force")
             self.gives(1, "certificate", chip, sample("load-cell.csv"), err=f"refused: {part}")
 

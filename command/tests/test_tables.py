@@ -147,7 +147,7 @@ class Tables(support.Case):
     def test_a_sender_whose_unit_is_per_cent(self):
         """Its own per cent, unless the span is named. 0 to 50 %, in which 10 % is a fifth of the span."""
         self.gives(
-            0, "set", self.cell, "measurand=%", "max phys=50%", "--level", "maker", "-o", self.path("ratio"), out="5000 N -> 50 %"
+            0, "set", self.cell, "measurand=%", "max phys=50%", "--level", "maker", "-o", self.path("ratio"), out="5000 N 50 % 50 % 0 %"
         )
         for text in (
             "Point (%),Deviation (%)\n" + "".join(f"{p / 2},{float(d) / 2}\n" for p, d in PERCENTS),

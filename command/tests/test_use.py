@@ -5,7 +5,7 @@ import subprocess
 import support
 from support import ACCEPTED, run_program, sample
 
-COMMANDS = ("show", "why", "set", "read", "tray", "certificate", "export", "make", "report")
+COMMANDS = ("show", "why", "set", "read", "tray", "certificate", "export", "make", "report", "distance", "compare")
 
 
 class Use(support.Case):
@@ -19,7 +19,7 @@ class Use(support.Case):
         out, _ = self.ends(0, "--help")
         for command in COMMANDS:
             self.assertIn(command, out)
-            self.gives(0, command, "--help", out="Ends with 0")
+            self.assertIn("Ends with 0 if accepted", " ".join(self.gives(0, command, "--help")[0].split()))
         self.assertIn("Dartelm", self.ends(0, "--version")[0])
 
     def test_wrong_use(self):
@@ -66,7 +66,6 @@ class Use(support.Case):
             ("show", support.SAMPLES),
             ("certificate", sample("load-cell.kind1"), "nope"),
             ("show", ""),
-            ("tray", "nope"),
             ("show", sample("load-cell.kind1"), "nope"),
         ):
             out, err = self.gives(3, *words)

@@ -1,0 +1,426 @@
+"""Figures, units and names that a person is shown, each against what document 000, 01 or 02 says or what is worked out here."""
+import os
+import re
+import struct
+import subprocess
+from unittest import mock
+
+import support
+from dartelm import certificate, dumps, image, main, measurands, setting, sheets, units
+from dartelm.image import Image, build, read_image, read_sheet
+from dartelm.trouble import Refusal, Trouble
+from support import sample, sample_bytes
+
+CELL = sample("load-cell.kind1")
+PERCENT = "point (%),deviation (%)\n0,0\n20,0.015\n40,0.042\n60,0.038\n80,0.009\n100,-0.021\n"
+# Document 000, Annex A: the cases of the physical measurand in the lines of templates 33 and 32.
+CASES = """
+0 temperature, K
+1 temperature, °C
+2 strain, strain
+3 strain, microstrain
+4 force/weight, N
+5 force/weight, lb
+6 force/weight, kgf
+7 acceleration, m/s²
+8 acceleration, ga
+9 torque, Nm/radian
+10 torque, Nm
+11 torque, oz-in
+12 pressure, Pa
+13 pressure, psi
+14 mass, kg
+15 mass, g
+16 distance, m
+17 distance, mm
+18 distance, in
+19 velocity, m/s
+20 velocity, mph
+21 velocity, fps
+22 angular position, radian
+23 angular position, degrees
+24 rotational velocity, radian/s
+25 rotational velocity, rpm
+26 frequency, Hz
+27 concentration, g/l
+28 concentration, kg/m³
+29 molar concentration, mole/m³
+30 molar concentration, mole/l
+31 volumetric concentration, m³/m³
+32 volumetric concentration, l/l
+33 mass flow, kg/s
+34 volumetric flow, m³/s
+35 volumetric flow, m³/hr
+36 volumetric flow, gpm
+37 volumetric flow, cfm
+38 volumetric flow, l/min
+39 relative humidity, RH
+40 ratio, %
+41 voltage, V
+42 RMS voltage, V rms
+43 current, A
+44 RMS current, A rms
+45 power, W
+"""
+# Other units, as the field's books have them: a thousand of each in the sender's unit.
+THOUSANDS = (
+    (4, "lbf", "4448.2216152605"),
+    (4, "kgf", "9806.65"),
+    (4, "kp", "9806.65"),
+    (4, "daN", "10000"),
+    (4, "ozf", "278.01385095378125"),
+    (7, "g", "9806.65"),
+    (7, "ft/s2", "304.8"),
+    (10, "lbf-ft", "1355.8179483314004"),
+    (10, "ft-lb", "1355.8179483314004"),
+    (10, "lbf-in", "112.9848290276167"),
+    (10, "in-lb", "112.9848290276167"),
+    (10, "oz-in", "7.06155181422604375"),
+    (10, "kgf-m", "9806.65"),
+    (10, "Ncm", "10"),
+    (12, "bar", "100000000"),
+    (12, "mbar", "100000"),
+    (12, "hPa", "100000"),
+    (12, "psi", "6894757.29316836133672267344534689"),
+    (12, "atm", "101325000"),
+    (12, "at", "98066500"),
+    (12, "kgf/cm2", "98066500"),
+    (12, "N/mm2", "1000000000"),
+    (13, "Pa", "0.145037737730209215154241027951194"),
+    (13, "kPa", "145.037737730209215154241027951194"),
+    (13, "bar", "14503.7737730209215154241027951194"),
+    (14, "g", "1"),
+    (14, "lb", "453.59237"),
+    (14, "oz", "28.349523125"),
+    (14, "t", "1000000"),
+    (16, "mm", "1"),
+    (16, "cm", "10"),
+    (16, "um", "0.001"),
+    (16, "in", "25.4"),
+    (16, "ft", "304.8"),
+    (16, "km", "1000000"),
+    (18, "mm", "39.3700787401574803149606299212598"),
+    (19, "km/h", "277.777777777777777777777777777778"),
+    (19, "mph", "447.04"),
+    (19, "fps", "304.8"),
+    (20, "km/h", "621.371192237333969617434184363319"),
+    (28, "g/l", "1000"),
+    (28, "kg/l", "1000000"),
+    (28, "mg/l", "1"),
+    (33, "kg/h", "0.277777777777777777777777777777778"),
+    (33, "g/s", "1"),
+    (33, "kg/min", "16.6666666666666666666666666666667"),
+    (34, "l/s", "1"),
+    (34, "l/min", "0.0166666666666666666666666666666667"),
+    (34, "m3/h", "0.277777777777777777777777777777778"),
+    (34, "gpm", "0.0630901964"),
+    (34, "cfm", "0.4719474432"),
+    (38, "gpm", "3785.411784"),
+    (45, "hp", "745699.87158227022"),
+    (45, "PS", "735498.75"),
+)
+
+
+class Names(support.Case):
+    def test_measurands(self):
+        rows = [line.split(" ", 1) for line in CASES.strip().splitlines()]
+        self.assertEqual([int(code) for code, _ in rows], list(range(46)))
+        sheet, _ = self.gives(0, "export", CELL)
+        for code, name in rows:
+            text = sheet.replace("force/weight, N (4)", code).replace(" N\n", f" {name.split(', ')[1]}\n")
+            self.gives(0, "make", self.file("sheet", text), "-o", self.path("chip"), "--force", out=f" {name} ({code})")
+            self.gives(0, "show", self.path("chip"), out=(f"{name} ({code})\n", f"maximum physical value 5000 {name.split(', ')[1]}\n"))
+            stored = support.console().ask("field", "1", self.bytes("chip").hex(), "6")
+            self.assertEqual(stored, [f"w{code}"])
+
+    def test_other_units(self):
+        for code, word, wanted in THOUSANDS:
+            found = units.figure_of(f"1000 {word}", measurands.unit_of(code), "figure")
+            self.assertAlmostEqual(found / units.EXACT.create_decimal(wanted), 1, delta=1e-30, msg=word)
+
+    def test_prefixes(self):
+        for text, value in (
+            ("1MN", "1000000"),
+            ("1kN", "1000"),
+            ("1mN", "0.001"),
+            ("1N", "1"),
+        ):
+            self.assertEqual(units.figure_of(text, measurands.unit_of(4), ""), units.EXACT.create_decimal(value))
+        for text in ("1kpsi", "1klb", "1mK", "1kV rms", "1 kkN", "1 GN"):
+            code = {"psi": 13, "lb": 5, "K": 0, "rms": 42, "N": 4}[re.search("psi|lb|K|rms|N", text).group()]
+            self.assertRaises(Trouble, units.figure_of, text, measurands.unit_of(code), "")
+        for mu in ("u", "\u00b5", "\u03bc"):
+            self.assertEqual(units.figure_of(f"3{mu}V/V", units.RATIO, ""), units.EXACT.create_decimal("0.000003"))
+            self.assertEqual(units.figure_of(f"3{mu}s", units.SECOND, ""), units.EXACT.create_decimal("0.000003"))
+            self.assertEqual(units.figure_of(f"3{mu}A", units.AMPERE, ""), units.EXACT.create_decimal("0.000003"))
+        self.assertEqual(units.figure_of("3nV/V", units.RATIO, ""), units.EXACT.create_decimal("0.000000003"))
+        self.assertEqual(units.figure_of("3Mohm", units.OHM, ""), units.EXACT.create_decimal(3000000))
+
+    def test_precisions_say_their_step(self):
+        """The least change that a chip of this precision takes is the step that its name says."""
+        for name, end, middle in (
+            ("load-cell.kind1", {0: "steps of 1 mV/V (0)", 1: "steps of 25 nV/V (1)"}, {0: 10**6, 1: 25}),
+            (
+                "temperature.kind1",
+                {0: "steps of 10 ohm (0)", 1: "steps of 1000 ohm (1)", 2: "steps of 1 ohm (2)"},
+                {0: 10, 1: 1000, 2: 1},
+            ),
+        ):
+            sheet = read_sheet(support.console(), read_image(sample(name)))
+            for precision, words in end.items():
+                sheet.values[9], sheet.values[10], sheet.values[11] = f"w{precision}", "w0", f"w{2 * middle[precision]}"
+                chip = build(support.console(), sheet)
+                self.gives(0, "show", self.file("chip", chip.data), out=words)
+                stored = support.console().ask("propose", chip, 11, f"w{3 * middle[precision]}", "maker")[2]
+                self.assertEqual(stored, f"w{3 * middle[precision]}")
+                half = middle[precision] // 2
+                if half:
+                    below = support.console().ask("propose", chip, 11, f"w{3 * middle[precision] - half // 2 - 1}", "maker")[2]
+                    self.assertEqual(below, f"w{3 * middle[precision]}")
+        self.gives(0, "show", sample("brake-pressure.kind1"), out="full precision (2)\n")
+        text, _ = self.gives(0, "export", sample("temperature.kind1"))
+        text = text.replace("steps of 1 ohm (2)", "full precision (3)")
+        self.gives(0, "make", self.file("sheet", text), "-o", self.path("full"))
+        self.assertEqual(support.console().ask("field", "1", self.bytes("full").hex(), "9"), ["w3"])
+
+    def test_choices_are_the_consoles(self):
+        """The console is another program with its own names: bridge types and mapping methods."""
+        for name, field, count in (("load-cell.kind1", 12, 3), ("temperature.kind1", 12, 4)):
+            for code in range(count):
+                self.gives(0, "set", sample(name), f"{field}={code}", "--level", "maker", "-o", self.path("chip"), "--force")
+                words = [os.path.join(support.HOME, "bin", "console"), "show", "1", self.bytes("chip").hex()]
+                said = subprocess.run(words, capture_output=True, text=True, check=True).stdout
+                shown = re.search(rf"^12 [^:]*: {code} \((.*)\)$", said, re.MULTILINE).group(1)
+                self.gives(0, "show", self.path("chip"), out=f" {shown} ({code})\n")
+
+
+class Shown(support.Case):
+    def test_ohms_of_a_resistance_sender(self):
+        """80 to 194 ohm: a point at 26.08344 % is at 80 + 114 x 0.2608344 ohm."""
+        self.gives(
+            0,
+            "show",
+            sample("temperature.kind1"),
+            out=(
+                "0 0.26928 % 80.3069792 ohm deviation -0.2687 %\n",
+                "1 26.08344 % 109.7351216 ohm deviation -1.083 %\n",
+                "4 100.08648 % 194.0985872 ohm deviation -0.0861 %\n",
+            ),
+        )
+
+    def test_the_first_and_the_last_points(self):
+        """-5000 to 5000 N: a point at 97.89399 % is at 4789.399 N, and with -0.0254 % shows 4786.859 N."""
+        points = read_sheet(support.console(), read_image(sample("many-points.kind2"))).points
+        said, _ = self.gives(0, "show", sample("many-points.kind2"), out=".. 90 more: --points shows them\n")
+        rows = [line.split() for line in said.splitlines() if " deviation " in line]
+        self.assertEqual([int(row[0]) for row in rows], [0, 1, 2, 93, 94, 95])
+        for row in rows:
+            point, deviation = points[int(row[0])]
+            self.assertAlmostEqual(float(row[1]), point / 1e7, places=6)
+            self.assertAlmostEqual(float(row[3]), -5000 + point / 1e5, places=6)
+            self.assertAlmostEqual(float(row[6]), deviation / 1e7, places=6)
+            self.assertAlmostEqual(float(row[9]), -5000 + (point + deviation) / 1e5, places=6)
+        said, _ = self.gives(0, "show", sample("many-points.kind2"), "--points")
+        self.assertEqual([int(line.split()[0]) for line in said.splitlines() if " deviation " in line], list(range(96)))
+
+    def test_twelve_points_are_few(self):
+        sheet = read_sheet(support.console(), read_image(CELL))
+        for count, some in ((12, 12), (13, 6)):
+            sheet.points = [(15300 * 100 * n, 1000 * n) for n in range(count)]
+            said, _ = self.gives(0, "show", self.file("chip", build(support.console(), sheet, 2).data))
+            self.assertEqual(sum(" deviation " in line for line in said.splitlines()), some)
+
+    def test_readings_of_a_table(self):
+        """q by document 01, over stored points; 5 inputs from end to end."""
+        points = read_sheet(support.console(), read_image(CELL)).points
+        said, _ = self.gives(0, "read", CELL, "--table", "5")
+        rows = [line.split() for line in said.splitlines()[2:]]
+        self.assertEqual([row[0] for row in rows], ["0", "0.5", "1", "1.5", "2"])
+        for row in rows:
+            x = round(float(row[0]) * 5e8)
+            shift = certificate_line(points, x)
+            self.assertAlmostEqual(float(row[4]), float(x + shift) / 1e7, delta=1.1e-7)
+            self.assertAlmostEqual(float(row[6]), float(shift) / 1e7, delta=1.1e-7)
+            self.assertAlmostEqual(float(row[2]), float(x + shift) * 5e-6, delta=1e-5)
+
+    def test_the_text_curve(self):
+        said, _ = self.gives(0, "show", CELL, "--curve")
+        lines = said.splitlines()
+        first = lines.index("correction over the span:") + 1
+        drawn = [line.split("|", 1) for line in lines[first : first + 9]]
+        self.assertEqual([label.strip() for label, _ in drawn], ["+0.0419996 %", "", "", "", "", "0 %", "", "", "-0.021 %"])
+        for column in range(61):
+            row = next(n for n, (_, cells) in enumerate(drawn) if cells[column : column + 1] == "*")
+            height = 0.0419996 - row * (0.0419996 + 0.021) / 8
+            wanted = float(certificate_line([(p * 10**7, round(d * 10**7)) for p, d in POINTS], round(column / 60 * 10**9))) / 1e7
+            self.assertAlmostEqual(height, wanted, delta=0.0045)
+        self.assertRegex(lines[first + 9], r"^ {14}0 % +50 % +100 % of the span$")
+
+
+POINTS = ((0, 0), (20.00016, 0.015), (40.00032, 0.042), (60.00048, 0.038), (80.00064, 0.009), (99.99927, -0.021))
+
+
+def certificate_line(points, x):
+    """The correction at x: straight between points, the end deviations beyond them."""
+    if x <= points[0][0]:
+        return points[0][1]
+    for (a, s), (b, t) in zip(points, points[1:]):
+        if x <= b:
+            return s + support.Fraction(t - s) * support.Fraction(x - a) / support.Fraction(b - a)
+    return points[-1][1]
+
+
+class Verdicts(support.Case):
+    def made(self, name, text):
+        self.gives(0, "make", self.file(name + ".txt", text), "-o", self.path(name))
+        return self.path(name)
+
+    def against(self, status, chip, text, *parts):
+        return self.gives(status, "certificate", chip, self.file("cert", text), out=parts)
+
+    def test_a_point_of_the_chips_own(self):
+        """Right at each point of the certificate, and 1.46 % off between two of them."""
+        sheet, _ = self.gives(0, "export", CELL)
+        own = "point = 20.00016 %, +0.015 %\npoint = 21.00078 %, +0.01635 %\n"
+        own += "point = 30.00024 %, +1.4885 %\npoint = 39.0007 %, +0.04065 %\n"
+        chip = self.made("own", sheet.replace("point = 20.00016 %, +0.015 %\n", own))
+        said, _ = self.against(
+            1,
+            chip,
+            PERCENT,
+            "DIFFERS: beyond the proved distance at 0 of the certificate's 6 points and at 2 of the chip's own 9 points",
+            "a point of the chip's own: +1.4599981 %, +73 N\n",
+        )
+        self.assertIn("chip 30.00024 %", support.squeezed(said))
+        self.assertRegex(said, r"\+73(\.\d+)? N")
+
+    def test_the_worst_are_listed(self):
+        """Six of the chip's own points that are too far off, the worst."""
+        sheet, _ = self.gives(0, "export", CELL)
+        lines = "".join(f"point = {round(n * 10**8 / 15300) * 15300 / 10**7} %, {n / 100} %\n" for n in range(10))
+        kept = "".join(line + "\n" for line in sheet.splitlines() if not line.startswith("point"))
+        said, _ = self.against(1, self.made("ten", kept + lines), "point (%),deviation (%)\n0,0\n100,0\n", "DIFFERS")
+        listed = [line.split()[1] for line in said.splitlines() if line.strip().startswith("chip ")]
+        self.assertEqual([round(float(place)) for place in listed], [40, 50, 60, 70, 80, 90])
+        self.assertIn("the worst is at 100 %: +0.09 %", said)
+
+    def test_one_billionth_differs_from_a_twin(self):
+        """A table against the physical figure is held against a chip made from the certificate, to the last billionth."""
+        sheet = read_sheet(support.console(), read_image(sample("torque.kind1")))
+        beside = certificate.beside_points(support.console(), read_image(sample("torque.kind1")), sheet, "", list(sheet.points))
+        self.assertTrue(beside.agrees())
+        for off in (1, -1):
+            beside.at[1].difference = off
+            self.assertFalse(beside.agrees())
+        self.assertEqual([one.place for one in beside.at], [point + deviation for point, deviation in sheet.points])
+
+    def test_inputs_are_the_nearest_to_the_points(self):
+        cell = read_image(CELL)
+        found = certificate.against(support.console(), cell, read_sheet(support.console(), cell), sample("load-cell.csv"))
+        self.assertEqual([one.input for one in found.at], [0, 400000, 800000, 1200000, 1600000, 2000000])
+        self.assertEqual([one.input for one in found.own], [0, 400003, 800006, 1200010, 1600013, 1999985])
+        places = [x for x, _ in found.over(5)]
+        self.assertEqual(places, [0, 0.25, 0.5, 0.75, 1])
+
+    def test_the_line_of_a_certificate(self):
+        points = [(100, 10), (200, -10), (400, 90)]
+        for x, y in ((0, 10), (100, 110), (150, 150), (200, 190), (250, 265), (400, 490), (500, 590)):
+            self.assertEqual(certificate.line_at(points, support.Fraction(x)), y if x else 10)
+
+    def test_comments_and_separators(self):
+        for text in (
+            PERCENT.replace(",", ";"),
+            PERCENT.replace(",", "\t"),
+            "# first\n" + PERCENT,
+            PERCENT.replace("20,0.015", "\n20,0.015"),
+            PERCENT.replace("20,0.015", "2e1,1.5E-2"),
+        ):
+            self.against(0, CELL, text, "AGREES")
+
+
+class Whole(support.Case):
+    def test_places_of_a_refusal(self):
+        """Page 0 holds stream bytes 0 to 30 behind its check byte, page 1 those from 31."""
+        data = bytearray(sample_bytes("load-cell.kind1"))
+        first = Image(support.sealed(bytes([data[0], 0, data[2] & 0xC0]) + bytes(data[3:])))
+        self.gives(1, "why", self.file("chip", first.data), out="bit 0 is bit 0 of page 0, byte 1: manufacturer ID\n")
+        pages = set()
+        for one in support.stored_images():
+            refusal = support.images.refusal_of(support.console(), one)
+            if refusal and one.kind and refusal.number in (3, 4, 5, 6, 7, 22, 24):
+                byte = refusal.place // 8
+                said, _ = self.gives(1, "why", self.file("chip", one.data))
+                where = f"bit {refusal.place} is bit {refusal.place % 8} of page {byte // 31}, byte {byte % 31 + 1}"
+                self.assertRegex(said, where + r"\D")
+                pages.add(byte // 31)
+        self.assertGreater(len(pages), 1)
+        kind0 = bytearray(sample_bytes("oil-pressure.kind0"))
+        kind0[0:2] = b"\x00\x00"
+        self.gives(1, "why", self.file("chip", support.sealed(bytes(kind0))), out="bit 0 is bit 0 of register byte 0: manufacturer ID\n")
+        kind0 = bytearray(sample_bytes("oil-pressure.kind0"))
+        kind0[9] |= 3
+        self.gives(1, "why", self.file("chip", support.sealed(bytes(kind0))), out="of page 0, byte 1\n")
+
+    def test_a_template_that_is_not_known(self):
+        """The first ten bits behind Basic are selector and template: what is refused there has no layout."""
+        for bit, part in ((64, "bit 64 is bit 0 of page 0, byte 9\n"),):
+            data = bytearray(sample_bytes("load-cell.kind1"))
+            data[9] ^= 8
+            said, _ = self.gives(1, "why", self.file("chip", support.sealed(bytes(data))), out=part)
+            self.assertNotIn("physical measurand", said)
+            self.assertIn(f"refused: 4 at bit {bit}", said)
+
+    def test_intel_hex(self):
+        good = ":10000000" + "00" * 16 + "F0"
+        self.assertEqual(dumps.bytes_of(f"{good}\n:00000001FF\n".encode()), bytes(16))
+        for bad in (good[:-2] + "F1", good.replace(":10", ":11"), ":00000001FF\n" + good):
+            self.assertNotEqual(dumps.bytes_of(f"{bad}\n:00000001FF\n".encode()), bytes(16))
+            self.assertIsNone(dumps.intel([line for line in f"{bad}\n:00000001FF".splitlines()]))
+
+    def test_parts_of_a_line(self):
+        draft = sheets.Draft("sheet")
+        self.assertEqual(sheets.two(draft, 1, "1 %, 2 %", "point"), ["1 %", "2 %"])
+        for text in ("1 %", "1 %, 2 %, 3 %", ""):
+            self.assertRaises(Trouble, sheets.two, draft, 1, text, "point")
+
+    def test_what_was_written_is_read_again(self):
+        """A file that has other bytes than were written, or another value, is told as such."""
+        with mock.patch.object(image, "read_image", return_value=Image(sample_bytes("torque.kind1"))):
+            self.gives(3, "set", CELL, "location=1", "-o", self.path("new"), err="what stands in the file is not what was written")
+        other = read_sheet(support.console(), read_image(CELL))
+        with mock.patch.object(setting, "write_image", return_value=other):
+            self.gives(3, "set", CELL, "location=1", "-o", self.path("two"), err="what stands in the file is not what was written")
+
+    def test_a_console_that_answers_half_a_line(self):
+        program = support.other_home(self.path("there"), "#!/bin/sh\nread line\nprintf 'ok 1'\n")
+        self.assertEqual(support.run_program("show", CELL, program=program)[0], 3)
+        self.assertIn("without an answer", support.run_program("show", CELL, program=program)[2])
+
+    def test_a_refusal_that_nobody_caught(self):
+        with mock.patch.object(main, "answer", side_effect=Refusal(2, 7)):
+            self.assertEqual(self.run_here("show", CELL)[0], 1)
+        with mock.patch.object(main, "answer", side_effect=KeyboardInterrupt):
+            self.assertEqual(self.run_here("show", CELL)[0], 130)
+        with mock.patch.object(main, "answer", side_effect=OSError(5, "Input/output error")):
+            self.assertEqual(self.run_here("show", CELL)[0], 3)
+
+    def test_excitation_that_equals_its_ends(self):
+        for changes, odd in (
+            (("excitation min=10V",), False),
+            (("excitation max=10V",), False),
+            (("excitation min=10V", "excitation max=10V"), False),
+            (("excitation min=10.1V",), True),
+            (("excitation max=9.9V",), True),
+        ):
+            self.gives(0, "set", CELL, *changes, "--level", "maker", "-o", self.path("chip"), "--force")
+            said, _ = self.gives(0, "show", self.path("chip"), *support.TODAY)
+            self.assertEqual("the nominal excitation, 10 V, is not between" in said, odd, changes)
+
+    def test_floats_are_the_protocols(self):
+        (found,) = support.console().readings(read_image(CELL), [1000000])
+        answer = support.console().ask("reading", read_image(CELL), 1000000, "large")
+        self.assertEqual((str(found[0]), struct.pack(">d", found[1]).hex()), tuple(answer))
+
+
+if __name__ == "__main__":
+    support.unittest.main()
