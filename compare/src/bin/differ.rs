@@ -14,8 +14,9 @@ use compare::layout::{Layout, get, image_length, pages, stream_bits};
 use compare::plain::{self, Level, Template, Value};
 use compare::random::Random;
 use compare::structs::{
-    ByFlags, CharacterAnswer, CheckAnswer, CodeAnswer, ComparedAnswer, DistanceAnswer, FieldAnswer, Fields, PageAnswer,
-    PairAnswer, ProposalAnswer, ReadingAnswer, RowAnswer, SegmentAnswer, SheetAnswer, TermAnswer, TextAnswer,
+    ByFlags, CharacterAnswer, CheckAnswer, CodeAnswer, ComparedAnswer, ConformityAnswer, DistanceAnswer, FieldAnswer,
+    Fields, PageAnswer, PairAnswer, ProposalAnswer, ReadingAnswer, RowAnswer, SegmentAnswer, SheetAnswer, TermAnswer,
+    TextAnswer,
     WriteAnswer, dash_of, domain_of, level_of,
 };
 
@@ -135,6 +136,7 @@ numbered!(
     ReadingAnswer,
     ComparedAnswer,
     DistanceAnswer,
+    ConformityAnswer,
     RowAnswer,
     TextAnswer,
     CodeAnswer
