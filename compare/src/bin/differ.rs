@@ -16,8 +16,7 @@ use compare::random::Random;
 use compare::structs::{
     ByFlags, CharacterAnswer, CheckAnswer, CodeAnswer, ComparedAnswer, ConformityAnswer, DistanceAnswer, FieldAnswer,
     Fields, PageAnswer, PairAnswer, ProposalAnswer, ReadingAnswer, RowAnswer, SegmentAnswer, SheetAnswer, TermAnswer,
-    TextAnswer,
-    WriteAnswer, dash_of, domain_of, level_of,
+    TextAnswer, WriteAnswer, dash_of, domain_of, level_of,
 };
 
 #[path = "differ/curves.rs"]
