@@ -1,13 +1,14 @@
 -- Which images are named blank.
 use mathlib.Core.Path.{_≡_, refl, sym, ap, _∙_}
 use mathlib.Core.Bool.{Bool, true, false, true≢false}
-use mathlib.Core.List.{List}
+use mathlib.Core.List.{List, _∷_}
 use Prim.Native.Nat.{ℕ, zero, suc, _+_, _-_, _*_, _/_, _%_, _≤_, _<_}
 use native.Mathlib.Omega.{arith}
 use lib.ListN.{length, getD}
 use Rattle.refusal.specs.declared.Refusal.{Refusal}
 use Rattle.refusal.specs.Outcome.{Outcome, good, refused, _>>=_, _>>_, refuse_if_}
 use Rattle.refusal.specs.Rows.{blankChip}
+use Rattle.refusal.specs.Orders.{occurs, streamRows}
 use Rattle.refusal.proofs.Outcomes.{Other, other-number}
 use Rattle.memory.specs.declared.Sizes.{Sizes}
 use Rattle.memory.specs.Image.{imageSizes, imageBytes, pageAt, blankPage, blankFrom, sumsFrom, sums}
@@ -48,8 +49,8 @@ module _ (kind : ℕ) (image : List ℕ) (z : Sizes) (sizes : imageSizes kind (l
 
       other : (o : Outcome (Unit {0})) (p : Outcome (Parsed Contents)) → Other o → Other p → (o >> (p >>= λ x. good (x .found))) ≡ refused blankChip → ⊥
       other (good u) (good x) h k d = let n : _≡_ {A = ℕ} 0 1 = cc in absurd (omega arith)
-      other (good u) (refused r) h k d = absurd (other-number (refused r) blankChip d k .1 refl)
-      other (refused r) p h k d = absurd (other-number (refused r) blankChip d h .1 refl)
+      other (good u) (refused r) h k d = absurd (let n : 0 < occurs 17 (2 ∷ streamRows) = other-number (refused r) blankChip d k in omega arith)
+      other (refused r) p h k d = absurd (let n : 0 < occurs 17 (2 ∷ streamRows) = other-number (refused r) blankChip d h in omega arith)
 
       go : (b : Bool) → blankFrom z image (z .pages) 0 ≡ b → (sums z image >> after) ≡ refused blankChip → getD image i 0 ≡ 255
       go true h d =

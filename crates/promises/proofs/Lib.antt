@@ -35,3 +35,8 @@ pub mod Texts
 pub mod Images
 pub mod Singles
 pub mod Geometric
+pub mod Refusals
+pub mod BuildOrders
+pub mod Orders
+pub mod LevelRefusals
+pub mod Curves

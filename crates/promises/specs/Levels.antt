@@ -4,6 +4,7 @@ use mathlib.Core.Bool.{true, false, cond}
 use mathlib.Core.List.{List, [], _∷_}
 use Prim.Native.Nat.{ℕ, suc, _≤_}
 use lib.ListN.{length}
+use Rattle.refusal.specs.declared.Refusal.{Refusal}
 use Rattle.refusal.specs.Outcome.{Outcome, good, refused, _>>_, _>>=_, refuse_if_}
 use Rattle.refusal.specs.Written.{afterwards}
 use Rattle.refusal.specs.Rows.{changedAlone, levelTooLow}
@@ -72,6 +73,24 @@ abbrev pub LowerRefused : Type 0
 LowerRefused =
     (level : Level) (kind : ℕ) (image : List ℕ) (c : Contents) (f : ℕ) → contents kind image ≡ good c → 1 ≤ f → f ≤ length (c .fields) →
     lineOf (c .template) f .sets ≡ false → mayWrite level (lineOf (c .template) f .mark) ≡ false → RefusedTo level kind image f
+
+-- A field that could be changed alone, of an accepted image, and that the level does not hold.
+pub record NotHeld (level : Level) (kind : ℕ) (image : List ℕ) (f : ℕ) : Type 0 where
+  pub holds : Contents
+  pub accepted : contents kind image ≡ good holds
+  pub first : 1 ≤ f
+  pub last : f ≤ length (holds .fields)
+  pub alone : lineOf (holds .template) f .sets ≡ false
+  pub held : mayWrite level (lineOf (holds .template) f .mark) ≡ false
+
+-- 20 is returned in no other case: with `LowerRefused`, exactly where the level does not hold the field.
+pub record TwentyOnlyThere (level : Level) (kind : ℕ) (image : List ℕ) (f : ℕ) (r : Refusal) : Type 0 where
+  pub changed : (v : Value) → change kind image level f v ≡ refused r → NotHeld level kind image f
+  pub proposed : (v : Value) → propose kind image level f v ≡ refused r → NotHeld level kind image f
+  pub committed : (present new : ℕ) → commit kind image level f present new ≡ refused r → NotHeld level kind image f
+
+abbrev pub RefusedOnlyThere : Type 0
+RefusedOnlyThere = (level : Level) (kind : ℕ) (image : List ℕ) (f : ℕ) (r : Refusal) → r .number ≡ 20 → TwentyOnlyThere level kind image f r
 
 -- What a level writes, every higher one writes too, to the same bytes.
 pub record HigherMayToo (low high : Level) : Type 0 where

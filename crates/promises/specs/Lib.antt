@@ -25,3 +25,5 @@ pub mod Texts
 pub mod Images
 pub mod Singles
 pub mod Geometric
+pub mod Refusals
+pub mod Curves

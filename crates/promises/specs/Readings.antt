@@ -4,18 +4,12 @@ use mathlib.Core.List.{List}
 use Prim.Native.Nat.{ℕ, _≤_}
 use lib.IntN.{ℤ}
 use lib.ListN.{length}
-use Rattle.refusal.specs.declared.Refusal.{Refusal}
-use Rattle.refusal.specs.Outcome.{good, refused}
+use Rattle.refusal.specs.Outcome.{good}
 use Rattle.layout.specs.Contents.{Contents}
 use Rattle.layout.specs.Image.{contents, points}
-use Rattle.reading.specs.declared.Dash.{Dash}
 use Rattle.reading.specs.declared.Dash.the-variants.{Large, Small}
 use Rattle.reading.specs.declared.Reading.{Reading}
 use Rattle.reading.specs.Reading.{takeReading}
-
--- Note 8: refusal 15 never occurs.
-abbrev pub NeverFifteen : Type 0
-NeverFifteen = (kind : ℕ) (image : List ℕ) (v : ℤ) (dash : Dash) (r : Refusal) → takeReading kind image v dash ≡ refused r → r .number ≡ 15 → ⊥
 
 -- Note 10: what the small dash shows for a sheet it takes is what the large one shows.
 abbrev pub SmallShowsLarge : Type 0

@@ -1,11 +1,12 @@
 -- Outcomes: what a good one says of the tests and the calls on its way, and what the steps of one come to.
 use mathlib.Core.Path.{_≡_, refl, sym, ap, _∙_, subst}
 use mathlib.Core.Bool.{Bool, true, false, not, cond, _||_, true≢false, _&&_}
-use mathlib.Core.Logic.{_≢_}
-use Prim.Native.Nat.{ℕ}
+use mathlib.Core.List.{_∷_}
+use Prim.Native.Nat.{ℕ, _<_}
 use native.Mathlib.Omega.{arith}
 use Rattle.refusal.specs.declared.Refusal.{Refusal}
 use Rattle.refusal.specs.Outcome.{Outcome, good, refused, _>>=_, _>>_, refuse_if_}
+use Rattle.refusal.specs.Orders.{occurs, By, streamRows}
 
 pub good-same : {A : Type 0} {a b : A} → good a ≡ good b → a ≡ b
 good-same e = cc
@@ -74,14 +75,13 @@ pub bind-same : {A B : Type 0} (o : Outcome A) {f g : A → Outcome B} → ((a :
 bind-same (good a) h = h a
 bind-same (refused r) h = refl
 
--- Numbers that no stream is turned down with: 15, which no row has, and 17, a blank chip's.
+-- The rows of a page's sum and of the stream: neither 1 nor 17 nor one that a call adds.
 abbrev pub Elsewhere : ℕ → Type 0
-Elsewhere n = (n ≢ 15) × (n ≢ 17)
+Elsewhere n = 0 < occurs n (2 ∷ streamRows)
 
--- Refused, if at all, with another number.
+-- Refused, if at all, by one of them.
 abbrev pub Other : {A : Type 0} → Outcome A → Type 0
-Other (good a) = Unit {0}
-Other (refused r) = Elsewhere (r .number)
+Other o = By (2 ∷ streamRows) o
 
 pub other-cond : {A : Type 0} (t : Bool) (o p : Outcome A) → Other o → Other p → Other (cond t o p)
 other-cond true o p h k = h

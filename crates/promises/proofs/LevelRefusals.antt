@@ -1,0 +1,101 @@
+-- Note 6: 20 is returned only where the level does not hold the field.
+-- Assumes nothing.
+use mathlib.Core.Path.{_≡_, refl, sym, ap, _∙_, subst}
+use mathlib.Core.Bool.{Bool, true, false, not, _||_}
+use mathlib.Core.List.{List, [], _∷_}
+use Prim.Native.Nat.{ℕ, _≤_, _<_}
+use native.Mathlib.Omega.{arith}
+use lib.Dec.{eqb, ltb}
+use lib.ListN.{length}
+use borrow.Author.Tests.{eqb-false, ltb-false}
+use Rattle.refusal.specs.declared.Refusal.{Refusal}
+use Rattle.refusal.specs.Outcome.{Outcome, good, refused, _>>=_, _>>_, refuse_if_}
+use Rattle.refusal.specs.Rows.{noSuch, changedAlone, levelTooLow, outOfRange, otherCode}
+use Rattle.refusal.specs.Orders.{occurs, By, checkOrder}
+use Rattle.refusal.proofs.Outcomes.{neither, bind-assoc}
+use Rattle.refusal.proofs.OrderLaws.{by-among, by-bind, by-then, by-test, by-last, by-number}
+use Rattle.fields.specs.declared.Value.{Value}
+use Rattle.fields.specs.declared.Level.{Level}
+use Rattle.fields.specs.Rules.{decode, encode}
+use Rattle.fields.specs.Lines.{lineOf}
+use Rattle.fields.specs.Levels.{mayWrite}
+use Rattle.layout.specs.Contents.{Found, Contents}
+use Rattle.layout.specs.Image.{contents, field}
+use Rattle.change.specs.Change.{changeable, codeFor, rewritten, change, proposedFor, propose, mayStand, mayCommit, commit}
+use Rattle.promises.specs.Levels.{NotHeld, RefusedOnlyThere}
+use Rattle.promises.proofs.Refusals.{contents-by, decode-by, encode-by, rewritten-by}
+
+-- The rows that a call adds to 8, 12 and 20; 20 is not among them.
+abbrev added : List ℕ
+added = 1 ∷ 5 ∷ 6 ∷ 9 ∷ 10 ∷ 19 ∷ []
+
+same-number : {A : Type 0} {r q : Refusal} → _≡_ {A = Outcome A} (refused r) (refused q) → r .number ≡ q .number
+same-number {A} {r} {q} e = ap (λ (x : Refusal). x .number) (let f : r ≡ q = cc in f)
+
+then-assoc : {A B C : Type 0} (o : Outcome A) (f : A → Outcome B) (next : Outcome C) → ((o >>= f) >> next) ≡ (o >>= λ a. f a >> next)
+then-assoc (good a) f next = refl
+then-assoc (refused r) f next = refl
+
+module _ (level : Level) (kind : ℕ) (image : List ℕ) (f : ℕ) (r : Refusal) (twenty : r .number ≡ 20) where
+  -- Of the tests of a field, with what a call does after them.
+  tested : {B : Type 0} (c : Contents) (next : Found → Outcome B) → ((x : Found) → By added (next x)) → contents kind image ≡ good c →
+      (changeable c level f >>= next) ≡ refused r → NotHeld level kind image f
+  unfolding changeable
+  tested c next h accepted e = go (eqb f 0 || ltb (length (c .fields)) f) (lineOf (c .template) f .sets) (mayWrite level (lineOf (c .template) f .mark)) refl refl refl e
+    where
+      x : Found
+      x = field c f
+
+      go : (none sets may : Bool) → (eqb f 0 || ltb (length (c .fields)) f) ≡ none → lineOf (c .template) f .sets ≡ sets → mayWrite level (lineOf (c .template) f .mark) ≡ may →
+          ((((refuse noSuch f if none) >> good x) >>= λ y. (refuse changedAlone f if sets) >> ((refuse levelTooLow f if not may) >> good y)) >>= next) ≡ refused r →
+          NotHeld level kind image f
+      go true sets may a b m e = absurd (omega (arith, same-number e))
+      go false true may a b m e = absurd (omega (arith, same-number e))
+      go false false true a b m e = absurd (let n = by-number added (next x) r e (h x) in omega (arith, subst (λ (k : ℕ). 0 < occurs k added) twenty n))
+      go false false false a b m e =
+          let n = neither (eqb f 0) (ltb (length (c .fields)) f) a in
+          record {
+            holds = c;
+            accepted = accepted;
+            first = omega (arith, eqb-false f 0 (n .0));
+            last = ltb-false (length (c .fields)) f (n .1);
+            alone = b;
+            held = m;
+          }
+
+  -- Of a call that begins with the check.
+  checked : {B : Type 0} (next : Contents → Outcome B) → ((c : Contents) → contents kind image ≡ good c → next c ≡ refused r → NotHeld level kind image f) →
+      (contents kind image >>= next) ≡ refused r → NotHeld level kind image f
+  checked next h e = go (contents kind image) refl (contents-by kind image) e
+    where
+      go : (o : Outcome Contents) → contents kind image ≡ o → By checkOrder o → (o >>= next) ≡ refused r → NotHeld level kind image f
+      go (refused q) a b e = absurd (let n = same-number e ∙ twenty in omega (arith, subst (λ (k : ℕ). 0 < occurs k checkOrder) n b))
+      go (good c) a b e = h c a e
+
+  coded-by : (x : Found) (v : Value) → By added (encode (x .row) f v)
+  coded-by x v = by-among (9 ∷ 10 ∷ []) added (encode (x .row) f v) (omega arith) (encode-by (x .row) f v)
+
+  changed : (v : Value) → change kind image level f v ≡ refused r → NotHeld level kind image f
+  unfolding change codeFor
+  changed v e = checked _ (λ c a d.
+      tested c _ (λ x. by-bind added (encode (x .row) f v) _ (coded-by x v) (λ code. rewritten-by added kind image (field c f) code (omega arith))) a
+      (sym (bind-assoc (changeable c level f) _ _) ∙ d)) e
+
+  proposed : (v : Value) → propose kind image level f v ≡ refused r → NotHeld level kind image f
+  unfolding propose codeFor
+  proposed v e = checked _ (λ c a d.
+      tested c _ (λ x. by-bind added (encode (x .row) f v) _ (coded-by x v) (λ code.
+      by-bind added (decode (field c f .row) (field c f .at) code) _ (by-among (5 ∷ 6 ∷ []) added (decode (field c f .row) (field c f .at) code) (omega arith) (decode-by (field c f .row) (field c f .at) code)) (λ back. tt))) a
+      (sym (bind-assoc (changeable c level f) _ _) ∙ d)) e
+
+  committed : (present new : ℕ) → commit kind image level f present new ≡ refused r → NotHeld level kind image f
+  unfolding commit mayCommit
+  committed present new e = checked _ (λ c a d.
+      tested c _ (λ x. by-then added (refuse otherCode f if not (eqb (x .code) present) >> refuse outOfRange f if not (mayStand (x .row) new)) (rewritten kind image (field c f) new)
+      (by-test added (otherCode f) (not (eqb (x .code) present)) (refuse outOfRange f if not (mayStand (x .row) new)) (omega arith) (by-last added (outOfRange f) (not (mayStand (x .row) new)) (omega arith)))
+      (rewritten-by added kind image (field c f) new (omega arith))) a
+      (sym (then-assoc (changeable c level f) _ _) ∙ d)) e
+
+pub refused-only-there : RefusedOnlyThere
+refused-only-there level kind image f r n =
+    record { changed = changed level kind image f r n; proposed = proposed level kind image f r n; committed = committed level kind image f r n }

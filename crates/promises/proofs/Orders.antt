@@ -1,0 +1,15 @@
+-- Every call refuses by a row that its order names.
+-- Assumes nothing.
+use mathlib.Core.Path.{refl}
+use Rattle.promises.specs.Refusals.{RefusedByOrder, NeverZero, NeverFifteen}
+use Rattle.promises.proofs.Refusals.{reads-by-order, text-by, code-by}
+use Rattle.promises.proofs.BuildOrders.{writes-by-order, distance-by}
+
+pub refused-by-order : RefusedByOrder
+refused-by-order = record { reads = reads-by-order; writes = writes-by-order; texts = text-by; codes = code-by; distances = distance-by }
+
+pub never-zero : NeverZero
+never-zero = (refl, (refl, (refl, (refl, (refl, (refl, (refl, (refl, (refl, (refl, (refl, (refl, tt))))))))))))
+
+pub never-fifteen : NeverFifteen
+never-fifteen = (refl, (refl, (refl, (refl, (refl, (refl, (refl, (refl, (refl, (refl, (refl, (refl, tt))))))))))))
