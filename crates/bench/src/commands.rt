@@ -3,6 +3,7 @@ use crate::asked;
 use crate::asked::Asked;
 use crate::asked::ROOM;
 use crate::builds;
+use crate::conformities;
 use crate::distances;
 use crate::edits;
 use crate::indexes;
@@ -18,7 +19,7 @@ use words::Number;
 use words::front;
 use words::word;
 
-const HELP: [u8; 1035] = *b"check KIND IMAGE\n\
+const HELP: [u8; 1061] = *b"check KIND IMAGE\n\
     page KIND IMAGE PAGE\n\
     field KIND IMAGE FIELD\n\
     pair KIND IMAGE INDEX\n\
@@ -31,6 +32,7 @@ const HELP: [u8; 1035] = *b"check KIND IMAGE\n\
     build KIND LENGTH LEVEL TEMPLATE V1 .. Vn ENDBIT TEXT DOMAIN POINTS\n\
     build KIND LENGTH LEVEL TEMPLATE V1 .. Vn ENDBIT TEXT curve COUNT SEGMENTS TERMS\n\
     distance POINTS\n\
+    conform KIND IMAGE POINTS\n\
     change KIND IMAGE FIELD VALUE LEVEL\n\
     index KIND IMAGE BUFFER\n\
     fetch KIND IMAGE BUFFER FIELD\n\
@@ -101,13 +103,16 @@ fn of_image(name: &[u8], kind: u8, image: &[u8]) {
     printing::unknown();
 }
 
-// The commands of an image and a buffer, another image or a number.
+// The commands of an image and a buffer, another image, points or a number.
 fn of_three(line: &[u8], name: &[u8]) {
     if equal(name, b"index") {
         return indexes::index(line);
     }
     if equal(name, b"next") {
         return rows::next(line);
+    }
+    if equal(name, b"conform") {
+        return conformities::conform(line);
     }
     let mut room = [0u8; ROOM];
     let Asked::Of(chip) = asked::lent(line, &mut room) else {

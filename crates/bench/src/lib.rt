@@ -4,6 +4,7 @@
 mod asked; // asked.rt: the kind and the image of a line
 mod builds; // builds.rt: build
 mod commands; // commands.rt: a command, by its words
+mod conformities; // conformities.rt: conform
 mod curves; // curves.rt: the curve of a build
 mod distances; // distances.rt: distance
 mod edits; // edits.rt: change, propose and commit

@@ -8,6 +8,7 @@ use borrow.Author.Tests.{not-false}
 use lib.Dec.{T, eqb}
 use lib.IntN.{ℤ, natAbs}
 use lib.ListN.{length}
+use lib.Signed.{_<ℤ_}
 use lib.Ieee.{binary32, ofBits}
 use lib.Ieee.Bits.{ofBits-fits}
 use Rattle.refusal.specs.Outcome.{good}
@@ -78,6 +79,8 @@ end-of Missing h m = absurd (subst T m tt)
 pub record Taken (c : Contents) (v : ℤ) (r : Reading) : Type 0 where
   pub foot : End (low c)
   pub top : End (high c)
+  pub rises : least c <ℤ greatest c
+  pub inside : tooFar v (least c) (greatest c) ≡ false
   pub near : natAbs (position v (least c) (greatest c)) ≤ 2 ^ 31
   pub small : natAbs (r .fraction) ≤ 2 ^ 50
   pub counts : r .fraction ≡ fraction (c .calibration) (position v (least c) (greatest c))
@@ -124,6 +127,8 @@ taken kind image c v dash r accepted e =
     (record {
       foot = low-end kind image d holds b s found;
       top = high-end kind image d holds b s found;
+      rises = k .rises;
+      inside = subst (λ (y : Span). tooFar v (y .least) (y .greatest) ≡ false) (sym (k .is)) (t .0);
       near = subst (λ (y : Span). natAbs (position v (y .least) (y .greatest)) ≤ 2 ^ 31) (sym (k .is)) (within kind image d holds b s found v (t .0));
       small = rw q (omega (arith, few kind image d holds b s found v (t .0)));
       counts = q ∙ ap (λ (y : Span). fraction (d .calibration) (position v (y .least) (y .greatest))) (sym (k .is));

@@ -22,6 +22,7 @@ pub mod Needles
 pub mod CurveFigures
 pub mod Figures
 pub mod FigureLines
+pub mod GreatestFraction
 pub mod Conforming
 pub mod Writing
 pub mod Lending

@@ -21,7 +21,9 @@ use Rattle.sheet.specs.Check.{readField, domainIn}
 use Rattle.build.specs.declared.Sheet.{Sheet}
 use Rattle.build.specs.Build.{pairsLent, build}
 use Rattle.line.specs.Certificate.{Slopes}
-use Rattle.fields.specs.declared.Domain.the-variants.{Physical}
+use Rattle.distance.specs.declared.ToldDistance.{ToldDistance}
+use Rattle.distance.specs.Distance.{distance}
+use Rattle.fields.specs.declared.Domain.the-variants.{Electrical, Physical}
 use Rattle.reading.specs.declared.Dash.{Dash}
 use Rattle.reading.specs.declared.Reading.{Reading}
 use Rattle.reading.specs.Reading.{float, takeReading}
@@ -89,6 +91,33 @@ CertificateFigure =
     takeReading readingKind image v dash ≡ good r →
     Slopes K (pairsLent points) →
     FigureStraysAtMost (2000 + 1000 * R + K * (D + 1)) (lowIn readingKind image) (highIn readingKind image) r (lineFor points v (leastIn readingKind image) (greatestIn readingKind image))
+
+-- No table, or one of domain 0.
+abbrev pub StraightTable : Calibration → Type 0
+StraightTable bare = Unit {0}
+StraightTable (table Electrical pairs) = Unit {0}
+StraightTable (table Physical pairs) = ⊥
+StraightTable (curve segments) = ⊥
+
+-- There no accepted reading has a greater |q|: an input reaches a tenth of the span beyond its end, and a deviation 1,097,150,000.
+abbrev pub greatestFraction : ℕ
+greatestFraction = 1_100_000_000 + 1_097_150_000
+
+abbrev pub FractionAtMost : Type 0
+FractionAtMost =
+    (kind : ℕ) (image : List ℕ) (c : Contents) (v : ℤ) (dash : Dash) (r : Reading) → contents kind image ≡ good c → StraightTable (c .calibration) →
+    takeReading kind image v dash ≡ good r → natAbs (r .fraction) ≤ greatestFraction
+
+-- Told beforehand, from the points and the physical ends alone.
+abbrev pub DistanceFigure : Type 0
+DistanceFigure =
+    (kind : ℕ) (buffer : List ℕ) (sheet : Sheet) (text : List ℕ) (points : List ℤ) (built : List ℕ) →
+    (alterations : List Alteration) (readingKind : ℕ) (v : ℤ) (dash : Dash) (r : Reading) (d : ToldDistance) →
+    distance points ≡ good d → Lendable sheet → RealAlterations alterations →
+    build kind buffer sheet text Electrical points ≡ good built →
+    let image = altered built alterations in
+    takeReading readingKind image v dash ≡ good r →
+    FigureWithin (d .bound) greatestFraction (lowIn readingKind image) (highIn readingKind image) (r .figure) (lineFor points v (leastIn readingKind image) (greatestIn readingKind image))
 
 -- ---- every accepted reading
 
