@@ -48,15 +48,15 @@ def library(file, prelude, kit, listed):
 
 def program(name, file, main, prelude, kit, listed):
     prelude, types, tables, heads, code = file.lines(prelude)
-    first = head(f'The program {name}.', kit, listed) + '#include "dartelm.c"\n#include <unistd.h>'
+    first = head(f'The program {name}.', kit, listed) + '#define DARTELM_PROGRAM\n#include "dartelm.c"\n#include <unistd.h>'
     last = ['int main(void)', '{', f'    {ident(main)}();', '    return 0;', '}']
     return joined([first], *([x] for x in prelude), types, tables, heads, code, last)
 
 
-def made(home):
+def made(home, programs=PROGRAMS):
     """The files by their names."""
     proved = Proved(home, ['dartelm'])
-    mains = {name: proved.program(name) for name in PROGRAMS}
+    mains = {name: proved.program(name) for name in programs}
     header = Header(os.path.join(home, 'include/dartelm.h'))
     whole = Program(proved.functions, header, proved.sources)
     listed = sums(home, proved.crates)
@@ -64,8 +64,8 @@ def made(home):
         prelude = f.read()
     below = File(whole, list(whole.exported))
     out = {'dartelm.c': library(below, prelude, proved.kit, listed)}
-    for name in PROGRAMS:
-        out[f'{name}.c'] = program(name, File(whole, [mains[name]], below), mains[name], prelude, proved.kit, listed)
+    for name, start in mains.items():
+        out[f'{name}.c'] = program(name, File(whole, [start], below), start, prelude, proved.kit, listed)
     out['sources.sha256'] = listed
     return out
 

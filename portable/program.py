@@ -10,6 +10,10 @@ from .types import Types, ident
 from .values import Spot
 
 
+# A function of no more statements, and without a loop, is small.
+SMALL = 12
+
+
 class Program:
     def __init__(self, functions, header, sources):
         self.functions, self.header, self.sources = functions, header, sources
@@ -107,7 +111,9 @@ class Program:
             c = f'const {self.types.c(t)} *' if i in self.lent(fn.name) else f'{self.types.c(t)} '.replace('* ', '*')
             params.append(c + writer.params[i])
         result = 'void' if fn.locals[0].type == ('Unit',) else self.types.c(fn.locals[0].type)
-        return f"static {result} {self.c_name(fn.name)}({', '.join(params) or 'void'})".replace('* dm_', '*dm_')
+        body = ' '.join(writer.lines)
+        small = body.count(';') <= SMALL and not re.search(r'\b(while|for|do)\b', body)
+        return f"{'DM_SMALL' if small else 'static'} {result} {self.c_name(fn.name)}({', '.join(params) or 'void'})".replace('* dm_', '*dm_')
 
     def text(self, name):
         """(its head, its lines)"""

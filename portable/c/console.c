@@ -2,6 +2,7 @@
  * C99, and C++ from C++11 on. It is compiled with include/ among the folders of headers, and with any optimization.
  * Toolchain: rattle-kit-5b-plain logic 097e4c862dff5811
  * Sources: 46ad517a064f40d5bb255e99fdf1b0d57d37272746bd42f21a2800920a60cb5e (of sources.sha256, which has the sum of each) */
+#define DARTELM_PROGRAM
 #include "dartelm.c"
 #include <unistd.h>
 
@@ -235,64 +236,64 @@ DM_SIZE(dm_array_u64_16384, 131072);
 typedef struct { uint8_t at[32768]; } dm_array_u8_32768;
 DM_SIZE(dm_array_u8_32768, 32768);
 
-static uint64_t dm_decimal_digits_wide(uint8_t x);
+DM_SMALL uint64_t dm_decimal_digits_wide(uint8_t x);
 static void dm_decimal_digits_scale(dm_slice_u8 digits, uint64_t by, uint64_t more);
 static void dm_decimal_digits_raise(dm_slice_u8 digits, uint64_t by, uint64_t times);
 static bool dm_decimal_digits_any_below(dm_slice_u8 digits, uint64_t end);
 static dm_decimal_rounding_Rounded dm_decimal_rounding_highest(dm_slice_u8 digits);
-static bool dm_decimal_rounding_is_upward(dm_slice_u8 digits, uint64_t up, uint64_t n);
-static dm_decimal_rounding_Rounded dm_decimal_rounding_round(dm_slice_u8 digits);
-static uint64_t dm_decimal_rounding_less(uint64_t a, uint64_t b);
-static dm_decimal_rounding_Rounded dm_decimal_rounding_decimal_of(dm_slice_u8 digits, uint64_t m, uint64_t p);
+DM_SMALL bool dm_decimal_rounding_is_upward(dm_slice_u8 digits, uint64_t up, uint64_t n);
+DM_SMALL dm_decimal_rounding_Rounded dm_decimal_rounding_round(dm_slice_u8 digits);
+DM_SMALL uint64_t dm_decimal_rounding_less(uint64_t a, uint64_t b);
+DM_SMALL dm_decimal_rounding_Rounded dm_decimal_rounding_decimal_of(dm_slice_u8 digits, uint64_t m, uint64_t p);
 static dm_decimal_rounding_Rounded dm_decimal_rounding_shortest(const dm_decimal_rounding_Rounded *x);
 static uint64_t dm_libc_write(uint32_t descriptor, dm_slice_u8 bytes);
 static uint64_t dm_libc_read(uint32_t descriptor, dm_slice_u8 bytes);
-static dm_array_u8_4096 dm_io_buffer(void);
-static dm_array_u8_65536 dm_io_large_buffer(void);
-static uint64_t dm_io_count(uint64_t got, dm_slice_u8 buf);
+DM_SMALL dm_array_u8_4096 dm_io_buffer(void);
+DM_SMALL dm_array_u8_65536 dm_io_large_buffer(void);
+DM_SMALL uint64_t dm_io_count(uint64_t got, dm_slice_u8 buf);
 static bool dm_io_write_all(uint32_t fd, dm_slice_u8 buf);
-static uint64_t dm_io_write_from(uint32_t fd, dm_slice_u8 buf, uint64_t from, dm_slice_u8 chunk);
+DM_SMALL uint64_t dm_io_write_from(uint32_t fd, dm_slice_u8 buf, uint64_t from, dm_slice_u8 chunk);
 static void dm_io_copy(dm_slice_u8 src, uint64_t from, dm_slice_u8 dst, uint64_t to, uint64_t n);
-static uint64_t dm_io_clamp(uint64_t got, uint64_t most);
-static uint64_t dm_io_least(uint64_t a, uint64_t b);
-static uint64_t dm_io_number_decimal(uint64_t n, dm_array_u8_20 *out);
-static uint64_t dm_io_number_hex(uint64_t n, uint64_t width, dm_array_u8_16 *out);
-static bool dm_io_number_print_decimal(uint32_t fd, uint64_t n);
-static bool dm_io_number_print_hex(uint32_t fd, uint64_t n, uint64_t width);
+DM_SMALL uint64_t dm_io_clamp(uint64_t got, uint64_t most);
+DM_SMALL uint64_t dm_io_least(uint64_t a, uint64_t b);
+DM_SMALL uint64_t dm_io_number_decimal(uint64_t n, dm_array_u8_20 *out);
+DM_SMALL uint64_t dm_io_number_hex(uint64_t n, uint64_t width, dm_array_u8_16 *out);
+DM_SMALL bool dm_io_number_print_decimal(uint32_t fd, uint64_t n);
+DM_SMALL bool dm_io_number_print_hex(uint32_t fd, uint64_t n, uint64_t width);
 static uint64_t dm_io_number_places(uint64_t n, uint64_t base, uint64_t least);
-static uint64_t dm_io_number_one_to_sixteen(uint64_t width);
+DM_SMALL uint64_t dm_io_number_one_to_sixteen(uint64_t width);
 static void dm_io_number_spell(uint64_t n, uint64_t base, uint64_t k, dm_slice_u8 out);
-static uint8_t dm_io_number_glyph(uint64_t d);
+DM_SMALL uint8_t dm_io_number_glyph(uint64_t d);
 static dm_words_Number dm_words_figures_longer(uint64_t n, uint8_t character);
 static dm_words_Number dm_words_figures_number_from(dm_slice_u8 word, uint64_t from);
-static dm_words_Number dm_words_figures_number_of(dm_slice_u8 word);
-static dm_words_Figure dm_words_figures_above(const dm_words_Number *number);
-static dm_words_Figure dm_words_figures_below(const dm_words_Number *number);
-static dm_words_Figure dm_words_figures_figure_of(dm_slice_u8 word);
+DM_SMALL dm_words_Number dm_words_figures_number_of(dm_slice_u8 word);
+DM_SMALL dm_words_Figure dm_words_figures_above(const dm_words_Number *number);
+DM_SMALL dm_words_Figure dm_words_figures_below(const dm_words_Number *number);
+DM_SMALL dm_words_Figure dm_words_figures_figure_of(dm_slice_u8 word);
 static dm_words_Filled dm_words_figures_figures_of(dm_slice_u8 word, dm_slice_u64 out);
-static uint8_t dm_words_hexadecimal_nibble(uint8_t b);
-static uint8_t dm_words_hexadecimal_glyph(uint8_t n);
-static uint64_t dm_words_hexadecimal_byte_at(dm_slice_u8 word, uint64_t at);
+DM_SMALL uint8_t dm_words_hexadecimal_nibble(uint8_t b);
+DM_SMALL uint8_t dm_words_hexadecimal_glyph(uint8_t n);
+DM_SMALL uint64_t dm_words_hexadecimal_byte_at(dm_slice_u8 word, uint64_t at);
 static dm_words_Filled dm_words_hexadecimal_bytes_of(dm_slice_u8 word, dm_slice_u8 out);
-static uint64_t dm_words_hexadecimal_spelt_length(dm_slice_u8 bytes);
-static uint8_t dm_words_hexadecimal_spelt_at(dm_slice_u8 bytes, uint64_t index);
+DM_SMALL uint64_t dm_words_hexadecimal_spelt_length(dm_slice_u8 bytes);
+DM_SMALL uint8_t dm_words_hexadecimal_spelt_at(dm_slice_u8 bytes, uint64_t index);
 static dm_words_Filled dm_words_hexadecimal_spell(dm_slice_u8 bytes, dm_slice_u8 out);
 static dm_words_Writer dm_words_levels_level_of(dm_slice_u8 word);
-static bool dm_words_parts_is_minus(dm_slice_u8 word);
+DM_SMALL bool dm_words_parts_is_minus(dm_slice_u8 word);
 static uint64_t dm_words_parts_piece_count(dm_slice_u8 line, uint8_t separator);
-static uint64_t dm_words_parts_word_count(dm_slice_u8 line);
+DM_SMALL uint64_t dm_words_parts_word_count(dm_slice_u8 line);
 static uint64_t dm_words_parts_reach(dm_slice_u8 line, uint64_t from, uint8_t separator);
-static dm_slice_u8 dm_words_parts_piece(dm_slice_u8 line, uint64_t from, uint8_t separator);
+DM_SMALL dm_slice_u8 dm_words_parts_piece(dm_slice_u8 line, uint64_t from, uint8_t separator);
 static uint64_t dm_words_parts_beginning(dm_slice_u8 line, uint64_t index, uint8_t separator);
-static dm_slice_u8 dm_words_parts_piece_at(dm_slice_u8 line, uint64_t index, uint8_t separator);
-static dm_slice_u8 dm_words_parts_word(dm_slice_u8 line, uint64_t index);
-static dm_slice_u8 dm_words_parts_front(dm_slice_u8 bytes, uint64_t count);
-static dm_slice_u64 dm_words_parts_front_figures(dm_slice_u64 figures, uint64_t count);
-static dm_slice_u8 dm_words_parts_front_mut(dm_slice_u8 bytes, uint64_t count);
-static uint32_t dm_words_values_bits_of(uint8_t a, uint8_t b, uint8_t c, uint8_t d);
-static float dm_words_values_single_of(uint32_t bits);
+DM_SMALL dm_slice_u8 dm_words_parts_piece_at(dm_slice_u8 line, uint64_t index, uint8_t separator);
+DM_SMALL dm_slice_u8 dm_words_parts_word(dm_slice_u8 line, uint64_t index);
+DM_SMALL dm_slice_u8 dm_words_parts_front(dm_slice_u8 bytes, uint64_t count);
+DM_SMALL dm_slice_u64 dm_words_parts_front_figures(dm_slice_u64 figures, uint64_t count);
+DM_SMALL dm_slice_u8 dm_words_parts_front_mut(dm_slice_u8 bytes, uint64_t count);
+DM_SMALL uint32_t dm_words_values_bits_of(uint8_t a, uint8_t b, uint8_t c, uint8_t d);
+DM_SMALL float dm_words_values_single_of(uint32_t bits);
 static dm_words_Worth dm_words_values_single_word(dm_slice_u8 digits);
-static dm_words_Worth dm_words_values_whole_word(dm_slice_u8 digits);
+DM_SMALL dm_words_Worth dm_words_values_whole_word(dm_slice_u8 digits);
 static dm_words_Worth dm_words_values_value_of(dm_slice_u8 word);
 static void dm_build_building_spread(const dm_array_build_Slot_21 *slots, dm_slice_u8 sorts, dm_slice_u64 wholes,
     dm_slice_f32 singles);
@@ -300,55 +301,56 @@ static dm_refusal_Written dm_build_building_build(uint8_t kind, dm_slice_u8 imag
     dm_slice_u8 text, dm_fields_Domain domain, dm_slice_u64 points);
 static dm_refusal_Written dm_build_building_build_curve(uint8_t kind, dm_slice_u8 image, const dm_build_Sheet *sheet,
     dm_slice_u8 text, const dm_fields_Curve *curve);
-static void dm_shown_listing_print_field(uint8_t kind, dm_slice_u8 image, dm_fields_Template template_, uint64_t field);
-static void dm_shown_listing_print_point(uint8_t kind, dm_slice_u8 image, uint64_t index);
-static void dm_shown_listing_print_segment(uint8_t kind, dm_slice_u8 image, uint64_t index);
-static void dm_shown_listing_print_term(uint8_t kind, dm_slice_u8 image, uint64_t index);
-static void dm_shown_listing_print_character(uint8_t kind, dm_slice_u8 image, uint64_t index);
-static void dm_shown_listing_print_part(uint8_t kind, dm_slice_u8 image, dm_shown_listing_Part part, uint64_t index);
+DM_SMALL void dm_shown_listing_print_field(uint8_t kind, dm_slice_u8 image, dm_fields_Template template_,
+    uint64_t field);
+DM_SMALL void dm_shown_listing_print_point(uint8_t kind, dm_slice_u8 image, uint64_t index);
+DM_SMALL void dm_shown_listing_print_segment(uint8_t kind, dm_slice_u8 image, uint64_t index);
+DM_SMALL void dm_shown_listing_print_term(uint8_t kind, dm_slice_u8 image, uint64_t index);
+DM_SMALL void dm_shown_listing_print_character(uint8_t kind, dm_slice_u8 image, uint64_t index);
+DM_SMALL void dm_shown_listing_print_part(uint8_t kind, dm_slice_u8 image, dm_shown_listing_Part part, uint64_t index);
 static void dm_shown_listing_print_parts(uint8_t kind, dm_slice_u8 image, dm_shown_listing_Part part, uint64_t from,
     uint64_t end);
-static void dm_shown_listing_print_points(uint8_t kind, dm_slice_u8 image, const dm_sheet_Summary *summary);
-static void dm_shown_listing_print_curve(uint8_t kind, dm_slice_u8 image, const dm_sheet_Summary *summary);
-static void dm_shown_listing_print_ending(uint8_t kind, dm_slice_u8 image, const dm_sheet_Summary *summary);
-static void dm_shown_listing_print_fields(uint8_t kind, dm_slice_u8 image, dm_fields_Template template_);
-static bool dm_shown_listing_takes(const dm_reading_ReadingAnswer *answer);
-static void dm_shown_listing_print_small_dash(uint8_t kind, dm_slice_u8 image, dm_fields_Template template_);
+DM_SMALL void dm_shown_listing_print_points(uint8_t kind, dm_slice_u8 image, const dm_sheet_Summary *summary);
+DM_SMALL void dm_shown_listing_print_curve(uint8_t kind, dm_slice_u8 image, const dm_sheet_Summary *summary);
+DM_SMALL void dm_shown_listing_print_ending(uint8_t kind, dm_slice_u8 image, const dm_sheet_Summary *summary);
+DM_SMALL void dm_shown_listing_print_fields(uint8_t kind, dm_slice_u8 image, dm_fields_Template template_);
+DM_SMALL bool dm_shown_listing_takes(const dm_reading_ReadingAnswer *answer);
+DM_SMALL void dm_shown_listing_print_small_dash(uint8_t kind, dm_slice_u8 image, dm_fields_Template template_);
 static void dm_shown_listing_show(uint8_t kind, dm_slice_u8 image);
 static void dm_shown_naming_print_column(dm_fields_Template template_, uint64_t field, uint64_t column);
-static void dm_shown_naming_print_name(dm_fields_Template template_, uint64_t field);
-static void dm_shown_naming_print_unit(dm_fields_Template template_, uint64_t field);
-static void dm_shown_naming_print_single_unit(dm_fields_Template template_, uint64_t field);
-static void dm_shown_naming_print_case(dm_fields_Template template_, uint64_t code);
-static void dm_shown_output_put(dm_slice_u8 text);
-static void dm_shown_output_put_entry(dm_slice_u8 table, uint64_t row, uint64_t column);
-static void dm_shown_output_put_number(uint64_t n);
-static void dm_shown_output_put_figure(uint64_t z);
-static void dm_shown_output_put_from(dm_slice_u8 text, uint64_t from);
+DM_SMALL void dm_shown_naming_print_name(dm_fields_Template template_, uint64_t field);
+DM_SMALL void dm_shown_naming_print_unit(dm_fields_Template template_, uint64_t field);
+DM_SMALL void dm_shown_naming_print_single_unit(dm_fields_Template template_, uint64_t field);
+DM_SMALL void dm_shown_naming_print_case(dm_fields_Template template_, uint64_t code);
+DM_SMALL void dm_shown_output_put(dm_slice_u8 text);
+DM_SMALL void dm_shown_output_put_entry(dm_slice_u8 table, uint64_t row, uint64_t column);
+DM_SMALL void dm_shown_output_put_number(uint64_t n);
+DM_SMALL void dm_shown_output_put_figure(uint64_t z);
+DM_SMALL void dm_shown_output_put_from(dm_slice_u8 text, uint64_t from);
 static void dm_shown_output_put_zeros(uint64_t count);
 static void dm_shown_output_put_character(uint8_t c);
 static void dm_shown_reasons_refused(const dm_refusal_Refusal *r);
-static void dm_shown_singles_print_first_and_rest(dm_slice_u8 text);
-static void dm_shown_singles_print_large(dm_slice_u8 text, uint64_t whole);
-static void dm_shown_singles_print_small(dm_slice_u8 text, uint64_t noughts);
-static void dm_shown_singles_print_digits(dm_slice_u8 text, uint64_t up, uint64_t point);
-static void dm_shown_singles_print_number(uint64_t n, uint64_t up, uint64_t point);
-static void dm_shown_singles_print_scaled(uint64_t m, uint64_t p);
-static void dm_shown_singles_print_fields(uint64_t exponent, uint64_t fraction);
-static void dm_shown_singles_print_bits(uint32_t bits);
-static void dm_shown_singles_print_single(float x);
+DM_SMALL void dm_shown_singles_print_first_and_rest(dm_slice_u8 text);
+DM_SMALL void dm_shown_singles_print_large(dm_slice_u8 text, uint64_t whole);
+DM_SMALL void dm_shown_singles_print_small(dm_slice_u8 text, uint64_t noughts);
+DM_SMALL void dm_shown_singles_print_digits(dm_slice_u8 text, uint64_t up, uint64_t point);
+DM_SMALL void dm_shown_singles_print_number(uint64_t n, uint64_t up, uint64_t point);
+DM_SMALL void dm_shown_singles_print_scaled(uint64_t m, uint64_t p);
+DM_SMALL void dm_shown_singles_print_fields(uint64_t exponent, uint64_t fraction);
+DM_SMALL void dm_shown_singles_print_bits(uint32_t bits);
+DM_SMALL void dm_shown_singles_print_single(float x);
 static uint64_t dm_shown_values_text_field(dm_fields_Template template_, uint64_t field);
-static void dm_shown_values_print_text(uint64_t field, uint64_t figure);
-static void dm_shown_values_print_figure(dm_fields_Template template_, uint64_t field, uint64_t figure);
-static void dm_shown_values_print_whole(dm_fields_Template template_, uint64_t field, uint64_t figure);
-static void dm_shown_values_print_value(dm_fields_Template template_, uint64_t field, const dm_fields_Value *value);
-static uint8_t dm_bench_asked_kind_of(uint64_t n);
+DM_SMALL void dm_shown_values_print_text(uint64_t field, uint64_t figure);
+DM_SMALL void dm_shown_values_print_figure(dm_fields_Template template_, uint64_t field, uint64_t figure);
+DM_SMALL void dm_shown_values_print_whole(dm_fields_Template template_, uint64_t field, uint64_t figure);
+DM_SMALL void dm_shown_values_print_value(dm_fields_Template template_, uint64_t field, const dm_fields_Value *value);
+DM_SMALL uint8_t dm_bench_asked_kind_of(uint64_t n);
 static dm_bench_asked_Asked dm_bench_asked_lent(dm_slice_u8 line, dm_slice_u8 room);
-static uint64_t dm_bench_builds_end_bit_word(dm_fields_Template template_);
-static bool dm_bench_builds_is_drawn(dm_slice_u8 line, uint64_t end);
-static bool dm_bench_builds_is_whole(dm_slice_u8 line, uint64_t end);
+DM_SMALL uint64_t dm_bench_builds_end_bit_word(dm_fields_Template template_);
+DM_SMALL bool dm_bench_builds_is_drawn(dm_slice_u8 line, uint64_t end);
+DM_SMALL bool dm_bench_builds_is_whole(dm_slice_u8 line, uint64_t end);
 static dm_fields_TemplateAnswer dm_bench_builds_template_in(dm_slice_u8 line);
-static dm_build_Slot dm_bench_builds_slot(dm_slice_u8 line, uint64_t index);
+DM_SMALL dm_build_Slot dm_bench_builds_slot(dm_slice_u8 line, uint64_t index);
 static bool dm_bench_builds_are_values(dm_slice_u8 line, uint64_t end);
 static dm_build_Sheet dm_bench_builds_sheet_of(dm_slice_u8 line, dm_fields_Template template_, bool end_bit,
     dm_fields_Level level);
@@ -359,81 +361,81 @@ static void dm_bench_builds_draw_in(dm_slice_u8 image, uint8_t kind, dm_slice_u8
 static void dm_bench_builds_build(dm_slice_u8 line);
 static void dm_bench_commands_answer(dm_slice_u8 line);
 static void dm_bench_commands_of_nothing(dm_slice_u8 name);
-static void dm_bench_commands_of_one(dm_slice_u8 line, dm_slice_u8 name);
-static void dm_bench_commands_of_two(dm_slice_u8 line, dm_slice_u8 name);
-static void dm_bench_commands_of_image(dm_slice_u8 name, uint8_t kind, dm_slice_u8 image);
+DM_SMALL void dm_bench_commands_of_one(dm_slice_u8 line, dm_slice_u8 name);
+DM_SMALL void dm_bench_commands_of_two(dm_slice_u8 line, dm_slice_u8 name);
+DM_SMALL void dm_bench_commands_of_image(dm_slice_u8 name, uint8_t kind, dm_slice_u8 image);
 static void dm_bench_commands_of_three(dm_slice_u8 line, dm_slice_u8 name);
-static void dm_bench_commands_of_four(dm_slice_u8 line, dm_slice_u8 name);
-static void dm_bench_commands_of_five(dm_slice_u8 line, dm_slice_u8 name);
-static void dm_bench_commands_of_six(dm_slice_u8 line, dm_slice_u8 name);
-static void dm_bench_commands_of_sheet(dm_slice_u8 line, dm_slice_u8 name);
+DM_SMALL void dm_bench_commands_of_four(dm_slice_u8 line, dm_slice_u8 name);
+DM_SMALL void dm_bench_commands_of_five(dm_slice_u8 line, dm_slice_u8 name);
+DM_SMALL void dm_bench_commands_of_six(dm_slice_u8 line, dm_slice_u8 name);
+DM_SMALL void dm_bench_commands_of_sheet(dm_slice_u8 line, dm_slice_u8 name);
 static void dm_bench_commands_of_number(dm_slice_u8 name, uint8_t kind, dm_slice_u8 image, uint64_t number);
-static dm_words_Number dm_bench_curves_pairs_in(dm_slice_u8 list);
+DM_SMALL dm_words_Number dm_bench_curves_pairs_in(dm_slice_u8 list);
 static dm_bench_curves_SegmentItem dm_bench_curves_segment_at(dm_slice_u8 list, uint64_t pair);
 static dm_bench_curves_TermItem dm_bench_curves_term_at(dm_slice_u8 list, uint64_t pair);
 static dm_bench_curves_Segments dm_bench_curves_no_segments(void);
 static dm_bench_curves_Terms dm_bench_curves_no_terms(void);
 static dm_bench_curves_Segments dm_bench_curves_segments_of(dm_slice_u8 list);
 static dm_bench_curves_Terms dm_bench_curves_terms_of(dm_slice_u8 list);
-static dm_bench_curves_Drawn dm_bench_curves_curve_of(uint64_t count, dm_slice_u8 segments, dm_slice_u8 terms);
-static void dm_bench_distances_told(dm_slice_u64 points);
-static void dm_bench_distances_distance(dm_slice_u8 line);
+DM_SMALL dm_bench_curves_Drawn dm_bench_curves_curve_of(uint64_t count, dm_slice_u8 segments, dm_slice_u8 terms);
+DM_SMALL void dm_bench_distances_told(dm_slice_u64 points);
+DM_SMALL void dm_bench_distances_distance(dm_slice_u8 line);
 static dm_bench_edits_Edited dm_bench_edits_edit_of(dm_slice_u8 line);
-static void dm_bench_edits_change_in(dm_slice_u8 image, uint8_t kind, const dm_bench_edits_Edit *edit);
-static void dm_bench_edits_change(dm_slice_u8 line);
-static void dm_bench_edits_proposed(const dm_change_Proposal *proposal);
-static void dm_bench_edits_propose_in(dm_slice_u8 image, uint8_t kind, const dm_bench_edits_Edit *edit);
-static void dm_bench_edits_propose(dm_slice_u8 line);
-static void dm_bench_edits_commit_in(dm_slice_u8 image, uint8_t kind, dm_fields_Level level, uint64_t field,
+DM_SMALL void dm_bench_edits_change_in(dm_slice_u8 image, uint8_t kind, const dm_bench_edits_Edit *edit);
+DM_SMALL void dm_bench_edits_change(dm_slice_u8 line);
+DM_SMALL void dm_bench_edits_proposed(const dm_change_Proposal *proposal);
+DM_SMALL void dm_bench_edits_propose_in(dm_slice_u8 image, uint8_t kind, const dm_bench_edits_Edit *edit);
+DM_SMALL void dm_bench_edits_propose(dm_slice_u8 line);
+DM_SMALL void dm_bench_edits_commit_in(dm_slice_u8 image, uint8_t kind, dm_fields_Level level, uint64_t field,
     uint64_t present, uint64_t new_);
 static void dm_bench_edits_commit(dm_slice_u8 line);
-static void dm_bench_indexes_index_in(uint8_t kind, dm_slice_u8 image, dm_slice_u8 buffer);
+DM_SMALL void dm_bench_indexes_index_in(uint8_t kind, dm_slice_u8 image, dm_slice_u8 buffer);
 static void dm_bench_indexes_index(dm_slice_u8 line);
-static void dm_bench_indexes_fetch_from(uint8_t kind, dm_slice_u8 image, dm_slice_u8 index, uint64_t field);
+DM_SMALL void dm_bench_indexes_fetch_from(uint8_t kind, dm_slice_u8 image, dm_slice_u8 index, uint64_t field);
 static void dm_bench_indexes_fetch(dm_slice_u8 line);
-static void dm_bench_printing_bytes(dm_slice_u8 bytes);
-static void dm_bench_printing_end(void);
-static void dm_bench_printing_unknown(void);
-static void dm_bench_printing_number(uint64_t n);
-static void dm_bench_printing_figures(uint64_t a, uint64_t b);
-static void dm_bench_printing_refused(const dm_refusal_Refusal *r);
-static void dm_bench_printing_single(float x);
-static void dm_bench_printing_double(double x);
-static void dm_bench_printing_domain(dm_sheet_TableDomain table);
-static void dm_bench_printing_value(const dm_fields_Value *v);
-static void dm_bench_printing_written(const dm_refusal_Written *answer, dm_slice_u8 buffer);
-static dm_bench_readings_Named dm_bench_readings_dash_of(dm_slice_u8 word);
-static void dm_bench_readings_reading_of(uint8_t kind, dm_slice_u8 image, uint64_t input, dm_reading_Dash dash);
+DM_SMALL void dm_bench_printing_bytes(dm_slice_u8 bytes);
+DM_SMALL void dm_bench_printing_end(void);
+DM_SMALL void dm_bench_printing_unknown(void);
+DM_SMALL void dm_bench_printing_number(uint64_t n);
+DM_SMALL void dm_bench_printing_figures(uint64_t a, uint64_t b);
+DM_SMALL void dm_bench_printing_refused(const dm_refusal_Refusal *r);
+DM_SMALL void dm_bench_printing_single(float x);
+DM_SMALL void dm_bench_printing_double(double x);
+DM_SMALL void dm_bench_printing_domain(dm_sheet_TableDomain table);
+DM_SMALL void dm_bench_printing_value(const dm_fields_Value *v);
+DM_SMALL void dm_bench_printing_written(const dm_refusal_Written *answer, dm_slice_u8 buffer);
+DM_SMALL dm_bench_readings_Named dm_bench_readings_dash_of(dm_slice_u8 word);
+DM_SMALL void dm_bench_readings_reading_of(uint8_t kind, dm_slice_u8 image, uint64_t input, dm_reading_Dash dash);
 static void dm_bench_readings_reading(dm_slice_u8 line);
 static void dm_bench_reads_accepted(const dm_sheet_Summary *summary);
-static void dm_bench_reads_check(uint8_t kind, dm_slice_u8 image);
-static void dm_bench_reads_page(uint8_t kind, dm_slice_u8 image, uint64_t page);
-static void dm_bench_reads_field(uint8_t kind, dm_slice_u8 image, uint64_t field);
-static void dm_bench_reads_pair(uint8_t kind, dm_slice_u8 image, uint64_t index);
-static void dm_bench_reads_segment(uint8_t kind, dm_slice_u8 image, uint64_t index);
-static void dm_bench_reads_term(uint8_t kind, dm_slice_u8 image, uint64_t index);
-static void dm_bench_reads_character(uint8_t kind, dm_slice_u8 image, uint64_t index);
-static void dm_bench_runs_compared(uint8_t kind, dm_slice_u8 image, dm_slice_u64 slow, dm_slice_u64 fast);
+DM_SMALL void dm_bench_reads_check(uint8_t kind, dm_slice_u8 image);
+DM_SMALL void dm_bench_reads_page(uint8_t kind, dm_slice_u8 image, uint64_t page);
+DM_SMALL void dm_bench_reads_field(uint8_t kind, dm_slice_u8 image, uint64_t field);
+DM_SMALL void dm_bench_reads_pair(uint8_t kind, dm_slice_u8 image, uint64_t index);
+DM_SMALL void dm_bench_reads_segment(uint8_t kind, dm_slice_u8 image, uint64_t index);
+DM_SMALL void dm_bench_reads_term(uint8_t kind, dm_slice_u8 image, uint64_t index);
+DM_SMALL void dm_bench_reads_character(uint8_t kind, dm_slice_u8 image, uint64_t index);
+DM_SMALL void dm_bench_runs_compared(uint8_t kind, dm_slice_u8 image, dm_slice_u64 slow, dm_slice_u64 fast);
 static void dm_bench_runs_of_recordings(dm_slice_u8 line, uint8_t kind, dm_slice_u8 image);
-static void dm_bench_runs_compare(dm_slice_u8 line);
-static dm_bench_serving_Gathered dm_bench_serving_nothing(void);
-static void dm_bench_serving_finish(dm_slice_u8 line, const dm_bench_serving_Gathered *so_far);
-static dm_bench_serving_Gathered dm_bench_serving_step(dm_slice_u8 line, const dm_bench_serving_Gathered *so_far,
+DM_SMALL void dm_bench_runs_compare(dm_slice_u8 line);
+DM_SMALL dm_bench_serving_Gathered dm_bench_serving_nothing(void);
+DM_SMALL void dm_bench_serving_finish(dm_slice_u8 line, const dm_bench_serving_Gathered *so_far);
+DM_SMALL dm_bench_serving_Gathered dm_bench_serving_step(dm_slice_u8 line, const dm_bench_serving_Gathered *so_far,
     uint8_t b);
 static dm_bench_serving_Gathered dm_bench_serving_gather(dm_slice_u8 line, const dm_bench_serving_Gathered *before,
     dm_slice_u8 block);
-static dm_bench_serving_Turn dm_bench_serving_next_block(dm_slice_u8 line, const dm_bench_serving_Gathered *so_far);
+DM_SMALL dm_bench_serving_Turn dm_bench_serving_next_block(dm_slice_u8 line, const dm_bench_serving_Gathered *so_far);
 static void dm_bench_serving_serve_lines(dm_slice_u8 line);
-static void dm_bench_serving_serve(void);
-static void dm_bench_turned_text_answer(uint64_t field, uint64_t code);
-static void dm_bench_turned_text(dm_slice_u8 line);
-static void dm_bench_turned_code_answer(uint64_t field, dm_slice_u8 text);
+DM_SMALL void dm_bench_serving_serve(void);
+DM_SMALL void dm_bench_turned_text_answer(uint64_t field, uint64_t code);
+DM_SMALL void dm_bench_turned_text(dm_slice_u8 line);
+DM_SMALL void dm_bench_turned_code_answer(uint64_t field, dm_slice_u8 text);
 static void dm_bench_turned_code(dm_slice_u8 line);
-static void dm_console_main(void);
+DM_SMALL void dm_console_main(void);
 
 /* ---- crates/decimal/src/digits.rt ---- */
 
-static uint64_t dm_decimal_digits_wide(uint8_t x)
+DM_SMALL uint64_t dm_decimal_digits_wide(uint8_t x)
 {
     return (uint64_t)x;
 }
@@ -501,7 +503,7 @@ static dm_decimal_rounding_Rounded dm_decimal_rounding_highest(dm_slice_u8 digit
 }
 
 /* Whether n, the number of the digits above an index, is to be one more for those below. */
-static bool dm_decimal_rounding_is_upward(dm_slice_u8 digits, uint64_t up, uint64_t n)
+DM_SMALL bool dm_decimal_rounding_is_upward(dm_slice_u8 digits, uint64_t up, uint64_t n)
 {
     if (up < 1u) {
         return false;
@@ -517,7 +519,7 @@ static bool dm_decimal_rounding_is_upward(dm_slice_u8 digits, uint64_t up, uint6
 }
 
 /* The digits' number to the nearest of seven digits, a tie to the even one. */
-static dm_decimal_rounding_Rounded dm_decimal_rounding_round(dm_slice_u8 digits)
+DM_SMALL dm_decimal_rounding_Rounded dm_decimal_rounding_round(dm_slice_u8 digits)
 {
     dm_decimal_rounding_Rounded x = dm_decimal_rounding_highest(digits);
     if (dm_decimal_rounding_is_upward(digits, x.up, x.n)) {
@@ -530,7 +532,7 @@ static dm_decimal_rounding_Rounded dm_decimal_rounding_round(dm_slice_u8 digits)
 }
 
 /* a − b, or 0. */
-static uint64_t dm_decimal_rounding_less(uint64_t a, uint64_t b)
+DM_SMALL uint64_t dm_decimal_rounding_less(uint64_t a, uint64_t b)
 {
     if (a < b) {
         return 0u;
@@ -540,7 +542,7 @@ static uint64_t dm_decimal_rounding_less(uint64_t a, uint64_t b)
 
 /* m × 2^p / 2^149 to the nearest of seven digits, a tie to the even one; the point 149 − p places up where p is
  * less. The digits are worked out in the slice: 144 are enough for every Single. */
-static dm_decimal_rounding_Rounded dm_decimal_rounding_decimal_of(dm_slice_u8 digits, uint64_t m, uint64_t p)
+DM_SMALL dm_decimal_rounding_Rounded dm_decimal_rounding_decimal_of(dm_slice_u8 digits, uint64_t m, uint64_t p)
 {
     dm_decimal_digits_scale(digits, 0u, m);
     dm_decimal_digits_raise(digits, 2u, dm_decimal_rounding_less(p, 149u));
@@ -583,21 +585,21 @@ static uint64_t dm_libc_read(uint32_t descriptor, dm_slice_u8 bytes)
 
 /* ---- the kit, io/lib.rt ---- */
 
-static dm_array_u8_4096 dm_io_buffer(void)
+DM_SMALL dm_array_u8_4096 dm_io_buffer(void)
 {
     dm_array_u8_4096 result;
     memset(result.at, 0, sizeof result.at);
     return result;
 }
 
-static dm_array_u8_65536 dm_io_large_buffer(void)
+DM_SMALL dm_array_u8_65536 dm_io_large_buffer(void)
 {
     dm_array_u8_65536 result;
     memset(result.at, 0, sizeof result.at);
     return result;
 }
 
-static uint64_t dm_io_count(uint64_t got, dm_slice_u8 buf)
+DM_SMALL uint64_t dm_io_count(uint64_t got, dm_slice_u8 buf)
 {
     return dm_io_clamp(got, buf.length);
 }
@@ -626,7 +628,7 @@ static bool dm_io_write_all(uint32_t fd, dm_slice_u8 buf)
     return true;
 }
 
-static uint64_t dm_io_write_from(uint32_t fd, dm_slice_u8 buf, uint64_t from, dm_slice_u8 chunk)
+DM_SMALL uint64_t dm_io_write_from(uint32_t fd, dm_slice_u8 buf, uint64_t from, dm_slice_u8 chunk)
 {
     uint64_t v5 = dm_io_least(buf.length - from, chunk.length);
     dm_io_copy(buf, from, chunk, 0u, v5);
@@ -643,7 +645,7 @@ static void dm_io_copy(dm_slice_u8 src, uint64_t from, dm_slice_u8 dst, uint64_t
     return;
 }
 
-static uint64_t dm_io_clamp(uint64_t got, uint64_t most)
+DM_SMALL uint64_t dm_io_clamp(uint64_t got, uint64_t most)
 {
     if (0 < (int64_t)got) {
         return dm_io_least(got, most);
@@ -652,7 +654,7 @@ static uint64_t dm_io_clamp(uint64_t got, uint64_t most)
     }
 }
 
-static uint64_t dm_io_least(uint64_t a, uint64_t b)
+DM_SMALL uint64_t dm_io_least(uint64_t a, uint64_t b)
 {
     if (a < b) {
         return a;
@@ -663,28 +665,28 @@ static uint64_t dm_io_least(uint64_t a, uint64_t b)
 
 /* ---- the kit, io/number.rt ---- */
 
-static uint64_t dm_io_number_decimal(uint64_t n, dm_array_u8_20 *out)
+DM_SMALL uint64_t dm_io_number_decimal(uint64_t n, dm_array_u8_20 *out)
 {
     uint64_t result = dm_io_number_places(n, 10u, 1u);
     dm_io_number_spell(n, 10u, result, dm_slice_u8_of(out->at, 20u));
     return result;
 }
 
-static uint64_t dm_io_number_hex(uint64_t n, uint64_t width, dm_array_u8_16 *out)
+DM_SMALL uint64_t dm_io_number_hex(uint64_t n, uint64_t width, dm_array_u8_16 *out)
 {
     uint64_t result = dm_io_number_places(n, 16u, dm_io_number_one_to_sixteen(width));
     dm_io_number_spell(n, 16u, result, dm_slice_u8_of(out->at, 16u));
     return result;
 }
 
-static bool dm_io_number_print_decimal(uint32_t fd, uint64_t n)
+DM_SMALL bool dm_io_number_print_decimal(uint32_t fd, uint64_t n)
 {
     dm_array_u8_20 v3;
     memset(v3.at, 0, sizeof v3.at);
     return dm_io_write_all(fd, dm_slice_u8_of(v3.at, dm_io_number_decimal(n, &v3)));
 }
 
-static bool dm_io_number_print_hex(uint32_t fd, uint64_t n, uint64_t width)
+DM_SMALL bool dm_io_number_print_hex(uint32_t fd, uint64_t n, uint64_t width)
 {
     dm_array_u8_16 v4;
     memset(v4.at, 0, sizeof v4.at);
@@ -706,7 +708,7 @@ static uint64_t dm_io_number_places(uint64_t n, uint64_t base, uint64_t least)
     }
 }
 
-static uint64_t dm_io_number_one_to_sixteen(uint64_t width)
+DM_SMALL uint64_t dm_io_number_one_to_sixteen(uint64_t width)
 {
     if (width < 1u) {
         return 1u;
@@ -729,7 +731,7 @@ static void dm_io_number_spell(uint64_t n, uint64_t base, uint64_t k, dm_slice_u
     return;
 }
 
-static uint8_t dm_io_number_glyph(uint64_t d)
+DM_SMALL uint8_t dm_io_number_glyph(uint64_t d)
 {
     if (d < 10u) {
         return (uint8_t)(48u + (uint8_t)d);
@@ -800,13 +802,13 @@ static dm_words_Number dm_words_figures_number_from(dm_slice_u8 word, uint64_t f
 }
 
 /* A word's number, 0 to 2^64 - 1. */
-static dm_words_Number dm_words_figures_number_of(dm_slice_u8 word)
+DM_SMALL dm_words_Number dm_words_figures_number_of(dm_slice_u8 word)
 {
     return dm_words_figures_number_from(word, 0u);
 }
 
 /* A number as a figure, if an i64 holds it. */
-static dm_words_Figure dm_words_figures_above(const dm_words_Number *number)
+DM_SMALL dm_words_Figure dm_words_figures_above(const dm_words_Number *number)
 {
     if (number->tag == dm_words_Number_Is) {
         uint64_t n = number->Is.value;
@@ -827,7 +829,7 @@ static dm_words_Figure dm_words_figures_above(const dm_words_Number *number)
 }
 
 /* A number with a minus before it as a figure, if an i64 holds it. */
-static dm_words_Figure dm_words_figures_below(const dm_words_Number *number)
+DM_SMALL dm_words_Figure dm_words_figures_below(const dm_words_Number *number)
 {
     if (number->tag == dm_words_Number_Is) {
         uint64_t n = number->Is.value;
@@ -848,7 +850,7 @@ static dm_words_Figure dm_words_figures_below(const dm_words_Number *number)
 }
 
 /* A word's figure, an i64: digits, with or without a minus before them. */
-static dm_words_Figure dm_words_figures_figure_of(dm_slice_u8 word)
+DM_SMALL dm_words_Figure dm_words_figures_figure_of(dm_slice_u8 word)
 {
     if (word.length == 0u) {
         dm_words_Figure result;
@@ -905,7 +907,7 @@ static dm_words_Filled dm_words_figures_figures_of(dm_slice_u8 word, dm_slice_u6
 /* ---- crates/words/src/hexadecimal.rt ---- */
 
 /* What a hexadecimal digit counts, or 16. */
-static uint8_t dm_words_hexadecimal_nibble(uint8_t b)
+DM_SMALL uint8_t dm_words_hexadecimal_nibble(uint8_t b)
 {
     if ((uint32_t)b < 48u) {
         return 16u;
@@ -923,7 +925,7 @@ static uint8_t dm_words_hexadecimal_nibble(uint8_t b)
 }
 
 /* The digit that counts n. */
-static uint8_t dm_words_hexadecimal_glyph(uint8_t n)
+DM_SMALL uint8_t dm_words_hexadecimal_glyph(uint8_t n)
 {
     if ((uint32_t)n < 10u) {
         return (uint8_t)(48u + n);
@@ -932,7 +934,7 @@ static uint8_t dm_words_hexadecimal_glyph(uint8_t n)
 }
 
 /* The byte that the two digits from a place on spell, or 256. */
-static uint64_t dm_words_hexadecimal_byte_at(dm_slice_u8 word, uint64_t at)
+DM_SMALL uint64_t dm_words_hexadecimal_byte_at(dm_slice_u8 word, uint64_t at)
 {
     if (word.length - at < 2u) {
         return 256u;
@@ -989,7 +991,7 @@ static dm_words_Filled dm_words_hexadecimal_bytes_of(dm_slice_u8 word, dm_slice_
 }
 
 /* How many digits bytes have: two each, and the minus for none. */
-static uint64_t dm_words_hexadecimal_spelt_length(dm_slice_u8 bytes)
+DM_SMALL uint64_t dm_words_hexadecimal_spelt_length(dm_slice_u8 bytes)
 {
     if (bytes.length == 0u) {
         return 1u;
@@ -998,7 +1000,7 @@ static uint64_t dm_words_hexadecimal_spelt_length(dm_slice_u8 bytes)
 }
 
 /* The digit of this index. */
-static uint8_t dm_words_hexadecimal_spelt_at(dm_slice_u8 bytes, uint64_t index)
+DM_SMALL uint8_t dm_words_hexadecimal_spelt_at(dm_slice_u8 bytes, uint64_t index)
 {
     if (bytes.length == 0u) {
         return 45u;
@@ -1062,7 +1064,7 @@ static dm_words_Writer dm_words_levels_level_of(dm_slice_u8 word)
 /* ---- crates/words/src/parts.rt ---- */
 
 /* Whether a word is a minus alone. */
-static bool dm_words_parts_is_minus(dm_slice_u8 word)
+DM_SMALL bool dm_words_parts_is_minus(dm_slice_u8 word)
 {
     if (word.length != 1u) {
         return false;
@@ -1085,7 +1087,7 @@ static uint64_t dm_words_parts_piece_count(dm_slice_u8 line, uint8_t separator)
 }
 
 /* How many words a line has. */
-static uint64_t dm_words_parts_word_count(dm_slice_u8 line)
+DM_SMALL uint64_t dm_words_parts_word_count(dm_slice_u8 line)
 {
     return dm_words_parts_piece_count(line, 32u);
 }
@@ -1105,7 +1107,7 @@ static uint64_t dm_words_parts_reach(dm_slice_u8 line, uint64_t from, uint8_t se
 }
 
 /* What a line has from a place on, up to the first `separator` there or the line's end. */
-static dm_slice_u8 dm_words_parts_piece(dm_slice_u8 line, uint64_t from, uint8_t separator)
+DM_SMALL dm_slice_u8 dm_words_parts_piece(dm_slice_u8 line, uint64_t from, uint8_t separator)
 {
     if (line.length < from) {
         return dm_slice_u8_of(line.at, 0u);
@@ -1131,19 +1133,19 @@ static uint64_t dm_words_parts_beginning(dm_slice_u8 line, uint64_t index, uint8
 }
 
 /* The piece of this index, from 0: empty where the line has none such. */
-static dm_slice_u8 dm_words_parts_piece_at(dm_slice_u8 line, uint64_t index, uint8_t separator)
+DM_SMALL dm_slice_u8 dm_words_parts_piece_at(dm_slice_u8 line, uint64_t index, uint8_t separator)
 {
     return dm_words_parts_piece(line, dm_words_parts_beginning(line, index, separator), separator);
 }
 
 /* The word of this index. */
-static dm_slice_u8 dm_words_parts_word(dm_slice_u8 line, uint64_t index)
+DM_SMALL dm_slice_u8 dm_words_parts_word(dm_slice_u8 line, uint64_t index)
 {
     return dm_words_parts_piece_at(line, index, 32u);
 }
 
 /* The first bytes of a buffer, all of them where it has fewer. */
-static dm_slice_u8 dm_words_parts_front(dm_slice_u8 bytes, uint64_t count)
+DM_SMALL dm_slice_u8 dm_words_parts_front(dm_slice_u8 bytes, uint64_t count)
 {
     if (bytes.length < count) {
         return bytes;
@@ -1152,7 +1154,7 @@ static dm_slice_u8 dm_words_parts_front(dm_slice_u8 bytes, uint64_t count)
 }
 
 /* The same of figures. */
-static dm_slice_u64 dm_words_parts_front_figures(dm_slice_u64 figures, uint64_t count)
+DM_SMALL dm_slice_u64 dm_words_parts_front_figures(dm_slice_u64 figures, uint64_t count)
 {
     if (figures.length < count) {
         return figures;
@@ -1161,7 +1163,7 @@ static dm_slice_u64 dm_words_parts_front_figures(dm_slice_u64 figures, uint64_t 
 }
 
 /* The same of bytes that are to be written. */
-static dm_slice_u8 dm_words_parts_front_mut(dm_slice_u8 bytes, uint64_t count)
+DM_SMALL dm_slice_u8 dm_words_parts_front_mut(dm_slice_u8 bytes, uint64_t count)
 {
     if (bytes.length < count) {
         return bytes;
@@ -1172,7 +1174,7 @@ static dm_slice_u8 dm_words_parts_front_mut(dm_slice_u8 bytes, uint64_t count)
 /* ---- crates/words/src/values.rt ---- */
 
 /* The number of four bytes, the high one first. */
-static uint32_t dm_words_values_bits_of(uint8_t a, uint8_t b, uint8_t c, uint8_t d)
+DM_SMALL uint32_t dm_words_values_bits_of(uint8_t a, uint8_t b, uint8_t c, uint8_t d)
 {
     uint32_t high = (uint32_t)a * 256u + (uint32_t)b;
     uint32_t low = (uint32_t)c * 256u + (uint32_t)d;
@@ -1180,7 +1182,7 @@ static uint32_t dm_words_values_bits_of(uint8_t a, uint8_t b, uint8_t c, uint8_t
 }
 
 /* The float of these bits. Every pattern that is a NaN's gives one and the same NaN. */
-static float dm_words_values_single_of(uint32_t bits)
+DM_SMALL float dm_words_values_single_of(uint32_t bits)
 {
     if (2139095040u < bits % 2147483648u) {
         return dm_float_div(dm_float_from_bits(0x00000000u), dm_float_from_bits(0x00000000u));
@@ -1218,7 +1220,7 @@ static dm_words_Worth dm_words_values_single_word(dm_slice_u8 digits)
 }
 
 /* What stands behind the letter of a whole number. */
-static dm_words_Worth dm_words_values_whole_word(dm_slice_u8 digits)
+DM_SMALL dm_words_Worth dm_words_values_whole_word(dm_slice_u8 digits)
 {
     dm_words_Figure v3 = dm_words_figures_figure_of(digits);
     if (v3.tag == dm_words_Figure_Is) {
@@ -1349,7 +1351,8 @@ static dm_refusal_Written dm_build_building_build_curve(uint8_t kind, dm_slice_u
 /* ---- crates/shown/src/listing.rt ---- */
 
 /* A field's line, or its refusal's; the numbers stand in two columns. */
-static void dm_shown_listing_print_field(uint8_t kind, dm_slice_u8 image, dm_fields_Template template_, uint64_t field)
+DM_SMALL void dm_shown_listing_print_field(uint8_t kind, dm_slice_u8 image, dm_fields_Template template_,
+    uint64_t field)
 {
     dm_sheet_FieldAnswer v11 = dm_sheet_calls_read_field(kind, image, field);
     if (v11.tag == dm_sheet_FieldAnswer_Refused) {
@@ -1369,7 +1372,7 @@ static void dm_shown_listing_print_field(uint8_t kind, dm_slice_u8 image, dm_fie
 }
 
 /* A calibration point's line, in billionths of the span, or its refusal's. */
-static void dm_shown_listing_print_point(uint8_t kind, dm_slice_u8 image, uint64_t index)
+DM_SMALL void dm_shown_listing_print_point(uint8_t kind, dm_slice_u8 image, uint64_t index)
 {
     dm_sheet_PairAnswer v10 = dm_sheet_calls_read_pair(kind, image, index);
     if (v10.tag == dm_sheet_PairAnswer_Refused) {
@@ -1387,7 +1390,7 @@ static void dm_shown_listing_print_point(uint8_t kind, dm_slice_u8 image, uint64
 }
 
 /* A segment's line, or its refusal's. */
-static void dm_shown_listing_print_segment(uint8_t kind, dm_slice_u8 image, uint64_t index)
+DM_SMALL void dm_shown_listing_print_segment(uint8_t kind, dm_slice_u8 image, uint64_t index)
 {
     dm_sheet_SegmentAnswer v10 = dm_sheet_calls_read_segment(kind, image, index);
     if (v10.tag == dm_sheet_SegmentAnswer_Refused) {
@@ -1405,7 +1408,7 @@ static void dm_shown_listing_print_segment(uint8_t kind, dm_slice_u8 image, uint
 }
 
 /* A term's line, or its refusal's. */
-static void dm_shown_listing_print_term(uint8_t kind, dm_slice_u8 image, uint64_t index)
+DM_SMALL void dm_shown_listing_print_term(uint8_t kind, dm_slice_u8 image, uint64_t index)
 {
     dm_sheet_TermAnswer v10 = dm_sheet_calls_read_term(kind, image, index);
     if (v10.tag == dm_sheet_TermAnswer_Refused) {
@@ -1423,7 +1426,7 @@ static void dm_shown_listing_print_term(uint8_t kind, dm_slice_u8 image, uint64_
 }
 
 /* A character of the closing text, or its refusal's line. */
-static void dm_shown_listing_print_character(uint8_t kind, dm_slice_u8 image, uint64_t index)
+DM_SMALL void dm_shown_listing_print_character(uint8_t kind, dm_slice_u8 image, uint64_t index)
 {
     dm_sheet_CharacterAnswer v6 = dm_sheet_calls_read_character(kind, image, index);
     if (v6.tag == dm_sheet_CharacterAnswer_Refused) {
@@ -1435,7 +1438,7 @@ static void dm_shown_listing_print_character(uint8_t kind, dm_slice_u8 image, ui
     return;
 }
 
-static void dm_shown_listing_print_part(uint8_t kind, dm_slice_u8 image, dm_shown_listing_Part part, uint64_t index)
+DM_SMALL void dm_shown_listing_print_part(uint8_t kind, dm_slice_u8 image, dm_shown_listing_Part part, uint64_t index)
 {
     switch (part.tag) {
     case dm_shown_listing_Part_Field: {
@@ -1473,7 +1476,7 @@ static void dm_shown_listing_print_parts(uint8_t kind, dm_slice_u8 image, dm_sho
 }
 
 /* What the deviations stand against, and the calibration points; nothing where there is no table. */
-static void dm_shown_listing_print_points(uint8_t kind, dm_slice_u8 image, const dm_sheet_Summary *summary)
+DM_SMALL void dm_shown_listing_print_points(uint8_t kind, dm_slice_u8 image, const dm_sheet_Summary *summary)
 {
     dm_sheet_TableDomain table = summary->domain;
     dm_fields_Domain domain;
@@ -1494,7 +1497,7 @@ static void dm_shown_listing_print_points(uint8_t kind, dm_slice_u8 image, const
 }
 
 /* The segments and the terms of a curve; nothing where there is none. */
-static void dm_shown_listing_print_curve(uint8_t kind, dm_slice_u8 image, const dm_sheet_Summary *summary)
+DM_SMALL void dm_shown_listing_print_curve(uint8_t kind, dm_slice_u8 image, const dm_sheet_Summary *summary)
 {
     dm_shown_listing_Part v5;
     v5.tag = dm_shown_listing_Part_Segment;
@@ -1505,7 +1508,7 @@ static void dm_shown_listing_print_curve(uint8_t kind, dm_slice_u8 image, const 
 }
 
 /* The end bit, and the closing text if there is one. */
-static void dm_shown_listing_print_ending(uint8_t kind, dm_slice_u8 image, const dm_sheet_Summary *summary)
+DM_SMALL void dm_shown_listing_print_ending(uint8_t kind, dm_slice_u8 image, const dm_sheet_Summary *summary)
 {
     if (summary->end_bit) {
         dm_shown_output_put(dm_slice_u8_of((uint8_t *)"end bit: 1\n" "text: \"", 18u));
@@ -1520,7 +1523,7 @@ static void dm_shown_listing_print_ending(uint8_t kind, dm_slice_u8 image, const
 }
 
 /* The template's fields. */
-static void dm_shown_listing_print_fields(uint8_t kind, dm_slice_u8 image, dm_fields_Template template_)
+DM_SMALL void dm_shown_listing_print_fields(uint8_t kind, dm_slice_u8 image, dm_fields_Template template_)
 {
     uint64_t last = dm_fields_templates_last_field(template_);
     dm_shown_listing_Part v6;
@@ -1531,7 +1534,7 @@ static void dm_shown_listing_print_fields(uint8_t kind, dm_slice_u8 image, dm_fi
 }
 
 /* Whether a dash that answers so takes the sheet's points. */
-static bool dm_shown_listing_takes(const dm_reading_ReadingAnswer *answer)
+DM_SMALL bool dm_shown_listing_takes(const dm_reading_ReadingAnswer *answer)
 {
     if (answer->tag == dm_reading_ReadingAnswer_Shows) {
         return true;
@@ -1541,7 +1544,7 @@ static bool dm_shown_listing_takes(const dm_reading_ReadingAnswer *answer)
 }
 
 /* Whether the small dash takes the sheet, at any input. No dash takes a reading from template 32. */
-static void dm_shown_listing_print_small_dash(uint8_t kind, dm_slice_u8 image, dm_fields_Template template_)
+DM_SMALL void dm_shown_listing_print_small_dash(uint8_t kind, dm_slice_u8 image, dm_fields_Template template_)
 {
     if (template_ == dm_fields_Template_Resistance) {
     } else { /* dm_fields_Template_Bridge */
@@ -1598,28 +1601,28 @@ static void dm_shown_naming_print_column(dm_fields_Template template_, uint64_t 
 }
 
 /* The name of a field, counted from 1. */
-static void dm_shown_naming_print_name(dm_fields_Template template_, uint64_t field)
+DM_SMALL void dm_shown_naming_print_name(dm_fields_Template template_, uint64_t field)
 {
     dm_shown_naming_print_column(template_, field, 0u);
     return;
 }
 
 /* The unit of a field's whole number. */
-static void dm_shown_naming_print_unit(dm_fields_Template template_, uint64_t field)
+DM_SMALL void dm_shown_naming_print_unit(dm_fields_Template template_, uint64_t field)
 {
     dm_shown_naming_print_column(template_, field, 1u);
     return;
 }
 
 /* The unit of a field's Single. */
-static void dm_shown_naming_print_single_unit(dm_fields_Template template_, uint64_t field)
+DM_SMALL void dm_shown_naming_print_single_unit(dm_fields_Template template_, uint64_t field)
 {
     dm_shown_naming_print_column(template_, field, 2u);
     return;
 }
 
 /* The name of a code of field 12: a bridge type, or a mapping method. */
-static void dm_shown_naming_print_case(dm_fields_Template template_, uint64_t code)
+DM_SMALL void dm_shown_naming_print_case(dm_fields_Template template_, uint64_t code)
 {
     if (template_ == dm_fields_Template_Bridge) {
         dm_shown_output_put_entry(dm_slice_u8_of((uint8_t *)" (quarter)\n" " (half)\n" " (full)", 26u), code, 0u);
@@ -1631,7 +1634,7 @@ static void dm_shown_naming_print_case(dm_fields_Template template_, uint64_t co
 
 /* ---- crates/shown/src/output.rt ---- */
 
-static void dm_shown_output_put(dm_slice_u8 text)
+DM_SMALL void dm_shown_output_put(dm_slice_u8 text)
 {
     (void)dm_io_write_all(1u, text);
     return;
@@ -1639,20 +1642,20 @@ static void dm_shown_output_put(dm_slice_u8 text)
 
 /* The piece of a table that stands in this column of this row, from 0: rows are lines, and a semicolon separates
  * columns. Nothing where there is none such. */
-static void dm_shown_output_put_entry(dm_slice_u8 table, uint64_t row, uint64_t column)
+DM_SMALL void dm_shown_output_put_entry(dm_slice_u8 table, uint64_t row, uint64_t column)
 {
     dm_shown_output_put(dm_words_parts_piece_at(dm_words_parts_piece_at(table, row, 10u), column, 59u));
     return;
 }
 
-static void dm_shown_output_put_number(uint64_t n)
+DM_SMALL void dm_shown_output_put_number(uint64_t n)
 {
     (void)dm_io_number_print_decimal(1u, n);
     return;
 }
 
 /* A number, with a minus sign where it is negative. */
-static void dm_shown_output_put_figure(uint64_t z)
+DM_SMALL void dm_shown_output_put_figure(uint64_t z)
 {
     if ((int64_t)z < 0) {
         dm_shown_output_put(dm_slice_u8_of((uint8_t *)"-", 1u));
@@ -1664,7 +1667,7 @@ static void dm_shown_output_put_figure(uint64_t z)
 }
 
 /* The bytes of a text from an index on, none past its end. */
-static void dm_shown_output_put_from(dm_slice_u8 text, uint64_t from)
+DM_SMALL void dm_shown_output_put_from(dm_slice_u8 text, uint64_t from)
 {
     if (from <= text.length) {
         dm_shown_output_put(dm_slice_u8_of(text.at + from, text.length - from));
@@ -1727,7 +1730,7 @@ static void dm_shown_reasons_refused(const dm_refusal_Refusal *r)
 /* ---- crates/shown/src/singles.rt ---- */
 
 /* The first digit, and the others behind a point. */
-static void dm_shown_singles_print_first_and_rest(dm_slice_u8 text)
+DM_SMALL void dm_shown_singles_print_first_and_rest(dm_slice_u8 text)
 {
     dm_shown_output_put(dm_words_parts_front(text, 1u));
     if (1u < text.length) {
@@ -1738,7 +1741,7 @@ static void dm_shown_singles_print_first_and_rest(dm_slice_u8 text)
 }
 
 /* Digits of which `whole` stand before the point; past ten, as a power of ten. */
-static void dm_shown_singles_print_large(dm_slice_u8 text, uint64_t whole)
+DM_SMALL void dm_shown_singles_print_large(dm_slice_u8 text, uint64_t whole)
 {
     if (10u < whole) {
         dm_shown_singles_print_first_and_rest(text);
@@ -1759,7 +1762,7 @@ static void dm_shown_singles_print_large(dm_slice_u8 text, uint64_t whole)
 }
 
 /* Digits behind the point and so many noughts; past four, as a power of ten. */
-static void dm_shown_singles_print_small(dm_slice_u8 text, uint64_t noughts)
+DM_SMALL void dm_shown_singles_print_small(dm_slice_u8 text, uint64_t noughts)
 {
     if (4u < noughts) {
         dm_shown_singles_print_first_and_rest(text);
@@ -1774,7 +1777,7 @@ static void dm_shown_singles_print_small(dm_slice_u8 text, uint64_t noughts)
 }
 
 /* Digits with `up` noughts behind them, and the point so many places up. */
-static void dm_shown_singles_print_digits(dm_slice_u8 text, uint64_t up, uint64_t point)
+DM_SMALL void dm_shown_singles_print_digits(dm_slice_u8 text, uint64_t up, uint64_t point)
 {
     uint64_t top = up + text.length;
     if (point < top) {
@@ -1786,7 +1789,7 @@ static void dm_shown_singles_print_digits(dm_slice_u8 text, uint64_t up, uint64_
 }
 
 /* The digits of n × 10^up, with the point so many places up. */
-static void dm_shown_singles_print_number(uint64_t n, uint64_t up, uint64_t point)
+DM_SMALL void dm_shown_singles_print_number(uint64_t n, uint64_t up, uint64_t point)
 {
     dm_array_u8_20 text;
     memset(text.at, 0, sizeof text.at);
@@ -1796,7 +1799,7 @@ static void dm_shown_singles_print_number(uint64_t n, uint64_t up, uint64_t poin
 }
 
 /* m × 2^p / 2^149. */
-static void dm_shown_singles_print_scaled(uint64_t m, uint64_t p)
+DM_SMALL void dm_shown_singles_print_scaled(uint64_t m, uint64_t p)
 {
     if (m == 0u) {
         dm_shown_output_put(dm_slice_u8_of((uint8_t *)"0", 1u));
@@ -1811,7 +1814,7 @@ static void dm_shown_singles_print_scaled(uint64_t m, uint64_t p)
 }
 
 /* A finite Single without its sign, from its exponent's field and its fraction's. */
-static void dm_shown_singles_print_fields(uint64_t exponent, uint64_t fraction)
+DM_SMALL void dm_shown_singles_print_fields(uint64_t exponent, uint64_t fraction)
 {
     if (exponent == 0u) {
         dm_shown_singles_print_scaled(fraction, 0u);
@@ -1822,7 +1825,7 @@ static void dm_shown_singles_print_fields(uint64_t exponent, uint64_t fraction)
 }
 
 /* A Single from its bits. */
-static void dm_shown_singles_print_bits(uint32_t bits)
+DM_SMALL void dm_shown_singles_print_bits(uint32_t bits)
 {
     uint32_t rest = bits % 2147483648u;
     if (rest != bits) {
@@ -1837,7 +1840,7 @@ static void dm_shown_singles_print_bits(uint32_t bits)
 }
 
 /* A Single, with up to seven digits; plain from 0.00001 to below 10,000,000,000, else with a power of ten. */
-static void dm_shown_singles_print_single(float x)
+DM_SMALL void dm_shown_singles_print_single(float x)
 {
     if (x != x) {
         dm_shown_output_put(dm_slice_u8_of((uint8_t *)"NaN", 3u));
@@ -1892,7 +1895,7 @@ static uint64_t dm_shown_values_text_field(dm_fields_Template template_, uint64_
 }
 
 /* The text of a code of field 3, 18 or 19, or the code itself where it has none. */
-static void dm_shown_values_print_text(uint64_t field, uint64_t figure)
+DM_SMALL void dm_shown_values_print_text(uint64_t field, uint64_t figure)
 {
     dm_texts_Text text = dm_texts_text_of(field, dm_integers_parts_plus(figure));
     if (text.answer.tag == dm_texts_TextAnswer_Length) {
@@ -1905,7 +1908,7 @@ static void dm_shown_values_print_text(uint64_t field, uint64_t figure)
 }
 
 /* A figure with its unit; beside that of field 12 a name. */
-static void dm_shown_values_print_figure(dm_fields_Template template_, uint64_t field, uint64_t figure)
+DM_SMALL void dm_shown_values_print_figure(dm_fields_Template template_, uint64_t field, uint64_t figure)
 {
     dm_shown_output_put_figure(figure);
     if (field == 12u) {
@@ -1917,7 +1920,7 @@ static void dm_shown_values_print_figure(dm_fields_Template template_, uint64_t 
 }
 
 /* A whole number, as text where the field has one. */
-static void dm_shown_values_print_whole(dm_fields_Template template_, uint64_t field, uint64_t figure)
+DM_SMALL void dm_shown_values_print_whole(dm_fields_Template template_, uint64_t field, uint64_t figure)
 {
     uint64_t v5 = dm_shown_values_text_field(template_, field);
     if (v5 == 0u) {
@@ -1929,7 +1932,7 @@ static void dm_shown_values_print_whole(dm_fields_Template template_, uint64_t f
 }
 
 /* The value of a field. */
-static void dm_shown_values_print_value(dm_fields_Template template_, uint64_t field, const dm_fields_Value *value)
+DM_SMALL void dm_shown_values_print_value(dm_fields_Template template_, uint64_t field, const dm_fields_Value *value)
 {
     switch (value->tag) {
     case dm_fields_Value_Whole: {
@@ -1954,7 +1957,7 @@ static void dm_shown_values_print_value(dm_fields_Template template_, uint64_t f
 /* ---- crates/bench/src/asked.rt ---- */
 
 /* A kind above 255 is no kind of chip, and neither is 255. */
-static uint8_t dm_bench_asked_kind_of(uint64_t n)
+DM_SMALL uint8_t dm_bench_asked_kind_of(uint64_t n)
 {
     if (255u < n) {
         return 255u;
@@ -1996,19 +1999,19 @@ static dm_bench_asked_Asked dm_bench_asked_lent(dm_slice_u8 line, dm_slice_u8 ro
 
 /* The word of the end bit, behind the values of a template's fields; the text follows it, and then the domain and
  * the points, or `curve`, the segment count, the segments and the terms. */
-static uint64_t dm_bench_builds_end_bit_word(dm_fields_Template template_)
+DM_SMALL uint64_t dm_bench_builds_end_bit_word(dm_fields_Template template_)
 {
     return 5u + dm_fields_templates_last_field(template_);
 }
 
 /* Whether a line hands in a curve. */
-static bool dm_bench_builds_is_drawn(dm_slice_u8 line, uint64_t end)
+DM_SMALL bool dm_bench_builds_is_drawn(dm_slice_u8 line, uint64_t end)
 {
     return dm_texts_equal(dm_words_parts_word(line, end + 2u), dm_slice_u8_of((uint8_t *)"curve", 5u));
 }
 
 /* Whether a line has as many words as a build from points or from a curve. */
-static bool dm_bench_builds_is_whole(dm_slice_u8 line, uint64_t end)
+DM_SMALL bool dm_bench_builds_is_whole(dm_slice_u8 line, uint64_t end)
 {
     if (dm_bench_builds_is_drawn(line, end)) {
         return dm_words_parts_word_count(line) == end + 6u;
@@ -2049,7 +2052,7 @@ static dm_fields_TemplateAnswer dm_bench_builds_template_in(dm_slice_u8 line)
 }
 
 /* The value of a field. */
-static dm_build_Slot dm_bench_builds_slot(dm_slice_u8 line, uint64_t index)
+DM_SMALL dm_build_Slot dm_bench_builds_slot(dm_slice_u8 line, uint64_t index)
 {
     dm_words_Worth v4 = dm_words_values_value_of(dm_words_parts_word(line, index));
     if (v4.tag == dm_words_Worth_Is) {
@@ -2302,7 +2305,7 @@ static void dm_bench_commands_of_nothing(dm_slice_u8 name)
 }
 
 /* The command of points. */
-static void dm_bench_commands_of_one(dm_slice_u8 line, dm_slice_u8 name)
+DM_SMALL void dm_bench_commands_of_one(dm_slice_u8 line, dm_slice_u8 name)
 {
     if (dm_texts_equal(name, dm_slice_u8_of((uint8_t *)"distance", 8u))) {
         dm_bench_distances_distance(line);
@@ -2313,7 +2316,7 @@ static void dm_bench_commands_of_one(dm_slice_u8 line, dm_slice_u8 name)
 }
 
 /* The commands of a field and a code or a text, and those of an image. */
-static void dm_bench_commands_of_two(dm_slice_u8 line, dm_slice_u8 name)
+DM_SMALL void dm_bench_commands_of_two(dm_slice_u8 line, dm_slice_u8 name)
 {
     if (dm_texts_equal(name, dm_slice_u8_of((uint8_t *)"text", 4u))) {
         dm_bench_turned_text(line);
@@ -2336,7 +2339,7 @@ static void dm_bench_commands_of_two(dm_slice_u8 line, dm_slice_u8 name)
     return;
 }
 
-static void dm_bench_commands_of_image(dm_slice_u8 name, uint8_t kind, dm_slice_u8 image)
+DM_SMALL void dm_bench_commands_of_image(dm_slice_u8 name, uint8_t kind, dm_slice_u8 image)
 {
     if (dm_texts_equal(name, dm_slice_u8_of((uint8_t *)"check", 5u))) {
         dm_bench_reads_check(kind, image);
@@ -2379,7 +2382,7 @@ static void dm_bench_commands_of_three(dm_slice_u8 line, dm_slice_u8 name)
 }
 
 /* The commands of an image, an index and a field, or an input and a dash, or two recordings. */
-static void dm_bench_commands_of_four(dm_slice_u8 line, dm_slice_u8 name)
+DM_SMALL void dm_bench_commands_of_four(dm_slice_u8 line, dm_slice_u8 name)
 {
     if (dm_texts_equal(name, dm_slice_u8_of((uint8_t *)"fetch", 5u))) {
         dm_bench_indexes_fetch(line);
@@ -2398,7 +2401,7 @@ static void dm_bench_commands_of_four(dm_slice_u8 line, dm_slice_u8 name)
 }
 
 /* The commands of an image, a field, a value and a level. */
-static void dm_bench_commands_of_five(dm_slice_u8 line, dm_slice_u8 name)
+DM_SMALL void dm_bench_commands_of_five(dm_slice_u8 line, dm_slice_u8 name)
 {
     if (dm_texts_equal(name, dm_slice_u8_of((uint8_t *)"change", 6u))) {
         dm_bench_edits_change(line);
@@ -2413,7 +2416,7 @@ static void dm_bench_commands_of_five(dm_slice_u8 line, dm_slice_u8 name)
 }
 
 /* The command of an image, a field, two codes and a level. */
-static void dm_bench_commands_of_six(dm_slice_u8 line, dm_slice_u8 name)
+DM_SMALL void dm_bench_commands_of_six(dm_slice_u8 line, dm_slice_u8 name)
 {
     if (dm_texts_equal(name, dm_slice_u8_of((uint8_t *)"commit", 6u))) {
         dm_bench_edits_commit(line);
@@ -2424,7 +2427,7 @@ static void dm_bench_commands_of_six(dm_slice_u8 line, dm_slice_u8 name)
 }
 
 /* The command of a sheet. */
-static void dm_bench_commands_of_sheet(dm_slice_u8 line, dm_slice_u8 name)
+DM_SMALL void dm_bench_commands_of_sheet(dm_slice_u8 line, dm_slice_u8 name)
 {
     if (dm_texts_equal(name, dm_slice_u8_of((uint8_t *)"build", 5u))) {
         dm_bench_builds_build(line);
@@ -2468,7 +2471,7 @@ static void dm_bench_commands_of_number(dm_slice_u8 name, uint8_t kind, dm_slice
 
 /* How many pairs of items a list has, of which commas separate the items; `-` is none at all, and an odd number is
  * no pairs. */
-static dm_words_Number dm_bench_curves_pairs_in(dm_slice_u8 list)
+DM_SMALL dm_words_Number dm_bench_curves_pairs_in(dm_slice_u8 list)
 {
     dm_words_Number result;
     if (dm_words_parts_is_minus(list)) {
@@ -2657,7 +2660,7 @@ static dm_bench_curves_Terms dm_bench_curves_terms_of(dm_slice_u8 list)
 }
 
 /* The curve of a segment count, a list of segments and a list of terms. */
-static dm_bench_curves_Drawn dm_bench_curves_curve_of(uint64_t count, dm_slice_u8 segments, dm_slice_u8 terms)
+DM_SMALL dm_bench_curves_Drawn dm_bench_curves_curve_of(uint64_t count, dm_slice_u8 segments, dm_slice_u8 terms)
 {
     dm_bench_curves_Segments found = dm_bench_curves_segments_of(segments);
     dm_bench_curves_Terms listed = dm_bench_curves_terms_of(terms);
@@ -2677,7 +2680,7 @@ static dm_bench_curves_Drawn dm_bench_curves_curve_of(uint64_t count, dm_slice_u
 
 /* ---- crates/bench/src/distances.rt ---- */
 
-static void dm_bench_distances_told(dm_slice_u64 points)
+DM_SMALL void dm_bench_distances_told(dm_slice_u64 points)
 {
     dm_distance_DistanceAnswer v5 = dm_distance_telling_distance(points);
     if (v5.tag == dm_distance_DistanceAnswer_Is) {
@@ -2691,7 +2694,7 @@ static void dm_bench_distances_told(dm_slice_u64 points)
 }
 
 /* The points, word 1. */
-static void dm_bench_distances_distance(dm_slice_u8 line)
+DM_SMALL void dm_bench_distances_distance(dm_slice_u8 line)
 {
     dm_array_u64_16384 points;
     memset(points.at, 0, sizeof points.at);
@@ -2747,7 +2750,7 @@ static dm_bench_edits_Edited dm_bench_edits_edit_of(dm_slice_u8 line)
     return result;
 }
 
-static void dm_bench_edits_change_in(dm_slice_u8 image, uint8_t kind, const dm_bench_edits_Edit *edit)
+DM_SMALL void dm_bench_edits_change_in(dm_slice_u8 image, uint8_t kind, const dm_bench_edits_Edit *edit)
 {
     dm_fields_Level level = edit->level;
     dm_refusal_Written answer = dm_change_changing_change(kind, image, level, edit->field, &edit->value);
@@ -2755,7 +2758,7 @@ static void dm_bench_edits_change_in(dm_slice_u8 image, uint8_t kind, const dm_b
     return;
 }
 
-static void dm_bench_edits_change(dm_slice_u8 line)
+DM_SMALL void dm_bench_edits_change(dm_slice_u8 line)
 {
     dm_bench_edits_Edited v5 = dm_bench_edits_edit_of(line);
     if (v5.tag == dm_bench_edits_Edited_By) {
@@ -2776,7 +2779,7 @@ static void dm_bench_edits_change(dm_slice_u8 line)
     return;
 }
 
-static void dm_bench_edits_proposed(const dm_change_Proposal *proposal)
+DM_SMALL void dm_bench_edits_proposed(const dm_change_Proposal *proposal)
 {
     dm_shown_output_put_number(proposal->present);
     dm_shown_output_put(dm_slice_u8_of((uint8_t *)" ", 1u));
@@ -2786,7 +2789,7 @@ static void dm_bench_edits_proposed(const dm_change_Proposal *proposal)
     return;
 }
 
-static void dm_bench_edits_propose_in(dm_slice_u8 image, uint8_t kind, const dm_bench_edits_Edit *edit)
+DM_SMALL void dm_bench_edits_propose_in(dm_slice_u8 image, uint8_t kind, const dm_bench_edits_Edit *edit)
 {
     dm_fields_Level level = edit->level;
     dm_change_ProposalAnswer v8 = dm_change_proposing_propose(kind, image, level, edit->field, &edit->value);
@@ -2798,7 +2801,7 @@ static void dm_bench_edits_propose_in(dm_slice_u8 image, uint8_t kind, const dm_
     return;
 }
 
-static void dm_bench_edits_propose(dm_slice_u8 line)
+DM_SMALL void dm_bench_edits_propose(dm_slice_u8 line)
 {
     dm_bench_edits_Edited v5 = dm_bench_edits_edit_of(line);
     if (v5.tag == dm_bench_edits_Edited_By) {
@@ -2819,7 +2822,7 @@ static void dm_bench_edits_propose(dm_slice_u8 line)
     return;
 }
 
-static void dm_bench_edits_commit_in(dm_slice_u8 image, uint8_t kind, dm_fields_Level level, uint64_t field,
+DM_SMALL void dm_bench_edits_commit_in(dm_slice_u8 image, uint8_t kind, dm_fields_Level level, uint64_t field,
     uint64_t present, uint64_t new_)
 {
     dm_refusal_Written answer = dm_change_committing_commit(kind, image, level, field, present, new_);
@@ -2877,7 +2880,7 @@ static void dm_bench_edits_commit(dm_slice_u8 line)
 
 /* ---- crates/bench/src/indexes.rt ---- */
 
-static void dm_bench_indexes_index_in(uint8_t kind, dm_slice_u8 image, dm_slice_u8 buffer)
+DM_SMALL void dm_bench_indexes_index_in(uint8_t kind, dm_slice_u8 image, dm_slice_u8 buffer)
 {
     dm_refusal_Written answer = dm_index_making_make_index(kind, image, buffer);
     dm_bench_printing_written(&answer, buffer);
@@ -2912,7 +2915,7 @@ static void dm_bench_indexes_index(dm_slice_u8 line)
     return;
 }
 
-static void dm_bench_indexes_fetch_from(uint8_t kind, dm_slice_u8 image, dm_slice_u8 index, uint64_t field)
+DM_SMALL void dm_bench_indexes_fetch_from(uint8_t kind, dm_slice_u8 image, dm_slice_u8 index, uint64_t field)
 {
     dm_sheet_FieldAnswer v7 = dm_index_fetching_fetch(kind, image, index, field);
     if (v7.tag == dm_sheet_FieldAnswer_Holds) {
@@ -2962,7 +2965,7 @@ static void dm_bench_indexes_fetch(dm_slice_u8 line)
 /* ---- crates/bench/src/printing.rt ---- */
 
 /* Bytes in hexadecimal, `-` for none. */
-static void dm_bench_printing_bytes(dm_slice_u8 bytes)
+DM_SMALL void dm_bench_printing_bytes(dm_slice_u8 bytes)
 {
     dm_array_u8_32768 digits;
     memset(digits.at, 0, sizeof digits.at);
@@ -2974,28 +2977,28 @@ static void dm_bench_printing_bytes(dm_slice_u8 bytes)
     return;
 }
 
-static void dm_bench_printing_end(void)
+DM_SMALL void dm_bench_printing_end(void)
 {
     dm_shown_output_put(dm_slice_u8_of((uint8_t *)"\n", 1u));
     return;
 }
 
 /* No command. */
-static void dm_bench_printing_unknown(void)
+DM_SMALL void dm_bench_printing_unknown(void)
 {
     dm_shown_output_put(dm_slice_u8_of((uint8_t *)"\?\n", 2u));
     return;
 }
 
 /* An answer of a number, and of two figures. */
-static void dm_bench_printing_number(uint64_t n)
+DM_SMALL void dm_bench_printing_number(uint64_t n)
 {
     dm_shown_output_put_number(n);
     dm_bench_printing_end();
     return;
 }
 
-static void dm_bench_printing_figures(uint64_t a, uint64_t b)
+DM_SMALL void dm_bench_printing_figures(uint64_t a, uint64_t b)
 {
     dm_shown_output_put_figure(a);
     dm_shown_output_put(dm_slice_u8_of((uint8_t *)" ", 1u));
@@ -3004,7 +3007,7 @@ static void dm_bench_printing_figures(uint64_t a, uint64_t b)
     return;
 }
 
-static void dm_bench_printing_refused(const dm_refusal_Refusal *r)
+DM_SMALL void dm_bench_printing_refused(const dm_refusal_Refusal *r)
 {
     dm_shown_output_put(dm_slice_u8_of((uint8_t *)"no ", 3u));
     dm_shown_output_put_number((uint64_t)r->number);
@@ -3014,7 +3017,7 @@ static void dm_bench_printing_refused(const dm_refusal_Refusal *r)
 }
 
 /* The bits of a float in hexadecimal; a NaN, which no sheet holds and no reading shows, as `nan`. */
-static void dm_bench_printing_single(float x)
+DM_SMALL void dm_bench_printing_single(float x)
 {
     if (x != x) {
         dm_shown_output_put(dm_slice_u8_of((uint8_t *)"nan", 3u));
@@ -3024,7 +3027,7 @@ static void dm_bench_printing_single(float x)
     return;
 }
 
-static void dm_bench_printing_double(double x)
+DM_SMALL void dm_bench_printing_double(double x)
 {
     if (x != x) {
         dm_shown_output_put(dm_slice_u8_of((uint8_t *)"nan", 3u));
@@ -3035,7 +3038,7 @@ static void dm_bench_printing_double(double x)
 }
 
 /* A table's domain, `-` where there is no table. */
-static void dm_bench_printing_domain(dm_sheet_TableDomain table)
+DM_SMALL void dm_bench_printing_domain(dm_sheet_TableDomain table)
 {
     if (table.tag == dm_sheet_TableDomain_NoTable) {
         dm_shown_output_put(dm_slice_u8_of((uint8_t *)"-", 1u));
@@ -3047,7 +3050,7 @@ static void dm_bench_printing_domain(dm_sheet_TableDomain table)
 }
 
 /* An answer of a field's value. */
-static void dm_bench_printing_value(const dm_fields_Value *v)
+DM_SMALL void dm_bench_printing_value(const dm_fields_Value *v)
 {
     switch (v->tag) {
     case dm_fields_Value_Whole: {
@@ -3072,7 +3075,7 @@ static void dm_bench_printing_value(const dm_fields_Value *v)
 }
 
 /* An answer of a lent buffer afterwards, or the refusal. */
-static void dm_bench_printing_written(const dm_refusal_Written *answer, dm_slice_u8 buffer)
+DM_SMALL void dm_bench_printing_written(const dm_refusal_Written *answer, dm_slice_u8 buffer)
 {
     if (answer->tag == dm_refusal_Written_Done) {
         dm_shown_output_put(dm_slice_u8_of((uint8_t *)"ok ", 3u));
@@ -3087,7 +3090,7 @@ static void dm_bench_printing_written(const dm_refusal_Written *answer, dm_slice
 /* ---- crates/bench/src/readings.rt ---- */
 
 /* The dash that a word names. */
-static dm_bench_readings_Named dm_bench_readings_dash_of(dm_slice_u8 word)
+DM_SMALL dm_bench_readings_Named dm_bench_readings_dash_of(dm_slice_u8 word)
 {
     dm_bench_readings_Named result;
     if (dm_texts_equal(word, dm_slice_u8_of((uint8_t *)"large", 5u))) {
@@ -3106,7 +3109,7 @@ static dm_bench_readings_Named dm_bench_readings_dash_of(dm_slice_u8 word)
     return result;
 }
 
-static void dm_bench_readings_reading_of(uint8_t kind, dm_slice_u8 image, uint64_t input, dm_reading_Dash dash)
+DM_SMALL void dm_bench_readings_reading_of(uint8_t kind, dm_slice_u8 image, uint64_t input, dm_reading_Dash dash)
 {
     dm_reading_ReadingAnswer v8 = dm_reading_taking_take_reading(kind, image, input, dash);
     if (v8.tag == dm_reading_ReadingAnswer_Shows) {
@@ -3179,7 +3182,7 @@ static void dm_bench_reads_accepted(const dm_sheet_Summary *summary)
     return;
 }
 
-static void dm_bench_reads_check(uint8_t kind, dm_slice_u8 image)
+DM_SMALL void dm_bench_reads_check(uint8_t kind, dm_slice_u8 image)
 {
     dm_sheet_Checked v5 = dm_sheet_calls_check(kind, image);
     if (v5.tag == dm_sheet_Checked_Accepted) {
@@ -3190,14 +3193,14 @@ static void dm_bench_reads_check(uint8_t kind, dm_slice_u8 image)
     return;
 }
 
-static void dm_bench_reads_page(uint8_t kind, dm_slice_u8 image, uint64_t page)
+DM_SMALL void dm_bench_reads_page(uint8_t kind, dm_slice_u8 image, uint64_t page)
 {
     dm_bench_printing_bytes(dm_memory_pages_page_bytes(kind, image, page));
     dm_bench_printing_end();
     return;
 }
 
-static void dm_bench_reads_field(uint8_t kind, dm_slice_u8 image, uint64_t field)
+DM_SMALL void dm_bench_reads_field(uint8_t kind, dm_slice_u8 image, uint64_t field)
 {
     dm_sheet_FieldAnswer v6 = dm_sheet_calls_read_field(kind, image, field);
     if (v6.tag == dm_sheet_FieldAnswer_Holds) {
@@ -3208,7 +3211,7 @@ static void dm_bench_reads_field(uint8_t kind, dm_slice_u8 image, uint64_t field
     return;
 }
 
-static void dm_bench_reads_pair(uint8_t kind, dm_slice_u8 image, uint64_t index)
+DM_SMALL void dm_bench_reads_pair(uint8_t kind, dm_slice_u8 image, uint64_t index)
 {
     dm_sheet_PairAnswer v6 = dm_sheet_calls_read_pair(kind, image, index);
     if (v6.tag == dm_sheet_PairAnswer_Holds) {
@@ -3219,7 +3222,7 @@ static void dm_bench_reads_pair(uint8_t kind, dm_slice_u8 image, uint64_t index)
     return;
 }
 
-static void dm_bench_reads_segment(uint8_t kind, dm_slice_u8 image, uint64_t index)
+DM_SMALL void dm_bench_reads_segment(uint8_t kind, dm_slice_u8 image, uint64_t index)
 {
     dm_sheet_SegmentAnswer v7 = dm_sheet_calls_read_segment(kind, image, index);
     if (v7.tag == dm_sheet_SegmentAnswer_Holds) {
@@ -3232,7 +3235,7 @@ static void dm_bench_reads_segment(uint8_t kind, dm_slice_u8 image, uint64_t ind
     return;
 }
 
-static void dm_bench_reads_term(uint8_t kind, dm_slice_u8 image, uint64_t index)
+DM_SMALL void dm_bench_reads_term(uint8_t kind, dm_slice_u8 image, uint64_t index)
 {
     dm_sheet_TermAnswer v7 = dm_sheet_calls_read_term(kind, image, index);
     if (v7.tag == dm_sheet_TermAnswer_Holds) {
@@ -3246,7 +3249,7 @@ static void dm_bench_reads_term(uint8_t kind, dm_slice_u8 image, uint64_t index)
     return;
 }
 
-static void dm_bench_reads_character(uint8_t kind, dm_slice_u8 image, uint64_t index)
+DM_SMALL void dm_bench_reads_character(uint8_t kind, dm_slice_u8 image, uint64_t index)
 {
     dm_sheet_CharacterAnswer v6 = dm_sheet_calls_read_character(kind, image, index);
     if (v6.tag == dm_sheet_CharacterAnswer_Holds) {
@@ -3260,7 +3263,7 @@ static void dm_bench_reads_character(uint8_t kind, dm_slice_u8 image, uint64_t i
 
 /* ---- crates/bench/src/runs.rt ---- */
 
-static void dm_bench_runs_compared(uint8_t kind, dm_slice_u8 image, dm_slice_u64 slow, dm_slice_u64 fast)
+DM_SMALL void dm_bench_runs_compared(uint8_t kind, dm_slice_u8 image, dm_slice_u64 slow, dm_slice_u64 fast)
 {
     dm_recordings_ComparedAnswer v9 = dm_recordings_comparing_compare(kind, image, slow, fast);
     switch (v9.tag) {
@@ -3311,7 +3314,7 @@ static void dm_bench_runs_of_recordings(dm_slice_u8 line, uint8_t kind, dm_slice
 }
 
 /* The image, the slow recording and the fast one, words 2 to 4. */
-static void dm_bench_runs_compare(dm_slice_u8 line)
+DM_SMALL void dm_bench_runs_compare(dm_slice_u8 line)
 {
     dm_array_u8_16384 room;
     memset(room.at, 0, sizeof room.at);
@@ -3329,7 +3332,7 @@ static void dm_bench_runs_compare(dm_slice_u8 line)
 /* ---- crates/bench/src/serving.rt ---- */
 
 /* A line just begun. */
-static dm_bench_serving_Gathered dm_bench_serving_nothing(void)
+DM_SMALL dm_bench_serving_Gathered dm_bench_serving_nothing(void)
 {
     dm_bench_serving_Gathered result;
     result.length = 0u;
@@ -3338,7 +3341,7 @@ static dm_bench_serving_Gathered dm_bench_serving_nothing(void)
 }
 
 /* Answers a line. */
-static void dm_bench_serving_finish(dm_slice_u8 line, const dm_bench_serving_Gathered *so_far)
+DM_SMALL void dm_bench_serving_finish(dm_slice_u8 line, const dm_bench_serving_Gathered *so_far)
 {
     if (so_far->long_) {
         dm_bench_printing_unknown();
@@ -3349,7 +3352,7 @@ static void dm_bench_serving_finish(dm_slice_u8 line, const dm_bench_serving_Gat
 }
 
 /* One byte more: a line's end has it answered, any other byte is kept where there is room. */
-static dm_bench_serving_Gathered dm_bench_serving_step(dm_slice_u8 line, const dm_bench_serving_Gathered *so_far,
+DM_SMALL dm_bench_serving_Gathered dm_bench_serving_step(dm_slice_u8 line, const dm_bench_serving_Gathered *so_far,
     uint8_t b)
 {
     if ((uint32_t)b == 10u) {
@@ -3384,7 +3387,7 @@ static dm_bench_serving_Gathered dm_bench_serving_gather(dm_slice_u8 line, const
 }
 
 /* Reads a block, and answers the lines that end in it. */
-static dm_bench_serving_Turn dm_bench_serving_next_block(dm_slice_u8 line, const dm_bench_serving_Gathered *so_far)
+DM_SMALL dm_bench_serving_Turn dm_bench_serving_next_block(dm_slice_u8 line, const dm_bench_serving_Gathered *so_far)
 {
     dm_array_u8_65536 block = dm_io_large_buffer();
     uint64_t n = dm_io_count(dm_libc_read(0u, dm_slice_u8_of(block.at, 65536u)), dm_slice_u8_of(block.at, 65536u));
@@ -3429,7 +3432,7 @@ static void dm_bench_serving_serve_lines(dm_slice_u8 line)
 }
 
 /* Answers every line of standard input, to its end. */
-static void dm_bench_serving_serve(void)
+DM_SMALL void dm_bench_serving_serve(void)
 {
     dm_array_u8_32768 line;
     memset(line.at, 0, sizeof line.at);
@@ -3439,7 +3442,7 @@ static void dm_bench_serving_serve(void)
 
 /* ---- crates/bench/src/turned.rt ---- */
 
-static void dm_bench_turned_text_answer(uint64_t field, uint64_t code)
+DM_SMALL void dm_bench_turned_text_answer(uint64_t field, uint64_t code)
 {
     dm_texts_Text text = dm_texts_text_of(field, code);
     if (text.answer.tag == dm_texts_TextAnswer_Length) {
@@ -3453,7 +3456,7 @@ static void dm_bench_turned_text_answer(uint64_t field, uint64_t code)
     return;
 }
 
-static void dm_bench_turned_text(dm_slice_u8 line)
+DM_SMALL void dm_bench_turned_text(dm_slice_u8 line)
 {
     dm_words_Number v4 = dm_words_figures_number_of(dm_words_parts_word(line, 1u));
     uint64_t field;
@@ -3475,7 +3478,7 @@ static void dm_bench_turned_text(dm_slice_u8 line)
     return;
 }
 
-static void dm_bench_turned_code_answer(uint64_t field, dm_slice_u8 text)
+DM_SMALL void dm_bench_turned_code_answer(uint64_t field, dm_slice_u8 text)
 {
     dm_texts_CodeAnswer v5 = dm_texts_code_of(field, text);
     if (v5.tag == dm_texts_CodeAnswer_Code) {
@@ -3514,7 +3517,7 @@ static void dm_bench_turned_code(dm_slice_u8 line)
 /* ---- crates/console/src/main.rt ---- */
 
 /* The bench console. */
-static void dm_console_main(void)
+DM_SMALL void dm_console_main(void)
 {
     dm_bench_serving_serve();
     return;

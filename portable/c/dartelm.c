@@ -28,6 +28,16 @@
 #define DM_JOIN(a, b) a##b
 #define DM_SIZE(type, bytes) typedef char DM_JOIN(dm_size_of_, type)[sizeof(type) == (bytes) ? 1 : -1]
 
+/* Small functions go where they are called, on processors with large caches; elsewhere the compiler weighs flash against time, and in
+ * the programs the time to compile them. */
+#if defined(DARTELM_PROGRAM)
+#define DM_SMALL static
+#elif defined(__GNUC__) && defined(__OPTIMIZE__) && !defined(__OPTIMIZE_SIZE__) && (defined(__x86_64__) || defined(__aarch64__))
+#define DM_SMALL static inline __attribute__((always_inline))
+#else
+#define DM_SMALL static
+#endif
+
 static inline float dm_float_from_bits(uint32_t bits)
 {
     float x;
@@ -1078,244 +1088,245 @@ static const uint8_t dm_table_LETTERS[32] = {
     87u, 88u, 89u, 90u, 44u, 46u, 47u, 95u, 64u
 };
 
-static uint8_t dm_std_num_wrapping_add_u8(uint8_t a, uint8_t b);
-static uint8_t dm_std_num_wrapping_sub_u8(uint8_t a, uint8_t b);
-static double dm_std_num_f32_to_f64_with_nan(float x);
-static double dm_std_num_nearest_u64_to_f64(uint64_t n);
-static double dm_std_num_nearest_i64_to_f64(uint64_t n);
+DM_SMALL uint8_t dm_std_num_wrapping_add_u8(uint8_t a, uint8_t b);
+DM_SMALL uint8_t dm_std_num_wrapping_sub_u8(uint8_t a, uint8_t b);
+DM_SMALL double dm_std_num_f32_to_f64_with_nan(float x);
+DM_SMALL double dm_std_num_nearest_u64_to_f64(uint64_t n);
+DM_SMALL double dm_std_num_nearest_i64_to_f64(uint64_t n);
 static uint64_t dm_bytes_copy(dm_slice_u8 src, dm_slice_u8 dst);
-static uint64_t dm_integers_parts_plus(uint64_t z);
-static uint64_t dm_integers_parts_minus(uint64_t z);
-static uint64_t dm_integers_parts_difference(uint64_t up, uint64_t down);
-static uint64_t dm_integers_rounding_nearest_whole(uint64_t num, uint64_t den);
-static uint64_t dm_integers_rounding_nearest(uint64_t up, uint64_t down, uint64_t den);
-static dm_refusal_Refusal dm_refusal_rows_wrong_image(void);
-static dm_refusal_Refusal dm_refusal_rows_wrong_sum(uint64_t page);
-static dm_refusal_Refusal dm_refusal_rows_past_end(uint64_t bit);
-static dm_refusal_Refusal dm_refusal_rows_wrong_block(uint64_t selector_bit);
-static dm_refusal_Refusal dm_refusal_rows_outside_table(uint64_t bit);
-static dm_refusal_Refusal dm_refusal_rows_no_such(uint64_t given);
-static dm_refusal_Refusal dm_refusal_rows_wrong_sort(uint64_t field);
-static dm_refusal_Refusal dm_refusal_rows_out_of_range(uint64_t place);
-static dm_refusal_Refusal dm_refusal_rows_too_long(uint64_t needed);
-static dm_refusal_Refusal dm_refusal_rows_changed_alone(uint64_t field);
-static dm_refusal_Refusal dm_refusal_rows_no_span(uint64_t field);
-static dm_refusal_Refusal dm_refusal_rows_outside_span(void);
-static dm_refusal_Refusal dm_refusal_rows_wrong_list(uint64_t length);
-static dm_refusal_Refusal dm_refusal_rows_blank_chip(void);
-static dm_refusal_Refusal dm_refusal_rows_short_index(uint64_t bytes);
-static dm_refusal_Refusal dm_refusal_rows_other_code(uint64_t field);
-static dm_refusal_Refusal dm_refusal_rows_level_too_low(uint64_t field);
-static dm_refusal_Refusal dm_refusal_rows_end_outside(uint64_t field);
-static dm_refusal_Refusal dm_refusal_rows_sums_not_rising(uint64_t place);
-static dm_refusal_Refusal dm_refusal_rows_too_many_points(uint64_t points);
-static dm_refusal_Refusal dm_refusal_rows_wrong_curve(uint64_t place);
-static dm_refusal_Refusal dm_refusal_rows_too_many_terms(uint64_t total);
-static dm_refusal_Refusal dm_refusal_rows_wrong_ticks(uint64_t ticks);
-static double dm_fields_figure_float_fraction(uint64_t q);
-static double dm_fields_figure_physical_figure(float least, float greatest, double fraction);
-static bool dm_fields_levels_may_write(dm_fields_Level level, dm_fields_Mark mark);
-static uint64_t dm_fields_limits_all_ones(uint64_t width);
-static uint64_t dm_fields_limits_top_code(uint64_t width);
-static dm_fields_Row dm_fields_rows_always(uint64_t width, const dm_fields_Rule *rule);
-static dm_fields_Row dm_fields_rows_optional(uint64_t width, const dm_fields_Rule *rule);
-static dm_fields_Row dm_fields_rows_any(uint64_t width);
-static uint64_t dm_fields_rows_scale_width(dm_fields_Scale scale);
-static dm_fields_Row dm_fields_rows_scaled(dm_fields_Scale scale);
+DM_SMALL uint64_t dm_integers_parts_plus(uint64_t z);
+DM_SMALL uint64_t dm_integers_parts_minus(uint64_t z);
+DM_SMALL uint64_t dm_integers_parts_difference(uint64_t up, uint64_t down);
+DM_SMALL uint64_t dm_integers_rounding_nearest_whole(uint64_t num, uint64_t den);
+DM_SMALL uint64_t dm_integers_rounding_nearest(uint64_t up, uint64_t down, uint64_t den);
+DM_SMALL dm_refusal_Refusal dm_refusal_rows_wrong_image(void);
+DM_SMALL dm_refusal_Refusal dm_refusal_rows_wrong_sum(uint64_t page);
+DM_SMALL dm_refusal_Refusal dm_refusal_rows_past_end(uint64_t bit);
+DM_SMALL dm_refusal_Refusal dm_refusal_rows_wrong_block(uint64_t selector_bit);
+DM_SMALL dm_refusal_Refusal dm_refusal_rows_outside_table(uint64_t bit);
+DM_SMALL dm_refusal_Refusal dm_refusal_rows_no_such(uint64_t given);
+DM_SMALL dm_refusal_Refusal dm_refusal_rows_wrong_sort(uint64_t field);
+DM_SMALL dm_refusal_Refusal dm_refusal_rows_out_of_range(uint64_t place);
+DM_SMALL dm_refusal_Refusal dm_refusal_rows_too_long(uint64_t needed);
+DM_SMALL dm_refusal_Refusal dm_refusal_rows_changed_alone(uint64_t field);
+DM_SMALL dm_refusal_Refusal dm_refusal_rows_no_span(uint64_t field);
+DM_SMALL dm_refusal_Refusal dm_refusal_rows_outside_span(void);
+DM_SMALL dm_refusal_Refusal dm_refusal_rows_wrong_list(uint64_t length);
+DM_SMALL dm_refusal_Refusal dm_refusal_rows_blank_chip(void);
+DM_SMALL dm_refusal_Refusal dm_refusal_rows_short_index(uint64_t bytes);
+DM_SMALL dm_refusal_Refusal dm_refusal_rows_other_code(uint64_t field);
+DM_SMALL dm_refusal_Refusal dm_refusal_rows_level_too_low(uint64_t field);
+DM_SMALL dm_refusal_Refusal dm_refusal_rows_end_outside(uint64_t field);
+DM_SMALL dm_refusal_Refusal dm_refusal_rows_sums_not_rising(uint64_t place);
+DM_SMALL dm_refusal_Refusal dm_refusal_rows_too_many_points(uint64_t points);
+DM_SMALL dm_refusal_Refusal dm_refusal_rows_wrong_curve(uint64_t place);
+DM_SMALL dm_refusal_Refusal dm_refusal_rows_too_many_terms(uint64_t total);
+DM_SMALL dm_refusal_Refusal dm_refusal_rows_wrong_ticks(uint64_t ticks);
+DM_SMALL double dm_fields_figure_float_fraction(uint64_t q);
+DM_SMALL double dm_fields_figure_physical_figure(float least, float greatest, double fraction);
+DM_SMALL bool dm_fields_levels_may_write(dm_fields_Level level, dm_fields_Mark mark);
+DM_SMALL uint64_t dm_fields_limits_all_ones(uint64_t width);
+DM_SMALL uint64_t dm_fields_limits_top_code(uint64_t width);
+DM_SMALL dm_fields_Row dm_fields_rows_always(uint64_t width, const dm_fields_Rule *rule);
+DM_SMALL dm_fields_Row dm_fields_rows_optional(uint64_t width, const dm_fields_Rule *rule);
+DM_SMALL dm_fields_Row dm_fields_rows_any(uint64_t width);
+DM_SMALL uint64_t dm_fields_rows_scale_width(dm_fields_Scale scale);
+DM_SMALL dm_fields_Row dm_fields_rows_scaled(dm_fields_Scale scale);
 static dm_fields_Row dm_fields_rows_bridge_end(uint64_t precision);
 static dm_fields_Row dm_fields_rows_resistance_end(uint64_t precision);
-static uint64_t dm_fields_templates_basic_fields(void);
-static uint64_t dm_fields_templates_template_number(dm_fields_Template template_);
-static dm_fields_TemplateAnswer dm_fields_templates_template_of(uint64_t number);
-static uint64_t dm_fields_templates_last_field(dm_fields_Template template_);
-static bool dm_fields_templates_is_choice(dm_fields_Template template_, uint64_t field);
-static dm_fields_Mark dm_fields_templates_bridge_mark(uint64_t field);
-static dm_fields_Mark dm_fields_templates_resistance_mark(uint64_t field);
-static dm_fields_Mark dm_fields_templates_mark_of(dm_fields_Template template_, uint64_t field);
+DM_SMALL uint64_t dm_fields_templates_basic_fields(void);
+DM_SMALL uint64_t dm_fields_templates_template_number(dm_fields_Template template_);
+DM_SMALL dm_fields_TemplateAnswer dm_fields_templates_template_of(uint64_t number);
+DM_SMALL uint64_t dm_fields_templates_last_field(dm_fields_Template template_);
+DM_SMALL bool dm_fields_templates_is_choice(dm_fields_Template template_, uint64_t field);
+DM_SMALL dm_fields_Mark dm_fields_templates_bridge_mark(uint64_t field);
+DM_SMALL dm_fields_Mark dm_fields_templates_resistance_mark(uint64_t field);
+DM_SMALL dm_fields_Mark dm_fields_templates_mark_of(dm_fields_Template template_, uint64_t field);
 static dm_fields_Row dm_fields_templates_basic_row(uint64_t field);
 static dm_fields_Row dm_fields_templates_bridge_row(uint64_t precision, uint64_t field);
 static dm_fields_Row dm_fields_templates_resistance_row(uint64_t precision, uint64_t field);
-static dm_fields_Row dm_fields_templates_row_of(const dm_fields_Layout *layout, uint64_t field);
-static uint64_t dm_fields_templates_basic_closed(void);
-static uint64_t dm_fields_templates_last_closed(dm_fields_Template template_);
+DM_SMALL dm_fields_Row dm_fields_templates_row_of(const dm_fields_Layout *layout, uint64_t field);
+DM_SMALL uint64_t dm_fields_templates_basic_closed(void);
+DM_SMALL uint64_t dm_fields_templates_last_closed(dm_fields_Template template_);
 static uint64_t dm_fields_templates_bridge_bits(uint64_t field);
 static uint64_t dm_fields_templates_resistance_bits(uint64_t field);
-static uint64_t dm_fields_templates_ends_before(uint64_t width, uint64_t field);
-static uint64_t dm_fields_templates_bits_before(const dm_fields_Layout *layout, uint64_t field);
+DM_SMALL uint64_t dm_fields_templates_ends_before(uint64_t width, uint64_t field);
+DM_SMALL uint64_t dm_fields_templates_bits_before(const dm_fields_Layout *layout, uint64_t field);
 static dm_memory_kinds_SizesAnswer dm_memory_kinds_image_sizes(uint8_t kind, uint64_t bytes);
-static dm_memory_kinds_SizesAnswer dm_memory_kinds_fitting(const dm_memory_Sizes *sizes, uint64_t bytes);
-static uint64_t dm_memory_kinds_stream_bits(const dm_memory_Sizes *sizes);
+DM_SMALL dm_memory_kinds_SizesAnswer dm_memory_kinds_fitting(const dm_memory_Sizes *sizes, uint64_t bytes);
+DM_SMALL uint64_t dm_memory_kinds_stream_bits(const dm_memory_Sizes *sizes);
 static uint8_t dm_memory_pages_sum(dm_slice_u8 bytes);
-static uint8_t dm_memory_pages_page_sum(const dm_memory_Sizes *sizes, dm_slice_u8 image, uint64_t page);
+DM_SMALL uint8_t dm_memory_pages_page_sum(const dm_memory_Sizes *sizes, dm_slice_u8 image, uint64_t page);
 static bool dm_memory_pages_all_ff(dm_slice_u8 bytes);
-static bool dm_memory_pages_is_blank(const dm_memory_Sizes *sizes, dm_slice_u8 image, uint64_t page);
-static dm_memory_pages_PageTest dm_memory_pages_test_page(const dm_memory_Sizes *sizes, dm_slice_u8 image,
+DM_SMALL bool dm_memory_pages_is_blank(const dm_memory_Sizes *sizes, dm_slice_u8 image, uint64_t page);
+DM_SMALL dm_memory_pages_PageTest dm_memory_pages_test_page(const dm_memory_Sizes *sizes, dm_slice_u8 image,
     uint64_t page);
-static bool dm_memory_pages_is_good(dm_memory_pages_PageTest test);
+DM_SMALL bool dm_memory_pages_is_good(dm_memory_pages_PageTest test);
 static bool dm_memory_pages_all_blank(const dm_memory_Sizes *sizes, dm_slice_u8 image);
 static dm_memory_pages_Sums dm_memory_pages_test_pages(const dm_memory_Sizes *sizes, dm_slice_u8 image);
-static dm_memory_pages_Sums dm_memory_pages_check_sums(const dm_memory_Sizes *sizes, dm_slice_u8 image);
-static dm_slice_u8 dm_memory_pages_page_bytes(uint8_t kind, dm_slice_u8 image, uint64_t page);
-static void dm_memory_pages_seal(const dm_memory_Sizes *sizes, dm_slice_u8 image, uint64_t page);
+DM_SMALL dm_memory_pages_Sums dm_memory_pages_check_sums(const dm_memory_Sizes *sizes, dm_slice_u8 image);
+DM_SMALL dm_slice_u8 dm_memory_pages_page_bytes(uint8_t kind, dm_slice_u8 image, uint64_t page);
+DM_SMALL void dm_memory_pages_seal(const dm_memory_Sizes *sizes, dm_slice_u8 image, uint64_t page);
 static dm_curve_Powers dm_curve_Powers_none(void);
-static dm_curve_Powers dm_curve_Powers_with(const dm_curve_Powers *self, uint64_t power, float coefficient);
-static double dm_curve_argument(uint64_t p);
+DM_SMALL dm_curve_Powers dm_curve_Powers_with(const dm_curve_Powers *self, uint64_t power, float coefficient);
+DM_SMALL double dm_curve_argument(uint64_t p);
 static double dm_curve_correction(const dm_array_f64_6 *coefficients, uint64_t count, double x);
-static double dm_curve_float_fraction(const dm_curve_Powers *powers, uint64_t p);
-static uint64_t dm_line_crossing_sum(const dm_fields_Pair *pair);
-static uint64_t dm_line_crossing_crossing_held(uint64_t p, const dm_fields_Pair *pair);
-static uint64_t dm_line_crossing_ceiling(uint64_t n, uint64_t d);
-static uint64_t dm_line_crossing_onward(uint64_t point, uint64_t steps);
-static uint64_t dm_line_crossing_crossing_between(uint64_t p, const dm_fields_Pair *before,
+DM_SMALL double dm_curve_float_fraction(const dm_curve_Powers *powers, uint64_t p);
+DM_SMALL uint64_t dm_line_crossing_sum(const dm_fields_Pair *pair);
+DM_SMALL uint64_t dm_line_crossing_crossing_held(uint64_t p, const dm_fields_Pair *pair);
+DM_SMALL uint64_t dm_line_crossing_ceiling(uint64_t n, uint64_t d);
+DM_SMALL uint64_t dm_line_crossing_onward(uint64_t point, uint64_t steps);
+DM_SMALL uint64_t dm_line_crossing_crossing_between(uint64_t p, const dm_fields_Pair *before,
     const dm_fields_Pair *behind);
-static uint64_t dm_line_line_gap(uint64_t a, uint64_t b);
-static uint64_t dm_line_line_weighed(uint64_t s, uint64_t t, uint64_t past, uint64_t left);
-static uint64_t dm_line_line_between(uint64_t p, const dm_fields_Pair *before, const dm_fields_Pair *behind);
-static uint64_t dm_scales_scales_wide(uint32_t x);
-static uint64_t dm_scales_scales_value_in(dm_slice_u32 values, uint64_t code);
-static bool dm_scales_scales_goes_up(uint32_t a, uint32_t b, uint32_t figure);
+DM_SMALL uint64_t dm_line_line_gap(uint64_t a, uint64_t b);
+DM_SMALL uint64_t dm_line_line_weighed(uint64_t s, uint64_t t, uint64_t past, uint64_t left);
+DM_SMALL uint64_t dm_line_line_between(uint64_t p, const dm_fields_Pair *before, const dm_fields_Pair *behind);
+DM_SMALL uint64_t dm_scales_scales_wide(uint32_t x);
+DM_SMALL uint64_t dm_scales_scales_value_in(dm_slice_u32 values, uint64_t code);
+DM_SMALL bool dm_scales_scales_goes_up(uint32_t a, uint32_t b, uint32_t figure);
 static uint64_t dm_scales_scales_stored_in(dm_slice_u32 values, uint64_t figure);
-static uint64_t dm_scales_scales_scale_value(dm_fields_Scale scale, uint64_t code);
-static uint64_t dm_scales_scales_least_value(dm_fields_Scale scale);
-static uint64_t dm_scales_scales_greatest_value(dm_fields_Scale scale);
-static uint64_t dm_scales_scales_stored_code(dm_fields_Scale scale, uint64_t figure);
-static uint64_t dm_scales_singles_from_bits(uint32_t bits);
-static dm_fields_Rounded dm_scales_singles_nanovolts(float x);
-static uint64_t dm_scales_steps_step_value(uint64_t start, uint64_t step, uint64_t code);
-static uint64_t dm_scales_steps_step_code(uint64_t start, uint64_t step, uint64_t figure);
-static uint64_t dm_stream_bitfields_wide(uint8_t x);
-static uint64_t dm_stream_bitfields_eight(dm_slice_u8 image, uint64_t from);
-static uint64_t dm_stream_bitfields_window(dm_slice_u8 image, uint64_t from);
-static uint64_t dm_stream_bitfields_checks_before(const dm_memory_Sizes *sizes, uint64_t i);
-static uint64_t dm_stream_bitfields_over_check(uint64_t word, uint64_t bits);
-static uint64_t dm_stream_bitfields_take(const dm_memory_Sizes *sizes, dm_slice_u8 image, uint64_t at, uint64_t width);
-static uint8_t dm_stream_bitfields_byte(uint64_t word);
-static void dm_stream_bitfields_lay_eight(dm_slice_u8 image, uint64_t from, uint64_t word);
-static uint64_t dm_stream_bitfields_with_check(uint64_t word, uint64_t bits, uint64_t check);
-static uint64_t dm_stream_bitfields_replaced(uint64_t word, uint64_t low, uint64_t width, uint64_t code);
-static void dm_stream_bitfields_put_eight(dm_slice_u8 image, uint64_t from, uint64_t bit, uint64_t width,
+DM_SMALL uint64_t dm_scales_scales_scale_value(dm_fields_Scale scale, uint64_t code);
+DM_SMALL uint64_t dm_scales_scales_least_value(dm_fields_Scale scale);
+DM_SMALL uint64_t dm_scales_scales_greatest_value(dm_fields_Scale scale);
+DM_SMALL uint64_t dm_scales_scales_stored_code(dm_fields_Scale scale, uint64_t figure);
+DM_SMALL uint64_t dm_scales_singles_from_bits(uint32_t bits);
+DM_SMALL dm_fields_Rounded dm_scales_singles_nanovolts(float x);
+DM_SMALL uint64_t dm_scales_steps_step_value(uint64_t start, uint64_t step, uint64_t code);
+DM_SMALL uint64_t dm_scales_steps_step_code(uint64_t start, uint64_t step, uint64_t figure);
+DM_SMALL uint64_t dm_stream_bitfields_wide(uint8_t x);
+DM_SMALL uint64_t dm_stream_bitfields_eight(dm_slice_u8 image, uint64_t from);
+DM_SMALL uint64_t dm_stream_bitfields_window(dm_slice_u8 image, uint64_t from);
+DM_SMALL uint64_t dm_stream_bitfields_checks_before(const dm_memory_Sizes *sizes, uint64_t i);
+DM_SMALL uint64_t dm_stream_bitfields_over_check(uint64_t word, uint64_t bits);
+DM_SMALL uint64_t dm_stream_bitfields_take(const dm_memory_Sizes *sizes, dm_slice_u8 image, uint64_t at,
+    uint64_t width);
+DM_SMALL uint8_t dm_stream_bitfields_byte(uint64_t word);
+DM_SMALL void dm_stream_bitfields_lay_eight(dm_slice_u8 image, uint64_t from, uint64_t word);
+DM_SMALL uint64_t dm_stream_bitfields_with_check(uint64_t word, uint64_t bits, uint64_t check);
+DM_SMALL uint64_t dm_stream_bitfields_replaced(uint64_t word, uint64_t low, uint64_t width, uint64_t code);
+DM_SMALL void dm_stream_bitfields_put_eight(dm_slice_u8 image, uint64_t from, uint64_t bit, uint64_t width,
     uint64_t code);
-static void dm_stream_bitfields_put_bits(dm_slice_u8 image, uint64_t bit, uint64_t width, uint64_t code);
-static void dm_stream_bitfields_put(const dm_memory_Sizes *sizes, dm_slice_u8 image, uint64_t at, uint64_t width,
+DM_SMALL void dm_stream_bitfields_put_bits(dm_slice_u8 image, uint64_t bit, uint64_t width, uint64_t code);
+DM_SMALL void dm_stream_bitfields_put(const dm_memory_Sizes *sizes, dm_slice_u8 image, uint64_t at, uint64_t width,
     uint64_t code);
-static void dm_stream_bitfields_append(const dm_memory_Sizes *sizes, dm_slice_u8 image, uint64_t at, uint64_t width,
+DM_SMALL void dm_stream_bitfields_append(const dm_memory_Sizes *sizes, dm_slice_u8 image, uint64_t at, uint64_t width,
     uint64_t code);
-static dm_stream_cursor_Cursor dm_stream_cursor_Cursor_start(void);
+DM_SMALL dm_stream_cursor_Cursor dm_stream_cursor_Cursor_start(void);
 static dm_stream_cursor_Taken dm_stream_cursor_Cursor_take(dm_stream_cursor_Cursor self, const dm_memory_Sizes *sizes,
     dm_slice_u8 image, uint64_t width);
-static dm_stream_cursor_Cursor dm_stream_cursor_Cursor_append(dm_stream_cursor_Cursor self,
+DM_SMALL dm_stream_cursor_Cursor dm_stream_cursor_Cursor_append(dm_stream_cursor_Cursor self,
     const dm_memory_Sizes *sizes, dm_slice_u8 image, uint64_t width, uint64_t code);
 static void dm_stream_writing_clear(dm_slice_u8 image);
-static uint64_t dm_stream_writing_page_of(const dm_memory_Sizes *sizes, uint64_t bit);
-static void dm_stream_writing_rewrite(const dm_memory_Sizes *sizes, dm_slice_u8 image, uint64_t at, uint64_t width,
+DM_SMALL uint64_t dm_stream_writing_page_of(const dm_memory_Sizes *sizes, uint64_t bit);
+DM_SMALL void dm_stream_writing_rewrite(const dm_memory_Sizes *sizes, dm_slice_u8 image, uint64_t at, uint64_t width,
     uint64_t code);
 static void dm_stream_writing_seal_pages(const dm_memory_Sizes *sizes, dm_slice_u8 image);
-static bool dm_texts_dates_leap(uint64_t year);
-static uint64_t dm_texts_dates_days_before_year(uint64_t year);
-static uint64_t dm_texts_dates_days_before_month(uint64_t month, bool long_);
+DM_SMALL bool dm_texts_dates_leap(uint64_t year);
+DM_SMALL uint64_t dm_texts_dates_days_before_year(uint64_t year);
+DM_SMALL uint64_t dm_texts_dates_days_before_month(uint64_t month, bool long_);
 static uint64_t dm_texts_dates_year_of(uint64_t code);
 static uint64_t dm_texts_dates_month_of(uint64_t year, uint64_t day);
-static dm_texts_dates_Date dm_texts_dates_date_of(uint64_t code);
-static uint8_t dm_texts_dates_digit(uint64_t n);
+DM_SMALL dm_texts_dates_Date dm_texts_dates_date_of(uint64_t code);
+DM_SMALL uint8_t dm_texts_dates_digit(uint64_t n);
 static dm_array_u8_10 dm_texts_dates_text_of(uint64_t code);
-static uint64_t dm_texts_dates_figure(uint8_t character);
-static uint64_t dm_texts_dates_two_digits(dm_slice_u8 text, uint64_t at);
-static uint64_t dm_texts_dates_day_code(uint64_t year, uint64_t month, uint64_t day);
-static uint64_t dm_texts_dates_code_of(dm_slice_u8 text);
-static uint8_t dm_texts_letters_letter(uint64_t code);
+DM_SMALL uint64_t dm_texts_dates_figure(uint8_t character);
+DM_SMALL uint64_t dm_texts_dates_two_digits(dm_slice_u8 text, uint64_t at);
+DM_SMALL uint64_t dm_texts_dates_day_code(uint64_t year, uint64_t month, uint64_t day);
+DM_SMALL uint64_t dm_texts_dates_code_of(dm_slice_u8 text);
+DM_SMALL uint8_t dm_texts_letters_letter(uint64_t code);
 static uint64_t dm_texts_letters_letter_code(uint8_t character);
-static dm_array_u8_10 dm_texts_letters_one_text(uint64_t code);
+DM_SMALL dm_array_u8_10 dm_texts_letters_one_text(uint64_t code);
 static dm_array_u8_10 dm_texts_letters_three_text(uint64_t code);
-static uint64_t dm_texts_letters_one_code(dm_slice_u8 text);
-static uint64_t dm_texts_letters_three_code(dm_slice_u8 text);
+DM_SMALL uint64_t dm_texts_letters_one_code(dm_slice_u8 text);
+DM_SMALL uint64_t dm_texts_letters_three_code(dm_slice_u8 text);
 static dm_texts_Text dm_texts_text_of(uint64_t field, uint64_t code);
 static dm_texts_CodeAnswer dm_texts_code_of(uint64_t field, dm_slice_u8 text);
 static dm_texts_CodeAnswer dm_texts_code_if_shown(uint64_t field, uint64_t code, dm_slice_u8 text);
 static bool dm_texts_equal(dm_slice_u8 a, dm_slice_u8 b);
-static dm_texts_Text dm_texts_no_text(const dm_refusal_Refusal *r);
-static dm_fields_Row dm_coding_calibration_cal_domain(void);
-static uint64_t dm_coding_calibration_domain_code(dm_fields_Domain domain);
-static dm_fields_Domain dm_coding_calibration_domain_of(uint64_t code);
-static dm_fields_Row dm_coding_calibration_point_count(void);
-static dm_fields_Row dm_coding_calibration_cal_point(void);
-static dm_fields_Row dm_coding_calibration_cal_deviation(void);
-static dm_fields_Encoded dm_coding_calibration_encode_point(uint64_t place, uint64_t figure);
-static dm_fields_Encoded dm_coding_calibration_encode_deviation(uint64_t place, uint64_t figure);
-static dm_fields_Pair dm_coding_calibration_pair_of(uint64_t code);
-static uint64_t dm_coding_calibration_sum_above(dm_fields_Codes codes);
-static dm_fields_Judged dm_coding_calibration_climbs(dm_fields_Domain domain, dm_fields_Codes before, uint64_t place,
+DM_SMALL dm_texts_Text dm_texts_no_text(const dm_refusal_Refusal *r);
+DM_SMALL dm_fields_Row dm_coding_calibration_cal_domain(void);
+DM_SMALL uint64_t dm_coding_calibration_domain_code(dm_fields_Domain domain);
+DM_SMALL dm_fields_Domain dm_coding_calibration_domain_of(uint64_t code);
+DM_SMALL dm_fields_Row dm_coding_calibration_point_count(void);
+DM_SMALL dm_fields_Row dm_coding_calibration_cal_point(void);
+DM_SMALL dm_fields_Row dm_coding_calibration_cal_deviation(void);
+DM_SMALL dm_fields_Encoded dm_coding_calibration_encode_point(uint64_t place, uint64_t figure);
+DM_SMALL dm_fields_Encoded dm_coding_calibration_encode_deviation(uint64_t place, uint64_t figure);
+DM_SMALL dm_fields_Pair dm_coding_calibration_pair_of(uint64_t code);
+DM_SMALL uint64_t dm_coding_calibration_sum_above(dm_fields_Codes codes);
+DM_SMALL dm_fields_Judged dm_coding_calibration_climbs(dm_fields_Domain domain, dm_fields_Codes before, uint64_t place,
     dm_fields_Codes next);
-static dm_fields_Judged dm_coding_calibration_follows(dm_fields_Domain domain, const dm_fields_Previous *before,
+DM_SMALL dm_fields_Judged dm_coding_calibration_follows(dm_fields_Domain domain, const dm_fields_Previous *before,
     uint64_t place, dm_fields_Codes next);
-static dm_fields_Row dm_coding_curves_curve_domain(void);
-static dm_fields_Row dm_coding_curves_segment_count(void);
-static dm_fields_Row dm_coding_curves_segment_start(void);
-static dm_fields_Row dm_coding_curves_term_count(void);
-static dm_fields_Row dm_coding_curves_term_exponent(void);
-static dm_fields_Row dm_coding_curves_term_coefficient(void);
-static dm_fields_Encoded dm_coding_curves_wrong_curve(uint64_t place);
-static dm_fields_Encoded dm_coding_curves_encode_start(uint64_t place, uint64_t figure);
-static dm_fields_Encoded dm_coding_curves_encode_coefficient(uint64_t place, float x);
-static bool dm_coding_curves_is_exponent(uint64_t code);
-static bool dm_coding_curves_exponent_follows(const dm_fields_Earlier *before, uint64_t code);
-static dm_fields_Encoded dm_coding_curves_encode_exponent(const dm_fields_Earlier *before, uint64_t place,
+DM_SMALL dm_fields_Row dm_coding_curves_curve_domain(void);
+DM_SMALL dm_fields_Row dm_coding_curves_segment_count(void);
+DM_SMALL dm_fields_Row dm_coding_curves_segment_start(void);
+DM_SMALL dm_fields_Row dm_coding_curves_term_count(void);
+DM_SMALL dm_fields_Row dm_coding_curves_term_exponent(void);
+DM_SMALL dm_fields_Row dm_coding_curves_term_coefficient(void);
+DM_SMALL dm_fields_Encoded dm_coding_curves_wrong_curve(uint64_t place);
+DM_SMALL dm_fields_Encoded dm_coding_curves_encode_start(uint64_t place, uint64_t figure);
+DM_SMALL dm_fields_Encoded dm_coding_curves_encode_coefficient(uint64_t place, float x);
+DM_SMALL bool dm_coding_curves_is_exponent(uint64_t code);
+DM_SMALL bool dm_coding_curves_exponent_follows(const dm_fields_Earlier *before, uint64_t code);
+DM_SMALL dm_fields_Encoded dm_coding_curves_encode_exponent(const dm_fields_Earlier *before, uint64_t place,
     uint64_t exponent);
-static uint64_t dm_coding_curves_exponent_of(uint64_t tenths);
-static bool dm_coding_curves_start_follows(const dm_fields_Earlier *before, uint64_t code);
-static bool dm_coding_curves_is_segment_count(uint64_t count);
-static bool dm_coding_curves_is_term_count(uint64_t count);
-static bool dm_coding_curves_too_many(uint64_t total);
-static dm_fields_Decoded dm_coding_decoding_plain(uint64_t least, uint64_t greatest, uint64_t at, uint64_t code);
-static dm_fields_Decoded dm_coding_decoding_stepped(uint64_t start, uint64_t step, uint64_t width, uint64_t at,
+DM_SMALL uint64_t dm_coding_curves_exponent_of(uint64_t tenths);
+DM_SMALL bool dm_coding_curves_start_follows(const dm_fields_Earlier *before, uint64_t code);
+DM_SMALL bool dm_coding_curves_is_segment_count(uint64_t count);
+DM_SMALL bool dm_coding_curves_is_term_count(uint64_t count);
+DM_SMALL bool dm_coding_curves_too_many(uint64_t total);
+DM_SMALL dm_fields_Decoded dm_coding_decoding_plain(uint64_t least, uint64_t greatest, uint64_t at, uint64_t code);
+DM_SMALL dm_fields_Decoded dm_coding_decoding_stepped(uint64_t start, uint64_t step, uint64_t width, uint64_t at,
     uint64_t code);
-static dm_fields_Decoded dm_coding_decoding_geometric(dm_fields_Scale scale, uint64_t width, uint64_t at,
+DM_SMALL dm_fields_Decoded dm_coding_decoding_geometric(dm_fields_Scale scale, uint64_t width, uint64_t at,
     uint64_t code);
-static dm_fields_Decoded dm_coding_decoding_single(uint64_t at, uint64_t code);
+DM_SMALL dm_fields_Decoded dm_coding_decoding_single(uint64_t at, uint64_t code);
 static dm_fields_Decoded dm_coding_decoding_decode_unscaled(const dm_fields_Row *row, uint64_t at, uint64_t code);
-static dm_fields_Decoded dm_coding_decoding_decode(const dm_fields_Row *row, uint64_t at, uint64_t code);
-static dm_fields_Encoded dm_coding_encoding_wrong_sort(uint64_t place);
-static dm_fields_Encoded dm_coding_encoding_out_of_range(uint64_t place);
-static bool dm_coding_encoding_is_outside(uint64_t lowest, uint64_t highest, uint64_t figure);
-static dm_fields_Encoded dm_coding_encoding_plain(uint64_t least, uint64_t greatest, uint64_t place, uint64_t figure);
-static dm_fields_Encoded dm_coding_encoding_stepped(uint64_t start, uint64_t step, uint64_t width, uint64_t place,
+DM_SMALL dm_fields_Decoded dm_coding_decoding_decode(const dm_fields_Row *row, uint64_t at, uint64_t code);
+DM_SMALL dm_fields_Encoded dm_coding_encoding_wrong_sort(uint64_t place);
+DM_SMALL dm_fields_Encoded dm_coding_encoding_out_of_range(uint64_t place);
+DM_SMALL bool dm_coding_encoding_is_outside(uint64_t lowest, uint64_t highest, uint64_t figure);
+DM_SMALL dm_fields_Encoded dm_coding_encoding_plain(uint64_t least, uint64_t greatest, uint64_t place, uint64_t figure);
+DM_SMALL dm_fields_Encoded dm_coding_encoding_stepped(uint64_t start, uint64_t step, uint64_t width, uint64_t place,
     uint64_t figure);
-static uint64_t dm_coding_encoding_highest(dm_fields_Scale scale, uint64_t width, uint64_t figure);
-static dm_fields_Encoded dm_coding_encoding_geometric(dm_fields_Scale scale, uint64_t width, uint64_t place,
+DM_SMALL uint64_t dm_coding_encoding_highest(dm_fields_Scale scale, uint64_t width, uint64_t figure);
+DM_SMALL dm_fields_Encoded dm_coding_encoding_geometric(dm_fields_Scale scale, uint64_t width, uint64_t place,
     uint64_t figure);
-static dm_fields_Encoded dm_coding_encoding_bits(uint64_t place, float x);
-static dm_fields_Encoded dm_coding_encoding_missing_code(const dm_fields_Row *row, uint64_t place);
-static uint64_t dm_coding_encoding_code_or_none(const dm_fields_Encoded *answer);
-static uint64_t dm_coding_encoding_swift_whole(const dm_fields_Row *row, uint64_t figure);
-static uint64_t dm_coding_encoding_swift_single(const dm_fields_Row *row, float x);
-static uint64_t dm_coding_encoding_swift_missing(const dm_fields_Row *row);
-static uint64_t dm_coding_encoding_swift(const dm_fields_Row *row, const dm_fields_Value *value);
-static dm_fields_Encoded dm_coding_encoding_encode_plain(const dm_fields_Row *row, uint64_t least, uint64_t greatest,
+DM_SMALL dm_fields_Encoded dm_coding_encoding_bits(uint64_t place, float x);
+DM_SMALL dm_fields_Encoded dm_coding_encoding_missing_code(const dm_fields_Row *row, uint64_t place);
+DM_SMALL uint64_t dm_coding_encoding_code_or_none(const dm_fields_Encoded *answer);
+DM_SMALL uint64_t dm_coding_encoding_swift_whole(const dm_fields_Row *row, uint64_t figure);
+DM_SMALL uint64_t dm_coding_encoding_swift_single(const dm_fields_Row *row, float x);
+DM_SMALL uint64_t dm_coding_encoding_swift_missing(const dm_fields_Row *row);
+DM_SMALL uint64_t dm_coding_encoding_swift(const dm_fields_Row *row, const dm_fields_Value *value);
+DM_SMALL dm_fields_Encoded dm_coding_encoding_encode_plain(const dm_fields_Row *row, uint64_t least, uint64_t greatest,
     uint64_t place, const dm_fields_Value *value);
-static dm_fields_Encoded dm_coding_encoding_encode_stepped(const dm_fields_Row *row, uint64_t start, uint64_t step,
+DM_SMALL dm_fields_Encoded dm_coding_encoding_encode_stepped(const dm_fields_Row *row, uint64_t start, uint64_t step,
     uint64_t place, const dm_fields_Value *value);
-static dm_fields_Encoded dm_coding_encoding_encode_geometric(const dm_fields_Row *row, dm_fields_Scale scale,
+DM_SMALL dm_fields_Encoded dm_coding_encoding_encode_geometric(const dm_fields_Row *row, dm_fields_Scale scale,
     uint64_t place, const dm_fields_Value *value);
-static dm_fields_Encoded dm_coding_encoding_encode_single(const dm_fields_Row *row, uint64_t place,
+DM_SMALL dm_fields_Encoded dm_coding_encoding_encode_single(const dm_fields_Row *row, uint64_t place,
     const dm_fields_Value *value);
-static dm_fields_Encoded dm_coding_encoding_encode_by(const dm_fields_Row *row, uint64_t place,
+DM_SMALL dm_fields_Encoded dm_coding_encoding_encode_by(const dm_fields_Row *row, uint64_t place,
     const dm_fields_Value *value);
-static dm_fields_Encoded dm_coding_encoding_encode(const dm_fields_Layout *layout, uint64_t field,
+DM_SMALL dm_fields_Encoded dm_coding_encoding_encode(const dm_fields_Layout *layout, uint64_t field,
     const dm_fields_Value *value);
-static bool dm_coding_judging_is_missing(const dm_fields_Row *row, uint64_t code);
-static dm_fields_Judged dm_coding_judging_outside_table(uint64_t at);
-static dm_fields_Judged dm_coding_judging_not_finite(uint64_t at);
-static dm_fields_Judged dm_coding_judging_in_table(uint64_t least, uint64_t greatest, uint64_t at, uint64_t code);
-static dm_fields_Judged dm_coding_judging_up_to_top(uint64_t width, uint64_t at, uint64_t code);
-static dm_fields_Judged dm_coding_judging_finite_bits(uint64_t at, uint64_t code);
-static dm_fields_Judged dm_coding_judging_by_rule(const dm_fields_Row *row, uint64_t at, uint64_t code);
-static dm_fields_Judged dm_coding_judging_judge(const dm_fields_Row *row, uint64_t at, uint64_t code);
-static uint64_t dm_build_building_table_bits(uint64_t n);
-static uint64_t dm_build_building_bits_needed(uint64_t fields, uint64_t behind, uint64_t characters);
-static bool dm_build_building_is_too_long(const dm_memory_Sizes *sizes, uint64_t bits);
-static dm_refusal_Written dm_build_building_finish_table(const dm_memory_Sizes *sizes, dm_slice_u8 image,
+DM_SMALL bool dm_coding_judging_is_missing(const dm_fields_Row *row, uint64_t code);
+DM_SMALL dm_fields_Judged dm_coding_judging_outside_table(uint64_t at);
+DM_SMALL dm_fields_Judged dm_coding_judging_not_finite(uint64_t at);
+DM_SMALL dm_fields_Judged dm_coding_judging_in_table(uint64_t least, uint64_t greatest, uint64_t at, uint64_t code);
+DM_SMALL dm_fields_Judged dm_coding_judging_up_to_top(uint64_t width, uint64_t at, uint64_t code);
+DM_SMALL dm_fields_Judged dm_coding_judging_finite_bits(uint64_t at, uint64_t code);
+DM_SMALL dm_fields_Judged dm_coding_judging_by_rule(const dm_fields_Row *row, uint64_t at, uint64_t code);
+DM_SMALL dm_fields_Judged dm_coding_judging_judge(const dm_fields_Row *row, uint64_t at, uint64_t code);
+DM_SMALL uint64_t dm_build_building_table_bits(uint64_t n);
+DM_SMALL uint64_t dm_build_building_bits_needed(uint64_t fields, uint64_t behind, uint64_t characters);
+DM_SMALL bool dm_build_building_is_too_long(const dm_memory_Sizes *sizes, uint64_t bits);
+DM_SMALL dm_refusal_Written dm_build_building_finish_table(const dm_memory_Sizes *sizes, dm_slice_u8 image,
     dm_fields_Template template_, dm_slice_u64 fields, uint64_t field_bits, bool end_bit, dm_slice_u8 text,
     dm_fields_Domain domain, dm_slice_u64 points);
-static dm_refusal_Written dm_build_building_finish_curve(const dm_memory_Sizes *sizes, dm_slice_u8 image,
+DM_SMALL dm_refusal_Written dm_build_building_finish_curve(const dm_memory_Sizes *sizes, dm_slice_u8 image,
     dm_fields_Template template_, dm_slice_u64 fields, uint64_t field_bits, bool end_bit, dm_slice_u8 text,
     const dm_build_drawing_CurvePlan *curve);
 static dm_refusal_Written dm_build_building_build_in(const dm_memory_Sizes *sizes, dm_slice_u8 image,
@@ -1324,13 +1335,13 @@ static dm_refusal_Written dm_build_building_build_in(const dm_memory_Sizes *size
 static dm_refusal_Written dm_build_building_build_curve_in(const dm_memory_Sizes *sizes, dm_slice_u8 image,
     dm_fields_Template template_, bool end_bit, dm_slice_u8 sorts, dm_slice_u64 wholes, dm_slice_f32 singles,
     dm_slice_u8 text, const dm_fields_Curve *curve);
-static dm_refusal_Written dm_build_building_build_lent(uint8_t kind, dm_slice_u8 image, dm_fields_Template template_,
+DM_SMALL dm_refusal_Written dm_build_building_build_lent(uint8_t kind, dm_slice_u8 image, dm_fields_Template template_,
     bool end_bit, dm_slice_u8 sorts, dm_slice_u64 wholes, dm_slice_f32 singles, dm_slice_u8 text,
     dm_fields_Domain domain, dm_slice_u64 points);
-static dm_refusal_Written dm_build_building_build_curve_lent(uint8_t kind, dm_slice_u8 image,
+DM_SMALL dm_refusal_Written dm_build_building_build_curve_lent(uint8_t kind, dm_slice_u8 image,
     dm_fields_Template template_, bool end_bit, dm_slice_u8 sorts, dm_slice_u64 wholes, dm_slice_f32 singles,
     dm_slice_u8 text, const dm_fields_Curve *curve);
-static dm_fields_Judged dm_build_drawing_check_count(uint64_t i, uint64_t total, uint64_t terms);
+DM_SMALL dm_fields_Judged dm_build_drawing_check_count(uint64_t i, uint64_t total, uint64_t terms);
 static dm_fields_Encoded dm_build_drawing_code_start(const dm_fields_Earlier *before, uint64_t i, uint64_t total,
     const dm_fields_Segment *segment);
 static dm_build_drawing_TwoAnswer dm_build_drawing_code_segment(const dm_fields_Earlier *before, uint64_t i,
@@ -1338,54 +1349,55 @@ static dm_build_drawing_TwoAnswer dm_build_drawing_code_segment(const dm_fields_
 static dm_build_drawing_TwoAnswer dm_build_drawing_code_term(const dm_fields_Earlier *before, uint64_t i,
     const dm_fields_Term *term);
 static dm_array_build_plan_CodedField_104 dm_build_drawing_first_four(uint64_t count);
-static dm_build_drawing_CurvePlan dm_build_drawing_no_curve(const dm_refusal_Refusal *because,
+DM_SMALL dm_build_drawing_CurvePlan dm_build_drawing_no_curve(const dm_refusal_Refusal *because,
     const dm_array_build_plan_CodedField_104 *codes);
 static dm_build_drawing_CurvePlan dm_build_drawing_plan_segments(const dm_fields_Curve *curve);
-static dm_build_drawing_CurvePlan dm_build_drawing_plan_curve(const dm_fields_Curve *curve);
-static dm_fields_Value dm_build_plan_value_at(dm_slice_u8 sorts, dm_slice_u64 wholes, dm_slice_f32 singles, uint64_t i);
-static uint64_t dm_build_plan_swift_at(const dm_fields_Row *row, dm_slice_u8 sorts, dm_slice_u64 wholes,
+DM_SMALL dm_build_drawing_CurvePlan dm_build_drawing_plan_curve(const dm_fields_Curve *curve);
+DM_SMALL dm_fields_Value dm_build_plan_value_at(dm_slice_u8 sorts, dm_slice_u64 wholes, dm_slice_f32 singles,
+    uint64_t i);
+DM_SMALL uint64_t dm_build_plan_swift_at(const dm_fields_Row *row, dm_slice_u8 sorts, dm_slice_u64 wholes,
     dm_slice_f32 singles, uint64_t i);
-static dm_fields_Encoded dm_build_plan_code_of(const dm_fields_Layout *layout, uint64_t field,
+DM_SMALL dm_fields_Encoded dm_build_plan_code_of(const dm_fields_Layout *layout, uint64_t field,
     const dm_fields_Value *value);
-static dm_fields_Encoded dm_build_plan_code_at(const dm_fields_Layout *layout, uint64_t field, dm_slice_u8 sorts,
+DM_SMALL dm_fields_Encoded dm_build_plan_code_at(const dm_fields_Layout *layout, uint64_t field, dm_slice_u8 sorts,
     dm_slice_u64 wholes, dm_slice_f32 singles, uint64_t swift);
-static uint64_t dm_build_plan_choice_behind(dm_fields_Template template_, uint64_t field, uint64_t code,
+DM_SMALL uint64_t dm_build_plan_choice_behind(dm_fields_Template template_, uint64_t field, uint64_t code,
     uint64_t latest);
-static uint64_t dm_build_plan_packed(uint64_t width, uint64_t code);
+DM_SMALL uint64_t dm_build_plan_packed(uint64_t width, uint64_t code);
 static dm_build_plan_Planned dm_build_plan_plan_fields(dm_fields_Template template_, dm_slice_u8 sorts,
     dm_slice_u64 wholes, dm_slice_f32 singles, dm_slice_u64 codes);
 static dm_fields_Judged dm_build_plan_check_characters(uint64_t field, dm_slice_u8 text);
-static dm_fields_Judged dm_build_plan_check_ending(dm_fields_Template template_, bool end_bit, dm_slice_u8 text);
+DM_SMALL dm_fields_Judged dm_build_plan_check_ending(dm_fields_Template template_, bool end_bit, dm_slice_u8 text);
 static dm_build_plan_PairAnswer dm_build_plan_code_pair(dm_slice_u64 points, uint64_t i);
 static dm_build_plan_PairAnswer dm_build_plan_check_pair(dm_fields_Domain domain, const dm_fields_Previous *before,
     dm_slice_u64 points, uint64_t i);
 static dm_fields_Judged dm_build_plan_check_points(dm_fields_Domain domain, dm_slice_u64 points);
-static bool dm_build_plan_is_wrong_list(uint64_t n);
+DM_SMALL bool dm_build_plan_is_wrong_list(uint64_t n);
 static dm_stream_cursor_Cursor dm_build_write_lay_fields(const dm_memory_Sizes *sizes, dm_slice_u8 image,
     dm_stream_cursor_Cursor start, dm_slice_u64 fields, uint64_t first, uint64_t end);
-static dm_stream_cursor_Cursor dm_build_write_lay_block(const dm_memory_Sizes *sizes, dm_slice_u8 image,
+DM_SMALL dm_stream_cursor_Cursor dm_build_write_lay_block(const dm_memory_Sizes *sizes, dm_slice_u8 image,
     dm_stream_cursor_Cursor cursor, uint64_t number);
-static dm_stream_cursor_Cursor dm_build_write_lay_pair(const dm_memory_Sizes *sizes, dm_slice_u8 image,
+DM_SMALL dm_stream_cursor_Cursor dm_build_write_lay_pair(const dm_memory_Sizes *sizes, dm_slice_u8 image,
     dm_stream_cursor_Cursor cursor, dm_slice_u64 points, uint64_t i);
 static dm_stream_cursor_Cursor dm_build_write_lay_pairs(const dm_memory_Sizes *sizes, dm_slice_u8 image,
     dm_stream_cursor_Cursor start, dm_slice_u64 points);
-static dm_stream_cursor_Cursor dm_build_write_lay_table(const dm_memory_Sizes *sizes, dm_slice_u8 image,
+DM_SMALL dm_stream_cursor_Cursor dm_build_write_lay_table(const dm_memory_Sizes *sizes, dm_slice_u8 image,
     dm_stream_cursor_Cursor cursor, dm_fields_Domain domain, dm_slice_u64 points);
 static dm_stream_cursor_Cursor dm_build_write_lay_curve(const dm_memory_Sizes *sizes, dm_slice_u8 image,
     dm_stream_cursor_Cursor start, const dm_array_build_plan_CodedField_104 *codes, uint64_t count);
 static uint64_t dm_build_write_gathered(dm_slice_u8 text, uint64_t i, uint64_t end);
-static uint64_t dm_build_write_seven_on(uint64_t i, uint64_t n);
+DM_SMALL uint64_t dm_build_write_seven_on(uint64_t i, uint64_t n);
 static dm_stream_cursor_Cursor dm_build_write_lay_text(const dm_memory_Sizes *sizes, dm_slice_u8 image,
     dm_stream_cursor_Cursor start, dm_slice_u8 text);
-static dm_stream_cursor_Cursor dm_build_write_lay_ending(const dm_memory_Sizes *sizes, dm_slice_u8 image,
+DM_SMALL dm_stream_cursor_Cursor dm_build_write_lay_ending(const dm_memory_Sizes *sizes, dm_slice_u8 image,
     dm_stream_cursor_Cursor cursor, bool end_bit, dm_slice_u8 text);
-static dm_stream_cursor_Cursor dm_build_write_lay_front(const dm_memory_Sizes *sizes, dm_slice_u8 image,
+DM_SMALL dm_stream_cursor_Cursor dm_build_write_lay_front(const dm_memory_Sizes *sizes, dm_slice_u8 image,
     dm_fields_Template template_, dm_slice_u64 fields);
-static void dm_build_write_lay_back(const dm_memory_Sizes *sizes, dm_slice_u8 image, dm_stream_cursor_Cursor cursor,
+DM_SMALL void dm_build_write_lay_back(const dm_memory_Sizes *sizes, dm_slice_u8 image, dm_stream_cursor_Cursor cursor,
     bool end_bit, dm_slice_u8 text);
-static void dm_build_write_write_table(const dm_memory_Sizes *sizes, dm_slice_u8 image, dm_fields_Template template_,
+DM_SMALL void dm_build_write_write_table(const dm_memory_Sizes *sizes, dm_slice_u8 image, dm_fields_Template template_,
     dm_slice_u64 fields, bool end_bit, dm_slice_u8 text, dm_fields_Domain domain, dm_slice_u64 points);
-static void dm_build_write_write_curve(const dm_memory_Sizes *sizes, dm_slice_u8 image, dm_fields_Template template_,
+DM_SMALL void dm_build_write_write_curve(const dm_memory_Sizes *sizes, dm_slice_u8 image, dm_fields_Template template_,
     dm_slice_u64 fields, bool end_bit, dm_slice_u8 text, const dm_build_drawing_CurvePlan *curve);
 static dm_sheet_block_BlockStep dm_sheet_block_take_block(const dm_memory_Sizes *sizes, dm_slice_u8 image,
     dm_stream_cursor_Cursor cursor, uint64_t at);
@@ -1393,21 +1405,21 @@ static dm_sheet_block_BlockStep dm_sheet_block_take_only_block(const dm_memory_S
     dm_stream_cursor_Cursor cursor, uint64_t at);
 static dm_sheet_block_BlockStep dm_sheet_block_take_calibration(const dm_memory_Sizes *sizes, dm_slice_u8 image,
     dm_stream_cursor_Cursor cursor);
-static dm_sheet_Checked dm_sheet_calls_check(uint8_t kind, dm_slice_u8 image);
+DM_SMALL dm_sheet_Checked dm_sheet_calls_check(uint8_t kind, dm_slice_u8 image);
 static dm_sheet_FieldAnswer dm_sheet_calls_read_field(uint8_t kind, dm_slice_u8 image, uint64_t field);
 static dm_sheet_PairAnswer dm_sheet_calls_read_pair(uint8_t kind, dm_slice_u8 image, uint64_t index);
 static dm_sheet_CharacterAnswer dm_sheet_calls_read_character(uint8_t kind, dm_slice_u8 image, uint64_t index);
 static dm_sheet_SegmentAnswer dm_sheet_calls_read_segment(uint8_t kind, dm_slice_u8 image, uint64_t index);
 static dm_sheet_TermAnswer dm_sheet_calls_read_term(uint8_t kind, dm_slice_u8 image, uint64_t index);
-static dm_sheet_walk_CodeStep dm_sheet_curve_ruled(bool takes, uint64_t at, uint64_t code,
+DM_SMALL dm_sheet_walk_CodeStep dm_sheet_curve_ruled(bool takes, uint64_t at, uint64_t code,
     dm_stream_cursor_Cursor next);
-static dm_sheet_walk_CodeStep dm_sheet_curve_take_segment_count(const dm_memory_Sizes *sizes, dm_slice_u8 image,
+DM_SMALL dm_sheet_walk_CodeStep dm_sheet_curve_take_segment_count(const dm_memory_Sizes *sizes, dm_slice_u8 image,
     dm_stream_cursor_Cursor cursor);
-static dm_sheet_walk_CodeStep dm_sheet_curve_take_start(const dm_memory_Sizes *sizes, dm_slice_u8 image,
+DM_SMALL dm_sheet_walk_CodeStep dm_sheet_curve_take_start(const dm_memory_Sizes *sizes, dm_slice_u8 image,
     dm_stream_cursor_Cursor cursor, const dm_fields_Earlier *before);
-static dm_sheet_walk_CodeStep dm_sheet_curve_take_term_count(const dm_memory_Sizes *sizes, dm_slice_u8 image,
+DM_SMALL dm_sheet_walk_CodeStep dm_sheet_curve_take_term_count(const dm_memory_Sizes *sizes, dm_slice_u8 image,
     dm_stream_cursor_Cursor cursor);
-static dm_sheet_walk_CodeStep dm_sheet_curve_take_exponent(const dm_memory_Sizes *sizes, dm_slice_u8 image,
+DM_SMALL dm_sheet_walk_CodeStep dm_sheet_curve_take_exponent(const dm_memory_Sizes *sizes, dm_slice_u8 image,
     dm_stream_cursor_Cursor cursor, const dm_fields_Earlier *before);
 static dm_sheet_curve_EarlierStep dm_sheet_curve_take_term(const dm_memory_Sizes *sizes, dm_slice_u8 image,
     dm_stream_cursor_Cursor cursor, const dm_fields_Earlier *before);
@@ -1421,42 +1433,43 @@ static dm_sheet_block_BlockStep dm_sheet_curve_take_curve(const dm_memory_Sizes 
     dm_stream_cursor_Cursor cursor);
 static dm_sheet_table_CountStep dm_sheet_ending_take_text(const dm_memory_Sizes *sizes, dm_slice_u8 image,
     dm_stream_cursor_Cursor start, uint64_t most);
-static uint64_t dm_sheet_ending_most_characters(const dm_memory_Sizes *sizes, dm_stream_cursor_Cursor cursor,
+DM_SMALL uint64_t dm_sheet_ending_most_characters(const dm_memory_Sizes *sizes, dm_stream_cursor_Cursor cursor,
     uint64_t bit);
 static dm_sheet_ending_EndStep dm_sheet_ending_take_ending(const dm_memory_Sizes *sizes, dm_slice_u8 image,
     dm_stream_cursor_Cursor cursor);
-static dm_fields_Value dm_sheet_held_value_at(const dm_memory_Sizes *sizes, dm_slice_u8 image, uint64_t at,
+DM_SMALL dm_fields_Value dm_sheet_held_value_at(const dm_memory_Sizes *sizes, dm_slice_u8 image, uint64_t at,
     const dm_fields_Row *row);
-static dm_fields_Value dm_sheet_held_unscaled_at(const dm_memory_Sizes *sizes, dm_slice_u8 image, uint64_t at,
+DM_SMALL dm_fields_Value dm_sheet_held_unscaled_at(const dm_memory_Sizes *sizes, dm_slice_u8 image, uint64_t at,
     const dm_fields_Row *row);
-static uint64_t dm_sheet_held_figure(const dm_fields_Value *value);
-static dm_fields_Value dm_sheet_held_value_in(const dm_sheet_opening_Opened *sheet, dm_slice_u8 image, uint64_t field);
-static dm_fields_Value dm_sheet_held_unscaled_in(const dm_sheet_opening_Opened *sheet, dm_slice_u8 image,
+DM_SMALL uint64_t dm_sheet_held_figure(const dm_fields_Value *value);
+DM_SMALL dm_fields_Value dm_sheet_held_value_in(const dm_sheet_opening_Opened *sheet, dm_slice_u8 image,
     uint64_t field);
-static dm_fields_Pair dm_sheet_held_pair_in(const dm_sheet_opening_Opened *sheet, dm_slice_u8 image, uint64_t index);
-static uint8_t dm_sheet_held_character_in(const dm_sheet_opening_Opened *sheet, dm_slice_u8 image, uint64_t index);
+DM_SMALL dm_fields_Value dm_sheet_held_unscaled_in(const dm_sheet_opening_Opened *sheet, dm_slice_u8 image,
+    uint64_t field);
+DM_SMALL dm_fields_Pair dm_sheet_held_pair_in(const dm_sheet_opening_Opened *sheet, dm_slice_u8 image, uint64_t index);
+DM_SMALL uint8_t dm_sheet_held_character_in(const dm_sheet_opening_Opened *sheet, dm_slice_u8 image, uint64_t index);
 static dm_sheet_opening_OpenedAnswer dm_sheet_opening_walk_sheet(const dm_memory_Sizes *sizes, dm_slice_u8 image);
 static dm_sheet_opening_OpenedAnswer dm_sheet_opening_open(uint8_t kind, dm_slice_u8 image);
-static uint64_t dm_sheet_places_locate(const dm_fields_Layout *layout, uint64_t field);
-static uint64_t dm_sheet_places_fields_end(const dm_fields_Layout *layout);
-static uint64_t dm_sheet_places_locate_pair(const dm_fields_Layout *layout, uint64_t index);
-static uint64_t dm_sheet_places_table_bits(uint64_t points);
-static uint64_t dm_sheet_places_curve_place(const dm_fields_Layout *layout);
-static uint64_t dm_sheet_places_curve_bits(uint64_t segments, uint64_t terms);
-static uint64_t dm_sheet_places_locate_character(const dm_fields_Layout *layout, uint64_t points, uint64_t segments,
+DM_SMALL uint64_t dm_sheet_places_locate(const dm_fields_Layout *layout, uint64_t field);
+DM_SMALL uint64_t dm_sheet_places_fields_end(const dm_fields_Layout *layout);
+DM_SMALL uint64_t dm_sheet_places_locate_pair(const dm_fields_Layout *layout, uint64_t index);
+DM_SMALL uint64_t dm_sheet_places_table_bits(uint64_t points);
+DM_SMALL uint64_t dm_sheet_places_curve_place(const dm_fields_Layout *layout);
+DM_SMALL uint64_t dm_sheet_places_curve_bits(uint64_t segments, uint64_t terms);
+DM_SMALL uint64_t dm_sheet_places_locate_character(const dm_fields_Layout *layout, uint64_t points, uint64_t segments,
     uint64_t terms, uint64_t index);
-static uint64_t dm_sheet_segments_terms_at(const dm_memory_Sizes *sizes, dm_slice_u8 image, uint64_t at);
-static uint64_t dm_sheet_segments_segment_end(uint64_t at, uint64_t terms);
-static dm_fields_Segment dm_sheet_segments_segment_at(const dm_memory_Sizes *sizes, dm_slice_u8 image, uint64_t at);
-static float dm_sheet_segments_float(const dm_fields_Value *value);
-static dm_fields_Term dm_sheet_segments_term_at(const dm_memory_Sizes *sizes, dm_slice_u8 image, uint64_t at);
+DM_SMALL uint64_t dm_sheet_segments_terms_at(const dm_memory_Sizes *sizes, dm_slice_u8 image, uint64_t at);
+DM_SMALL uint64_t dm_sheet_segments_segment_end(uint64_t at, uint64_t terms);
+DM_SMALL dm_fields_Segment dm_sheet_segments_segment_at(const dm_memory_Sizes *sizes, dm_slice_u8 image, uint64_t at);
+DM_SMALL float dm_sheet_segments_float(const dm_fields_Value *value);
+DM_SMALL dm_fields_Term dm_sheet_segments_term_at(const dm_memory_Sizes *sizes, dm_slice_u8 image, uint64_t at);
 static uint64_t dm_sheet_segments_pass_segments(const dm_memory_Sizes *sizes, dm_slice_u8 image, uint64_t first,
     uint64_t count);
 static uint64_t dm_sheet_segments_find_term(const dm_memory_Sizes *sizes, dm_slice_u8 image, uint64_t first,
     uint64_t segments, uint64_t index);
-static dm_fields_Segment dm_sheet_segments_segment_in(const dm_sheet_opening_Opened *sheet, dm_slice_u8 image,
+DM_SMALL dm_fields_Segment dm_sheet_segments_segment_in(const dm_sheet_opening_Opened *sheet, dm_slice_u8 image,
     uint64_t index);
-static dm_fields_Term dm_sheet_segments_term_in(const dm_sheet_opening_Opened *sheet, dm_slice_u8 image,
+DM_SMALL dm_fields_Term dm_sheet_segments_term_in(const dm_sheet_opening_Opened *sheet, dm_slice_u8 image,
     uint64_t index);
 static dm_sheet_table_CodesStep dm_sheet_table_take_codes(const dm_memory_Sizes *sizes, dm_slice_u8 image,
     dm_stream_cursor_Cursor cursor, dm_fields_Domain domain, const dm_fields_Previous *before);
@@ -1464,7 +1477,7 @@ static bool dm_sheet_table_all_rise(const dm_memory_Sizes *sizes, dm_slice_u8 im
     dm_fields_Domain domain, uint64_t count);
 static dm_sheet_table_CountStep dm_sheet_table_take_each(const dm_memory_Sizes *sizes, dm_slice_u8 image,
     dm_stream_cursor_Cursor start, dm_fields_Domain domain, uint64_t count);
-static dm_sheet_table_CountStep dm_sheet_table_take_pairs(const dm_memory_Sizes *sizes, dm_slice_u8 image,
+DM_SMALL dm_sheet_table_CountStep dm_sheet_table_take_pairs(const dm_memory_Sizes *sizes, dm_slice_u8 image,
     dm_stream_cursor_Cursor start, dm_fields_Domain domain, uint64_t count);
 static dm_sheet_block_BlockStep dm_sheet_table_take_listed(const dm_memory_Sizes *sizes, dm_slice_u8 image,
     dm_stream_cursor_Cursor start, dm_fields_Domain domain, uint64_t count);
@@ -1472,61 +1485,61 @@ static dm_sheet_block_BlockStep dm_sheet_table_take_table(const dm_memory_Sizes 
     dm_stream_cursor_Cursor cursor);
 static dm_sheet_walk_CodeStep dm_sheet_walk_judged(const dm_fields_Row *row, uint64_t at,
     const dm_stream_cursor_Taken *taken);
-static dm_sheet_walk_CodeStep dm_sheet_walk_take_code(const dm_memory_Sizes *sizes, dm_slice_u8 image,
+DM_SMALL dm_sheet_walk_CodeStep dm_sheet_walk_take_code(const dm_memory_Sizes *sizes, dm_slice_u8 image,
     dm_stream_cursor_Cursor cursor, const dm_fields_Row *row);
 static dm_sheet_walk_MarkStep dm_sheet_walk_take_mark(const dm_memory_Sizes *sizes, dm_slice_u8 image,
     dm_stream_cursor_Cursor cursor, uint64_t width, uint64_t wanted, uint64_t at);
 static dm_sheet_walk_CodeStep dm_sheet_walk_take_field(const dm_memory_Sizes *sizes, dm_slice_u8 image,
     dm_stream_cursor_Cursor cursor, const dm_fields_Layout *layout, uint64_t field);
-static uint64_t dm_sheet_walk_chosen(bool sets, uint64_t code, uint64_t latest);
+DM_SMALL uint64_t dm_sheet_walk_chosen(bool sets, uint64_t code, uint64_t latest);
 static dm_sheet_walk_ChoiceStep dm_sheet_walk_take_fields(const dm_memory_Sizes *sizes, dm_slice_u8 image,
     dm_stream_cursor_Cursor start, dm_fields_Template template_, uint64_t first, uint64_t last);
-static dm_fields_Judged dm_sheet_walk_judge_at(const dm_memory_Sizes *sizes, dm_slice_u8 image,
+DM_SMALL dm_fields_Judged dm_sheet_walk_judge_at(const dm_memory_Sizes *sizes, dm_slice_u8 image,
     const dm_fields_Row *row, uint64_t at);
 static dm_fields_Judged dm_sheet_walk_judge_basic(const dm_memory_Sizes *sizes, dm_slice_u8 image);
 static dm_fields_Judged dm_sheet_walk_judge_bridge(const dm_memory_Sizes *sizes, dm_slice_u8 image, uint64_t precision);
 static dm_fields_Judged dm_sheet_walk_judge_resistance(const dm_memory_Sizes *sizes, dm_slice_u8 image,
     uint64_t precision);
-static dm_fields_Judged dm_sheet_walk_judge_own(const dm_memory_Sizes *sizes, dm_slice_u8 image,
+DM_SMALL dm_fields_Judged dm_sheet_walk_judge_own(const dm_memory_Sizes *sizes, dm_slice_u8 image,
     const dm_fields_Layout *layout);
 static dm_sheet_walk_TemplateStep dm_sheet_walk_take_template(const dm_memory_Sizes *sizes, dm_slice_u8 image);
 static dm_sheet_walk_ChoiceStep dm_sheet_walk_take_own(const dm_memory_Sizes *sizes, dm_slice_u8 image,
     dm_fields_Template template_);
-static dm_change_changing_Allowed dm_change_changing_may_write(dm_fields_Template template_, dm_fields_Level level,
+DM_SMALL dm_change_changing_Allowed dm_change_changing_may_write(dm_fields_Template template_, dm_fields_Level level,
     uint64_t field);
 static dm_change_changing_Allowed dm_change_changing_may_change(dm_fields_Template template_, dm_fields_Level level,
     uint64_t field);
 static dm_refusal_Written dm_change_changing_change(uint8_t kind, dm_slice_u8 image, dm_fields_Level level,
     uint64_t field, const dm_fields_Value *value);
-static bool dm_change_committing_may_stand(const dm_fields_Row *row, uint64_t code);
-static dm_fields_Judged dm_change_committing_may_follow(const dm_fields_Row *row, uint64_t stands, uint64_t field,
+DM_SMALL bool dm_change_committing_may_stand(const dm_fields_Row *row, uint64_t code);
+DM_SMALL dm_fields_Judged dm_change_committing_may_follow(const dm_fields_Row *row, uint64_t stands, uint64_t field,
     uint64_t present, uint64_t new_);
-static dm_fields_Judged dm_change_committing_may_commit(const dm_sheet_opening_Opened *sheet, dm_slice_u8 image,
+DM_SMALL dm_fields_Judged dm_change_committing_may_commit(const dm_sheet_opening_Opened *sheet, dm_slice_u8 image,
     dm_fields_Level level, uint64_t field, uint64_t present, uint64_t new_);
 static dm_refusal_Written dm_change_committing_commit(uint8_t kind, dm_slice_u8 image, dm_fields_Level level,
     uint64_t field, uint64_t present, uint64_t new_);
-static dm_fields_Encoded dm_change_proposing_code_for(const dm_fields_Layout *layout, dm_fields_Level level,
+DM_SMALL dm_fields_Encoded dm_change_proposing_code_for(const dm_fields_Layout *layout, dm_fields_Level level,
     uint64_t field, const dm_fields_Value *value);
 static dm_change_ProposalAnswer dm_change_proposing_proposed(const dm_fields_Layout *layout, uint64_t field,
     uint64_t present, uint64_t new_);
 static dm_change_ProposalAnswer dm_change_proposing_propose(uint8_t kind, dm_slice_u8 image, dm_fields_Level level,
     uint64_t field, const dm_fields_Value *value);
-static uint64_t dm_change_standing_code_in(const dm_sheet_opening_Opened *sheet, dm_slice_u8 image, uint64_t field);
-static uint64_t dm_distance_telling_apart(uint64_t a, uint64_t b);
-static uint64_t dm_distance_telling_slope(uint64_t rise, uint64_t run);
-static uint64_t dm_distance_telling_slope_at(dm_slice_u64 points, uint64_t i);
-static uint64_t dm_distance_telling_greater(uint64_t a, uint64_t b);
+DM_SMALL uint64_t dm_change_standing_code_in(const dm_sheet_opening_Opened *sheet, dm_slice_u8 image, uint64_t field);
+DM_SMALL uint64_t dm_distance_telling_apart(uint64_t a, uint64_t b);
+DM_SMALL uint64_t dm_distance_telling_slope(uint64_t rise, uint64_t run);
+DM_SMALL uint64_t dm_distance_telling_slope_at(dm_slice_u64 points, uint64_t i);
+DM_SMALL uint64_t dm_distance_telling_greater(uint64_t a, uint64_t b);
 static uint64_t dm_distance_telling_steepest(dm_slice_u64 points);
-static dm_distance_ToldDistance dm_distance_telling_told(uint64_t k);
+DM_SMALL dm_distance_ToldDistance dm_distance_telling_told(uint64_t k);
 static dm_distance_DistanceAnswer dm_distance_telling_distance(dm_slice_u64 points);
-static uint64_t dm_index_entries_wide(uint8_t x);
-static uint8_t dm_index_entries_byte(uint64_t word);
-static void dm_index_entries_put_two(dm_slice_u8 index, uint64_t at, uint64_t word);
-static void dm_index_entries_put_entry(dm_slice_u8 index, uint64_t at, const dm_index_Entry *new_);
-static uint64_t dm_index_entries_two(dm_slice_u8 index, uint64_t at);
-static dm_index_Entry dm_index_entries_entry_at(dm_slice_u8 index, uint64_t i);
-static dm_fields_Template dm_index_fetching_taken_as(uint64_t number);
-static dm_fields_Template dm_index_fetching_template_at(const dm_memory_Sizes *sizes, dm_slice_u8 image);
+DM_SMALL uint64_t dm_index_entries_wide(uint8_t x);
+DM_SMALL uint8_t dm_index_entries_byte(uint64_t word);
+DM_SMALL void dm_index_entries_put_two(dm_slice_u8 index, uint64_t at, uint64_t word);
+DM_SMALL void dm_index_entries_put_entry(dm_slice_u8 index, uint64_t at, const dm_index_Entry *new_);
+DM_SMALL uint64_t dm_index_entries_two(dm_slice_u8 index, uint64_t at);
+DM_SMALL dm_index_Entry dm_index_entries_entry_at(dm_slice_u8 index, uint64_t i);
+DM_SMALL dm_fields_Template dm_index_fetching_taken_as(uint64_t number);
+DM_SMALL dm_fields_Template dm_index_fetching_template_at(const dm_memory_Sizes *sizes, dm_slice_u8 image);
 static dm_index_fetching_RowAnswer dm_index_fetching_row_of_length(dm_fields_Template template_, uint64_t field,
     const dm_index_Entry *entry);
 static dm_sheet_FieldAnswer dm_index_fetching_bits_at(const dm_memory_Sizes *sizes, dm_slice_u8 image,
@@ -1537,79 +1550,79 @@ static dm_sheet_FieldAnswer dm_index_fetching_fetch(uint8_t kind, dm_slice_u8 im
 static void dm_index_making_write_basic(dm_slice_u8 buffer);
 static void dm_index_making_write_bridge(dm_slice_u8 buffer, uint64_t precision);
 static void dm_index_making_write_resistance(dm_slice_u8 buffer, uint64_t precision);
-static void dm_index_making_write_own(const dm_fields_Layout *layout, dm_slice_u8 buffer);
+DM_SMALL void dm_index_making_write_own(const dm_fields_Layout *layout, dm_slice_u8 buffer);
 static void dm_index_making_write_points(const dm_fields_Layout *layout, dm_slice_u8 buffer, uint64_t count);
-static void dm_index_making_write_entries(const dm_fields_Layout *layout, dm_slice_u8 buffer, uint64_t count);
+DM_SMALL void dm_index_making_write_entries(const dm_fields_Layout *layout, dm_slice_u8 buffer, uint64_t count);
 static dm_refusal_Written dm_index_making_make_index(uint8_t kind, dm_slice_u8 image, dm_slice_u8 buffer);
-static bool dm_reading_dashes_is_too_many(dm_reading_Dash dash, uint64_t points);
-static bool dm_reading_ends_is_missing(const dm_fields_Value *value);
-static dm_fields_Rounded dm_reading_ends_end_of(const dm_fields_Value *value);
+DM_SMALL bool dm_reading_dashes_is_too_many(dm_reading_Dash dash, uint64_t points);
+DM_SMALL bool dm_reading_ends_is_missing(const dm_fields_Value *value);
+DM_SMALL dm_fields_Rounded dm_reading_ends_end_of(const dm_fields_Value *value);
 static dm_reading_ends_EndsAnswer dm_reading_ends_ends_of(const dm_fields_Value *first, const dm_fields_Value *last);
-static uint64_t dm_reading_fraction_figure_in(dm_fields_Domain domain, const dm_fields_Pair *pair);
+DM_SMALL uint64_t dm_reading_fraction_figure_in(dm_fields_Domain domain, const dm_fields_Pair *pair);
 static uint64_t dm_reading_fraction_pairs_before(const dm_sheet_opening_Opened *sheet, dm_slice_u8 image,
     dm_fields_Domain domain, uint64_t p);
-static uint64_t dm_reading_fraction_held_in(dm_fields_Domain domain, uint64_t p, const dm_fields_Pair *pair);
-static uint64_t dm_reading_fraction_between_in(dm_fields_Domain domain, uint64_t p, const dm_fields_Pair *before,
+DM_SMALL uint64_t dm_reading_fraction_held_in(dm_fields_Domain domain, uint64_t p, const dm_fields_Pair *pair);
+DM_SMALL uint64_t dm_reading_fraction_between_in(dm_fields_Domain domain, uint64_t p, const dm_fields_Pair *before,
     const dm_fields_Pair *behind);
-static uint64_t dm_reading_fraction_fraction_in(const dm_sheet_opening_Opened *sheet, dm_slice_u8 image,
+DM_SMALL uint64_t dm_reading_fraction_fraction_in(const dm_sheet_opening_Opened *sheet, dm_slice_u8 image,
     dm_fields_Domain domain, uint64_t p);
-static uint64_t dm_reading_fraction_fraction(const dm_sheet_opening_Opened *sheet, dm_slice_u8 image, uint64_t p);
-static dm_reading_position_Offset dm_reading_position_offset_in(uint64_t v, const dm_reading_span_Span *span);
-static bool dm_reading_position_is_too_far(uint64_t v, const dm_reading_span_Span *span);
-static uint64_t dm_reading_position_position(uint64_t v, const dm_reading_span_Span *span);
+DM_SMALL uint64_t dm_reading_fraction_fraction(const dm_sheet_opening_Opened *sheet, dm_slice_u8 image, uint64_t p);
+DM_SMALL dm_reading_position_Offset dm_reading_position_offset_in(uint64_t v, const dm_reading_span_Span *span);
+DM_SMALL bool dm_reading_position_is_too_far(uint64_t v, const dm_reading_span_Span *span);
+DM_SMALL uint64_t dm_reading_position_position(uint64_t v, const dm_reading_span_Span *span);
 static dm_reading_share_Run dm_reading_share_serving(const dm_sheet_opening_Opened *sheet, dm_slice_u8 image,
     uint64_t p);
 static dm_curve_Powers dm_reading_share_powers_of(const dm_memory_Sizes *sizes, dm_slice_u8 image,
     const dm_reading_share_Run *run);
-static double dm_reading_share_share(const dm_sheet_opening_Opened *sheet, dm_slice_u8 image, uint64_t p, uint64_t q);
+DM_SMALL double dm_reading_share_share(const dm_sheet_opening_Opened *sheet, dm_slice_u8 image, uint64_t p, uint64_t q);
 static dm_reading_span_SpanAnswer dm_reading_span_span_in(const dm_sheet_opening_Opened *sheet, dm_slice_u8 image);
-static dm_reading_Reading dm_reading_taking_shown(const dm_sheet_opening_Opened *sheet, dm_slice_u8 image,
+DM_SMALL dm_reading_Reading dm_reading_taking_shown(const dm_sheet_opening_Opened *sheet, dm_slice_u8 image,
     const dm_reading_span_Span *span, uint64_t input);
-static bool dm_reading_taking_is_resistance(dm_fields_Template template_);
+DM_SMALL bool dm_reading_taking_is_resistance(dm_fields_Template template_);
 static dm_reading_ReadingAnswer dm_reading_taking_bridge_reading(const dm_sheet_opening_Opened *sheet,
     dm_slice_u8 image, uint64_t input, dm_reading_Dash dash);
-static dm_reading_ReadingAnswer dm_reading_taking_dash_reading(const dm_sheet_opening_Opened *sheet, dm_slice_u8 image,
+DM_SMALL dm_reading_ReadingAnswer dm_reading_taking_dash_reading(const dm_sheet_opening_Opened *sheet,
+    dm_slice_u8 image, uint64_t input, dm_reading_Dash dash);
+DM_SMALL dm_reading_ReadingAnswer dm_reading_taking_reading_in(const dm_sheet_opening_Opened *sheet, dm_slice_u8 image,
     uint64_t input, dm_reading_Dash dash);
-static dm_reading_ReadingAnswer dm_reading_taking_reading_in(const dm_sheet_opening_Opened *sheet, dm_slice_u8 image,
-    uint64_t input, dm_reading_Dash dash);
-static dm_reading_ReadingAnswer dm_reading_taking_take_reading(uint8_t kind, dm_slice_u8 image, uint64_t input,
+DM_SMALL dm_reading_ReadingAnswer dm_reading_taking_take_reading(uint8_t kind, dm_slice_u8 image, uint64_t input,
     dm_reading_Dash dash);
-static bool dm_recordings_comparing_is_unlike(uint64_t slow, uint64_t fast);
-static bool dm_recordings_comparing_is_same(uint64_t a, uint64_t b);
-static bool dm_recordings_comparing_is_paired(dm_slice_u64 slow, dm_slice_u64 fast, uint64_t tick);
-static bool dm_recordings_comparing_is_shown(const dm_sheet_opening_Opened *sheet, dm_slice_u8 image,
+DM_SMALL bool dm_recordings_comparing_is_unlike(uint64_t slow, uint64_t fast);
+DM_SMALL bool dm_recordings_comparing_is_same(uint64_t a, uint64_t b);
+DM_SMALL bool dm_recordings_comparing_is_paired(dm_slice_u64 slow, dm_slice_u64 fast, uint64_t tick);
+DM_SMALL bool dm_recordings_comparing_is_shown(const dm_sheet_opening_Opened *sheet, dm_slice_u8 image,
     dm_slice_u64 fast, uint64_t tick);
-static bool dm_recordings_comparing_is_right(const dm_sheet_opening_Opened *sheet, dm_slice_u8 image,
+DM_SMALL bool dm_recordings_comparing_is_right(const dm_sheet_opening_Opened *sheet, dm_slice_u8 image,
     dm_slice_u64 slow, dm_slice_u64 fast, uint64_t tick);
 static dm_recordings_ComparedAnswer dm_recordings_comparing_compare_ticks(const dm_sheet_opening_Opened *sheet,
     dm_slice_u8 image, dm_slice_u64 slow, dm_slice_u64 fast);
-static dm_recordings_ComparedAnswer dm_recordings_comparing_compare_in(const dm_sheet_opening_Opened *sheet,
+DM_SMALL dm_recordings_ComparedAnswer dm_recordings_comparing_compare_in(const dm_sheet_opening_Opened *sheet,
     dm_slice_u8 image, dm_slice_u64 slow, dm_slice_u64 fast);
-static dm_recordings_ComparedAnswer dm_recordings_comparing_compare(uint8_t kind, dm_slice_u8 image, dm_slice_u64 slow,
-    dm_slice_u64 fast);
-static uint8_t dm_dartelm_answers_domain_number(dm_sheet_TableDomain domain);
-static dartelm_field_answer dm_dartelm_held(const dm_sheet_FieldAnswer *answer);
-static dartelm_write_answer dm_dartelm_wrote(const dm_refusal_Written *written);
+DM_SMALL dm_recordings_ComparedAnswer dm_recordings_comparing_compare(uint8_t kind, dm_slice_u8 image,
+    dm_slice_u64 slow, dm_slice_u64 fast);
+DM_SMALL uint8_t dm_dartelm_answers_domain_number(dm_sheet_TableDomain domain);
+DM_SMALL dartelm_field_answer dm_dartelm_held(const dm_sheet_FieldAnswer *answer);
+DM_SMALL dartelm_write_answer dm_dartelm_wrote(const dm_refusal_Written *written);
 static dartelm_sheet_answer dm_dartelm_sheets_sheet_in(const dm_sheet_opening_Opened *sheet, dm_slice_u8 image);
 static dartelm_sheet_answer dm_dartelm_sheets_no_sheet(const dm_refusal_Refusal *r);
-static bool dm_dartelm_values_is_yes(uint8_t given);
-static dm_fields_Level dm_dartelm_values_level_of(uint8_t given);
-static dm_fields_Template dm_dartelm_values_template_of(uint8_t given);
-static dm_reading_Dash dm_dartelm_values_dash_of(uint8_t given);
-static dm_fields_Value dm_dartelm_values_value_of(const dartelm_value *given);
+DM_SMALL bool dm_dartelm_values_is_yes(uint8_t given);
+DM_SMALL dm_fields_Level dm_dartelm_values_level_of(uint8_t given);
+DM_SMALL dm_fields_Template dm_dartelm_values_template_of(uint8_t given);
+DM_SMALL dm_reading_Dash dm_dartelm_values_dash_of(uint8_t given);
+DM_SMALL dm_fields_Value dm_dartelm_values_value_of(const dartelm_value *given);
 static dartelm_value dm_dartelm_values_by_flags(const dm_fields_Value *value);
-static dartelm_value dm_dartelm_values_no_value(void);
+DM_SMALL dartelm_value dm_dartelm_values_no_value(void);
 static void dm_dartelm_values_spread(const dartelm_fields *given, dm_slice_u8 sorts, dm_slice_u64 wholes,
     dm_slice_f32 singles);
-static dm_fields_Segment dm_dartelm_values_segment_of(const dartelm_curve_segment *given);
-static dm_fields_Term dm_dartelm_values_term_of(const dartelm_curve_term *given);
+DM_SMALL dm_fields_Segment dm_dartelm_values_segment_of(const dartelm_curve_segment *given);
+DM_SMALL dm_fields_Term dm_dartelm_values_term_of(const dartelm_curve_term *given);
 static dm_array_fields_Segment_20 dm_dartelm_values_segments_of(const dm_array_dartelm_curve_segment_20 *given);
 static dm_array_fields_Term_30 dm_dartelm_values_terms_of(const dm_array_dartelm_curve_term_30 *given);
-static dm_fields_Curve dm_dartelm_values_curve_of(const dartelm_curve *given);
+DM_SMALL dm_fields_Curve dm_dartelm_values_curve_of(const dartelm_curve *given);
 
 /* ---- the kit, std/num.rt ---- */
 
-static uint8_t dm_std_num_wrapping_add_u8(uint8_t a, uint8_t b)
+DM_SMALL uint8_t dm_std_num_wrapping_add_u8(uint8_t a, uint8_t b)
 {
     if ((uint32_t)a <= 255u - b) {
         return (uint8_t)((uint32_t)a + b);
@@ -1618,7 +1631,7 @@ static uint8_t dm_std_num_wrapping_add_u8(uint8_t a, uint8_t b)
     }
 }
 
-static uint8_t dm_std_num_wrapping_sub_u8(uint8_t a, uint8_t b)
+DM_SMALL uint8_t dm_std_num_wrapping_sub_u8(uint8_t a, uint8_t b)
 {
     if ((uint32_t)b <= (uint32_t)a) {
         return (uint8_t)((uint32_t)a - b);
@@ -1627,7 +1640,7 @@ static uint8_t dm_std_num_wrapping_sub_u8(uint8_t a, uint8_t b)
     }
 }
 
-static double dm_std_num_f32_to_f64_with_nan(float x)
+DM_SMALL double dm_std_num_f32_to_f64_with_nan(float x)
 {
     if (x != x) {
         return dm_double_div(dm_double_from_bits(0x0000000000000000u), dm_double_from_bits(0x0000000000000000u));
@@ -1636,13 +1649,13 @@ static double dm_std_num_f32_to_f64_with_nan(float x)
     }
 }
 
-static double dm_std_num_nearest_u64_to_f64(uint64_t n)
+DM_SMALL double dm_std_num_nearest_u64_to_f64(uint64_t n)
 {
     return dm_double_add(dm_double_mul((double)(n >> 32u), dm_double_from_bits(0x41f0000000000000u)),
         (double)(n & 4294967295u));
 }
 
-static double dm_std_num_nearest_i64_to_f64(uint64_t n)
+DM_SMALL double dm_std_num_nearest_i64_to_f64(uint64_t n)
 {
     if (0 <= (int64_t)n) {
         return dm_std_num_nearest_u64_to_f64(n);
@@ -1667,7 +1680,7 @@ static uint64_t dm_bytes_copy(dm_slice_u8 src, dm_slice_u8 dst)
 
 /* What z has above 0: z itself, or 0 where z is negative. It is below 2^63, so that adding what another number has
  * below 0 overflows nothing. */
-static uint64_t dm_integers_parts_plus(uint64_t z)
+DM_SMALL uint64_t dm_integers_parts_plus(uint64_t z)
 {
     if (0 <= (int64_t)z) {
         return z;
@@ -1677,7 +1690,7 @@ static uint64_t dm_integers_parts_plus(uint64_t z)
 }
 
 /* What z has below 0: −z where z is negative, or 0. It is at most 2^63, which the least i64 has. */
-static uint64_t dm_integers_parts_minus(uint64_t z)
+DM_SMALL uint64_t dm_integers_parts_minus(uint64_t z)
 {
     if (0 <= (int64_t)z) {
         return 0u;
@@ -1687,7 +1700,7 @@ static uint64_t dm_integers_parts_minus(uint64_t z)
 }
 
 /* up − down, of either sign; the caller shows that it fits an i64. So difference(plus(z), minus(z)) is z again. */
-static uint64_t dm_integers_parts_difference(uint64_t up, uint64_t down)
+DM_SMALL uint64_t dm_integers_parts_difference(uint64_t up, uint64_t down)
 {
     if (down <= up) {
         return up - down;
@@ -1699,7 +1712,7 @@ static uint64_t dm_integers_parts_difference(uint64_t up, uint64_t down)
 /* ---- crates/integers/src/rounding.rt ---- */
 
 /* num / den to the nearest whole number, halves upward. Nothing overflows, for any num and any den above 0. */
-static uint64_t dm_integers_rounding_nearest_whole(uint64_t num, uint64_t den)
+DM_SMALL uint64_t dm_integers_rounding_nearest_whole(uint64_t num, uint64_t den)
 {
     uint64_t q = num / den;
     uint64_t r = num % den;
@@ -1712,7 +1725,7 @@ static uint64_t dm_integers_rounding_nearest_whole(uint64_t num, uint64_t den)
 
 /* (up − down) / den to the nearest whole number. A half goes up, toward plus infinity, for negative figures too: −3
  * / 2 gives −1. The caller shows that up − down fits an i64; the result then fits as well. */
-static uint64_t dm_integers_rounding_nearest(uint64_t up, uint64_t down, uint64_t den)
+DM_SMALL uint64_t dm_integers_rounding_nearest(uint64_t up, uint64_t down, uint64_t den)
 {
     if (down <= up) {
         return dm_integers_parts_difference(dm_integers_rounding_nearest_whole(up - down, den), 0u);
@@ -1728,7 +1741,7 @@ static uint64_t dm_integers_rounding_nearest(uint64_t up, uint64_t down, uint64_
 
 /* ---- crates/refusal/src/rows.rt ---- */
 
-static dm_refusal_Refusal dm_refusal_rows_wrong_image(void)
+DM_SMALL dm_refusal_Refusal dm_refusal_rows_wrong_image(void)
 {
     dm_refusal_Refusal result;
     result.number = 1u;
@@ -1736,7 +1749,7 @@ static dm_refusal_Refusal dm_refusal_rows_wrong_image(void)
     return result;
 }
 
-static dm_refusal_Refusal dm_refusal_rows_wrong_sum(uint64_t page)
+DM_SMALL dm_refusal_Refusal dm_refusal_rows_wrong_sum(uint64_t page)
 {
     dm_refusal_Refusal result;
     result.number = 2u;
@@ -1744,7 +1757,7 @@ static dm_refusal_Refusal dm_refusal_rows_wrong_sum(uint64_t page)
     return result;
 }
 
-static dm_refusal_Refusal dm_refusal_rows_past_end(uint64_t bit)
+DM_SMALL dm_refusal_Refusal dm_refusal_rows_past_end(uint64_t bit)
 {
     dm_refusal_Refusal result;
     result.number = 3u;
@@ -1752,7 +1765,7 @@ static dm_refusal_Refusal dm_refusal_rows_past_end(uint64_t bit)
     return result;
 }
 
-static dm_refusal_Refusal dm_refusal_rows_wrong_block(uint64_t selector_bit)
+DM_SMALL dm_refusal_Refusal dm_refusal_rows_wrong_block(uint64_t selector_bit)
 {
     dm_refusal_Refusal result;
     result.number = 4u;
@@ -1760,7 +1773,7 @@ static dm_refusal_Refusal dm_refusal_rows_wrong_block(uint64_t selector_bit)
     return result;
 }
 
-static dm_refusal_Refusal dm_refusal_rows_outside_table(uint64_t bit)
+DM_SMALL dm_refusal_Refusal dm_refusal_rows_outside_table(uint64_t bit)
 {
     dm_refusal_Refusal result;
     result.number = 5u;
@@ -1768,7 +1781,7 @@ static dm_refusal_Refusal dm_refusal_rows_outside_table(uint64_t bit)
     return result;
 }
 
-static dm_refusal_Refusal dm_refusal_rows_no_such(uint64_t given)
+DM_SMALL dm_refusal_Refusal dm_refusal_rows_no_such(uint64_t given)
 {
     dm_refusal_Refusal result;
     result.number = 8u;
@@ -1776,7 +1789,7 @@ static dm_refusal_Refusal dm_refusal_rows_no_such(uint64_t given)
     return result;
 }
 
-static dm_refusal_Refusal dm_refusal_rows_wrong_sort(uint64_t field)
+DM_SMALL dm_refusal_Refusal dm_refusal_rows_wrong_sort(uint64_t field)
 {
     dm_refusal_Refusal result;
     result.number = 9u;
@@ -1784,7 +1797,7 @@ static dm_refusal_Refusal dm_refusal_rows_wrong_sort(uint64_t field)
     return result;
 }
 
-static dm_refusal_Refusal dm_refusal_rows_out_of_range(uint64_t place)
+DM_SMALL dm_refusal_Refusal dm_refusal_rows_out_of_range(uint64_t place)
 {
     dm_refusal_Refusal result;
     result.number = 10u;
@@ -1793,7 +1806,7 @@ static dm_refusal_Refusal dm_refusal_rows_out_of_range(uint64_t place)
 }
 
 /* The bits needed, and 65,535 where they are more. */
-static dm_refusal_Refusal dm_refusal_rows_too_long(uint64_t needed)
+DM_SMALL dm_refusal_Refusal dm_refusal_rows_too_long(uint64_t needed)
 {
     dm_refusal_Refusal result;
     if (65535u < needed) {
@@ -1807,7 +1820,7 @@ static dm_refusal_Refusal dm_refusal_rows_too_long(uint64_t needed)
     return result;
 }
 
-static dm_refusal_Refusal dm_refusal_rows_changed_alone(uint64_t field)
+DM_SMALL dm_refusal_Refusal dm_refusal_rows_changed_alone(uint64_t field)
 {
     dm_refusal_Refusal result;
     result.number = 12u;
@@ -1815,7 +1828,7 @@ static dm_refusal_Refusal dm_refusal_rows_changed_alone(uint64_t field)
     return result;
 }
 
-static dm_refusal_Refusal dm_refusal_rows_no_span(uint64_t field)
+DM_SMALL dm_refusal_Refusal dm_refusal_rows_no_span(uint64_t field)
 {
     dm_refusal_Refusal result;
     result.number = 13u;
@@ -1823,7 +1836,7 @@ static dm_refusal_Refusal dm_refusal_rows_no_span(uint64_t field)
     return result;
 }
 
-static dm_refusal_Refusal dm_refusal_rows_outside_span(void)
+DM_SMALL dm_refusal_Refusal dm_refusal_rows_outside_span(void)
 {
     dm_refusal_Refusal result;
     result.number = 14u;
@@ -1831,7 +1844,7 @@ static dm_refusal_Refusal dm_refusal_rows_outside_span(void)
     return result;
 }
 
-static dm_refusal_Refusal dm_refusal_rows_wrong_list(uint64_t length)
+DM_SMALL dm_refusal_Refusal dm_refusal_rows_wrong_list(uint64_t length)
 {
     dm_refusal_Refusal result;
     result.number = 16u;
@@ -1839,7 +1852,7 @@ static dm_refusal_Refusal dm_refusal_rows_wrong_list(uint64_t length)
     return result;
 }
 
-static dm_refusal_Refusal dm_refusal_rows_blank_chip(void)
+DM_SMALL dm_refusal_Refusal dm_refusal_rows_blank_chip(void)
 {
     dm_refusal_Refusal result;
     result.number = 17u;
@@ -1847,7 +1860,7 @@ static dm_refusal_Refusal dm_refusal_rows_blank_chip(void)
     return result;
 }
 
-static dm_refusal_Refusal dm_refusal_rows_short_index(uint64_t bytes)
+DM_SMALL dm_refusal_Refusal dm_refusal_rows_short_index(uint64_t bytes)
 {
     dm_refusal_Refusal result;
     result.number = 18u;
@@ -1855,7 +1868,7 @@ static dm_refusal_Refusal dm_refusal_rows_short_index(uint64_t bytes)
     return result;
 }
 
-static dm_refusal_Refusal dm_refusal_rows_other_code(uint64_t field)
+DM_SMALL dm_refusal_Refusal dm_refusal_rows_other_code(uint64_t field)
 {
     dm_refusal_Refusal result;
     result.number = 19u;
@@ -1863,7 +1876,7 @@ static dm_refusal_Refusal dm_refusal_rows_other_code(uint64_t field)
     return result;
 }
 
-static dm_refusal_Refusal dm_refusal_rows_level_too_low(uint64_t field)
+DM_SMALL dm_refusal_Refusal dm_refusal_rows_level_too_low(uint64_t field)
 {
     dm_refusal_Refusal result;
     result.number = 20u;
@@ -1871,7 +1884,7 @@ static dm_refusal_Refusal dm_refusal_rows_level_too_low(uint64_t field)
     return result;
 }
 
-static dm_refusal_Refusal dm_refusal_rows_end_outside(uint64_t field)
+DM_SMALL dm_refusal_Refusal dm_refusal_rows_end_outside(uint64_t field)
 {
     dm_refusal_Refusal result;
     result.number = 21u;
@@ -1879,7 +1892,7 @@ static dm_refusal_Refusal dm_refusal_rows_end_outside(uint64_t field)
     return result;
 }
 
-static dm_refusal_Refusal dm_refusal_rows_sums_not_rising(uint64_t place)
+DM_SMALL dm_refusal_Refusal dm_refusal_rows_sums_not_rising(uint64_t place)
 {
     dm_refusal_Refusal result;
     result.number = 22u;
@@ -1887,7 +1900,7 @@ static dm_refusal_Refusal dm_refusal_rows_sums_not_rising(uint64_t place)
     return result;
 }
 
-static dm_refusal_Refusal dm_refusal_rows_too_many_points(uint64_t points)
+DM_SMALL dm_refusal_Refusal dm_refusal_rows_too_many_points(uint64_t points)
 {
     dm_refusal_Refusal result;
     result.number = 23u;
@@ -1895,7 +1908,7 @@ static dm_refusal_Refusal dm_refusal_rows_too_many_points(uint64_t points)
     return result;
 }
 
-static dm_refusal_Refusal dm_refusal_rows_wrong_curve(uint64_t place)
+DM_SMALL dm_refusal_Refusal dm_refusal_rows_wrong_curve(uint64_t place)
 {
     dm_refusal_Refusal result;
     result.number = 24u;
@@ -1903,7 +1916,7 @@ static dm_refusal_Refusal dm_refusal_rows_wrong_curve(uint64_t place)
     return result;
 }
 
-static dm_refusal_Refusal dm_refusal_rows_too_many_terms(uint64_t total)
+DM_SMALL dm_refusal_Refusal dm_refusal_rows_too_many_terms(uint64_t total)
 {
     dm_refusal_Refusal result;
     result.number = 25u;
@@ -1911,7 +1924,7 @@ static dm_refusal_Refusal dm_refusal_rows_too_many_terms(uint64_t total)
     return result;
 }
 
-static dm_refusal_Refusal dm_refusal_rows_wrong_ticks(uint64_t ticks)
+DM_SMALL dm_refusal_Refusal dm_refusal_rows_wrong_ticks(uint64_t ticks)
 {
     dm_refusal_Refusal result;
     result.number = 26u;
@@ -1922,13 +1935,13 @@ static dm_refusal_Refusal dm_refusal_rows_wrong_ticks(uint64_t ticks)
 /* ---- crates/fields/src/figure.rt ---- */
 
 /* q / 1,000,000,000, in f64, rounded once. An f64 holds q, as it does every fraction that a reading can have. */
-static double dm_fields_figure_float_fraction(uint64_t q)
+DM_SMALL double dm_fields_figure_float_fraction(uint64_t q)
 {
     return dm_double_div((double)(int64_t)q, dm_double_from_bits(0x41cdcd6500000000u));
 }
 
 /* least + (greatest − least) × the fraction, in f64, each operation rounded once. The two Singles are no NaNs. */
-static double dm_fields_figure_physical_figure(float least, float greatest, double fraction)
+DM_SMALL double dm_fields_figure_physical_figure(float least, float greatest, double fraction)
 {
     double low = (double)least;
     double high = (double)greatest;
@@ -1938,7 +1951,7 @@ static double dm_fields_figure_physical_figure(float least, float greatest, doub
 /* ---- crates/fields/src/levels.rt ---- */
 
 /* Whether a writer of a level may write a field of a mark. */
-static bool dm_fields_levels_may_write(dm_fields_Level level, dm_fields_Mark mark)
+DM_SMALL bool dm_fields_levels_may_write(dm_fields_Level level, dm_fields_Mark mark)
 {
     switch (level) {
     case dm_fields_Level_Maker:
@@ -1970,13 +1983,13 @@ static bool dm_fields_levels_may_write(dm_fields_Level level, dm_fields_Mark mar
 /* ---- crates/fields/src/limits.rt ---- */
 
 /* All ones in width bits. */
-static uint64_t dm_fields_limits_all_ones(uint64_t width)
+DM_SMALL uint64_t dm_fields_limits_all_ones(uint64_t width)
 {
     return ((uint64_t)1 << width) - 1u;
 }
 
 /* All ones less one: the greatest code that has a value by a step or a progression. */
-static uint64_t dm_fields_limits_top_code(uint64_t width)
+DM_SMALL uint64_t dm_fields_limits_top_code(uint64_t width)
 {
     return ((uint64_t)1 << width) - 2u;
 }
@@ -1984,7 +1997,7 @@ static uint64_t dm_fields_limits_top_code(uint64_t width)
 /* ---- crates/fields/src/rows.rt ---- */
 
 /* A row without missing, one in which all ones is missing, and one in which every code is a value. */
-static dm_fields_Row dm_fields_rows_always(uint64_t width, const dm_fields_Rule *rule)
+DM_SMALL dm_fields_Row dm_fields_rows_always(uint64_t width, const dm_fields_Rule *rule)
 {
     dm_fields_Row result;
     result.width = width;
@@ -1993,7 +2006,7 @@ static dm_fields_Row dm_fields_rows_always(uint64_t width, const dm_fields_Rule 
     return result;
 }
 
-static dm_fields_Row dm_fields_rows_optional(uint64_t width, const dm_fields_Rule *rule)
+DM_SMALL dm_fields_Row dm_fields_rows_optional(uint64_t width, const dm_fields_Rule *rule)
 {
     dm_fields_Row result;
     result.width = width;
@@ -2002,7 +2015,7 @@ static dm_fields_Row dm_fields_rows_optional(uint64_t width, const dm_fields_Rul
     return result;
 }
 
-static dm_fields_Row dm_fields_rows_any(uint64_t width)
+DM_SMALL dm_fields_Row dm_fields_rows_any(uint64_t width)
 {
     dm_fields_Rule v3;
     v3.tag = dm_fields_Rule_Plain;
@@ -2012,7 +2025,7 @@ static dm_fields_Row dm_fields_rows_any(uint64_t width)
 }
 
 /* The bits of a scale's codes. */
-static uint64_t dm_fields_rows_scale_width(dm_fields_Scale scale)
+DM_SMALL uint64_t dm_fields_rows_scale_width(dm_fields_Scale scale)
 {
     if (scale == dm_fields_Scale_ResponseTime) {
         return 6u;
@@ -2022,7 +2035,7 @@ static uint64_t dm_fields_rows_scale_width(dm_fields_Scale scale)
 }
 
 /* A row of a scale. */
-static dm_fields_Row dm_fields_rows_scaled(dm_fields_Scale scale)
+DM_SMALL dm_fields_Row dm_fields_rows_scaled(dm_fields_Scale scale)
 {
     dm_fields_Rule v3;
     v3.tag = dm_fields_Rule_Geometric;
@@ -2092,12 +2105,12 @@ static dm_fields_Row dm_fields_rows_resistance_end(uint64_t precision)
 /* ---- crates/fields/src/templates.rt ---- */
 
 /* The fields of Basic. */
-static uint64_t dm_fields_templates_basic_fields(void)
+DM_SMALL uint64_t dm_fields_templates_basic_fields(void)
 {
     return 5u;
 }
 
-static uint64_t dm_fields_templates_template_number(dm_fields_Template template_)
+DM_SMALL uint64_t dm_fields_templates_template_number(dm_fields_Template template_)
 {
     if (template_ == dm_fields_Template_Bridge) {
         return 33u;
@@ -2106,7 +2119,7 @@ static uint64_t dm_fields_templates_template_number(dm_fields_Template template_
     }
 }
 
-static dm_fields_TemplateAnswer dm_fields_templates_template_of(uint64_t number)
+DM_SMALL dm_fields_TemplateAnswer dm_fields_templates_template_of(uint64_t number)
 {
     dm_fields_TemplateAnswer result;
     if (number == dm_fields_templates_template_number(dm_fields_Template_Bridge)) {
@@ -2126,7 +2139,7 @@ static dm_fields_TemplateAnswer dm_fields_templates_template_of(uint64_t number)
 }
 
 /* The number of the last field. */
-static uint64_t dm_fields_templates_last_field(dm_fields_Template template_)
+DM_SMALL uint64_t dm_fields_templates_last_field(dm_fields_Template template_)
 {
     if (template_ == dm_fields_Template_Bridge) {
         return 21u;
@@ -2136,7 +2149,7 @@ static uint64_t dm_fields_templates_last_field(dm_fields_Template template_)
 }
 
 /* Whether the field's code sets the widths of later ones. */
-static bool dm_fields_templates_is_choice(dm_fields_Template template_, uint64_t field)
+DM_SMALL bool dm_fields_templates_is_choice(dm_fields_Template template_, uint64_t field)
 {
     if (template_ == dm_fields_Template_Bridge) {
         return field == 9u;
@@ -2146,7 +2159,7 @@ static bool dm_fields_templates_is_choice(dm_fields_Template template_, uint64_t
 }
 
 /* The marks of template 33. */
-static dm_fields_Mark dm_fields_templates_bridge_mark(uint64_t field)
+DM_SMALL dm_fields_Mark dm_fields_templates_bridge_mark(uint64_t field)
 {
     if (field < 7u) {
         return dm_fields_Mark_Id;
@@ -2164,7 +2177,7 @@ static dm_fields_Mark dm_fields_templates_bridge_mark(uint64_t field)
 }
 
 /* The marks of template 32. */
-static dm_fields_Mark dm_fields_templates_resistance_mark(uint64_t field)
+DM_SMALL dm_fields_Mark dm_fields_templates_resistance_mark(uint64_t field)
 {
     if (field < 7u) {
         return dm_fields_Mark_Id;
@@ -2188,7 +2201,7 @@ static dm_fields_Mark dm_fields_templates_resistance_mark(uint64_t field)
 }
 
 /* The mark of a field, counted from 1. */
-static dm_fields_Mark dm_fields_templates_mark_of(dm_fields_Template template_, uint64_t field)
+DM_SMALL dm_fields_Mark dm_fields_templates_mark_of(dm_fields_Template template_, uint64_t field)
 {
     if (template_ == dm_fields_Template_Bridge) {
         return dm_fields_templates_bridge_mark(field);
@@ -2361,7 +2374,7 @@ static dm_fields_Row dm_fields_templates_resistance_row(uint64_t precision, uint
 }
 
 /* The row of a field, counted from 1. */
-static dm_fields_Row dm_fields_templates_row_of(const dm_fields_Layout *layout, uint64_t field)
+DM_SMALL dm_fields_Row dm_fields_templates_row_of(const dm_fields_Layout *layout, uint64_t field)
 {
     if (field <= dm_fields_templates_basic_fields()) {
         return dm_fields_templates_basic_row(field);
@@ -2375,13 +2388,13 @@ static dm_fields_Row dm_fields_templates_row_of(const dm_fields_Layout *layout, 
 }
 
 /* The last field of Basic that can turn a code down: those behind it take every code. */
-static uint64_t dm_fields_templates_basic_closed(void)
+DM_SMALL uint64_t dm_fields_templates_basic_closed(void)
 {
     return 3u;
 }
 
 /* The same of a template. */
-static uint64_t dm_fields_templates_last_closed(dm_fields_Template template_)
+DM_SMALL uint64_t dm_fields_templates_last_closed(dm_fields_Template template_)
 {
     if (template_ == dm_fields_Template_Bridge) {
         return 12u;
@@ -2490,7 +2503,7 @@ static uint64_t dm_fields_templates_resistance_bits(uint64_t field)
 }
 
 /* The bits of the electrical values, fields 10 and 11 of each template, that stand before a field. */
-static uint64_t dm_fields_templates_ends_before(uint64_t width, uint64_t field)
+DM_SMALL uint64_t dm_fields_templates_ends_before(uint64_t width, uint64_t field)
 {
     if (field < 11u) {
         return 0u;
@@ -2502,7 +2515,7 @@ static uint64_t dm_fields_templates_ends_before(uint64_t width, uint64_t field)
 }
 
 /* The bits of the fields before a field, counted from 1, or before the ending. */
-static uint64_t dm_fields_templates_bits_before(const dm_fields_Layout *layout, uint64_t field)
+DM_SMALL uint64_t dm_fields_templates_bits_before(const dm_fields_Layout *layout, uint64_t field)
 {
     dm_fields_Template template_ = layout->template_;
     if (template_ == dm_fields_Template_Bridge) {
@@ -2548,7 +2561,7 @@ static dm_memory_kinds_SizesAnswer dm_memory_kinds_image_sizes(uint8_t kind, uin
 }
 
 /* These sizes, or 1 where the length is not theirs. */
-static dm_memory_kinds_SizesAnswer dm_memory_kinds_fitting(const dm_memory_Sizes *sizes, uint64_t bytes)
+DM_SMALL dm_memory_kinds_SizesAnswer dm_memory_kinds_fitting(const dm_memory_Sizes *sizes, uint64_t bytes)
 {
     dm_memory_kinds_SizesAnswer result;
     if (bytes == sizes->register_ + 32u * sizes->pages) {
@@ -2563,7 +2576,7 @@ static dm_memory_kinds_SizesAnswer dm_memory_kinds_fitting(const dm_memory_Sizes
 }
 
 /* The bits of the stream. */
-static uint64_t dm_memory_kinds_stream_bits(const dm_memory_Sizes *sizes)
+DM_SMALL uint64_t dm_memory_kinds_stream_bits(const dm_memory_Sizes *sizes)
 {
     return 8u * (sizes->register_ + 31u * sizes->pages);
 }
@@ -2583,7 +2596,7 @@ static uint8_t dm_memory_pages_sum(dm_slice_u8 bytes)
 }
 
 /* The sum of what a page's check byte covers: the page, and with page 0 the register. */
-static uint8_t dm_memory_pages_page_sum(const dm_memory_Sizes *sizes, dm_slice_u8 image, uint64_t page)
+DM_SMALL uint8_t dm_memory_pages_page_sum(const dm_memory_Sizes *sizes, dm_slice_u8 image, uint64_t page)
 {
     uint64_t at = sizes->register_ + 32u * page;
     uint64_t end = at + 32u;
@@ -2607,7 +2620,7 @@ static bool dm_memory_pages_all_ff(dm_slice_u8 bytes)
 }
 
 /* Whether the 32 bytes of a page are blank. The register is not looked at. */
-static bool dm_memory_pages_is_blank(const dm_memory_Sizes *sizes, dm_slice_u8 image, uint64_t page)
+DM_SMALL bool dm_memory_pages_is_blank(const dm_memory_Sizes *sizes, dm_slice_u8 image, uint64_t page)
 {
     uint64_t at = sizes->register_ + 32u * page;
     uint64_t end = at + 32u;
@@ -2615,7 +2628,7 @@ static bool dm_memory_pages_is_blank(const dm_memory_Sizes *sizes, dm_slice_u8 i
 }
 
 /* The page test: a blank page is blank, whatever it adds up to. */
-static dm_memory_pages_PageTest dm_memory_pages_test_page(const dm_memory_Sizes *sizes, dm_slice_u8 image,
+DM_SMALL dm_memory_pages_PageTest dm_memory_pages_test_page(const dm_memory_Sizes *sizes, dm_slice_u8 image,
     uint64_t page)
 {
     if (dm_memory_pages_is_blank(sizes, image, page)) {
@@ -2627,7 +2640,7 @@ static dm_memory_pages_PageTest dm_memory_pages_test_page(const dm_memory_Sizes 
     return dm_memory_pages_PageTest_Wrong;
 }
 
-static bool dm_memory_pages_is_good(dm_memory_pages_PageTest test)
+DM_SMALL bool dm_memory_pages_is_good(dm_memory_pages_PageTest test)
 {
     switch (test) {
     case dm_memory_pages_PageTest_Good:
@@ -2674,7 +2687,7 @@ static dm_memory_pages_Sums dm_memory_pages_test_pages(const dm_memory_Sizes *si
 }
 
 /* Whether every page is blank, every page is good, or which is the first that is not good. */
-static dm_memory_pages_Sums dm_memory_pages_check_sums(const dm_memory_Sizes *sizes, dm_slice_u8 image)
+DM_SMALL dm_memory_pages_Sums dm_memory_pages_check_sums(const dm_memory_Sizes *sizes, dm_slice_u8 image)
 {
     if (dm_memory_pages_all_blank(sizes, image)) {
         dm_memory_pages_Sums result;
@@ -2686,7 +2699,7 @@ static dm_memory_pages_Sums dm_memory_pages_check_sums(const dm_memory_Sizes *si
 
 /* The stream bytes of a page, its bytes 1 to 31, as a part of the caller's image. The part is empty where the kind
  * is not 0 to 2, the image is not of the kind's length, or the image has no such page. */
-static dm_slice_u8 dm_memory_pages_page_bytes(uint8_t kind, dm_slice_u8 image, uint64_t page)
+DM_SMALL dm_slice_u8 dm_memory_pages_page_bytes(uint8_t kind, dm_slice_u8 image, uint64_t page)
 {
     uint64_t none = 0u;
     dm_memory_kinds_SizesAnswer v8 = dm_memory_kinds_image_sizes(kind, image.length);
@@ -2703,7 +2716,7 @@ static dm_slice_u8 dm_memory_pages_page_bytes(uint8_t kind, dm_slice_u8 image, u
 }
 
 /* Writes the check byte of a page, so that the page adds up to 0. No other byte is written. */
-static void dm_memory_pages_seal(const dm_memory_Sizes *sizes, dm_slice_u8 image, uint64_t page)
+DM_SMALL void dm_memory_pages_seal(const dm_memory_Sizes *sizes, dm_slice_u8 image, uint64_t page)
 {
     uint64_t at = sizes->register_ + 32u * page;
     uint8_t sum = dm_memory_pages_page_sum(sizes, image, page);
@@ -2727,7 +2740,7 @@ static dm_curve_Powers dm_curve_Powers_none(void)
 }
 
 /* One term more, of a higher exponent than those before it. One whose exponent is above 5 is left out. */
-static dm_curve_Powers dm_curve_Powers_with(const dm_curve_Powers *self, uint64_t power, float coefficient)
+DM_SMALL dm_curve_Powers dm_curve_Powers_with(const dm_curve_Powers *self, uint64_t power, float coefficient)
 {
     dm_array_f64_6 coefficients;
     if (power < 6u) {
@@ -2742,7 +2755,7 @@ static dm_curve_Powers dm_curve_Powers_with(const dm_curve_Powers *self, uint64_
 }
 
 /* p billionths of the span in per cent: one division of the whole p, which an f64 holds up to 2^53 and else rounds. */
-static double dm_curve_argument(uint64_t p)
+DM_SMALL double dm_curve_argument(uint64_t p)
 {
     return dm_double_div(dm_std_num_nearest_i64_to_f64(p), dm_double_from_bits(0x416312d000000000u));
 }
@@ -2764,7 +2777,7 @@ static double dm_curve_correction(const dm_array_f64_6 *coefficients, uint64_t c
 }
 
 /* Argument plus correction, divided once by 100. */
-static double dm_curve_float_fraction(const dm_curve_Powers *powers, uint64_t p)
+DM_SMALL double dm_curve_float_fraction(const dm_curve_Powers *powers, uint64_t p)
 {
     double x = dm_curve_argument(p);
     return dm_double_div(dm_double_add(x, dm_curve_correction(&powers->coefficients, powers->count, x)),
@@ -2774,32 +2787,32 @@ static double dm_curve_float_fraction(const dm_curve_Powers *powers, uint64_t p)
 /* ---- crates/line/src/crossing.rt ---- */
 
 /* A point plus its deviation. */
-static uint64_t dm_line_crossing_sum(const dm_fields_Pair *pair)
+DM_SMALL uint64_t dm_line_crossing_sum(const dm_fields_Pair *pair)
 {
     return pair->point + pair->deviation;
 }
 
 /* The least whole number that meets p where a point's deviation holds. */
-static uint64_t dm_line_crossing_crossing_held(uint64_t p, const dm_fields_Pair *pair)
+DM_SMALL uint64_t dm_line_crossing_crossing_held(uint64_t p, const dm_fields_Pair *pair)
 {
     return p - pair->deviation;
 }
 
 /* n / d, upward to a whole number. */
-static uint64_t dm_line_crossing_ceiling(uint64_t n, uint64_t d)
+DM_SMALL uint64_t dm_line_crossing_ceiling(uint64_t n, uint64_t d)
 {
     return (n + (d - 1u)) / d;
 }
 
 /* So many steps behind a point. */
-static uint64_t dm_line_crossing_onward(uint64_t point, uint64_t steps)
+DM_SMALL uint64_t dm_line_crossing_onward(uint64_t point, uint64_t steps)
 {
     return point + steps;
 }
 
 /* The least whole number that meets p between neighbours: from the left point on, as far as p is above its sum, by
  * the run of the points over the climb of the sums, upward to a whole number. */
-static uint64_t dm_line_crossing_crossing_between(uint64_t p, const dm_fields_Pair *before,
+DM_SMALL uint64_t dm_line_crossing_crossing_between(uint64_t p, const dm_fields_Pair *before,
     const dm_fields_Pair *behind)
 {
     uint64_t low = dm_line_crossing_sum(before);
@@ -2812,7 +2825,7 @@ static uint64_t dm_line_crossing_crossing_between(uint64_t p, const dm_fields_Pa
 /* ---- crates/line/src/line.rt ---- */
 
 /* a − b, where a is no less. */
-static uint64_t dm_line_line_gap(uint64_t a, uint64_t b)
+DM_SMALL uint64_t dm_line_line_gap(uint64_t a, uint64_t b)
 {
     uint64_t v3 = dm_integers_parts_plus(a);
     uint64_t v5 = v3 + dm_integers_parts_minus(b);
@@ -2821,14 +2834,14 @@ static uint64_t dm_line_line_gap(uint64_t a, uint64_t b)
 }
 
 /* s × left + t × past. */
-static uint64_t dm_line_line_weighed(uint64_t s, uint64_t t, uint64_t past, uint64_t left)
+DM_SMALL uint64_t dm_line_line_weighed(uint64_t s, uint64_t t, uint64_t past, uint64_t left)
 {
     return s * left + t * past;
 }
 
 /* The deviation at p, from the point before it to the point at or behind it, to the nearest whole, halves upward:
  * the two deviations, each weighed by how far p is from the other's point. */
-static uint64_t dm_line_line_between(uint64_t p, const dm_fields_Pair *before, const dm_fields_Pair *behind)
+DM_SMALL uint64_t dm_line_line_between(uint64_t p, const dm_fields_Pair *before, const dm_fields_Pair *behind)
 {
     uint64_t past = dm_line_line_gap(p, before->point);
     uint64_t left = dm_line_line_gap(behind->point, p);
@@ -2844,20 +2857,20 @@ static uint64_t dm_line_line_between(uint64_t p, const dm_fields_Pair *before, c
 /* ---- crates/scales/src/scales.rt ---- */
 
 /* An entry or a figure in 64 bits. */
-static uint64_t dm_scales_scales_wide(uint32_t x)
+DM_SMALL uint64_t dm_scales_scales_wide(uint32_t x)
 {
     return (uint64_t)x;
 }
 
 /* The value of a code. */
-static uint64_t dm_scales_scales_value_in(dm_slice_u32 values, uint64_t code)
+DM_SMALL uint64_t dm_scales_scales_value_in(dm_slice_u32 values, uint64_t code)
 {
     return (uint64_t)values.at[code];
 }
 
 /* The storing rule: whether a figure between two neighbours goes up to b. A product of two numbers of 32 bits fits
  * 64. */
-static bool dm_scales_scales_goes_up(uint32_t a, uint32_t b, uint32_t figure)
+DM_SMALL bool dm_scales_scales_goes_up(uint32_t a, uint32_t b, uint32_t figure)
 {
     uint64_t v4 = dm_scales_scales_wide(a);
     uint64_t v6 = v4 * dm_scales_scales_wide(b);
@@ -2885,7 +2898,7 @@ static uint64_t dm_scales_scales_stored_in(dm_slice_u32 values, uint64_t figure)
 }
 
 /* The value of a code. */
-static uint64_t dm_scales_scales_scale_value(dm_fields_Scale scale, uint64_t code)
+DM_SMALL uint64_t dm_scales_scales_scale_value(dm_fields_Scale scale, uint64_t code)
 {
     if (scale == dm_fields_Scale_ResponseTime) {
         return dm_scales_scales_value_in(dm_slice_u32_of((uint32_t *)dm_table_RESPONSE_TIMES, 63u), code);
@@ -2895,7 +2908,7 @@ static uint64_t dm_scales_scales_scale_value(dm_fields_Scale scale, uint64_t cod
 }
 
 /* The least value and the greatest, with no need of a table. */
-static uint64_t dm_scales_scales_least_value(dm_fields_Scale scale)
+DM_SMALL uint64_t dm_scales_scales_least_value(dm_fields_Scale scale)
 {
     if (scale == dm_fields_Scale_ResponseTime) {
         return (uint64_t)dm_table_RESPONSE_TIMES[0u];
@@ -2904,7 +2917,7 @@ static uint64_t dm_scales_scales_least_value(dm_fields_Scale scale)
     }
 }
 
-static uint64_t dm_scales_scales_greatest_value(dm_fields_Scale scale)
+DM_SMALL uint64_t dm_scales_scales_greatest_value(dm_fields_Scale scale)
 {
     if (scale == dm_fields_Scale_ResponseTime) {
         return (uint64_t)dm_table_RESPONSE_TIMES[62u];
@@ -2914,7 +2927,7 @@ static uint64_t dm_scales_scales_greatest_value(dm_fields_Scale scale)
 }
 
 /* The code that a figure is stored at, of a figure that is not above the greatest value. */
-static uint64_t dm_scales_scales_stored_code(dm_fields_Scale scale, uint64_t figure)
+DM_SMALL uint64_t dm_scales_scales_stored_code(dm_fields_Scale scale, uint64_t figure)
 {
     if (scale == dm_fields_Scale_ResponseTime) {
         return dm_scales_scales_stored_in(dm_slice_u32_of((uint32_t *)dm_table_RESPONSE_TIMES, 63u), figure);
@@ -2928,7 +2941,7 @@ static uint64_t dm_scales_scales_stored_code(dm_fields_Scale scale, uint64_t fig
 /* The nearest nV/V of bits that stand for a Single from −2 to 2 V/V. Below 2^−31 V/V, 0x3000_0000, all is less than
  * half a nV/V, zeros and subnormals too. From there on a Single is its 24 digits over 2^54 at most, and the digits
  * times 10^9 are below 2^54. */
-static uint64_t dm_scales_singles_from_bits(uint32_t bits)
+DM_SMALL uint64_t dm_scales_singles_from_bits(uint32_t bits)
 {
     uint64_t size = (uint64_t)(bits % 2147483648u);
     if (size < 805306368u) {
@@ -2945,7 +2958,7 @@ static uint64_t dm_scales_singles_from_bits(uint32_t bits)
 /* A Single from −2 to 2 V/V to the nearest nV/V, halves upward, also below 0. Both ends are inside; an infinity and
  * a NaN are outside. The sign's bit taken off, patterns are in the order of what they stand for, and 2 is
  * 0x4000_0000. */
-static dm_fields_Rounded dm_scales_singles_nanovolts(float x)
+DM_SMALL dm_fields_Rounded dm_scales_singles_nanovolts(float x)
 {
     dm_fields_Rounded result;
     if (x != x) {
@@ -2967,14 +2980,14 @@ static dm_fields_Rounded dm_scales_singles_nanovolts(float x)
 /* ---- crates/scales/src/steps.rt ---- */
 
 /* start + step × code. */
-static uint64_t dm_scales_steps_step_value(uint64_t start, uint64_t step, uint64_t code)
+DM_SMALL uint64_t dm_scales_steps_step_value(uint64_t start, uint64_t step, uint64_t code)
 {
     uint64_t v6 = dm_integers_parts_plus(start) + step * code;
     return dm_integers_parts_difference(v6, dm_integers_parts_minus(start));
 }
 
 /* (figure − start) / step to the nearest, halves upward, of a figure that is not below the start. */
-static uint64_t dm_scales_steps_step_code(uint64_t start, uint64_t step, uint64_t figure)
+DM_SMALL uint64_t dm_scales_steps_step_code(uint64_t start, uint64_t step, uint64_t figure)
 {
     uint64_t v6 = dm_integers_parts_plus(figure);
     uint64_t up = v6 + dm_integers_parts_minus(start);
@@ -2985,13 +2998,13 @@ static uint64_t dm_scales_steps_step_code(uint64_t start, uint64_t step, uint64_
 
 /* ---- crates/stream/src/bitfields.rt ---- */
 
-static uint64_t dm_stream_bitfields_wide(uint8_t x)
+DM_SMALL uint64_t dm_stream_bitfields_wide(uint8_t x)
 {
     return (uint64_t)x;
 }
 
 /* The 8 bytes of the image from byte `from` on, as one number. */
-static uint64_t dm_stream_bitfields_eight(dm_slice_u8 image, uint64_t from)
+DM_SMALL uint64_t dm_stream_bitfields_eight(dm_slice_u8 image, uint64_t from)
 {
     uint64_t v3 = dm_stream_bitfields_wide(image.at[from]);
     uint64_t v11 = v3 | (dm_stream_bitfields_wide(image.at[from + 1u]) << 8u);
@@ -3004,7 +3017,7 @@ static uint64_t dm_stream_bitfields_eight(dm_slice_u8 image, uint64_t from)
 }
 
 /* The same, with zeros behind the image's end: where fewer than 8 bytes are left, the last 8 shifted. */
-static uint64_t dm_stream_bitfields_window(dm_slice_u8 image, uint64_t from)
+DM_SMALL uint64_t dm_stream_bitfields_window(dm_slice_u8 image, uint64_t from)
 {
     uint64_t last = image.length - 8u;
     if (from <= last) {
@@ -3014,20 +3027,20 @@ static uint64_t dm_stream_bitfields_window(dm_slice_u8 image, uint64_t from)
 }
 
 /* How many check bytes stand before byte `i` of the stream: a division by 31, as a product with (2^35 - 1) / 31. */
-static uint64_t dm_stream_bitfields_checks_before(const dm_memory_Sizes *sizes, uint64_t i)
+DM_SMALL uint64_t dm_stream_bitfields_checks_before(const dm_memory_Sizes *sizes, uint64_t i)
 {
     return ((i + 32u - sizes->register_) * 1108378657u) >> 35u;
 }
 
 /* A number with the 8 bits behind its first `bits` left out. */
-static uint64_t dm_stream_bitfields_over_check(uint64_t word, uint64_t bits)
+DM_SMALL uint64_t dm_stream_bitfields_over_check(uint64_t word, uint64_t bits)
 {
     uint64_t near = ((uint64_t)1 << bits) - 1u;
     return (word & near) | ((word >> 8u) & (18446744073709551615u - near));
 }
 
 /* The field of `width` bits at bit `at` of the stream. */
-static uint64_t dm_stream_bitfields_take(const dm_memory_Sizes *sizes, dm_slice_u8 image, uint64_t at, uint64_t width)
+DM_SMALL uint64_t dm_stream_bitfields_take(const dm_memory_Sizes *sizes, dm_slice_u8 image, uint64_t at, uint64_t width)
 {
     uint64_t i = at / 8u;
     uint64_t checks = dm_stream_bitfields_checks_before(sizes, i);
@@ -3042,13 +3055,13 @@ static uint64_t dm_stream_bitfields_take(const dm_memory_Sizes *sizes, dm_slice_
 }
 
 /* The lowest byte of a number. */
-static uint8_t dm_stream_bitfields_byte(uint64_t word)
+DM_SMALL uint8_t dm_stream_bitfields_byte(uint64_t word)
 {
     return (uint8_t)(word & 255u);
 }
 
 /* Writes a number into the 8 bytes of the image from byte `from` on. */
-static void dm_stream_bitfields_lay_eight(dm_slice_u8 image, uint64_t from, uint64_t word)
+DM_SMALL void dm_stream_bitfields_lay_eight(dm_slice_u8 image, uint64_t from, uint64_t word)
 {
     image.at[from] = dm_stream_bitfields_byte(word);
     image.at[from + 1u] = dm_stream_bitfields_byte(word >> 8u);
@@ -3062,7 +3075,7 @@ static void dm_stream_bitfields_lay_eight(dm_slice_u8 image, uint64_t from, uint
 }
 
 /* A number with a check byte put in behind its first `bits` bits. */
-static uint64_t dm_stream_bitfields_with_check(uint64_t word, uint64_t bits, uint64_t check)
+DM_SMALL uint64_t dm_stream_bitfields_with_check(uint64_t word, uint64_t bits, uint64_t check)
 {
     uint64_t near = ((uint64_t)1 << bits) - 1u;
     uint64_t v11 = (word & (18446744073709551615u - near)) << 8u;
@@ -3070,14 +3083,15 @@ static uint64_t dm_stream_bitfields_with_check(uint64_t word, uint64_t bits, uin
 }
 
 /* A number with its field of `width` bits at bit `low` replaced by a code. */
-static uint64_t dm_stream_bitfields_replaced(uint64_t word, uint64_t low, uint64_t width, uint64_t code)
+DM_SMALL uint64_t dm_stream_bitfields_replaced(uint64_t word, uint64_t low, uint64_t width, uint64_t code)
 {
     uint64_t old = (word >> low) & (((uint64_t)1 << width) - 1u);
     return word - (old << low) + (code << low);
 }
 
 /* Writes a code into the field of `width` bits at bit `bit` of the image, in the 8 bytes from byte `from` on. */
-static void dm_stream_bitfields_put_eight(dm_slice_u8 image, uint64_t from, uint64_t bit, uint64_t width, uint64_t code)
+DM_SMALL void dm_stream_bitfields_put_eight(dm_slice_u8 image, uint64_t from, uint64_t bit, uint64_t width,
+    uint64_t code)
 {
     uint64_t word = dm_stream_bitfields_eight(image, from);
     dm_stream_bitfields_lay_eight(image, from, dm_stream_bitfields_replaced(word, bit - 8u * from, width, code));
@@ -3085,7 +3099,7 @@ static void dm_stream_bitfields_put_eight(dm_slice_u8 image, uint64_t from, uint
 }
 
 /* The same in 8 bytes that hold it: in the last where fewer are left. */
-static void dm_stream_bitfields_put_bits(dm_slice_u8 image, uint64_t bit, uint64_t width, uint64_t code)
+DM_SMALL void dm_stream_bitfields_put_bits(dm_slice_u8 image, uint64_t bit, uint64_t width, uint64_t code)
 {
     uint64_t from = bit / 8u;
     uint64_t last = image.length - 8u;
@@ -3099,7 +3113,7 @@ static void dm_stream_bitfields_put_bits(dm_slice_u8 image, uint64_t bit, uint64
 
 /* Writes a code into the field of `width` bits at bit `at` of the stream. Its neighbours keep their state, and so
  * does every check byte. */
-static void dm_stream_bitfields_put(const dm_memory_Sizes *sizes, dm_slice_u8 image, uint64_t at, uint64_t width,
+DM_SMALL void dm_stream_bitfields_put(const dm_memory_Sizes *sizes, dm_slice_u8 image, uint64_t at, uint64_t width,
     uint64_t code)
 {
     uint64_t checks = dm_stream_bitfields_checks_before(sizes, at / 8u);
@@ -3117,7 +3131,7 @@ static void dm_stream_bitfields_put(const dm_memory_Sizes *sizes, dm_slice_u8 im
 }
 
 /* The same where every bit of the stream from `at` on is 0. */
-static void dm_stream_bitfields_append(const dm_memory_Sizes *sizes, dm_slice_u8 image, uint64_t at, uint64_t width,
+DM_SMALL void dm_stream_bitfields_append(const dm_memory_Sizes *sizes, dm_slice_u8 image, uint64_t at, uint64_t width,
     uint64_t code)
 {
     uint64_t i = at / 8u;
@@ -3141,7 +3155,7 @@ static void dm_stream_bitfields_append(const dm_memory_Sizes *sizes, dm_slice_u8
 /* ---- crates/stream/src/cursor.rt ---- */
 
 /* The stream's first bit. */
-static dm_stream_cursor_Cursor dm_stream_cursor_Cursor_start(void)
+DM_SMALL dm_stream_cursor_Cursor dm_stream_cursor_Cursor_start(void)
 {
     dm_stream_cursor_Cursor result;
     result.at = 0u;
@@ -3177,7 +3191,7 @@ static dm_stream_cursor_Taken dm_stream_cursor_Cursor_take(dm_stream_cursor_Curs
 
 /* Writes a code into the field of `width` bits at the cursor, where every bit of the stream from there on is 0, and
  * hands back the cursor behind it. */
-static dm_stream_cursor_Cursor dm_stream_cursor_Cursor_append(dm_stream_cursor_Cursor self,
+DM_SMALL dm_stream_cursor_Cursor dm_stream_cursor_Cursor_append(dm_stream_cursor_Cursor self,
     const dm_memory_Sizes *sizes, dm_slice_u8 image, uint64_t width, uint64_t code)
 {
     dm_stream_bitfields_append(sizes, image, self.at, width, code);
@@ -3200,7 +3214,7 @@ static void dm_stream_writing_clear(dm_slice_u8 image)
 }
 
 /* The page whose check byte covers a bit of the stream: the register's bits belong to page 0. */
-static uint64_t dm_stream_writing_page_of(const dm_memory_Sizes *sizes, uint64_t bit)
+DM_SMALL uint64_t dm_stream_writing_page_of(const dm_memory_Sizes *sizes, uint64_t bit)
 {
     uint64_t byte = bit / 8u;
     uint64_t register_ = sizes->register_;
@@ -3212,7 +3226,7 @@ static uint64_t dm_stream_writing_page_of(const dm_memory_Sizes *sizes, uint64_t
 
 /* Rewrites the field of `width` bits at bit `at` of an image whose sums are right, and the check bytes of its pages:
  * no other bit. */
-static void dm_stream_writing_rewrite(const dm_memory_Sizes *sizes, dm_slice_u8 image, uint64_t at, uint64_t width,
+DM_SMALL void dm_stream_writing_rewrite(const dm_memory_Sizes *sizes, dm_slice_u8 image, uint64_t at, uint64_t width,
     uint64_t code)
 {
     uint64_t first = dm_stream_writing_page_of(sizes, at);
@@ -3240,7 +3254,7 @@ static void dm_stream_writing_seal_pages(const dm_memory_Sizes *sizes, dm_slice_
 /* ---- crates/texts/src/dates.rt ---- */
 
 /* Whether a year is a leap year: every fourth, of the hundredth ones only the four hundredth. */
-static bool dm_texts_dates_leap(uint64_t year)
+DM_SMALL bool dm_texts_dates_leap(uint64_t year)
 {
     if (year % 4u != 0u) {
         return false;
@@ -3253,7 +3267,7 @@ static bool dm_texts_dates_leap(uint64_t year)
 
 /* The days from 1 January 1998 to that of a year: 365 a year, and one for each leap year since. Up to 1997 there are
  * 484. */
-static uint64_t dm_texts_dates_days_before_year(uint64_t year)
+DM_SMALL uint64_t dm_texts_dates_days_before_year(uint64_t year)
 {
     uint64_t last = year - 1u;
     uint64_t v7 = last / 100u;
@@ -3262,7 +3276,7 @@ static uint64_t dm_texts_dates_days_before_year(uint64_t year)
 }
 
 /* The days of a leap year, or of another, before a month: from March on a leap year has one more. */
-static uint64_t dm_texts_dates_days_before_month(uint64_t month, bool long_)
+DM_SMALL uint64_t dm_texts_dates_days_before_month(uint64_t month, bool long_)
 {
     uint64_t days = (uint64_t)dm_table_DAYS_BEFORE[month - 1u];
     if (month < 3u) {
@@ -3296,7 +3310,7 @@ static uint64_t dm_texts_dates_month_of(uint64_t year, uint64_t day)
 }
 
 /* The date of a code. */
-static dm_texts_dates_Date dm_texts_dates_date_of(uint64_t code)
+DM_SMALL dm_texts_dates_Date dm_texts_dates_date_of(uint64_t code)
 {
     uint64_t year = dm_texts_dates_year_of(code);
     uint64_t rest = code - dm_texts_dates_days_before_year(year);
@@ -3310,7 +3324,7 @@ static dm_texts_dates_Date dm_texts_dates_date_of(uint64_t code)
 }
 
 /* The last decimal digit of a number, as a character. */
-static uint8_t dm_texts_dates_digit(uint64_t n)
+DM_SMALL uint8_t dm_texts_dates_digit(uint64_t n)
 {
     return (uint8_t)(48u + n % 10u);
 }
@@ -3344,7 +3358,7 @@ static dm_array_u8_10 dm_texts_dates_text_of(uint64_t code)
 }
 
 /* What a character is above the digit 0, and 0 below it. */
-static uint64_t dm_texts_dates_figure(uint8_t character)
+DM_SMALL uint64_t dm_texts_dates_figure(uint8_t character)
 {
     if ((uint32_t)character < 48u) {
         return 0u;
@@ -3353,7 +3367,7 @@ static uint64_t dm_texts_dates_figure(uint8_t character)
 }
 
 /* The number that two digits say. */
-static uint64_t dm_texts_dates_two_digits(dm_slice_u8 text, uint64_t at)
+DM_SMALL uint64_t dm_texts_dates_two_digits(dm_slice_u8 text, uint64_t at)
 {
     uint64_t v6 = 10u * dm_texts_dates_figure(text.at[at]);
     return v6 + dm_texts_dates_figure(text.at[at + 1u]);
@@ -3361,7 +3375,7 @@ static uint64_t dm_texts_dates_two_digits(dm_slice_u8 text, uint64_t at)
 
 /* The only code that can have this date; `NO_DATE` for a year, month or day that no code has. A 30 February counts
  * on into March: that code has another date. */
-static uint64_t dm_texts_dates_day_code(uint64_t year, uint64_t month, uint64_t day)
+DM_SMALL uint64_t dm_texts_dates_day_code(uint64_t year, uint64_t month, uint64_t day)
 {
     if (year < 1998u) {
         return 65535u;
@@ -3386,7 +3400,7 @@ static uint64_t dm_texts_dates_day_code(uint64_t year, uint64_t month, uint64_t 
 }
 
 /* The only code that can have this text of ten characters. */
-static uint64_t dm_texts_dates_code_of(dm_slice_u8 text)
+DM_SMALL uint64_t dm_texts_dates_code_of(dm_slice_u8 text)
 {
     uint64_t v6 = 100u * dm_texts_dates_two_digits(text, 0u);
     uint64_t year = v6 + dm_texts_dates_two_digits(text, 2u);
@@ -3398,7 +3412,7 @@ static uint64_t dm_texts_dates_code_of(dm_slice_u8 text)
 /* ---- crates/texts/src/letters.rt ---- */
 
 /* The letter of a code's lowest five bits. */
-static uint8_t dm_texts_letters_letter(uint64_t code)
+DM_SMALL uint8_t dm_texts_letters_letter(uint64_t code)
 {
     uint64_t at = code % 32u;
     return dm_table_LETTERS[at];
@@ -3418,7 +3432,7 @@ static uint64_t dm_texts_letters_letter_code(uint8_t character)
 }
 
 /* The text of one letter, with zeros behind it. */
-static dm_array_u8_10 dm_texts_letters_one_text(uint64_t code)
+DM_SMALL dm_array_u8_10 dm_texts_letters_one_text(uint64_t code)
 {
     dm_array_u8_10 result;
     result.at[0] = dm_texts_letters_letter(code);
@@ -3454,13 +3468,13 @@ static dm_array_u8_10 dm_texts_letters_three_text(uint64_t code)
 }
 
 /* The only code that can have this text of one letter. */
-static uint64_t dm_texts_letters_one_code(dm_slice_u8 text)
+DM_SMALL uint64_t dm_texts_letters_one_code(dm_slice_u8 text)
 {
     return dm_texts_letters_letter_code(text.at[0u]);
 }
 
 /* The only code that can have this text of three letters. */
-static uint64_t dm_texts_letters_three_code(dm_slice_u8 text)
+DM_SMALL uint64_t dm_texts_letters_three_code(dm_slice_u8 text)
 {
     uint64_t a = dm_texts_letters_letter_code(text.at[0u]);
     uint64_t b = dm_texts_letters_letter_code(text.at[1u]);
@@ -3604,7 +3618,7 @@ static bool dm_texts_equal(dm_slice_u8 a, dm_slice_u8 b)
 }
 
 /* A refusal, and zeros. */
-static dm_texts_Text dm_texts_no_text(const dm_refusal_Refusal *r)
+DM_SMALL dm_texts_Text dm_texts_no_text(const dm_refusal_Refusal *r)
 {
     dm_texts_TextAnswer v2;
     v2.tag = dm_texts_TextAnswer_Refused;
@@ -3619,7 +3633,7 @@ static dm_texts_Text dm_texts_no_text(const dm_refusal_Refusal *r)
 
 /* ---- crates/coding/src/calibration.rt ---- */
 
-static dm_fields_Row dm_coding_calibration_cal_domain(void)
+DM_SMALL dm_fields_Row dm_coding_calibration_cal_domain(void)
 {
     dm_fields_Rule v1;
     v1.tag = dm_fields_Rule_Plain;
@@ -3628,7 +3642,7 @@ static dm_fields_Row dm_coding_calibration_cal_domain(void)
     return dm_fields_rows_always(1u, &v1);
 }
 
-static uint64_t dm_coding_calibration_domain_code(dm_fields_Domain domain)
+DM_SMALL uint64_t dm_coding_calibration_domain_code(dm_fields_Domain domain)
 {
     if (domain == dm_fields_Domain_Electrical) {
         return 0u;
@@ -3637,7 +3651,7 @@ static uint64_t dm_coding_calibration_domain_code(dm_fields_Domain domain)
     }
 }
 
-static dm_fields_Domain dm_coding_calibration_domain_of(uint64_t code)
+DM_SMALL dm_fields_Domain dm_coding_calibration_domain_of(uint64_t code)
 {
     if (code == 0u) {
         return dm_fields_Domain_Electrical;
@@ -3645,7 +3659,7 @@ static dm_fields_Domain dm_coding_calibration_domain_of(uint64_t code)
     return dm_fields_Domain_Physical;
 }
 
-static dm_fields_Row dm_coding_calibration_point_count(void)
+DM_SMALL dm_fields_Row dm_coding_calibration_point_count(void)
 {
     dm_fields_Rule v1;
     v1.tag = dm_fields_Rule_Plain;
@@ -3654,7 +3668,7 @@ static dm_fields_Row dm_coding_calibration_point_count(void)
     return dm_fields_rows_always(7u, &v1);
 }
 
-static dm_fields_Row dm_coding_calibration_cal_point(void)
+DM_SMALL dm_fields_Row dm_coding_calibration_cal_point(void)
 {
     dm_fields_Rule v1;
     v1.tag = dm_fields_Rule_Stepped;
@@ -3663,7 +3677,7 @@ static dm_fields_Row dm_coding_calibration_cal_point(void)
     return dm_fields_rows_always(16u, &v1);
 }
 
-static dm_fields_Row dm_coding_calibration_cal_deviation(void)
+DM_SMALL dm_fields_Row dm_coding_calibration_cal_deviation(void)
 {
     dm_fields_Rule v1;
     v1.tag = dm_fields_Rule_Stepped;
@@ -3674,19 +3688,19 @@ static dm_fields_Row dm_coding_calibration_cal_deviation(void)
 
 /* The code of a calibration point's figure: `encode` of its row, which is a constant here. That makes a build of a
  * long table nearly twice as fast. */
-static dm_fields_Encoded dm_coding_calibration_encode_point(uint64_t place, uint64_t figure)
+DM_SMALL dm_fields_Encoded dm_coding_calibration_encode_point(uint64_t place, uint64_t figure)
 {
     return dm_coding_encoding_stepped(0u, 15300u, 16u, place, figure);
 }
 
 /* The same of its deviation. */
-static dm_fields_Encoded dm_coding_calibration_encode_deviation(uint64_t place, uint64_t figure)
+DM_SMALL dm_fields_Encoded dm_coding_calibration_encode_deviation(uint64_t place, uint64_t figure)
 {
     return dm_coding_encoding_stepped(18446744072709551616u, 1000u, 21u, place, figure);
 }
 
 /* The pair of a point's code and, behind it, a deviation's, as one number of 37 bits. */
-static dm_fields_Pair dm_coding_calibration_pair_of(uint64_t code)
+DM_SMALL dm_fields_Pair dm_coding_calibration_pair_of(uint64_t code)
 {
     dm_fields_Pair result;
     result.point = 15300u * (code % 65536u);
@@ -3695,13 +3709,13 @@ static dm_fields_Pair dm_coding_calibration_pair_of(uint64_t code)
 }
 
 /* A pair's point plus its deviation, in billionths of the span above the least deviation. */
-static uint64_t dm_coding_calibration_sum_above(dm_fields_Codes codes)
+DM_SMALL uint64_t dm_coding_calibration_sum_above(dm_fields_Codes codes)
 {
     return 15300u * (uint64_t)codes.point + 1000u * (uint64_t)codes.deviation;
 }
 
 /* Row 22: whether a pair's sum is above that of the one before it, in domain 1. */
-static dm_fields_Judged dm_coding_calibration_climbs(dm_fields_Domain domain, dm_fields_Codes before, uint64_t place,
+DM_SMALL dm_fields_Judged dm_coding_calibration_climbs(dm_fields_Domain domain, dm_fields_Codes before, uint64_t place,
     dm_fields_Codes next)
 {
     if (domain == dm_fields_Domain_Electrical) {
@@ -3724,7 +3738,7 @@ static dm_fields_Judged dm_coding_calibration_climbs(dm_fields_Domain domain, dm
 
 /* Rows 7 and 22: whether a pair may stand behind the one before it. Points rise strictly, as codes; in domain 1
  * points plus deviations rise too, as stored. */
-static dm_fields_Judged dm_coding_calibration_follows(dm_fields_Domain domain, const dm_fields_Previous *before,
+DM_SMALL dm_fields_Judged dm_coding_calibration_follows(dm_fields_Domain domain, const dm_fields_Previous *before,
     uint64_t place, dm_fields_Codes next)
 {
     if (before->tag == dm_fields_Previous_Nothing) {
@@ -3748,7 +3762,7 @@ static dm_fields_Judged dm_coding_calibration_follows(dm_fields_Domain domain, c
 
 /* ---- crates/coding/src/curves.rt ---- */
 
-static dm_fields_Row dm_coding_curves_curve_domain(void)
+DM_SMALL dm_fields_Row dm_coding_curves_curve_domain(void)
 {
     dm_fields_Rule v1;
     v1.tag = dm_fields_Rule_Plain;
@@ -3757,12 +3771,12 @@ static dm_fields_Row dm_coding_curves_curve_domain(void)
     return dm_fields_rows_always(1u, &v1);
 }
 
-static dm_fields_Row dm_coding_curves_segment_count(void)
+DM_SMALL dm_fields_Row dm_coding_curves_segment_count(void)
 {
     return dm_fields_rows_any(8u);
 }
 
-static dm_fields_Row dm_coding_curves_segment_start(void)
+DM_SMALL dm_fields_Row dm_coding_curves_segment_start(void)
 {
     dm_fields_Rule v1;
     v1.tag = dm_fields_Rule_Stepped;
@@ -3771,12 +3785,12 @@ static dm_fields_Row dm_coding_curves_segment_start(void)
     return dm_fields_rows_always(13u, &v1);
 }
 
-static dm_fields_Row dm_coding_curves_term_count(void)
+DM_SMALL dm_fields_Row dm_coding_curves_term_count(void)
 {
     return dm_fields_rows_any(7u);
 }
 
-static dm_fields_Row dm_coding_curves_term_exponent(void)
+DM_SMALL dm_fields_Row dm_coding_curves_term_exponent(void)
 {
     dm_fields_Rule v1;
     v1.tag = dm_fields_Rule_Stepped;
@@ -3785,7 +3799,7 @@ static dm_fields_Row dm_coding_curves_term_exponent(void)
     return dm_fields_rows_always(7u, &v1);
 }
 
-static dm_fields_Row dm_coding_curves_term_coefficient(void)
+DM_SMALL dm_fields_Row dm_coding_curves_term_coefficient(void)
 {
     dm_fields_Rule v1;
     v1.tag = dm_fields_Rule_Single;
@@ -3793,7 +3807,7 @@ static dm_fields_Row dm_coding_curves_term_coefficient(void)
 }
 
 /* Row 24. */
-static dm_fields_Encoded dm_coding_curves_wrong_curve(uint64_t place)
+DM_SMALL dm_fields_Encoded dm_coding_curves_wrong_curve(uint64_t place)
 {
     dm_fields_Encoded result;
     result.tag = dm_fields_Encoded_Refused;
@@ -3802,19 +3816,19 @@ static dm_fields_Encoded dm_coding_curves_wrong_curve(uint64_t place)
 }
 
 /* The code of a start in billionths of the span, or 10: `encode` of its row. */
-static dm_fields_Encoded dm_coding_curves_encode_start(uint64_t place, uint64_t figure)
+DM_SMALL dm_fields_Encoded dm_coding_curves_encode_start(uint64_t place, uint64_t figure)
 {
     return dm_coding_encoding_stepped(0u, 123000u, 13u, place, figure);
 }
 
 /* The same of a coefficient. */
-static dm_fields_Encoded dm_coding_curves_encode_coefficient(uint64_t place, float x)
+DM_SMALL dm_fields_Encoded dm_coding_curves_encode_coefficient(uint64_t place, float x)
 {
     return dm_coding_encoding_bits(place, x);
 }
 
 /* Whether the exponent of a code is a whole number 0 to 5. */
-static bool dm_coding_curves_is_exponent(uint64_t code)
+DM_SMALL bool dm_coding_curves_is_exponent(uint64_t code)
 {
     if (code < 64u) {
         return false;
@@ -3826,7 +3840,7 @@ static bool dm_coding_curves_is_exponent(uint64_t code)
 }
 
 /* Whether an exponent, as its code, may stand behind the one before it in its segment. */
-static bool dm_coding_curves_exponent_follows(const dm_fields_Earlier *before, uint64_t code)
+DM_SMALL bool dm_coding_curves_exponent_follows(const dm_fields_Earlier *before, uint64_t code)
 {
     if (dm_coding_curves_is_exponent(code)) {
         if (before->tag == dm_fields_Earlier_Nothing) {
@@ -3840,7 +3854,7 @@ static bool dm_coding_curves_exponent_follows(const dm_fields_Earlier *before, u
 }
 
 /* The code of an exponent, or 24 where it may not stand behind the one before it in its segment. */
-static dm_fields_Encoded dm_coding_curves_encode_exponent(const dm_fields_Earlier *before, uint64_t place,
+DM_SMALL dm_fields_Encoded dm_coding_curves_encode_exponent(const dm_fields_Earlier *before, uint64_t place,
     uint64_t exponent)
 {
     if ((int64_t)exponent < 0) {
@@ -3860,14 +3874,14 @@ static dm_fields_Encoded dm_coding_curves_encode_exponent(const dm_fields_Earlie
 }
 
 /* The exponent that tenths stand for. */
-static uint64_t dm_coding_curves_exponent_of(uint64_t tenths)
+DM_SMALL uint64_t dm_coding_curves_exponent_of(uint64_t tenths)
 {
     uint64_t v2 = dm_integers_parts_plus(tenths);
     return (v2 + dm_integers_parts_minus(tenths)) / 10u;
 }
 
 /* Whether a start, as its code, may stand behind the one before it. */
-static bool dm_coding_curves_start_follows(const dm_fields_Earlier *before, uint64_t code)
+DM_SMALL bool dm_coding_curves_start_follows(const dm_fields_Earlier *before, uint64_t code)
 {
     if (before->tag == dm_fields_Earlier_Nothing) {
         return code == 0u;
@@ -3879,7 +3893,7 @@ static bool dm_coding_curves_start_follows(const dm_fields_Earlier *before, uint
 
 /* Whether a curve may have so many segments, a segment so many terms, and whether these are more terms than a curve
  * has. */
-static bool dm_coding_curves_is_segment_count(uint64_t count)
+DM_SMALL bool dm_coding_curves_is_segment_count(uint64_t count)
 {
     if (1u <= count) {
         return count <= 20u;
@@ -3887,7 +3901,7 @@ static bool dm_coding_curves_is_segment_count(uint64_t count)
     return false;
 }
 
-static bool dm_coding_curves_is_term_count(uint64_t count)
+DM_SMALL bool dm_coding_curves_is_term_count(uint64_t count)
 {
     if (1u <= count) {
         return count <= 6u;
@@ -3895,7 +3909,7 @@ static bool dm_coding_curves_is_term_count(uint64_t count)
     return false;
 }
 
-static bool dm_coding_curves_too_many(uint64_t total)
+DM_SMALL bool dm_coding_curves_too_many(uint64_t total)
 {
     return 30u < total;
 }
@@ -3903,7 +3917,7 @@ static bool dm_coding_curves_too_many(uint64_t total)
 /* ---- crates/coding/src/decoding.rt ---- */
 
 /* The code itself, or 5 outside the table. */
-static dm_fields_Decoded dm_coding_decoding_plain(uint64_t least, uint64_t greatest, uint64_t at, uint64_t code)
+DM_SMALL dm_fields_Decoded dm_coding_decoding_plain(uint64_t least, uint64_t greatest, uint64_t at, uint64_t code)
 {
     dm_fields_Judged v6 = dm_coding_judging_in_table(least, greatest, at, code);
     dm_fields_Decoded result;
@@ -3922,7 +3936,7 @@ static dm_fields_Decoded dm_coding_decoding_plain(uint64_t least, uint64_t great
 }
 
 /* start + step × code, or 5 for all ones. */
-static dm_fields_Decoded dm_coding_decoding_stepped(uint64_t start, uint64_t step, uint64_t width, uint64_t at,
+DM_SMALL dm_fields_Decoded dm_coding_decoding_stepped(uint64_t start, uint64_t step, uint64_t width, uint64_t at,
     uint64_t code)
 {
     dm_fields_Judged v7 = dm_coding_judging_up_to_top(width, at, code);
@@ -3942,7 +3956,8 @@ static dm_fields_Decoded dm_coding_decoding_stepped(uint64_t start, uint64_t ste
 }
 
 /* The scale's value, or 5 for all ones. */
-static dm_fields_Decoded dm_coding_decoding_geometric(dm_fields_Scale scale, uint64_t width, uint64_t at, uint64_t code)
+DM_SMALL dm_fields_Decoded dm_coding_decoding_geometric(dm_fields_Scale scale, uint64_t width, uint64_t at,
+    uint64_t code)
 {
     dm_fields_Judged v6 = dm_coding_judging_up_to_top(width, at, code);
     dm_fields_Decoded result;
@@ -3961,7 +3976,7 @@ static dm_fields_Decoded dm_coding_decoding_geometric(dm_fields_Scale scale, uin
 }
 
 /* The float whose bits the code is, or 6. */
-static dm_fields_Decoded dm_coding_decoding_single(uint64_t at, uint64_t code)
+DM_SMALL dm_fields_Decoded dm_coding_decoding_single(uint64_t at, uint64_t code)
 {
     dm_fields_Judged v4 = dm_coding_judging_finite_bits(at, code);
     dm_fields_Decoded result;
@@ -4019,7 +4034,7 @@ static dm_fields_Decoded dm_coding_decoding_decode_unscaled(const dm_fields_Row 
 }
 
 /* The same under any rule. */
-static dm_fields_Decoded dm_coding_decoding_decode(const dm_fields_Row *row, uint64_t at, uint64_t code)
+DM_SMALL dm_fields_Decoded dm_coding_decoding_decode(const dm_fields_Row *row, uint64_t at, uint64_t code)
 {
     switch (row->rule.tag) {
     case dm_fields_Rule_Plain:
@@ -4047,7 +4062,7 @@ static dm_fields_Decoded dm_coding_decoding_decode(const dm_fields_Row *row, uin
 /* ---- crates/coding/src/encoding.rt ---- */
 
 /* Row 9 of "Turning down", and row 10. */
-static dm_fields_Encoded dm_coding_encoding_wrong_sort(uint64_t place)
+DM_SMALL dm_fields_Encoded dm_coding_encoding_wrong_sort(uint64_t place)
 {
     dm_refusal_Refusal v2;
     v2.number = 9u;
@@ -4058,7 +4073,7 @@ static dm_fields_Encoded dm_coding_encoding_wrong_sort(uint64_t place)
     return result;
 }
 
-static dm_fields_Encoded dm_coding_encoding_out_of_range(uint64_t place)
+DM_SMALL dm_fields_Encoded dm_coding_encoding_out_of_range(uint64_t place)
 {
     dm_refusal_Refusal v2;
     v2.number = 10u;
@@ -4070,7 +4085,7 @@ static dm_fields_Encoded dm_coding_encoding_out_of_range(uint64_t place)
 }
 
 /* Whether the figure is below the lowest or above the highest. */
-static bool dm_coding_encoding_is_outside(uint64_t lowest, uint64_t highest, uint64_t figure)
+DM_SMALL bool dm_coding_encoding_is_outside(uint64_t lowest, uint64_t highest, uint64_t figure)
 {
     if ((int64_t)figure < (int64_t)lowest) {
         return true;
@@ -4079,7 +4094,7 @@ static bool dm_coding_encoding_is_outside(uint64_t lowest, uint64_t highest, uin
 }
 
 /* The figure itself, or 10 outside the table. */
-static dm_fields_Encoded dm_coding_encoding_plain(uint64_t least, uint64_t greatest, uint64_t place, uint64_t figure)
+DM_SMALL dm_fields_Encoded dm_coding_encoding_plain(uint64_t least, uint64_t greatest, uint64_t place, uint64_t figure)
 {
     if (dm_coding_encoding_is_outside(least, greatest, figure)) {
         return dm_coding_encoding_out_of_range(place);
@@ -4091,7 +4106,7 @@ static dm_fields_Encoded dm_coding_encoding_plain(uint64_t least, uint64_t great
 }
 
 /* The nearest step, halves upward, or 10 outside the lowest to the highest value. */
-static dm_fields_Encoded dm_coding_encoding_stepped(uint64_t start, uint64_t step, uint64_t width, uint64_t place,
+DM_SMALL dm_fields_Encoded dm_coding_encoding_stepped(uint64_t start, uint64_t step, uint64_t width, uint64_t place,
     uint64_t figure)
 {
     uint64_t highest = dm_scales_steps_step_value(start, step, dm_fields_limits_top_code(width));
@@ -4106,7 +4121,7 @@ static dm_fields_Encoded dm_coding_encoding_stepped(uint64_t start, uint64_t ste
 
 /* The greatest value, which the table is asked for where the figure is above it: with a second reader the compiler
  * takes the table into neither, and whoever decodes no progression has no part in it. */
-static uint64_t dm_coding_encoding_highest(dm_fields_Scale scale, uint64_t width, uint64_t figure)
+DM_SMALL uint64_t dm_coding_encoding_highest(dm_fields_Scale scale, uint64_t width, uint64_t figure)
 {
     uint64_t greatest = dm_scales_scales_greatest_value(scale);
     if ((int64_t)figure <= (int64_t)greatest) {
@@ -4116,7 +4131,7 @@ static uint64_t dm_coding_encoding_highest(dm_fields_Scale scale, uint64_t width
 }
 
 /* The code that the storing rule gives, or 10 outside the lowest to the highest value. */
-static dm_fields_Encoded dm_coding_encoding_geometric(dm_fields_Scale scale, uint64_t width, uint64_t place,
+DM_SMALL dm_fields_Encoded dm_coding_encoding_geometric(dm_fields_Scale scale, uint64_t width, uint64_t place,
     uint64_t figure)
 {
     uint64_t v6 = dm_scales_scales_least_value(scale);
@@ -4131,7 +4146,7 @@ static dm_fields_Encoded dm_coding_encoding_geometric(dm_fields_Scale scale, uin
 
 /* The bits of a Single, or 10 where it is not finite. A NaN is turned down before its bits are asked for; an
  * exponent of all ones is then an infinity's. */
-static dm_fields_Encoded dm_coding_encoding_bits(uint64_t place, float x)
+DM_SMALL dm_fields_Encoded dm_coding_encoding_bits(uint64_t place, float x)
 {
     if (x != x) {
         return dm_coding_encoding_out_of_range(place);
@@ -4147,7 +4162,7 @@ static dm_fields_Encoded dm_coding_encoding_bits(uint64_t place, float x)
 }
 
 /* All ones, or 9 where the row has no missing. */
-static dm_fields_Encoded dm_coding_encoding_missing_code(const dm_fields_Row *row, uint64_t place)
+DM_SMALL dm_fields_Encoded dm_coding_encoding_missing_code(const dm_fields_Row *row, uint64_t place)
 {
     if (row->missing) {
         dm_fields_Encoded result;
@@ -4159,7 +4174,7 @@ static dm_fields_Encoded dm_coding_encoding_missing_code(const dm_fields_Row *ro
 }
 
 /* The code of an answer, or none. */
-static uint64_t dm_coding_encoding_code_or_none(const dm_fields_Encoded *answer)
+DM_SMALL uint64_t dm_coding_encoding_code_or_none(const dm_fields_Encoded *answer)
 {
     if (answer->tag == dm_fields_Encoded_Code) {
         uint64_t code = answer->Code.value;
@@ -4171,7 +4186,7 @@ static uint64_t dm_coding_encoding_code_or_none(const dm_fields_Encoded *answer)
 
 /* The code of a value where it is told at once, or none: where a progression has to be searched, and where it is
  * refused. Small enough to be taken into a loop over rows that are constants. */
-static uint64_t dm_coding_encoding_swift_whole(const dm_fields_Row *row, uint64_t figure)
+DM_SMALL uint64_t dm_coding_encoding_swift_whole(const dm_fields_Row *row, uint64_t figure)
 {
     switch (row->rule.tag) {
     case dm_fields_Rule_Plain: {
@@ -4194,7 +4209,7 @@ static uint64_t dm_coding_encoding_swift_whole(const dm_fields_Row *row, uint64_
     }
 }
 
-static uint64_t dm_coding_encoding_swift_single(const dm_fields_Row *row, float x)
+DM_SMALL uint64_t dm_coding_encoding_swift_single(const dm_fields_Row *row, float x)
 {
     switch (row->rule.tag) {
     case dm_fields_Rule_Plain:
@@ -4211,13 +4226,13 @@ static uint64_t dm_coding_encoding_swift_single(const dm_fields_Row *row, float 
     }
 }
 
-static uint64_t dm_coding_encoding_swift_missing(const dm_fields_Row *row)
+DM_SMALL uint64_t dm_coding_encoding_swift_missing(const dm_fields_Row *row)
 {
     dm_fields_Encoded v2 = dm_coding_encoding_missing_code(row, 0u);
     return dm_coding_encoding_code_or_none(&v2);
 }
 
-static uint64_t dm_coding_encoding_swift(const dm_fields_Row *row, const dm_fields_Value *value)
+DM_SMALL uint64_t dm_coding_encoding_swift(const dm_fields_Row *row, const dm_fields_Value *value)
 {
     switch (value->tag) {
     case dm_fields_Value_Whole: {
@@ -4235,7 +4250,7 @@ static uint64_t dm_coding_encoding_swift(const dm_fields_Row *row, const dm_fiel
 }
 
 /* The code of a value by each rule: 9 where the rule takes no value of its sort. */
-static dm_fields_Encoded dm_coding_encoding_encode_plain(const dm_fields_Row *row, uint64_t least, uint64_t greatest,
+DM_SMALL dm_fields_Encoded dm_coding_encoding_encode_plain(const dm_fields_Row *row, uint64_t least, uint64_t greatest,
     uint64_t place, const dm_fields_Value *value)
 {
     switch (value->tag) {
@@ -4251,7 +4266,7 @@ static dm_fields_Encoded dm_coding_encoding_encode_plain(const dm_fields_Row *ro
     }
 }
 
-static dm_fields_Encoded dm_coding_encoding_encode_stepped(const dm_fields_Row *row, uint64_t start, uint64_t step,
+DM_SMALL dm_fields_Encoded dm_coding_encoding_encode_stepped(const dm_fields_Row *row, uint64_t start, uint64_t step,
     uint64_t place, const dm_fields_Value *value)
 {
     switch (value->tag) {
@@ -4267,7 +4282,7 @@ static dm_fields_Encoded dm_coding_encoding_encode_stepped(const dm_fields_Row *
     }
 }
 
-static dm_fields_Encoded dm_coding_encoding_encode_geometric(const dm_fields_Row *row, dm_fields_Scale scale,
+DM_SMALL dm_fields_Encoded dm_coding_encoding_encode_geometric(const dm_fields_Row *row, dm_fields_Scale scale,
     uint64_t place, const dm_fields_Value *value)
 {
     switch (value->tag) {
@@ -4283,7 +4298,7 @@ static dm_fields_Encoded dm_coding_encoding_encode_geometric(const dm_fields_Row
     }
 }
 
-static dm_fields_Encoded dm_coding_encoding_encode_single(const dm_fields_Row *row, uint64_t place,
+DM_SMALL dm_fields_Encoded dm_coding_encoding_encode_single(const dm_fields_Row *row, uint64_t place,
     const dm_fields_Value *value)
 {
     switch (value->tag) {
@@ -4302,7 +4317,7 @@ static dm_fields_Encoded dm_coding_encoding_encode_single(const dm_fields_Row *r
 /* The code of a value, whatever i64 or f32 it holds: refusal 9 where the row takes no value of its sort, 10 where it
  * has no code for it, each with the place that the call gives. The rule is asked before the value: it is a constant
  * to the compiler where the row is. */
-static dm_fields_Encoded dm_coding_encoding_encode_by(const dm_fields_Row *row, uint64_t place,
+DM_SMALL dm_fields_Encoded dm_coding_encoding_encode_by(const dm_fields_Row *row, uint64_t place,
     const dm_fields_Value *value)
 {
     switch (row->rule.tag) {
@@ -4327,7 +4342,7 @@ static dm_fields_Encoded dm_coding_encoding_encode_by(const dm_fields_Row *row, 
 }
 
 /* The code of a field's value, each refusal at the field. */
-static dm_fields_Encoded dm_coding_encoding_encode(const dm_fields_Layout *layout, uint64_t field,
+DM_SMALL dm_fields_Encoded dm_coding_encoding_encode(const dm_fields_Layout *layout, uint64_t field,
     const dm_fields_Value *value)
 {
     dm_fields_Row v4 = dm_fields_templates_row_of(layout, field);
@@ -4337,7 +4352,7 @@ static dm_fields_Encoded dm_coding_encoding_encode(const dm_fields_Layout *layou
 /* ---- crates/coding/src/judging.rt ---- */
 
 /* Whether the code is the one that the row calls missing. */
-static bool dm_coding_judging_is_missing(const dm_fields_Row *row, uint64_t code)
+DM_SMALL bool dm_coding_judging_is_missing(const dm_fields_Row *row, uint64_t code)
 {
     if (row->missing) {
         return code == dm_fields_limits_all_ones(row->width);
@@ -4346,7 +4361,7 @@ static bool dm_coding_judging_is_missing(const dm_fields_Row *row, uint64_t code
 }
 
 /* Row 5 of "Turning down", and row 6. */
-static dm_fields_Judged dm_coding_judging_outside_table(uint64_t at)
+DM_SMALL dm_fields_Judged dm_coding_judging_outside_table(uint64_t at)
 {
     dm_refusal_Refusal v2;
     v2.number = 5u;
@@ -4357,7 +4372,7 @@ static dm_fields_Judged dm_coding_judging_outside_table(uint64_t at)
     return result;
 }
 
-static dm_fields_Judged dm_coding_judging_not_finite(uint64_t at)
+DM_SMALL dm_fields_Judged dm_coding_judging_not_finite(uint64_t at)
 {
     dm_refusal_Refusal v2;
     v2.number = 6u;
@@ -4369,7 +4384,7 @@ static dm_fields_Judged dm_coding_judging_not_finite(uint64_t at)
 }
 
 /* 5 outside the table. */
-static dm_fields_Judged dm_coding_judging_in_table(uint64_t least, uint64_t greatest, uint64_t at, uint64_t code)
+DM_SMALL dm_fields_Judged dm_coding_judging_in_table(uint64_t least, uint64_t greatest, uint64_t at, uint64_t code)
 {
     if (code < least) {
         return dm_coding_judging_outside_table(at);
@@ -4383,7 +4398,7 @@ static dm_fields_Judged dm_coding_judging_in_table(uint64_t least, uint64_t grea
 }
 
 /* 5 for all ones. */
-static dm_fields_Judged dm_coding_judging_up_to_top(uint64_t width, uint64_t at, uint64_t code)
+DM_SMALL dm_fields_Judged dm_coding_judging_up_to_top(uint64_t width, uint64_t at, uint64_t code)
 {
     if (dm_fields_limits_top_code(width) < code) {
         return dm_coding_judging_outside_table(at);
@@ -4394,7 +4409,7 @@ static dm_fields_Judged dm_coding_judging_up_to_top(uint64_t width, uint64_t at,
 }
 
 /* 5 for all ones, and 6 for the bits of no finite float: an exponent of all ones is an infinity's or a NaN's. */
-static dm_fields_Judged dm_coding_judging_finite_bits(uint64_t at, uint64_t code)
+DM_SMALL dm_fields_Judged dm_coding_judging_finite_bits(uint64_t at, uint64_t code)
 {
     if (code % 2147483648u < 2139095040u) {
         dm_fields_Judged result;
@@ -4408,7 +4423,7 @@ static dm_fields_Judged dm_coding_judging_finite_bits(uint64_t at, uint64_t code
 }
 
 /* What the rule alone says of a code: 5 or 6, or that it stands. */
-static dm_fields_Judged dm_coding_judging_by_rule(const dm_fields_Row *row, uint64_t at, uint64_t code)
+DM_SMALL dm_fields_Judged dm_coding_judging_by_rule(const dm_fields_Row *row, uint64_t at, uint64_t code)
 {
     uint64_t width = row->width;
     switch (row->rule.tag) {
@@ -4429,7 +4444,7 @@ static dm_fields_Judged dm_coding_judging_by_rule(const dm_fields_Row *row, uint
 
 /* Whether `decode` gives the code a value, and the refusal where it does not, without working the value out. Most
  * codes stand by their rule, so that is asked first. */
-static dm_fields_Judged dm_coding_judging_judge(const dm_fields_Row *row, uint64_t at, uint64_t code)
+DM_SMALL dm_fields_Judged dm_coding_judging_judge(const dm_fields_Row *row, uint64_t at, uint64_t code)
 {
     dm_fields_Judged v5 = dm_coding_judging_by_rule(row, at, code);
     if (v5.tag == dm_fields_Judged_Stands) {
@@ -4452,7 +4467,7 @@ static dm_fields_Judged dm_coding_judging_judge(const dm_fields_Row *row, uint64
 /* ---- crates/build/src/building.rt ---- */
 
 /* The bits of a table of n pairs: none without one. */
-static uint64_t dm_build_building_table_bits(uint64_t n)
+DM_SMALL uint64_t dm_build_building_table_bits(uint64_t n)
 {
     if (n == 0u) {
         return 0u;
@@ -4462,7 +4477,7 @@ static uint64_t dm_build_building_table_bits(uint64_t n)
 
 /* The bits that fields, the block behind them and characters need. Where the characters are more than the 65,535
  * that row 11 names at most, so are the bits, and no more is said of them. */
-static uint64_t dm_build_building_bits_needed(uint64_t fields, uint64_t behind, uint64_t characters)
+DM_SMALL uint64_t dm_build_building_bits_needed(uint64_t fields, uint64_t behind, uint64_t characters)
 {
     if (65535u < characters) {
         return characters;
@@ -4471,13 +4486,13 @@ static uint64_t dm_build_building_bits_needed(uint64_t fields, uint64_t behind, 
 }
 
 /* Whether the stream has fewer bits. */
-static bool dm_build_building_is_too_long(const dm_memory_Sizes *sizes, uint64_t bits)
+DM_SMALL bool dm_build_building_is_too_long(const dm_memory_Sizes *sizes, uint64_t bits)
 {
     return dm_memory_kinds_stream_bits(sizes) < bits;
 }
 
 /* What passed its tests: 11 where the stream has fewer bits than are needed, else it is written. */
-static dm_refusal_Written dm_build_building_finish_table(const dm_memory_Sizes *sizes, dm_slice_u8 image,
+DM_SMALL dm_refusal_Written dm_build_building_finish_table(const dm_memory_Sizes *sizes, dm_slice_u8 image,
     dm_fields_Template template_, dm_slice_u64 fields, uint64_t field_bits, bool end_bit, dm_slice_u8 text,
     dm_fields_Domain domain, dm_slice_u64 points)
 {
@@ -4496,7 +4511,7 @@ static dm_refusal_Written dm_build_building_finish_table(const dm_memory_Sizes *
 }
 
 /* The same with a curve. */
-static dm_refusal_Written dm_build_building_finish_curve(const dm_memory_Sizes *sizes, dm_slice_u8 image,
+DM_SMALL dm_refusal_Written dm_build_building_finish_curve(const dm_memory_Sizes *sizes, dm_slice_u8 image,
     dm_fields_Template template_, dm_slice_u64 fields, uint64_t field_bits, bool end_bit, dm_slice_u8 text,
     const dm_build_drawing_CurvePlan *curve)
 {
@@ -4597,7 +4612,7 @@ static dm_refusal_Written dm_build_building_build_curve_in(const dm_memory_Sizes
 
 /* `build` of a sheet whose values are lent by sorts, whole numbers and Singles: nothing of it is copied. The level
  * makes no difference. */
-static dm_refusal_Written dm_build_building_build_lent(uint8_t kind, dm_slice_u8 image, dm_fields_Template template_,
+DM_SMALL dm_refusal_Written dm_build_building_build_lent(uint8_t kind, dm_slice_u8 image, dm_fields_Template template_,
     bool end_bit, dm_slice_u8 sorts, dm_slice_u64 wholes, dm_slice_f32 singles, dm_slice_u8 text,
     dm_fields_Domain domain, dm_slice_u64 points)
 {
@@ -4614,7 +4629,7 @@ static dm_refusal_Written dm_build_building_build_lent(uint8_t kind, dm_slice_u8
 }
 
 /* `build_curve` of a sheet so lent. */
-static dm_refusal_Written dm_build_building_build_curve_lent(uint8_t kind, dm_slice_u8 image,
+DM_SMALL dm_refusal_Written dm_build_building_build_curve_lent(uint8_t kind, dm_slice_u8 image,
     dm_fields_Template template_, bool end_bit, dm_slice_u8 sorts, dm_slice_u64 wholes, dm_slice_f32 singles,
     dm_slice_u8 text, const dm_fields_Curve *curve)
 {
@@ -4633,7 +4648,7 @@ static dm_refusal_Written dm_build_building_build_curve_lent(uint8_t kind, dm_sl
 /* ---- crates/build/src/drawing.rt ---- */
 
 /* 24 for a segment's term count, then 25 with the terms before it. */
-static dm_fields_Judged dm_build_drawing_check_count(uint64_t i, uint64_t total, uint64_t terms)
+DM_SMALL dm_fields_Judged dm_build_drawing_check_count(uint64_t i, uint64_t total, uint64_t terms)
 {
     dm_fields_Judged result;
     if (dm_coding_curves_is_term_count(terms)) {
@@ -4773,7 +4788,7 @@ static dm_array_build_plan_CodedField_104 dm_build_drawing_first_four(uint64_t c
 }
 
 /* A curve that is turned down, whatever was coded of it. */
-static dm_build_drawing_CurvePlan dm_build_drawing_no_curve(const dm_refusal_Refusal *because,
+DM_SMALL dm_build_drawing_CurvePlan dm_build_drawing_no_curve(const dm_refusal_Refusal *because,
     const dm_array_build_plan_CodedField_104 *codes)
 {
     dm_fields_Judged v3;
@@ -4850,7 +4865,7 @@ static dm_build_drawing_CurvePlan dm_build_drawing_plan_segments(const dm_fields
 }
 
 /* 24 for the segment count, then 10, 24 and 25 segment by segment. */
-static dm_build_drawing_CurvePlan dm_build_drawing_plan_curve(const dm_fields_Curve *curve)
+DM_SMALL dm_build_drawing_CurvePlan dm_build_drawing_plan_curve(const dm_fields_Curve *curve)
 {
     if (dm_coding_curves_is_segment_count(curve->count)) {
         return dm_build_drawing_plan_segments(curve);
@@ -4864,7 +4879,8 @@ static dm_build_drawing_CurvePlan dm_build_drawing_plan_curve(const dm_fields_Cu
 
 /* The value at an index of what is lent by sorts, whole numbers and Singles: a sort 0 is a whole number, 1 a Single,
  * any other missing. */
-static dm_fields_Value dm_build_plan_value_at(dm_slice_u8 sorts, dm_slice_u64 wholes, dm_slice_f32 singles, uint64_t i)
+DM_SMALL dm_fields_Value dm_build_plan_value_at(dm_slice_u8 sorts, dm_slice_u64 wholes, dm_slice_f32 singles,
+    uint64_t i)
 {
     switch (sorts.at[i]) {
     case 0u: {
@@ -4888,7 +4904,7 @@ static dm_fields_Value dm_build_plan_value_at(dm_slice_u8 sorts, dm_slice_u64 wh
 }
 
 /* The code of that value, where it is told at once. */
-static uint64_t dm_build_plan_swift_at(const dm_fields_Row *row, dm_slice_u8 sorts, dm_slice_u64 wholes,
+DM_SMALL uint64_t dm_build_plan_swift_at(const dm_fields_Row *row, dm_slice_u8 sorts, dm_slice_u64 wholes,
     dm_slice_f32 singles, uint64_t i)
 {
     dm_fields_Value v6 = dm_build_plan_value_at(sorts, wholes, singles, i);
@@ -4896,7 +4912,7 @@ static uint64_t dm_build_plan_swift_at(const dm_fields_Row *row, dm_slice_u8 sor
 }
 
 /* The code of a field's value, which fits its row's bits: a Single that is lent has 32. */
-static dm_fields_Encoded dm_build_plan_code_of(const dm_fields_Layout *layout, uint64_t field,
+DM_SMALL dm_fields_Encoded dm_build_plan_code_of(const dm_fields_Layout *layout, uint64_t field,
     const dm_fields_Value *value)
 {
     return dm_coding_encoding_encode(layout, field, value);
@@ -4904,7 +4920,7 @@ static dm_fields_Encoded dm_build_plan_code_of(const dm_fields_Layout *layout, u
 
 /* The code of a field's value, once it is known whether it was told at once. The row is not handed in, so that a
  * loop over rows that are constants keeps none in memory. */
-static dm_fields_Encoded dm_build_plan_code_at(const dm_fields_Layout *layout, uint64_t field, dm_slice_u8 sorts,
+DM_SMALL dm_fields_Encoded dm_build_plan_code_at(const dm_fields_Layout *layout, uint64_t field, dm_slice_u8 sorts,
     dm_slice_u64 wholes, dm_slice_f32 singles, uint64_t swift)
 {
     if (swift < 4294967296u) {
@@ -4918,7 +4934,7 @@ static dm_fields_Encoded dm_build_plan_code_at(const dm_fields_Layout *layout, u
 }
 
 /* The latest choice behind a field. */
-static uint64_t dm_build_plan_choice_behind(dm_fields_Template template_, uint64_t field, uint64_t code,
+DM_SMALL uint64_t dm_build_plan_choice_behind(dm_fields_Template template_, uint64_t field, uint64_t code,
     uint64_t latest)
 {
     if (dm_fields_templates_is_choice(template_, field)) {
@@ -4928,7 +4944,7 @@ static uint64_t dm_build_plan_choice_behind(dm_fields_Template template_, uint64
 }
 
 /* The number of a field. */
-static uint64_t dm_build_plan_packed(uint64_t width, uint64_t code)
+DM_SMALL uint64_t dm_build_plan_packed(uint64_t width, uint64_t code)
 {
     return width * 4294967296u + code;
 }
@@ -5048,7 +5064,7 @@ static dm_fields_Judged dm_build_plan_check_characters(uint64_t field, dm_slice_
 }
 
 /* The ending: 9 for text with end bit 0, then 10 for a character. */
-static dm_fields_Judged dm_build_plan_check_ending(dm_fields_Template template_, bool end_bit, dm_slice_u8 text)
+DM_SMALL dm_fields_Judged dm_build_plan_check_ending(dm_fields_Template template_, bool end_bit, dm_slice_u8 text)
 {
     uint64_t field = dm_fields_templates_last_field(template_) + 1u;
     if (end_bit) {
@@ -5153,7 +5169,7 @@ static dm_fields_Judged dm_build_plan_check_points(dm_fields_Domain domain, dm_s
 }
 
 /* Whether a points list is odd or over 254 long. */
-static bool dm_build_plan_is_wrong_list(uint64_t n)
+DM_SMALL bool dm_build_plan_is_wrong_list(uint64_t n)
 {
     if (n % 2u == 1u) {
         return true;
@@ -5189,14 +5205,14 @@ static dm_stream_cursor_Cursor dm_build_write_lay_fields(const dm_memory_Sizes *
 }
 
 /* A block's selector 0 and its template number. */
-static dm_stream_cursor_Cursor dm_build_write_lay_block(const dm_memory_Sizes *sizes, dm_slice_u8 image,
+DM_SMALL dm_stream_cursor_Cursor dm_build_write_lay_block(const dm_memory_Sizes *sizes, dm_slice_u8 image,
     dm_stream_cursor_Cursor cursor, uint64_t number)
 {
     return dm_stream_cursor_Cursor_append(cursor, sizes, image, 10u, 4u * number);
 }
 
 /* Pair i, which has its codes. */
-static dm_stream_cursor_Cursor dm_build_write_lay_pair(const dm_memory_Sizes *sizes, dm_slice_u8 image,
+DM_SMALL dm_stream_cursor_Cursor dm_build_write_lay_pair(const dm_memory_Sizes *sizes, dm_slice_u8 image,
     dm_stream_cursor_Cursor cursor, dm_slice_u64 points, uint64_t i)
 {
     dm_build_plan_PairAnswer v9 = dm_build_plan_code_pair(points, i);
@@ -5225,7 +5241,7 @@ static dm_stream_cursor_Cursor dm_build_write_lay_pairs(const dm_memory_Sizes *s
 }
 
 /* Block 40: the domain, the count and the pairs; nothing without points. */
-static dm_stream_cursor_Cursor dm_build_write_lay_table(const dm_memory_Sizes *sizes, dm_slice_u8 image,
+DM_SMALL dm_stream_cursor_Cursor dm_build_write_lay_table(const dm_memory_Sizes *sizes, dm_slice_u8 image,
     dm_stream_cursor_Cursor cursor, dm_fields_Domain domain, dm_slice_u64 points)
 {
     uint64_t n = points.length / 2u;
@@ -5279,7 +5295,7 @@ static uint64_t dm_build_write_gathered(dm_slice_u8 text, uint64_t i, uint64_t e
 }
 
 /* The end of seven characters from index i on, or of the text. */
-static uint64_t dm_build_write_seven_on(uint64_t i, uint64_t n)
+DM_SMALL uint64_t dm_build_write_seven_on(uint64_t i, uint64_t n)
 {
     if (7u < n - i) {
         return i + 7u;
@@ -5304,7 +5320,7 @@ static dm_stream_cursor_Cursor dm_build_write_lay_text(const dm_memory_Sizes *si
 }
 
 /* Selector 3, the end bit and the text. */
-static dm_stream_cursor_Cursor dm_build_write_lay_ending(const dm_memory_Sizes *sizes, dm_slice_u8 image,
+DM_SMALL dm_stream_cursor_Cursor dm_build_write_lay_ending(const dm_memory_Sizes *sizes, dm_slice_u8 image,
     dm_stream_cursor_Cursor cursor, bool end_bit, dm_slice_u8 text)
 {
     dm_stream_cursor_Cursor characters = dm_stream_cursor_Cursor_append(cursor, sizes, image, 3u, 3u + 4u
@@ -5313,7 +5329,7 @@ static dm_stream_cursor_Cursor dm_build_write_lay_ending(const dm_memory_Sizes *
 }
 
 /* Basic, the first block and the template's own fields, into a cleared image. What stood there before is gone. */
-static dm_stream_cursor_Cursor dm_build_write_lay_front(const dm_memory_Sizes *sizes, dm_slice_u8 image,
+DM_SMALL dm_stream_cursor_Cursor dm_build_write_lay_front(const dm_memory_Sizes *sizes, dm_slice_u8 image,
     dm_fields_Template template_, dm_slice_u64 fields)
 {
     dm_stream_writing_clear(image);
@@ -5327,7 +5343,7 @@ static dm_stream_cursor_Cursor dm_build_write_lay_front(const dm_memory_Sizes *s
 }
 
 /* The ending, then every check byte. */
-static void dm_build_write_lay_back(const dm_memory_Sizes *sizes, dm_slice_u8 image, dm_stream_cursor_Cursor cursor,
+DM_SMALL void dm_build_write_lay_back(const dm_memory_Sizes *sizes, dm_slice_u8 image, dm_stream_cursor_Cursor cursor,
     bool end_bit, dm_slice_u8 text)
 {
     (void)dm_build_write_lay_ending(sizes, image, cursor, end_bit, text);
@@ -5336,7 +5352,7 @@ static void dm_build_write_lay_back(const dm_memory_Sizes *sizes, dm_slice_u8 im
 }
 
 /* The whole image of a sheet with a table: its pieces, zeros behind them, and check bytes. */
-static void dm_build_write_write_table(const dm_memory_Sizes *sizes, dm_slice_u8 image, dm_fields_Template template_,
+DM_SMALL void dm_build_write_write_table(const dm_memory_Sizes *sizes, dm_slice_u8 image, dm_fields_Template template_,
     dm_slice_u64 fields, bool end_bit, dm_slice_u8 text, dm_fields_Domain domain, dm_slice_u64 points)
 {
     dm_stream_cursor_Cursor table = dm_build_write_lay_front(sizes, image, template_, fields);
@@ -5346,7 +5362,7 @@ static void dm_build_write_write_table(const dm_memory_Sizes *sizes, dm_slice_u8
 }
 
 /* The same with a curve. */
-static void dm_build_write_write_curve(const dm_memory_Sizes *sizes, dm_slice_u8 image, dm_fields_Template template_,
+DM_SMALL void dm_build_write_write_curve(const dm_memory_Sizes *sizes, dm_slice_u8 image, dm_fields_Template template_,
     dm_slice_u64 fields, bool end_bit, dm_slice_u8 text, const dm_build_drawing_CurvePlan *curve)
 {
     dm_stream_cursor_Cursor block = dm_build_write_lay_front(sizes, image, template_, fields);
@@ -5454,7 +5470,7 @@ static dm_sheet_block_BlockStep dm_sheet_block_take_calibration(const dm_memory_
 
 /* What an accepted image holds, in figures; or 1, 17, 2 by page, or the first of 3 to 7, 22, 24 and 25 from the
  * stream's start. */
-static dm_sheet_Checked dm_sheet_calls_check(uint8_t kind, dm_slice_u8 image)
+DM_SMALL dm_sheet_Checked dm_sheet_calls_check(uint8_t kind, dm_slice_u8 image)
 {
     dm_sheet_opening_OpenedAnswer v6 = dm_sheet_opening_open(kind, image);
     if (v6.tag == dm_sheet_opening_OpenedAnswer_Refused) {
@@ -5601,7 +5617,8 @@ static dm_sheet_TermAnswer dm_sheet_calls_read_term(uint8_t kind, dm_slice_u8 im
 /* ---- crates/sheet/src/curve.rt ---- */
 
 /* A code that a rule takes, or 24 at its field's bit. */
-static dm_sheet_walk_CodeStep dm_sheet_curve_ruled(bool takes, uint64_t at, uint64_t code, dm_stream_cursor_Cursor next)
+DM_SMALL dm_sheet_walk_CodeStep dm_sheet_curve_ruled(bool takes, uint64_t at, uint64_t code,
+    dm_stream_cursor_Cursor next)
 {
     dm_sheet_walk_CodeStep result;
     if (takes) {
@@ -5617,7 +5634,7 @@ static dm_sheet_walk_CodeStep dm_sheet_curve_ruled(bool takes, uint64_t at, uint
 }
 
 /* The number of segments: 3, then 24. */
-static dm_sheet_walk_CodeStep dm_sheet_curve_take_segment_count(const dm_memory_Sizes *sizes, dm_slice_u8 image,
+DM_SMALL dm_sheet_walk_CodeStep dm_sheet_curve_take_segment_count(const dm_memory_Sizes *sizes, dm_slice_u8 image,
     dm_stream_cursor_Cursor cursor)
 {
     dm_fields_Row v8 = dm_coding_curves_segment_count();
@@ -5635,7 +5652,7 @@ static dm_sheet_walk_CodeStep dm_sheet_curve_take_segment_count(const dm_memory_
 }
 
 /* A segment's start behind the one before it: 3 and 5, then 24. */
-static dm_sheet_walk_CodeStep dm_sheet_curve_take_start(const dm_memory_Sizes *sizes, dm_slice_u8 image,
+DM_SMALL dm_sheet_walk_CodeStep dm_sheet_curve_take_start(const dm_memory_Sizes *sizes, dm_slice_u8 image,
     dm_stream_cursor_Cursor cursor, const dm_fields_Earlier *before)
 {
     dm_fields_Row v9 = dm_coding_curves_segment_start();
@@ -5653,7 +5670,7 @@ static dm_sheet_walk_CodeStep dm_sheet_curve_take_start(const dm_memory_Sizes *s
 }
 
 /* The number of a segment's terms: 3, then 24. */
-static dm_sheet_walk_CodeStep dm_sheet_curve_take_term_count(const dm_memory_Sizes *sizes, dm_slice_u8 image,
+DM_SMALL dm_sheet_walk_CodeStep dm_sheet_curve_take_term_count(const dm_memory_Sizes *sizes, dm_slice_u8 image,
     dm_stream_cursor_Cursor cursor)
 {
     dm_fields_Row v8 = dm_coding_curves_term_count();
@@ -5671,7 +5688,7 @@ static dm_sheet_walk_CodeStep dm_sheet_curve_take_term_count(const dm_memory_Siz
 }
 
 /* A term's exponent behind the one before it: 3 and 5, then 24. */
-static dm_sheet_walk_CodeStep dm_sheet_curve_take_exponent(const dm_memory_Sizes *sizes, dm_slice_u8 image,
+DM_SMALL dm_sheet_walk_CodeStep dm_sheet_curve_take_exponent(const dm_memory_Sizes *sizes, dm_slice_u8 image,
     dm_stream_cursor_Cursor cursor, const dm_fields_Earlier *before)
 {
     dm_fields_Row v9 = dm_coding_curves_term_exponent();
@@ -5925,7 +5942,7 @@ static dm_sheet_table_CountStep dm_sheet_ending_take_text(const dm_memory_Sizes 
 }
 
 /* The characters that there is room for behind an end bit: none where it is 0. */
-static uint64_t dm_sheet_ending_most_characters(const dm_memory_Sizes *sizes, dm_stream_cursor_Cursor cursor,
+DM_SMALL uint64_t dm_sheet_ending_most_characters(const dm_memory_Sizes *sizes, dm_stream_cursor_Cursor cursor,
     uint64_t bit)
 {
     uint64_t bits = dm_memory_kinds_stream_bits(sizes);
@@ -5975,7 +5992,7 @@ static dm_sheet_ending_EndStep dm_sheet_ending_take_ending(const dm_memory_Sizes
 /* ---- crates/sheet/src/held.rt ---- */
 
 /* The value of the field of a row at a place: missing where none stands. */
-static dm_fields_Value dm_sheet_held_value_at(const dm_memory_Sizes *sizes, dm_slice_u8 image, uint64_t at,
+DM_SMALL dm_fields_Value dm_sheet_held_value_at(const dm_memory_Sizes *sizes, dm_slice_u8 image, uint64_t at,
     const dm_fields_Row *row)
 {
     dm_stream_cursor_Cursor cursor;
@@ -5999,7 +6016,7 @@ static dm_fields_Value dm_sheet_held_value_at(const dm_memory_Sizes *sizes, dm_s
 }
 
 /* The same of a row whose rule is not geometric. */
-static dm_fields_Value dm_sheet_held_unscaled_at(const dm_memory_Sizes *sizes, dm_slice_u8 image, uint64_t at,
+DM_SMALL dm_fields_Value dm_sheet_held_unscaled_at(const dm_memory_Sizes *sizes, dm_slice_u8 image, uint64_t at,
     const dm_fields_Row *row)
 {
     dm_stream_cursor_Cursor cursor;
@@ -6023,7 +6040,7 @@ static dm_fields_Value dm_sheet_held_unscaled_at(const dm_memory_Sizes *sizes, d
 }
 
 /* The figure of a point, a deviation, a start or an exponent, which is always a whole number. */
-static uint64_t dm_sheet_held_figure(const dm_fields_Value *value)
+DM_SMALL uint64_t dm_sheet_held_figure(const dm_fields_Value *value)
 {
     switch (value->tag) {
     case dm_fields_Value_Whole: {
@@ -6039,7 +6056,7 @@ static uint64_t dm_sheet_held_figure(const dm_fields_Value *value)
 }
 
 /* The value of a field, counted from 1. */
-static dm_fields_Value dm_sheet_held_value_in(const dm_sheet_opening_Opened *sheet, dm_slice_u8 image, uint64_t field)
+DM_SMALL dm_fields_Value dm_sheet_held_value_in(const dm_sheet_opening_Opened *sheet, dm_slice_u8 image, uint64_t field)
 {
     uint64_t v6 = dm_sheet_places_locate(&sheet->layout, field);
     dm_fields_Row v7 = dm_fields_templates_row_of(&sheet->layout, field);
@@ -6047,7 +6064,7 @@ static dm_fields_Value dm_sheet_held_value_in(const dm_sheet_opening_Opened *she
 }
 
 /* The value of a field whose rule is not geometric. */
-static dm_fields_Value dm_sheet_held_unscaled_in(const dm_sheet_opening_Opened *sheet, dm_slice_u8 image,
+DM_SMALL dm_fields_Value dm_sheet_held_unscaled_in(const dm_sheet_opening_Opened *sheet, dm_slice_u8 image,
     uint64_t field)
 {
     uint64_t v6 = dm_sheet_places_locate(&sheet->layout, field);
@@ -6056,7 +6073,7 @@ static dm_fields_Value dm_sheet_held_unscaled_in(const dm_sheet_opening_Opened *
 }
 
 /* A pair, counted from 0: one field, its point's 16 bits lowest. */
-static dm_fields_Pair dm_sheet_held_pair_in(const dm_sheet_opening_Opened *sheet, dm_slice_u8 image, uint64_t index)
+DM_SMALL dm_fields_Pair dm_sheet_held_pair_in(const dm_sheet_opening_Opened *sheet, dm_slice_u8 image, uint64_t index)
 {
     dm_stream_cursor_Cursor cursor;
     cursor.at = dm_sheet_places_locate_pair(&sheet->layout, index);
@@ -6073,7 +6090,7 @@ static dm_fields_Pair dm_sheet_held_pair_in(const dm_sheet_opening_Opened *sheet
 }
 
 /* A character of the closing text, counted from 0. */
-static uint8_t dm_sheet_held_character_in(const dm_sheet_opening_Opened *sheet, dm_slice_u8 image, uint64_t index)
+DM_SMALL uint8_t dm_sheet_held_character_in(const dm_sheet_opening_Opened *sheet, dm_slice_u8 image, uint64_t index)
 {
     dm_stream_cursor_Cursor cursor;
     cursor.at = dm_sheet_places_locate_character(&sheet->layout, sheet->summary.points, sheet->summary.segments,
@@ -6197,7 +6214,7 @@ static dm_sheet_opening_OpenedAnswer dm_sheet_opening_open(uint8_t kind, dm_slic
 /* ---- crates/sheet/src/places.rt ---- */
 
 /* The first bit of a field, counted from 1; that of the ending is the first behind the fields. */
-static uint64_t dm_sheet_places_locate(const dm_fields_Layout *layout, uint64_t field)
+DM_SMALL uint64_t dm_sheet_places_locate(const dm_fields_Layout *layout, uint64_t field)
 {
     uint64_t before = dm_fields_templates_bits_before(layout, field);
     if (dm_fields_templates_basic_fields() < field) {
@@ -6207,20 +6224,20 @@ static uint64_t dm_sheet_places_locate(const dm_fields_Layout *layout, uint64_t 
 }
 
 /* The first bit behind the fields. */
-static uint64_t dm_sheet_places_fields_end(const dm_fields_Layout *layout)
+DM_SMALL uint64_t dm_sheet_places_fields_end(const dm_fields_Layout *layout)
 {
     dm_fields_Template template_ = layout->template_;
     return dm_sheet_places_locate(layout, dm_fields_templates_last_field(template_) + 1u);
 }
 
 /* The first bit of a pair, counted from 0. */
-static uint64_t dm_sheet_places_locate_pair(const dm_fields_Layout *layout, uint64_t index)
+DM_SMALL uint64_t dm_sheet_places_locate_pair(const dm_fields_Layout *layout, uint64_t index)
 {
     return dm_sheet_places_fields_end(layout) + 18u + 37u * index;
 }
 
 /* The bits of a table of pairs: none without one. */
-static uint64_t dm_sheet_places_table_bits(uint64_t points)
+DM_SMALL uint64_t dm_sheet_places_table_bits(uint64_t points)
 {
     if (points == 0u) {
         return 0u;
@@ -6229,13 +6246,13 @@ static uint64_t dm_sheet_places_table_bits(uint64_t points)
 }
 
 /* The first bit of the first segment of a curve. */
-static uint64_t dm_sheet_places_curve_place(const dm_fields_Layout *layout)
+DM_SMALL uint64_t dm_sheet_places_curve_place(const dm_fields_Layout *layout)
 {
     return dm_sheet_places_fields_end(layout) + 19u;
 }
 
 /* The bits of a curve of segments and terms: none without one. */
-static uint64_t dm_sheet_places_curve_bits(uint64_t segments, uint64_t terms)
+DM_SMALL uint64_t dm_sheet_places_curve_bits(uint64_t segments, uint64_t terms)
 {
     if (segments == 0u) {
         return 0u;
@@ -6244,7 +6261,7 @@ static uint64_t dm_sheet_places_curve_bits(uint64_t segments, uint64_t terms)
 }
 
 /* The first bit of a character, counted from 0, behind so many pairs, or so many segments with so many terms. */
-static uint64_t dm_sheet_places_locate_character(const dm_fields_Layout *layout, uint64_t points, uint64_t segments,
+DM_SMALL uint64_t dm_sheet_places_locate_character(const dm_fields_Layout *layout, uint64_t points, uint64_t segments,
     uint64_t terms, uint64_t index)
 {
     uint64_t v6 = dm_sheet_places_fields_end(layout);
@@ -6255,7 +6272,7 @@ static uint64_t dm_sheet_places_locate_character(const dm_fields_Layout *layout,
 /* ---- crates/sheet/src/segments.rt ---- */
 
 /* The number of terms of the segment at a place. */
-static uint64_t dm_sheet_segments_terms_at(const dm_memory_Sizes *sizes, dm_slice_u8 image, uint64_t at)
+DM_SMALL uint64_t dm_sheet_segments_terms_at(const dm_memory_Sizes *sizes, dm_slice_u8 image, uint64_t at)
 {
     dm_stream_cursor_Cursor cursor;
     cursor.at = at + 13u;
@@ -6269,13 +6286,13 @@ static uint64_t dm_sheet_segments_terms_at(const dm_memory_Sizes *sizes, dm_slic
 }
 
 /* The place behind so many terms of the segment at a place: that of the term behind them, or of the next segment. */
-static uint64_t dm_sheet_segments_segment_end(uint64_t at, uint64_t terms)
+DM_SMALL uint64_t dm_sheet_segments_segment_end(uint64_t at, uint64_t terms)
 {
     return at + 20u + 39u * terms;
 }
 
 /* The segment at a place. */
-static dm_fields_Segment dm_sheet_segments_segment_at(const dm_memory_Sizes *sizes, dm_slice_u8 image, uint64_t at)
+DM_SMALL dm_fields_Segment dm_sheet_segments_segment_at(const dm_memory_Sizes *sizes, dm_slice_u8 image, uint64_t at)
 {
     dm_fields_Row v5 = dm_coding_curves_segment_start();
     dm_fields_Value start = dm_sheet_held_unscaled_at(sizes, image, at, &v5);
@@ -6287,7 +6304,7 @@ static dm_fields_Segment dm_sheet_segments_segment_at(const dm_memory_Sizes *siz
 }
 
 /* The float of a coefficient. */
-static float dm_sheet_segments_float(const dm_fields_Value *value)
+DM_SMALL float dm_sheet_segments_float(const dm_fields_Value *value)
 {
     switch (value->tag) {
     case dm_fields_Value_Whole:
@@ -6303,7 +6320,7 @@ static float dm_sheet_segments_float(const dm_fields_Value *value)
 }
 
 /* The term at a place. */
-static dm_fields_Term dm_sheet_segments_term_at(const dm_memory_Sizes *sizes, dm_slice_u8 image, uint64_t at)
+DM_SMALL dm_fields_Term dm_sheet_segments_term_at(const dm_memory_Sizes *sizes, dm_slice_u8 image, uint64_t at)
 {
     dm_fields_Row row = dm_coding_curves_term_exponent();
     dm_fields_Value tenths = dm_sheet_held_unscaled_at(sizes, image, at, &row);
@@ -6349,7 +6366,7 @@ static uint64_t dm_sheet_segments_find_term(const dm_memory_Sizes *sizes, dm_sli
 }
 
 /* A segment, counted from 0. */
-static dm_fields_Segment dm_sheet_segments_segment_in(const dm_sheet_opening_Opened *sheet, dm_slice_u8 image,
+DM_SMALL dm_fields_Segment dm_sheet_segments_segment_in(const dm_sheet_opening_Opened *sheet, dm_slice_u8 image,
     uint64_t index)
 {
     return dm_sheet_segments_segment_at(&sheet->sizes, image, dm_sheet_segments_pass_segments(&sheet->sizes, image,
@@ -6357,7 +6374,8 @@ static dm_fields_Segment dm_sheet_segments_segment_in(const dm_sheet_opening_Ope
 }
 
 /* A term, counted from 0 over the whole curve. */
-static dm_fields_Term dm_sheet_segments_term_in(const dm_sheet_opening_Opened *sheet, dm_slice_u8 image, uint64_t index)
+DM_SMALL dm_fields_Term dm_sheet_segments_term_in(const dm_sheet_opening_Opened *sheet, dm_slice_u8 image,
+    uint64_t index)
 {
     return dm_sheet_segments_term_at(&sheet->sizes, image, dm_sheet_segments_find_term(&sheet->sizes, image,
         dm_sheet_places_curve_place(&sheet->layout), sheet->summary.segments, index));
@@ -6483,7 +6501,7 @@ static dm_sheet_table_CountStep dm_sheet_table_take_each(const dm_memory_Sizes *
 
 /* The same. Nearly every table rises, and whether one does is asked three times as fast as it is walked; the walk
  * gives the refusal of one that does not. */
-static dm_sheet_table_CountStep dm_sheet_table_take_pairs(const dm_memory_Sizes *sizes, dm_slice_u8 image,
+DM_SMALL dm_sheet_table_CountStep dm_sheet_table_take_pairs(const dm_memory_Sizes *sizes, dm_slice_u8 image,
     dm_stream_cursor_Cursor start, dm_fields_Domain domain, uint64_t count)
 {
     uint64_t at = start.at;
@@ -6594,7 +6612,7 @@ static dm_sheet_walk_CodeStep dm_sheet_walk_judged(const dm_fields_Row *row, uin
 }
 
 /* The code of the field of a row: 3 where it would pass the end, then 5 or 6. */
-static dm_sheet_walk_CodeStep dm_sheet_walk_take_code(const dm_memory_Sizes *sizes, dm_slice_u8 image,
+DM_SMALL dm_sheet_walk_CodeStep dm_sheet_walk_take_code(const dm_memory_Sizes *sizes, dm_slice_u8 image,
     dm_stream_cursor_Cursor cursor, const dm_fields_Row *row)
 {
     dm_stream_cursor_Taken v6 = dm_stream_cursor_Cursor_take(cursor, sizes, image, row->width);
@@ -6660,7 +6678,7 @@ static dm_sheet_walk_CodeStep dm_sheet_walk_take_field(const dm_memory_Sizes *si
 }
 
 /* The latest choice behind a field. */
-static uint64_t dm_sheet_walk_chosen(bool sets, uint64_t code, uint64_t latest)
+DM_SMALL uint64_t dm_sheet_walk_chosen(bool sets, uint64_t code, uint64_t latest)
 {
     if (sets) {
         return code;
@@ -6703,7 +6721,7 @@ static dm_sheet_walk_ChoiceStep dm_sheet_walk_take_fields(const dm_memory_Sizes 
 }
 
 /* Whether the code of a row may stand at its place: 5 or 6. */
-static dm_fields_Judged dm_sheet_walk_judge_at(const dm_memory_Sizes *sizes, dm_slice_u8 image,
+DM_SMALL dm_fields_Judged dm_sheet_walk_judge_at(const dm_memory_Sizes *sizes, dm_slice_u8 image,
     const dm_fields_Row *row, uint64_t at)
 {
     return dm_coding_judging_judge(row, at, dm_stream_bitfields_take(sizes, image, at, row->width));
@@ -6783,7 +6801,7 @@ static dm_fields_Judged dm_sheet_walk_judge_resistance(const dm_memory_Sizes *si
     return result;
 }
 
-static dm_fields_Judged dm_sheet_walk_judge_own(const dm_memory_Sizes *sizes, dm_slice_u8 image,
+DM_SMALL dm_fields_Judged dm_sheet_walk_judge_own(const dm_memory_Sizes *sizes, dm_slice_u8 image,
     const dm_fields_Layout *layout)
 {
     dm_fields_Template template_ = layout->template_;
@@ -6856,7 +6874,7 @@ static dm_sheet_walk_ChoiceStep dm_sheet_walk_take_own(const dm_memory_Sizes *si
 /* ---- crates/change/src/changing.rt ---- */
 
 /* 20 where a writer of the level may not write the field. */
-static dm_change_changing_Allowed dm_change_changing_may_write(dm_fields_Template template_, dm_fields_Level level,
+DM_SMALL dm_change_changing_Allowed dm_change_changing_may_write(dm_fields_Template template_, dm_fields_Level level,
     uint64_t field)
 {
     dm_change_changing_Allowed result;
@@ -6941,7 +6959,7 @@ static dm_refusal_Written dm_change_changing_change(uint8_t kind, dm_slice_u8 im
 /* ---- crates/change/src/committing.rt ---- */
 
 /* Whether a code may stand in a field: it has no more bits than the field, and a check would take it. */
-static bool dm_change_committing_may_stand(const dm_fields_Row *row, uint64_t code)
+DM_SMALL bool dm_change_committing_may_stand(const dm_fields_Row *row, uint64_t code)
 {
     if (0u < (code >> row->width)) {
         return false;
@@ -6954,7 +6972,7 @@ static bool dm_change_committing_may_stand(const dm_fields_Row *row, uint64_t co
 }
 
 /* 19 where another code stands in the field than the present one, 10 where the new one may not. */
-static dm_fields_Judged dm_change_committing_may_follow(const dm_fields_Row *row, uint64_t stands, uint64_t field,
+DM_SMALL dm_fields_Judged dm_change_committing_may_follow(const dm_fields_Row *row, uint64_t stands, uint64_t field,
     uint64_t present, uint64_t new_)
 {
     dm_fields_Judged result;
@@ -6975,7 +6993,7 @@ static dm_fields_Judged dm_change_committing_may_follow(const dm_fields_Row *row
 }
 
 /* Whether a new code may be put into a field of an opened sheet: 8, 12, 20, 19, 10. */
-static dm_fields_Judged dm_change_committing_may_commit(const dm_sheet_opening_Opened *sheet, dm_slice_u8 image,
+DM_SMALL dm_fields_Judged dm_change_committing_may_commit(const dm_sheet_opening_Opened *sheet, dm_slice_u8 image,
     dm_fields_Level level, uint64_t field, uint64_t present, uint64_t new_)
 {
     dm_fields_Template template_ = sheet->layout.template_;
@@ -7028,7 +7046,7 @@ static dm_refusal_Written dm_change_committing_commit(uint8_t kind, dm_slice_u8 
 
 /* The code that a value is to be stored at in a field; or 8, 12, 20, 9 where the field takes no value of this sort,
  * 10 where it has no code for it. */
-static dm_fields_Encoded dm_change_proposing_code_for(const dm_fields_Layout *layout, dm_fields_Level level,
+DM_SMALL dm_fields_Encoded dm_change_proposing_code_for(const dm_fields_Layout *layout, dm_fields_Level level,
     uint64_t field, const dm_fields_Value *value)
 {
     dm_fields_Template template_ = layout->template_;
@@ -7097,7 +7115,7 @@ static dm_change_ProposalAnswer dm_change_proposing_propose(uint8_t kind, dm_sli
 /* ---- crates/change/src/standing.rt ---- */
 
 /* Of an opened sheet. The check has read every field, so none is refused here. */
-static uint64_t dm_change_standing_code_in(const dm_sheet_opening_Opened *sheet, dm_slice_u8 image, uint64_t field)
+DM_SMALL uint64_t dm_change_standing_code_in(const dm_sheet_opening_Opened *sheet, dm_slice_u8 image, uint64_t field)
 {
     dm_fields_Row row = dm_fields_templates_row_of(&sheet->layout, field);
     dm_stream_cursor_Cursor cursor;
@@ -7114,7 +7132,7 @@ static uint64_t dm_change_standing_code_in(const dm_sheet_opening_Opened *sheet,
 /* ---- crates/distance/src/telling.rt ---- */
 
 /* How far two figures are apart. Of any two, nothing overflows. */
-static uint64_t dm_distance_telling_apart(uint64_t a, uint64_t b)
+DM_SMALL uint64_t dm_distance_telling_apart(uint64_t a, uint64_t b)
 {
     uint64_t v5 = dm_integers_parts_plus(a);
     uint64_t above = v5 + dm_integers_parts_minus(b);
@@ -7127,13 +7145,13 @@ static uint64_t dm_distance_telling_apart(uint64_t a, uint64_t b)
 }
 
 /* The least whole K with 1000 × a rise or fall at most K × its run. */
-static uint64_t dm_distance_telling_slope(uint64_t rise, uint64_t run)
+DM_SMALL uint64_t dm_distance_telling_slope(uint64_t rise, uint64_t run)
 {
     return (1000u * rise + (run - 1u)) / run;
 }
 
 /* The same from point i to the next. */
-static uint64_t dm_distance_telling_slope_at(dm_slice_u64 points, uint64_t i)
+DM_SMALL uint64_t dm_distance_telling_slope_at(dm_slice_u64 points, uint64_t i)
 {
     uint64_t at = 2u * i;
     uint64_t next = 2u * (i + 1u);
@@ -7143,7 +7161,7 @@ static uint64_t dm_distance_telling_slope_at(dm_slice_u64 points, uint64_t i)
     return dm_distance_telling_slope(rise, run);
 }
 
-static uint64_t dm_distance_telling_greater(uint64_t a, uint64_t b)
+DM_SMALL uint64_t dm_distance_telling_greater(uint64_t a, uint64_t b)
 {
     if (a < b) {
         return b;
@@ -7165,7 +7183,7 @@ static uint64_t dm_distance_telling_steepest(dm_slice_u64 points)
 }
 
 /* The bound that a slope gives. */
-static dm_distance_ToldDistance dm_distance_telling_told(uint64_t k)
+DM_SMALL dm_distance_ToldDistance dm_distance_telling_told(uint64_t k)
 {
     dm_distance_ToldDistance result;
     result.slope = k;
@@ -7200,19 +7218,19 @@ static dm_distance_DistanceAnswer dm_distance_telling_distance(dm_slice_u64 poin
 
 /* ---- crates/index/src/entries.rt ---- */
 
-static uint64_t dm_index_entries_wide(uint8_t x)
+DM_SMALL uint64_t dm_index_entries_wide(uint8_t x)
 {
     return (uint64_t)x;
 }
 
 /* The lowest byte of a number. */
-static uint8_t dm_index_entries_byte(uint64_t word)
+DM_SMALL uint8_t dm_index_entries_byte(uint64_t word)
 {
     return (uint8_t)(word & 255u);
 }
 
 /* Writes a number into the two bytes from byte `at` on. */
-static void dm_index_entries_put_two(dm_slice_u8 index, uint64_t at, uint64_t word)
+DM_SMALL void dm_index_entries_put_two(dm_slice_u8 index, uint64_t at, uint64_t word)
 {
     index.at[at] = dm_index_entries_byte(word);
     index.at[at + 1u] = dm_index_entries_byte(word >> 8u);
@@ -7220,7 +7238,7 @@ static void dm_index_entries_put_two(dm_slice_u8 index, uint64_t at, uint64_t wo
 }
 
 /* Writes an entry into the 4 bytes from byte `at` on. */
-static void dm_index_entries_put_entry(dm_slice_u8 index, uint64_t at, const dm_index_Entry *new_)
+DM_SMALL void dm_index_entries_put_entry(dm_slice_u8 index, uint64_t at, const dm_index_Entry *new_)
 {
     dm_index_entries_put_two(index, at, new_->offset);
     dm_index_entries_put_two(index, at + 2u, new_->length);
@@ -7228,14 +7246,14 @@ static void dm_index_entries_put_entry(dm_slice_u8 index, uint64_t at, const dm_
 }
 
 /* The two bytes from byte `at` on, as one number. */
-static uint64_t dm_index_entries_two(dm_slice_u8 index, uint64_t at)
+DM_SMALL uint64_t dm_index_entries_two(dm_slice_u8 index, uint64_t at)
 {
     uint64_t v7 = dm_index_entries_wide(index.at[at + 1u]) * 256u;
     return v7 + dm_index_entries_wide(index.at[at]);
 }
 
 /* Entry i, counted from 0. */
-static dm_index_Entry dm_index_entries_entry_at(dm_slice_u8 index, uint64_t i)
+DM_SMALL dm_index_Entry dm_index_entries_entry_at(dm_slice_u8 index, uint64_t i)
 {
     uint64_t v3 = dm_index_entries_two(index, 4u * i);
     dm_index_Entry result;
@@ -7247,7 +7265,7 @@ static dm_index_Entry dm_index_entries_entry_at(dm_slice_u8 index, uint64_t i)
 /* ---- crates/index/src/fetching.rt ---- */
 
 /* The template that a number is taken as: any but 32 as 33. */
-static dm_fields_Template dm_index_fetching_taken_as(uint64_t number)
+DM_SMALL dm_fields_Template dm_index_fetching_taken_as(uint64_t number)
 {
     if (number == dm_fields_templates_template_number(dm_fields_Template_Resistance)) {
         return dm_fields_Template_Resistance;
@@ -7256,7 +7274,7 @@ static dm_fields_Template dm_index_fetching_taken_as(uint64_t number)
 }
 
 /* The template whose fields are fetched, by the first template's number alone. Every stream has its bits. */
-static dm_fields_Template dm_index_fetching_template_at(const dm_memory_Sizes *sizes, dm_slice_u8 image)
+DM_SMALL dm_fields_Template dm_index_fetching_template_at(const dm_memory_Sizes *sizes, dm_slice_u8 image)
 {
     dm_stream_cursor_Cursor cursor;
     cursor.at = 66u;
@@ -7452,7 +7470,7 @@ static void dm_index_making_write_resistance(dm_slice_u8 buffer, uint64_t precis
     return;
 }
 
-static void dm_index_making_write_own(const dm_fields_Layout *layout, dm_slice_u8 buffer)
+DM_SMALL void dm_index_making_write_own(const dm_fields_Layout *layout, dm_slice_u8 buffer)
 {
     dm_fields_Template template_ = layout->template_;
     if (template_ == dm_fields_Template_Bridge) {
@@ -7481,7 +7499,7 @@ static void dm_index_making_write_points(const dm_fields_Layout *layout, dm_slic
 }
 
 /* Writes so many entries of an accepted sheet, those of all fields among them. Bytes beyond them stay. */
-static void dm_index_making_write_entries(const dm_fields_Layout *layout, dm_slice_u8 buffer, uint64_t count)
+DM_SMALL void dm_index_making_write_entries(const dm_fields_Layout *layout, dm_slice_u8 buffer, uint64_t count)
 {
     dm_index_making_write_basic(buffer);
     dm_index_making_write_own(layout, buffer);
@@ -7521,7 +7539,7 @@ static dm_refusal_Written dm_index_making_make_index(uint8_t kind, dm_slice_u8 i
 /* ---- crates/reading/src/dashes.rt ---- */
 
 /* Whether a table has more points than a dash takes. */
-static bool dm_reading_dashes_is_too_many(dm_reading_Dash dash, uint64_t points)
+DM_SMALL bool dm_reading_dashes_is_too_many(dm_reading_Dash dash, uint64_t points)
 {
     if (dash == dm_reading_Dash_Large) {
         return false;
@@ -7535,7 +7553,7 @@ static bool dm_reading_dashes_is_too_many(dm_reading_Dash dash, uint64_t points)
 
 /* ---- crates/reading/src/ends.rt ---- */
 
-static bool dm_reading_ends_is_missing(const dm_fields_Value *value)
+DM_SMALL bool dm_reading_ends_is_missing(const dm_fields_Value *value)
 {
     switch (value->tag) {
     case dm_fields_Value_Whole:
@@ -7549,7 +7567,7 @@ static bool dm_reading_ends_is_missing(const dm_fields_Value *value)
 }
 
 /* A value in nV/V, or that it is a Single outside −2 to 2 V/V. */
-static dm_fields_Rounded dm_reading_ends_end_of(const dm_fields_Value *value)
+DM_SMALL dm_fields_Rounded dm_reading_ends_end_of(const dm_fields_Value *value)
 {
     switch (value->tag) {
     case dm_fields_Value_Whole: {
@@ -7627,7 +7645,7 @@ static dm_reading_ends_EndsAnswer dm_reading_ends_ends_of(const dm_fields_Value 
 /* ---- crates/reading/src/fraction.rt ---- */
 
 /* The figure of a pair that a position is held against: its point in domain 0, its sum in domain 1. */
-static uint64_t dm_reading_fraction_figure_in(dm_fields_Domain domain, const dm_fields_Pair *pair)
+DM_SMALL uint64_t dm_reading_fraction_figure_in(dm_fields_Domain domain, const dm_fields_Pair *pair)
 {
     if (domain == dm_fields_Domain_Electrical) {
         return pair->point;
@@ -7656,7 +7674,7 @@ static uint64_t dm_reading_fraction_pairs_before(const dm_sheet_opening_Opened *
 }
 
 /* The fraction where a pair's deviation holds. */
-static uint64_t dm_reading_fraction_held_in(dm_fields_Domain domain, uint64_t p, const dm_fields_Pair *pair)
+DM_SMALL uint64_t dm_reading_fraction_held_in(dm_fields_Domain domain, uint64_t p, const dm_fields_Pair *pair)
 {
     if (domain == dm_fields_Domain_Electrical) {
         return p + pair->deviation;
@@ -7666,7 +7684,7 @@ static uint64_t dm_reading_fraction_held_in(dm_fields_Domain domain, uint64_t p,
 }
 
 /* The fraction between neighbours. */
-static uint64_t dm_reading_fraction_between_in(dm_fields_Domain domain, uint64_t p, const dm_fields_Pair *before,
+DM_SMALL uint64_t dm_reading_fraction_between_in(dm_fields_Domain domain, uint64_t p, const dm_fields_Pair *before,
     const dm_fields_Pair *behind)
 {
     if (domain == dm_fields_Domain_Electrical) {
@@ -7678,7 +7696,7 @@ static uint64_t dm_reading_fraction_between_in(dm_fields_Domain domain, uint64_t
 
 /* By the points of a table: p plus the deviation there in domain 0, the crossing in domain 1. The end deviation
  * holds before the first and after the last point. */
-static uint64_t dm_reading_fraction_fraction_in(const dm_sheet_opening_Opened *sheet, dm_slice_u8 image,
+DM_SMALL uint64_t dm_reading_fraction_fraction_in(const dm_sheet_opening_Opened *sheet, dm_slice_u8 image,
     dm_fields_Domain domain, uint64_t p)
 {
     uint64_t count = sheet->summary.points;
@@ -7699,7 +7717,7 @@ static uint64_t dm_reading_fraction_fraction_in(const dm_sheet_opening_Opened *s
 }
 
 /* The fraction at p: as the points of a table say, p itself without one. */
-static uint64_t dm_reading_fraction_fraction(const dm_sheet_opening_Opened *sheet, dm_slice_u8 image, uint64_t p)
+DM_SMALL uint64_t dm_reading_fraction_fraction(const dm_sheet_opening_Opened *sheet, dm_slice_u8 image, uint64_t p)
 {
     dm_sheet_TableDomain found = sheet->summary.domain;
     if (found.tag == dm_sheet_TableDomain_NoTable) {
@@ -7712,7 +7730,7 @@ static uint64_t dm_reading_fraction_fraction(const dm_sheet_opening_Opened *shee
 
 /* ---- crates/reading/src/position.rt ---- */
 
-static dm_reading_position_Offset dm_reading_position_offset_in(uint64_t v, const dm_reading_span_Span *span)
+DM_SMALL dm_reading_position_Offset dm_reading_position_offset_in(uint64_t v, const dm_reading_span_Span *span)
 {
     uint64_t v3 = dm_integers_parts_plus(v);
     uint64_t v5 = v3 + dm_integers_parts_minus(span->least);
@@ -7726,7 +7744,7 @@ static dm_reading_position_Offset dm_reading_position_offset_in(uint64_t v, cons
 }
 
 /* Row 14: whether an input lies too far outside the span. */
-static bool dm_reading_position_is_too_far(uint64_t v, const dm_reading_span_Span *span)
+DM_SMALL bool dm_reading_position_is_too_far(uint64_t v, const dm_reading_span_Span *span)
 {
     if ((int64_t)v < -2000000000) {
         return true;
@@ -7742,7 +7760,7 @@ static bool dm_reading_position_is_too_far(uint64_t v, const dm_reading_span_Spa
 }
 
 /* (v − e) × 1,000,000,000 / (f − e) to the nearest whole, halves upward. */
-static uint64_t dm_reading_position_position(uint64_t v, const dm_reading_span_Span *span)
+DM_SMALL uint64_t dm_reading_position_position(uint64_t v, const dm_reading_span_Span *span)
 {
     dm_reading_position_Offset o = dm_reading_position_offset_in(v, span);
     return dm_integers_rounding_nearest(1000000000u * o.above, 1000000000u * o.below, o.span);
@@ -7791,7 +7809,7 @@ static dm_curve_Powers dm_reading_share_powers_of(const dm_memory_Sizes *sizes, 
 }
 
 /* By the curve where there is one, else q / 1,000,000,000. */
-static double dm_reading_share_share(const dm_sheet_opening_Opened *sheet, dm_slice_u8 image, uint64_t p, uint64_t q)
+DM_SMALL double dm_reading_share_share(const dm_sheet_opening_Opened *sheet, dm_slice_u8 image, uint64_t p, uint64_t q)
 {
     if (sheet->summary.segments == 0u) {
         return dm_fields_figure_float_fraction(q);
@@ -7851,7 +7869,7 @@ static dm_reading_span_SpanAnswer dm_reading_span_span_in(const dm_sheet_opening
 /* ---- crates/reading/src/taking.rt ---- */
 
 /* The reading of an input that no row turns down: the fraction q at its position, and the physical figure. */
-static dm_reading_Reading dm_reading_taking_shown(const dm_sheet_opening_Opened *sheet, dm_slice_u8 image,
+DM_SMALL dm_reading_Reading dm_reading_taking_shown(const dm_sheet_opening_Opened *sheet, dm_slice_u8 image,
     const dm_reading_span_Span *span, uint64_t input)
 {
     uint64_t p = dm_reading_position_position(input, span);
@@ -7863,7 +7881,7 @@ static dm_reading_Reading dm_reading_taking_shown(const dm_sheet_opening_Opened 
 }
 
 /* Whether the first block's template is 32, which no reading is taken from. */
-static bool dm_reading_taking_is_resistance(dm_fields_Template template_)
+DM_SMALL bool dm_reading_taking_is_resistance(dm_fields_Template template_)
 {
     if (template_ == dm_fields_Template_Bridge) {
         return false;
@@ -7898,8 +7916,8 @@ static dm_reading_ReadingAnswer dm_reading_taking_bridge_reading(const dm_sheet_
 }
 
 /* A reading of an opened sheet of template 33: 23 where it has more points than the dash takes. */
-static dm_reading_ReadingAnswer dm_reading_taking_dash_reading(const dm_sheet_opening_Opened *sheet, dm_slice_u8 image,
-    uint64_t input, dm_reading_Dash dash)
+DM_SMALL dm_reading_ReadingAnswer dm_reading_taking_dash_reading(const dm_sheet_opening_Opened *sheet,
+    dm_slice_u8 image, uint64_t input, dm_reading_Dash dash)
 {
     uint64_t points = sheet->summary.points;
     if (dm_reading_dashes_is_too_many(dash, points)) {
@@ -7912,7 +7930,7 @@ static dm_reading_ReadingAnswer dm_reading_taking_dash_reading(const dm_sheet_op
 }
 
 /* A reading of an opened sheet: 4 at the first selector for template 32, else as of template 33. */
-static dm_reading_ReadingAnswer dm_reading_taking_reading_in(const dm_sheet_opening_Opened *sheet, dm_slice_u8 image,
+DM_SMALL dm_reading_ReadingAnswer dm_reading_taking_reading_in(const dm_sheet_opening_Opened *sheet, dm_slice_u8 image,
     uint64_t input, dm_reading_Dash dash)
 {
     dm_fields_Template template_ = sheet->layout.template_;
@@ -7929,7 +7947,7 @@ static dm_reading_ReadingAnswer dm_reading_taking_reading_in(const dm_sheet_open
  * refusal; 4 for template 32; 23 where the small dash is handed more than 32 points; 13 where field 7, 8, 10 or 11
  * is missing; 21 where 10 or 11 is a Single outside −2 to 2 V/V; 13 where e is not below f; 14 for an input too far
  * outside the span. */
-static dm_reading_ReadingAnswer dm_reading_taking_take_reading(uint8_t kind, dm_slice_u8 image, uint64_t input,
+DM_SMALL dm_reading_ReadingAnswer dm_reading_taking_take_reading(uint8_t kind, dm_slice_u8 image, uint64_t input,
     dm_reading_Dash dash)
 {
     dm_sheet_opening_OpenedAnswer v7 = dm_sheet_opening_open(kind, image);
@@ -7946,7 +7964,7 @@ static dm_reading_ReadingAnswer dm_reading_taking_take_reading(uint8_t kind, dm_
 /* ---- crates/recordings/src/comparing.rt ---- */
 
 /* Whether a list has an odd length, or the fast ticks are not six times the slow ones. */
-static bool dm_recordings_comparing_is_unlike(uint64_t slow, uint64_t fast)
+DM_SMALL bool dm_recordings_comparing_is_unlike(uint64_t slow, uint64_t fast)
 {
     if (slow % 2u == 1u) {
         return true;
@@ -7962,7 +7980,7 @@ static bool dm_recordings_comparing_is_unlike(uint64_t slow, uint64_t fast)
 }
 
 /* Whether two figures are equal. */
-static bool dm_recordings_comparing_is_same(uint64_t a, uint64_t b)
+DM_SMALL bool dm_recordings_comparing_is_same(uint64_t a, uint64_t b)
 {
     if ((int64_t)a <= (int64_t)b) {
         return (int64_t)b <= (int64_t)a;
@@ -7971,7 +7989,7 @@ static bool dm_recordings_comparing_is_same(uint64_t a, uint64_t b)
 }
 
 /* Whether a fast refresh is that of the slow tick it pairs with, if it pairs with one. */
-static bool dm_recordings_comparing_is_paired(dm_slice_u64 slow, dm_slice_u64 fast, uint64_t tick)
+DM_SMALL bool dm_recordings_comparing_is_paired(dm_slice_u64 slow, dm_slice_u64 fast, uint64_t tick)
 {
     if (tick % 6u != 0u) {
         return true;
@@ -7988,7 +8006,7 @@ static bool dm_recordings_comparing_is_paired(dm_slice_u64 slow, dm_slice_u64 fa
 }
 
 /* Whether the fraction at a fast tick is the reading of its input on the large dash. */
-static bool dm_recordings_comparing_is_shown(const dm_sheet_opening_Opened *sheet, dm_slice_u8 image,
+DM_SMALL bool dm_recordings_comparing_is_shown(const dm_sheet_opening_Opened *sheet, dm_slice_u8 image,
     dm_slice_u64 fast, uint64_t tick)
 {
     uint64_t at = 2u * tick;
@@ -8001,7 +8019,7 @@ static bool dm_recordings_comparing_is_shown(const dm_sheet_opening_Opened *shee
 }
 
 /* Whether a fast tick is as it should be. */
-static bool dm_recordings_comparing_is_right(const dm_sheet_opening_Opened *sheet, dm_slice_u8 image,
+DM_SMALL bool dm_recordings_comparing_is_right(const dm_sheet_opening_Opened *sheet, dm_slice_u8 image,
     dm_slice_u64 slow, dm_slice_u64 fast, uint64_t tick)
 {
     if (dm_recordings_comparing_is_paired(slow, fast, tick)) {
@@ -8031,7 +8049,7 @@ static dm_recordings_ComparedAnswer dm_recordings_comparing_compare_ticks(const 
 }
 
 /* Two recordings against an opened sheet: 26 where they are not of one run. */
-static dm_recordings_ComparedAnswer dm_recordings_comparing_compare_in(const dm_sheet_opening_Opened *sheet,
+DM_SMALL dm_recordings_ComparedAnswer dm_recordings_comparing_compare_in(const dm_sheet_opening_Opened *sheet,
     dm_slice_u8 image, dm_slice_u64 slow, dm_slice_u64 fast)
 {
     if (dm_recordings_comparing_is_unlike(slow.length, fast.length)) {
@@ -8047,8 +8065,8 @@ static dm_recordings_ComparedAnswer dm_recordings_comparing_compare_in(const dm_
  * fraction in both is the reading of its input from the image on the large dash; else the first fast tick that
  * fails. Else the check's refusal; 26 where a list has an odd length or the fast ticks are not six times the slow
  * ones. */
-static dm_recordings_ComparedAnswer dm_recordings_comparing_compare(uint8_t kind, dm_slice_u8 image, dm_slice_u64 slow,
-    dm_slice_u64 fast)
+DM_SMALL dm_recordings_ComparedAnswer dm_recordings_comparing_compare(uint8_t kind, dm_slice_u8 image,
+    dm_slice_u64 slow, dm_slice_u64 fast)
 {
     dm_sheet_opening_OpenedAnswer v7 = dm_sheet_opening_open(kind, image);
     if (v7.tag == dm_sheet_opening_OpenedAnswer_Refused) {
@@ -8064,7 +8082,7 @@ static dm_recordings_ComparedAnswer dm_recordings_comparing_compare(uint8_t kind
 /* ---- crates/dartelm/src/answers.rt ---- */
 
 /* The domain of a table, as a number; 255 where there is no table. */
-static uint8_t dm_dartelm_answers_domain_number(dm_sheet_TableDomain domain)
+DM_SMALL uint8_t dm_dartelm_answers_domain_number(dm_sheet_TableDomain domain)
 {
     if (domain.tag == dm_sheet_TableDomain_NoTable) {
         return 255u;
@@ -8139,7 +8157,7 @@ dartelm_check_answer dartelm_check(uint8_t kind, const uint8_t *image, size_t im
 }
 
 /* What a field that was read or fetched answers. */
-static dartelm_field_answer dm_dartelm_held(const dm_sheet_FieldAnswer *answer)
+DM_SMALL dartelm_field_answer dm_dartelm_held(const dm_sheet_FieldAnswer *answer)
 {
     if (answer->tag == dm_sheet_FieldAnswer_Refused) {
         dartelm_field_answer result;
@@ -8274,7 +8292,7 @@ dartelm_character_answer dartelm_character(uint8_t kind, const uint8_t *image, s
 }
 
 /* What a build, a change, a commit or an index answers. */
-static dartelm_write_answer dm_dartelm_wrote(const dm_refusal_Written *written)
+DM_SMALL dartelm_write_answer dm_dartelm_wrote(const dm_refusal_Written *written)
 {
     if (written->tag == dm_refusal_Written_Refused) {
         dartelm_write_answer result;
@@ -8614,14 +8632,14 @@ static dartelm_sheet_answer dm_dartelm_sheets_no_sheet(const dm_refusal_Refusal 
 /* ---- crates/dartelm/src/values.rt ---- */
 
 /* A flag as C hands it in. */
-static bool dm_dartelm_values_is_yes(uint8_t given)
+DM_SMALL bool dm_dartelm_values_is_yes(uint8_t given)
 {
     return (uint32_t)given != 0u;
 }
 
 /* A level as C hands it in: 0 owner, 1 calibration room, 2 maker; any other is taken as the owner, the least of
  * them. */
-static dm_fields_Level dm_dartelm_values_level_of(uint8_t given)
+DM_SMALL dm_fields_Level dm_dartelm_values_level_of(uint8_t given)
 {
     switch (given) {
     case 1u:
@@ -8634,7 +8652,7 @@ static dm_fields_Level dm_dartelm_values_level_of(uint8_t given)
 }
 
 /* A template as C hands it in: 32 is template 32, any other is taken as 33. */
-static dm_fields_Template dm_dartelm_values_template_of(uint8_t given)
+DM_SMALL dm_fields_Template dm_dartelm_values_template_of(uint8_t given)
 {
     if ((uint32_t)given == 32u) {
         return dm_fields_Template_Resistance;
@@ -8643,7 +8661,7 @@ static dm_fields_Template dm_dartelm_values_template_of(uint8_t given)
 }
 
 /* A dash as C hands it in: 0 is the large one, any other the small one. */
-static dm_reading_Dash dm_dartelm_values_dash_of(uint8_t given)
+DM_SMALL dm_reading_Dash dm_dartelm_values_dash_of(uint8_t given)
 {
     if ((uint32_t)given == 0u) {
         return dm_reading_Dash_Large;
@@ -8652,7 +8670,7 @@ static dm_reading_Dash dm_dartelm_values_dash_of(uint8_t given)
 }
 
 /* The value that C hands in. */
-static dm_fields_Value dm_dartelm_values_value_of(const dartelm_value *given)
+DM_SMALL dm_fields_Value dm_dartelm_values_value_of(const dartelm_value *given)
 {
     dm_fields_Value result;
     if ((uint32_t)given->is_missing != 0u) {
@@ -8706,7 +8724,7 @@ static dartelm_value dm_dartelm_values_by_flags(const dm_fields_Value *value)
 }
 
 /* Zeros, where no value is told. */
-static dartelm_value dm_dartelm_values_no_value(void)
+DM_SMALL dartelm_value dm_dartelm_values_no_value(void)
 {
     dartelm_value result;
     result.whole = (int64_t)0u;
@@ -8738,7 +8756,7 @@ static void dm_dartelm_values_spread(const dartelm_fields *given, dm_slice_u8 so
     return;
 }
 
-static dm_fields_Segment dm_dartelm_values_segment_of(const dartelm_curve_segment *given)
+DM_SMALL dm_fields_Segment dm_dartelm_values_segment_of(const dartelm_curve_segment *given)
 {
     dm_fields_Segment result;
     result.start = (uint64_t)given->start;
@@ -8746,7 +8764,7 @@ static dm_fields_Segment dm_dartelm_values_segment_of(const dartelm_curve_segmen
     return result;
 }
 
-static dm_fields_Term dm_dartelm_values_term_of(const dartelm_curve_term *given)
+DM_SMALL dm_fields_Term dm_dartelm_values_term_of(const dartelm_curve_term *given)
 {
     dm_fields_Term result;
     result.exponent = (uint64_t)given->exponent;
@@ -8791,7 +8809,7 @@ static dm_array_fields_Term_30 dm_dartelm_values_terms_of(const dm_array_dartelm
 }
 
 /* The curve that C hands in. */
-static dm_fields_Curve dm_dartelm_values_curve_of(const dartelm_curve *given)
+DM_SMALL dm_fields_Curve dm_dartelm_values_curve_of(const dartelm_curve *given)
 {
     dm_array_fields_Segment_20 v4;
     {

@@ -2,6 +2,7 @@
  * C99, and C++ from C++11 on. It is compiled with include/ among the folders of headers, and with any optimization.
  * Toolchain: rattle-kit-5b-plain logic 097e4c862dff5811
  * Sources: 46ad517a064f40d5bb255e99fdf1b0d57d37272746bd42f21a2800920a60cb5e (of sources.sha256, which has the sum of each) */
+#define DARTELM_PROGRAM
 #include "dartelm.c"
 #include <unistd.h>
 
@@ -258,39 +259,39 @@ DM_SIZE(dm_array_u8_512, 512);
 
 static uint64_t dm_libc_write(uint32_t descriptor, dm_slice_u8 bytes);
 static uint64_t dm_libc_read(uint32_t descriptor, dm_slice_u8 bytes);
-static dm_array_u8_4096 dm_io_buffer(void);
+DM_SMALL dm_array_u8_4096 dm_io_buffer(void);
 static bool dm_io_write_all(uint32_t fd, dm_slice_u8 buf);
 static uint64_t dm_io_read_full(uint32_t fd, dm_slice_u8 buf);
-static uint64_t dm_io_write_from(uint32_t fd, dm_slice_u8 buf, uint64_t from, dm_slice_u8 chunk);
-static uint64_t dm_io_read_to(uint32_t fd, dm_slice_u8 buf, uint64_t to, dm_slice_u8 chunk);
+DM_SMALL uint64_t dm_io_write_from(uint32_t fd, dm_slice_u8 buf, uint64_t from, dm_slice_u8 chunk);
+DM_SMALL uint64_t dm_io_read_to(uint32_t fd, dm_slice_u8 buf, uint64_t to, dm_slice_u8 chunk);
 static void dm_io_copy(dm_slice_u8 src, uint64_t from, dm_slice_u8 dst, uint64_t to, uint64_t n);
-static uint64_t dm_io_clamp(uint64_t got, uint64_t most);
-static uint64_t dm_io_least(uint64_t a, uint64_t b);
-static uint64_t dm_io_number_decimal(uint64_t n, dm_array_u8_20 *out);
+DM_SMALL uint64_t dm_io_clamp(uint64_t got, uint64_t most);
+DM_SMALL uint64_t dm_io_least(uint64_t a, uint64_t b);
+DM_SMALL uint64_t dm_io_number_decimal(uint64_t n, dm_array_u8_20 *out);
 static uint64_t dm_io_number_places(uint64_t n, uint64_t base, uint64_t least);
 static void dm_io_number_spell(uint64_t n, uint64_t base, uint64_t k, dm_slice_u8 out);
-static uint8_t dm_io_number_glyph(uint64_t d);
-static dm_slice_u8 dm_words_parts_front(dm_slice_u8 bytes, uint64_t count);
-static dm_slice_u8 dm_words_parts_front_mut(dm_slice_u8 bytes, uint64_t count);
-static uint64_t dm_report_judging_image_bytes(uint8_t kind);
-static dm_report_SoFar dm_report_judging_begin(void);
-static dm_report_SoFar dm_report_judging_close(const dm_report_SoFar *tray);
-static bool dm_report_judging_is_whole(uint8_t kind, uint64_t bytes);
-static bool dm_report_judging_has_more(bool whole, uint64_t images);
-static uint64_t dm_report_judging_bits_of(const dm_sheet_Checked *checked);
-static uint64_t dm_report_judging_added(uint64_t bits, const dm_sheet_Checked *checked);
-static dm_report_Judged dm_report_judging_judge(const dm_report_SoFar *tray, uint8_t kind, dm_slice_u8 image);
-static uint64_t dm_report_lines_put(dm_slice_u8 out, uint64_t at, dm_slice_u8 text);
-static dm_report_Line dm_report_lines_start(void);
-static dm_report_Line dm_report_lines_with(const dm_report_Line *line, dm_slice_u8 text);
-static dm_report_Line dm_report_lines_with_number(const dm_report_Line *line, uint64_t n);
-static dm_report_Line dm_report_lines_ended(const dm_report_Line *line, dm_slice_u8 text, uint64_t n);
-static dm_report_Line dm_report_lines_line(uint64_t position, const dm_sheet_Checked *checked);
-static dm_report_Line dm_report_lines_total_line(uint64_t bits);
-static void dm_tray_put(const dm_report_Line *line);
-static dm_report_SoFar dm_tray_next(dm_slice_u8 room, const dm_report_SoFar *tray);
+DM_SMALL uint8_t dm_io_number_glyph(uint64_t d);
+DM_SMALL dm_slice_u8 dm_words_parts_front(dm_slice_u8 bytes, uint64_t count);
+DM_SMALL dm_slice_u8 dm_words_parts_front_mut(dm_slice_u8 bytes, uint64_t count);
+DM_SMALL uint64_t dm_report_judging_image_bytes(uint8_t kind);
+DM_SMALL dm_report_SoFar dm_report_judging_begin(void);
+DM_SMALL dm_report_SoFar dm_report_judging_close(const dm_report_SoFar *tray);
+DM_SMALL bool dm_report_judging_is_whole(uint8_t kind, uint64_t bytes);
+DM_SMALL bool dm_report_judging_has_more(bool whole, uint64_t images);
+DM_SMALL uint64_t dm_report_judging_bits_of(const dm_sheet_Checked *checked);
+DM_SMALL uint64_t dm_report_judging_added(uint64_t bits, const dm_sheet_Checked *checked);
+DM_SMALL dm_report_Judged dm_report_judging_judge(const dm_report_SoFar *tray, uint8_t kind, dm_slice_u8 image);
+DM_SMALL uint64_t dm_report_lines_put(dm_slice_u8 out, uint64_t at, dm_slice_u8 text);
+DM_SMALL dm_report_Line dm_report_lines_start(void);
+DM_SMALL dm_report_Line dm_report_lines_with(const dm_report_Line *line, dm_slice_u8 text);
+DM_SMALL dm_report_Line dm_report_lines_with_number(const dm_report_Line *line, uint64_t n);
+DM_SMALL dm_report_Line dm_report_lines_ended(const dm_report_Line *line, dm_slice_u8 text, uint64_t n);
+DM_SMALL dm_report_Line dm_report_lines_line(uint64_t position, const dm_sheet_Checked *checked);
+DM_SMALL dm_report_Line dm_report_lines_total_line(uint64_t bits);
+DM_SMALL void dm_tray_put(const dm_report_Line *line);
+DM_SMALL dm_report_SoFar dm_tray_next(dm_slice_u8 room, const dm_report_SoFar *tray);
 static void dm_tray_report_tray(dm_slice_u8 room);
-static void dm_tray_main(void);
+DM_SMALL void dm_tray_main(void);
 
 /* ---- the kit, libc/lib.rt ---- */
 
@@ -306,7 +307,7 @@ static uint64_t dm_libc_read(uint32_t descriptor, dm_slice_u8 bytes)
 
 /* ---- the kit, io/lib.rt ---- */
 
-static dm_array_u8_4096 dm_io_buffer(void)
+DM_SMALL dm_array_u8_4096 dm_io_buffer(void)
 {
     dm_array_u8_4096 result;
     memset(result.at, 0, sizeof result.at);
@@ -358,14 +359,14 @@ static uint64_t dm_io_read_full(uint32_t fd, dm_slice_u8 buf)
     return result;
 }
 
-static uint64_t dm_io_write_from(uint32_t fd, dm_slice_u8 buf, uint64_t from, dm_slice_u8 chunk)
+DM_SMALL uint64_t dm_io_write_from(uint32_t fd, dm_slice_u8 buf, uint64_t from, dm_slice_u8 chunk)
 {
     uint64_t v5 = dm_io_least(buf.length - from, chunk.length);
     dm_io_copy(buf, from, chunk, 0u, v5);
     return dm_io_clamp(dm_libc_write(fd, dm_slice_u8_of(chunk.at, v5)), v5);
 }
 
-static uint64_t dm_io_read_to(uint32_t fd, dm_slice_u8 buf, uint64_t to, dm_slice_u8 chunk)
+DM_SMALL uint64_t dm_io_read_to(uint32_t fd, dm_slice_u8 buf, uint64_t to, dm_slice_u8 chunk)
 {
     uint64_t v5 = dm_io_least(buf.length - to, chunk.length);
     uint64_t result = dm_io_clamp(dm_libc_read(fd, dm_slice_u8_of(chunk.at, v5)), v5);
@@ -383,7 +384,7 @@ static void dm_io_copy(dm_slice_u8 src, uint64_t from, dm_slice_u8 dst, uint64_t
     return;
 }
 
-static uint64_t dm_io_clamp(uint64_t got, uint64_t most)
+DM_SMALL uint64_t dm_io_clamp(uint64_t got, uint64_t most)
 {
     if (0 < (int64_t)got) {
         return dm_io_least(got, most);
@@ -392,7 +393,7 @@ static uint64_t dm_io_clamp(uint64_t got, uint64_t most)
     }
 }
 
-static uint64_t dm_io_least(uint64_t a, uint64_t b)
+DM_SMALL uint64_t dm_io_least(uint64_t a, uint64_t b)
 {
     if (a < b) {
         return a;
@@ -403,7 +404,7 @@ static uint64_t dm_io_least(uint64_t a, uint64_t b)
 
 /* ---- the kit, io/number.rt ---- */
 
-static uint64_t dm_io_number_decimal(uint64_t n, dm_array_u8_20 *out)
+DM_SMALL uint64_t dm_io_number_decimal(uint64_t n, dm_array_u8_20 *out)
 {
     uint64_t result = dm_io_number_places(n, 10u, 1u);
     dm_io_number_spell(n, 10u, result, dm_slice_u8_of(out->at, 20u));
@@ -437,7 +438,7 @@ static void dm_io_number_spell(uint64_t n, uint64_t base, uint64_t k, dm_slice_u
     return;
 }
 
-static uint8_t dm_io_number_glyph(uint64_t d)
+DM_SMALL uint8_t dm_io_number_glyph(uint64_t d)
 {
     if (d < 10u) {
         return (uint8_t)(48u + (uint8_t)d);
@@ -449,7 +450,7 @@ static uint8_t dm_io_number_glyph(uint64_t d)
 /* ---- crates/words/src/parts.rt ---- */
 
 /* The first bytes of a buffer, all of them where it has fewer. */
-static dm_slice_u8 dm_words_parts_front(dm_slice_u8 bytes, uint64_t count)
+DM_SMALL dm_slice_u8 dm_words_parts_front(dm_slice_u8 bytes, uint64_t count)
 {
     if (bytes.length < count) {
         return bytes;
@@ -458,7 +459,7 @@ static dm_slice_u8 dm_words_parts_front(dm_slice_u8 bytes, uint64_t count)
 }
 
 /* The same of bytes that are to be written. */
-static dm_slice_u8 dm_words_parts_front_mut(dm_slice_u8 bytes, uint64_t count)
+DM_SMALL dm_slice_u8 dm_words_parts_front_mut(dm_slice_u8 bytes, uint64_t count)
 {
     if (bytes.length < count) {
         return bytes;
@@ -469,7 +470,7 @@ static dm_slice_u8 dm_words_parts_front_mut(dm_slice_u8 bytes, uint64_t count)
 /* ---- crates/report/src/judging.rt ---- */
 
 /* The bytes that an image of a kind has; none for a kind above 2. */
-static uint64_t dm_report_judging_image_bytes(uint8_t kind)
+DM_SMALL uint64_t dm_report_judging_image_bytes(uint8_t kind)
 {
     switch (kind) {
     case 0u:
@@ -484,7 +485,7 @@ static uint64_t dm_report_judging_image_bytes(uint8_t kind)
 }
 
 /* A tray of which nothing is judged. */
-static dm_report_SoFar dm_report_judging_begin(void)
+DM_SMALL dm_report_SoFar dm_report_judging_begin(void)
 {
     dm_report_SoFar result;
     result.images = 0u;
@@ -494,7 +495,7 @@ static dm_report_SoFar dm_report_judging_begin(void)
 }
 
 /* A tray in which no further image was found. */
-static dm_report_SoFar dm_report_judging_close(const dm_report_SoFar *tray)
+DM_SMALL dm_report_SoFar dm_report_judging_close(const dm_report_SoFar *tray)
 {
     dm_report_SoFar result;
     result.images = tray->images;
@@ -504,7 +505,7 @@ static dm_report_SoFar dm_report_judging_close(const dm_report_SoFar *tray)
 }
 
 /* Whether there is such a kind, and it has so many bytes. */
-static bool dm_report_judging_is_whole(uint8_t kind, uint64_t bytes)
+DM_SMALL bool dm_report_judging_is_whole(uint8_t kind, uint64_t bytes)
 {
     if (dm_memory_kinds_image_sizes(kind, bytes).tag == dm_memory_kinds_SizesAnswer_Are) {
         return true;
@@ -514,7 +515,7 @@ static bool dm_report_judging_is_whole(uint8_t kind, uint64_t bytes)
 }
 
 /* Whether a further image is to be judged: not behind a kind above 2 or an image cut short, and not behind the last. */
-static bool dm_report_judging_has_more(bool whole, uint64_t images)
+DM_SMALL bool dm_report_judging_has_more(bool whole, uint64_t images)
 {
     if (whole) {
         return images < 1000u;
@@ -523,7 +524,7 @@ static bool dm_report_judging_has_more(bool whole, uint64_t images)
 }
 
 /* An image's bits: none where it is refused. */
-static uint64_t dm_report_judging_bits_of(const dm_sheet_Checked *checked)
+DM_SMALL uint64_t dm_report_judging_bits_of(const dm_sheet_Checked *checked)
 {
     if (checked->tag == dm_sheet_Checked_Accepted) {
         return checked->Accepted.value.bits;
@@ -533,7 +534,7 @@ static uint64_t dm_report_judging_bits_of(const dm_sheet_Checked *checked)
 }
 
 /* The bits of the images so far, and those of a further one. */
-static uint64_t dm_report_judging_added(uint64_t bits, const dm_sheet_Checked *checked)
+DM_SMALL uint64_t dm_report_judging_added(uint64_t bits, const dm_sheet_Checked *checked)
 {
     return bits + dm_report_judging_bits_of(checked);
 }
@@ -541,7 +542,7 @@ static uint64_t dm_report_judging_added(uint64_t bits, const dm_sheet_Checked *c
 /* Judges an image, of which these bytes came: its line, and what the tray has come to with it. A kind above 2 and an
  * image cut short are refused with 1 and end the tray, and so does the last image that a tray may have. It asks that
  * the tray has not ended, and came from `begin` by images alone. */
-static dm_report_Judged dm_report_judging_judge(const dm_report_SoFar *tray, uint8_t kind, dm_slice_u8 image)
+DM_SMALL dm_report_Judged dm_report_judging_judge(const dm_report_SoFar *tray, uint8_t kind, dm_slice_u8 image)
 {
     dm_sheet_Checked checked = dm_sheet_calls_check(kind, image);
     uint64_t images = tray->images + 1u;
@@ -560,13 +561,13 @@ static dm_report_Judged dm_report_judging_judge(const dm_report_SoFar *tray, uin
 /* ---- crates/report/src/lines.rt ---- */
 
 /* Puts a text into a buffer from a place on, and says where it ends. */
-static uint64_t dm_report_lines_put(dm_slice_u8 out, uint64_t at, dm_slice_u8 text)
+DM_SMALL uint64_t dm_report_lines_put(dm_slice_u8 out, uint64_t at, dm_slice_u8 text)
 {
     return at + dm_bytes_copy(text, dm_slice_u8_of(out.at + at, out.length - at));
 }
 
 /* A line with nothing in it. */
-static dm_report_Line dm_report_lines_start(void)
+DM_SMALL dm_report_Line dm_report_lines_start(void)
 {
     dm_array_u8_43 v1;
     memset(v1.at, 0, sizeof v1.at);
@@ -577,7 +578,7 @@ static dm_report_Line dm_report_lines_start(void)
 }
 
 /* A line with a text behind it. */
-static dm_report_Line dm_report_lines_with(const dm_report_Line *line, dm_slice_u8 text)
+DM_SMALL dm_report_Line dm_report_lines_with(const dm_report_Line *line, dm_slice_u8 text)
 {
     dm_array_u8_43 bytes = line->bytes;
     uint64_t at = line->length;
@@ -589,7 +590,7 @@ static dm_report_Line dm_report_lines_with(const dm_report_Line *line, dm_slice_
 }
 
 /* A line with a number behind it, in decimal: 20 digits at most. */
-static dm_report_Line dm_report_lines_with_number(const dm_report_Line *line, uint64_t n)
+DM_SMALL dm_report_Line dm_report_lines_with_number(const dm_report_Line *line, uint64_t n)
 {
     dm_array_u8_20 digits;
     memset(digits.at, 0, sizeof digits.at);
@@ -598,7 +599,7 @@ static dm_report_Line dm_report_lines_with_number(const dm_report_Line *line, ui
 }
 
 /* A line with a text, a number and a newline behind it. */
-static dm_report_Line dm_report_lines_ended(const dm_report_Line *line, dm_slice_u8 text, uint64_t n)
+DM_SMALL dm_report_Line dm_report_lines_ended(const dm_report_Line *line, dm_slice_u8 text, uint64_t n)
 {
     dm_report_Line v6 = dm_report_lines_with(line, text);
     dm_report_Line v5 = dm_report_lines_with_number(&v6, n);
@@ -606,7 +607,7 @@ static dm_report_Line dm_report_lines_ended(const dm_report_Line *line, dm_slice
 }
 
 /* The line of an image: its position, a space, and its bits up to the end, or a minus sign and the refusal's number. */
-static dm_report_Line dm_report_lines_line(uint64_t position, const dm_sheet_Checked *checked)
+DM_SMALL dm_report_Line dm_report_lines_line(uint64_t position, const dm_sheet_Checked *checked)
 {
     dm_report_Line v8 = dm_report_lines_start();
     dm_report_Line begun = dm_report_lines_with_number(&v8, position);
@@ -619,7 +620,7 @@ static dm_report_Line dm_report_lines_line(uint64_t position, const dm_sheet_Che
 }
 
 /* The last line of a report. */
-static dm_report_Line dm_report_lines_total_line(uint64_t bits)
+DM_SMALL dm_report_Line dm_report_lines_total_line(uint64_t bits)
 {
     dm_report_Line v3 = dm_report_lines_start();
     return dm_report_lines_ended(&v3, dm_slice_u8_of((uint8_t *)"total ", 6u), bits);
@@ -628,14 +629,14 @@ static dm_report_Line dm_report_lines_total_line(uint64_t bits)
 /* ---- crates/tray/src/main.rt ---- */
 
 /* Writes a line. A write that fails is not reported: bin/tray sees it. */
-static void dm_tray_put(const dm_report_Line *line)
+DM_SMALL void dm_tray_put(const dm_report_Line *line)
 {
     (void)dm_io_write_all(1u, dm_words_parts_front(dm_slice_u8_of((uint8_t *)line->bytes.at, 43u), line->length));
     return;
 }
 
 /* Reads an image, as much as there is of it, and writes its line. Where no byte is left the tray has ended. */
-static dm_report_SoFar dm_tray_next(dm_slice_u8 room, const dm_report_SoFar *tray)
+DM_SMALL dm_report_SoFar dm_tray_next(dm_slice_u8 room, const dm_report_SoFar *tray)
 {
     dm_array_u8_1 first;
     first.at[0] = 0u;
@@ -662,7 +663,7 @@ static void dm_tray_report_tray(dm_slice_u8 room)
 }
 
 /* There is room for the largest image. */
-static void dm_tray_main(void)
+DM_SMALL void dm_tray_main(void)
 {
     dm_array_u8_512 room;
     memset(room.at, 0, sizeof room.at);
