@@ -76,7 +76,7 @@ use values::DartelmValue;
 pub extern "C" fn dartelm_version() -> u32
     ensures { λ r. ⌜ r ≡ version ⌝ }
 {
-    7
+    8
 }
 
 // The kind of the images that have so many bytes: 0, 1 or 2; 255 where no kind has.
@@ -292,7 +292,7 @@ pub extern "C" fn dartelm_build(
         (r ≡ told writeAnswer [] outcome) × (now (image .exit) ≡ afterwards (now (image .entry)) outcome)) ⌝ }
 {
     let found = coding::domain_of(domain as u64);
-    let template = values::template_of(fields.template);
+    let template = values::template_of(fields.is_resistance);
     let mut sorts = [0u8; 21];
     let mut wholes = [0i64; 21];
     let mut singles = [0.0f32; 21];
@@ -324,7 +324,7 @@ pub extern "C" fn dartelm_build_curve(
         (r ≡ told writeAnswer [] outcome) × (now (image .exit) ≡ afterwards (now (image .entry)) outcome)) ⌝ }
 {
     let drawn = values::curve_of(curve);
-    let template = values::template_of(fields.template);
+    let template = values::template_of(fields.is_resistance);
     let mut sorts = [0u8; 21];
     let mut wholes = [0i64; 21];
     let mut singles = [0.0f32; 21];
