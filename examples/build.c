@@ -65,7 +65,7 @@ int main(int argc, char **argv)
     *at(&fields, DARTELM_FIELD_LOCATION_ID) = whole(12);
     fields.end_bit = 1;
     fields.level = DARTELM_LEVEL_MAKER;
-    fields.template_id = DARTELM_TEMPLATE_BRIDGE;
+    fields.is_resistance = 0;
 
     /* Calibration point and deviation by turns, in billionths of the span, against the electrical figure. */
     static const int64_t points[] = {

@@ -128,9 +128,10 @@ int main(int argc, char **argv)
         printf("refused %u at %" PRIu64 "\n", sheet.number, sheet.place);
         return 1;
     }
-    printf("kind %u, template %u, %" PRIu64 " bits\n", kind, sheet.fields.template_id, sheet.bits);
+    uint8_t template_id = sheet.fields.is_resistance ? DARTELM_TEMPLATE_RESISTANCE : DARTELM_TEMPLATE_BRIDGE;
+    printf("kind %u, template %u, %" PRIu64 " bits\n", kind, template_id, sheet.bits);
     for (unsigned field = 1; field <= sheet.field_count; field++) {
-        show(sheet.fields.template_id, field, sheet.fields.values[field - 1]);
+        show(template_id, field, sheet.fields.values[field - 1]);
     }
     if (sheet.domain != DARTELM_NO_DOMAIN) {
         printf("domain %u\n", sheet.domain);

@@ -72,8 +72,7 @@ enum {
                                    * Place: the whole ticks of the fast list. */
 };
 
-/* The template of a sheet's first block, which says what its fields are. A byte that is handed in and is neither is taken as
- * 33. */
+/* The template of a sheet's first block, as a check returns it: it says what the fields are. */
 enum {
     DARTELM_TEMPLATE_RESISTANCE = 32, /* resistance senders: fields 1 to 19 */
     DARTELM_TEMPLATE_BRIDGE = 33      /* bridge senders: fields 1 to 21 */
@@ -179,13 +178,15 @@ typedef struct dartelm_value {
     uint8_t is_missing; /* a flag */
 } dartelm_value;
 
-/* A sheet's fields: field f stands in values[f - 1]. Values behind the template's last field are not looked at, and what is
- * returned has zeros there. The writer's level is not stored: a build does not look at it, and what is returned has 0 there. */
+/* A sheet's fields: field f is values[f - 1]. Values after the template's last field are not looked at, and what is returned has
+ * zeros there. The writer's level is not stored: a build does not look at it, and what is returned has 0 there. The template is a
+ * flag: there are two, and no third can be handed in. */
 typedef struct dartelm_fields {
     dartelm_value values[DARTELM_FIELDS];
-    uint8_t end_bit;     /* a flag: a closing text follows */
-    uint8_t level;       /* the writer's, DARTELM_LEVEL_OWNER to DARTELM_LEVEL_MAKER */
-    uint8_t template_id; /* DARTELM_TEMPLATE_BRIDGE or DARTELM_TEMPLATE_RESISTANCE */
+    uint8_t end_bit;       /* a flag: a closing text follows */
+    uint8_t level;         /* the writer's, DARTELM_LEVEL_OWNER to DARTELM_LEVEL_MAKER */
+    uint8_t unused;        /* not looked at, and returned as 0 */
+    uint8_t is_resistance; /* a flag: 0 is template 33, anything else 32 */
 } dartelm_fields;
 
 /* What a check answers. */
@@ -505,7 +506,8 @@ DARTELM_SIZE(dartelm_fields, 344);
 DARTELM_AT(dartelm_fields, values, 0);
 DARTELM_AT(dartelm_fields, end_bit, 336);
 DARTELM_AT(dartelm_fields, level, 337);
-DARTELM_AT(dartelm_fields, template_id, 338);
+DARTELM_AT(dartelm_fields, unused, 338);
+DARTELM_AT(dartelm_fields, is_resistance, 339);
 DARTELM_ANSWER(dartelm_check_answer, 64);
 DARTELM_AT(dartelm_check_answer, bits, 16);
 DARTELM_AT(dartelm_check_answer, points, 24);

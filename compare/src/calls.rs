@@ -3,13 +3,13 @@
 
 use crate::plain::{
     self, Calibration, Comparison, Conformity, Curve, Dash, Distance, Level, Proposal, Reading, Refusal, Segment,
-    Sheet, Summary, Term, Text, Value,
+    Sheet, Summary, Template, Term, Text, Value,
 };
 use crate::rows::{self, Row};
 use crate::structs::{
     ByFlags, CharacterAnswer, CheckAnswer, CodeAnswer, ComparedAnswer, ConformityAnswer, DistanceAnswer, FieldAnswer,
     Fields, NO_DOMAIN, PageAnswer, PairAnswer, ProposalAnswer, ReadingAnswer, RowAnswer, SegmentAnswer, SheetAnswer,
-    TermAnswer, TextAnswer, WriteAnswer, dash_of, domain_byte, domain_of, level_of, template_of,
+    TermAnswer, TextAnswer, WriteAnswer, dash_of, domain_byte, domain_of, level_of, template_by, template_of,
 };
 
 /// The calls of the header; the provided ones give the plain implementation's types.
@@ -221,8 +221,10 @@ impl Calls for Plain {
         if number != 0 {
             return SheetAnswer { number, place, ..SheetAnswer::default() };
         }
-        let mut fields = Fields { end_bit, template, ..Fields::default() };
-        let field_count = template_of(template).last() as u64;
+        let template = template_of(template);
+        let is_resistance = u8::from(template == Template::Resistance);
+        let mut fields = Fields { end_bit, is_resistance, ..Fields::default() };
+        let field_count = template.last() as u64;
         for (value, field) in fields.values.iter_mut().zip(1..=field_count) {
             *value = self.field(kind, image, field).value;
         }
@@ -369,7 +371,7 @@ impl Calls for Plain {
 
 fn sheet<'a>(fields: Fields, text: &'a [u8], calibration: Calibration<'a>) -> Sheet<'a> {
     Sheet {
-        template: template_of(fields.template),
+        template: template_by(fields.is_resistance),
         values: fields.values.map(ByFlags::value),
         end_bit: fields.end_bit != 0,
         text,

@@ -416,7 +416,7 @@ impl Command {
                 let mut fields = Fields {
                     end_bit: u8::from(*end_bit),
                     level: u8::from(*level),
-                    template: template.number(),
+                    is_resistance: u8::from(*template == Template::Resistance),
                     ..Fields::default()
                 };
                 for (place, value) in fields.values.iter_mut().zip(values) {

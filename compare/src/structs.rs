@@ -60,11 +60,19 @@ impl From<Level> for u8 {
     }
 }
 
-/// The template of a byte: any but 32 is 33.
-pub fn template_of(byte: u8) -> Template {
-    match byte {
+/// The template of the number that a check returns.
+pub fn template_of(number: u8) -> Template {
+    match number {
         32 => Template::Resistance,
         _ => Template::Bridge,
+    }
+}
+
+/// The template of a flag that is handed in.
+pub fn template_by(is_resistance: u8) -> Template {
+    match is_resistance {
+        0 => Template::Bridge,
+        _ => Template::Resistance,
     }
 }
 
@@ -105,14 +113,16 @@ impl From<Dash> for u8 {
     }
 }
 
-/// The values of a template's fields, the end bit, the writer's level, and the template's number.
+/// The values of a template's fields, the end bit, the writer's level, a byte that is not looked at and returned as 0,
+/// and whether the template is 32.
 #[derive(Clone, Copy, Debug, Default, PartialEq)]
 #[repr(C)]
 pub struct Fields {
     pub values: [ByFlags; 21],
     pub end_bit: u8,
     pub level: u8,
-    pub template: u8,
+    pub unused: u8,
+    pub is_resistance: u8,
 }
 
 #[derive(Clone, Copy, Debug, Default, PartialEq)]

@@ -119,7 +119,8 @@ impl Case {
             values: values.map(ByFlags::from),
             end_bit: 1,
             level: Level::Maker.into(),
-            template: template.number(),
+            unused: 0,
+            is_resistance: u8::from(template == Template::Resistance),
         };
         let point = |i| [i * 1_000_000_000 / points.max(1), (i * 7_919 % 200 - 100) * 10_000];
         let mut case = Case {

@@ -634,7 +634,8 @@ impl Differ {
             }
         }
         fields.level = self.level();
-        fields.template = self.template(layout.template);
+        fields.unused = self.random.word() as u8;
+        fields.is_resistance = self.template(layout.template);
         // Kind 0 has no room for a curve.
         if self.random.percent(if self.kind == 0 { 5 } else { 25 }) {
             return self.build_curve(layout, fields);

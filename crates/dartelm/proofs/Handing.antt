@@ -19,16 +19,14 @@ use Rattle.fields.specs.declared.Value.the-variants.{Whole, Single, Missing}
 use Rattle.fields.specs.declared.Template.{Template}
 use Rattle.fields.specs.declared.Template.the-variants.{Bridge, Resistance}
 use Rattle.fields.specs.Lines.{numberOf}
-use Rattle.fields.specs.declared.Level.the-variants.{Owner}
 use Rattle.build.specs.Build.{slot}
 use Rattle.build.specs.Tested.{Spread, sheetLent}
 use Rattle.build.proofs.Spreading.{spread-sheet}
 use Rattle.layout.specs.Pieces.{endCode}
 use Rattle.dartelm.specs.declared.values.DartelmFields.{DartelmFields}
-use Rattle.dartelm.specs.Values.{yes, levelOf, templateBy, valueOf, byFlags, noValue, slotOf, sheetOf}
-use Rattle.dartelm.specs.Answers.{padded}
+use Rattle.dartelm.specs.Values.{yes, levelOf, templateBy, templateFlag, valueOf, byFlags, noValue, slotOf, sheetOf}
 use Rattle.dartelm.specs.Calls.{kindOf}
-use Rattle.dartelm.specs.Sheets.{AllFields, fieldNumbers, fieldsTold}
+use Rattle.dartelm.specs.Sheets.{SheetAgain}
 
 pub value-again : (v : Value) → valueOf (byFlags v) ≡ v
 value-again (Whole z) = refl
@@ -47,7 +45,7 @@ zeros-again : (n : ℕ) → map slotOf (replicate n noValue) ≡ replicate n (sl
 zeros-again zero = refl
 zeros-again (suc n) = ap (λ l. slot (Whole (pos 0)) ∷ l) (zeros-again n)
 
-template-again : (t : Template) → templateBy (numberOf t) ≡ t
+template-again : (t : Template) → templateBy (templateFlag t) ≡ t
 template-again Bridge = refl
 template-again Resistance = refl
 
@@ -56,19 +54,12 @@ pub number-small : (t : Template) {n : ℕ} → n ≡ numberOf t → n < 256
 number-small Bridge e = omega arith
 number-small Resistance e = omega arith
 
--- The fields of a sheet that was read are the sheet record that a build of them wants: behind the template's last field there are zeros, which it does not look at.
-pub sheet-again : (s : AllFields) → sheetOf (fieldsTold (fieldNumbers s)) ≡
-    record {
-      template = s .summary .template;
-      fields = padded 21 (slot (Whole (pos 0))) (map slot (s .values));
-      «end_bit» = s .summary .«end_bit»;
-      level = Owner;
-    }
+pub sheet-again : SheetAgain
 sheet-again s =
     rw (template-again (s .summary .template), map-append, values-again (s .values), zeros-again, flag-again (s .summary .«end_bit»), length-map (s .values) byFlags, length-map (s .values) slot)
 
 -- The sheet record handed in is the one that its values are lent of.
-pub handed-sheet : (f : DartelmFields) {t : Template} {endBit : Bool} {sorts : List ℕ} {wholes : List ℤ} {singles : List Float} → t ≡ templateBy (f .template) → endBit ≡ yes (f .«end_bit»)
+pub handed-sheet : (f : DartelmFields) {t : Template} {endBit : Bool} {sorts : List ℕ} {wholes : List ℤ} {singles : List Float} → t ≡ templateBy (f .«is_resistance») → endBit ≡ yes (f .«end_bit»)
     → Spread (map slotOf (f .values)) sorts wholes singles → sheetLent t endBit (levelOf (f .level)) sorts wholes singles ≡ sheetOf f
 handed-sheet f {sorts = sorts} {wholes} {singles} e g s =
     ap₂ (λ (x : Template) (b : Bool). sheetLent x b (levelOf (f .level)) sorts wholes singles) e g ∙ spread-sheet (sheetOf f) s

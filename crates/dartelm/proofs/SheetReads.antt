@@ -11,13 +11,12 @@ use Rattle.refusal.specs.Outcome.{good, refused}
 use Rattle.refusal.specs.declared.Refusal.{Refusal}
 use Rattle.layout.specs.Contents.{Contents}
 use Rattle.fields.specs.declared.Value.{Value}
-use Rattle.fields.specs.Lines.{numberOf}
 use Rattle.sheet.specs.declared.Summary.{Summary}
 use Rattle.layout.specs.Image.{contents, nothing, field}
 use Rattle.sheet.specs.Check.{summary, readField}
 use Rattle.layout.specs.Pieces.{endCode}
 use Rattle.dartelm.specs.declared.values.DartelmValue.{DartelmValue}
-use Rattle.dartelm.specs.Values.{byFlags, noValue}
+use Rattle.dartelm.specs.Values.{templateFlag, byFlags, noValue}
 use Rattle.dartelm.specs.Answers.{toldAs, domainNumber}
 use Rattle.dartelm.specs.Sheets.{fieldReads, readFields, sheetAnswer, fieldNumbers, noFields}
 use Rattle.dartelm.specs.Found.{valueIn, foundFields}
@@ -54,7 +53,7 @@ module _ (c : Contents) where
       let held : v ≡ getD (map valueIn (c .fields)) i (valueIn nothing) = rw this at f ∙ sym (List·getD-map valueIn (c .fields) i nothing) in
       filled-more byFlags 21 noValue (map valueIn (c .fields)) i b (valueIn nothing) array h (rw length-map (omega arith)) e (g ∙ ap byFlags held)
 
-  pub all-told : (i n : ℕ) (array : List DartelmValue) (s : Summary) (number domain : ℕ) → n ≤ i → n ≡ length (c .fields) → number ≡ numberOf (s .template) → domain ≡ domainNumber (s .domain)
+  pub all-told : (i n : ℕ) (array : List DartelmValue) (s : Summary) (flag domain : ℕ) → n ≤ i → n ≡ length (c .fields) → flag ≡ templateFlag (s .template) → domain ≡ domainNumber (s .domain)
       → array ≡ filled byFlags 21 noValue (foundFields c .values) i → s ≡ summary c
       → record {
         number = 0;
@@ -63,12 +62,12 @@ module _ (c : Contents) where
         points = s .points;
         characters = s .characters;
         «field_count» = n;
-        fields = record { values = array; «end_bit» = endCode (s .«end_bit»); level = 0; template = number };
+        fields = record { values = array; «end_bit» = endCode (s .«end_bit»); level = 0; unused = 0; «is_resistance» = flag };
         domain = domain;
         segments = s .segments;
         terms = s .terms;
       }
       ≡ toldAs sheetAnswer fieldNumbers noFields (good (foundFields c))
-  all-told i n array s number domain h many t d e f =
+  all-told i n array s flag domain h many t d e f =
       let count : n ≡ length (map valueIn (c .fields)) = many ∙ sym (length-map (c .fields) valueIn) in
       rw (t, d, f, filled-whole byFlags 21 noValue (map valueIn (c .fields)) i array (omega arith) e, count)

@@ -1,15 +1,20 @@
 -- include/dartelm.h, dartelm_sheet: all fields of an image. It is what a check gives, and the reads of its fields one by one, though the image is checked once.
+use mathlib.Core.Path.{_≡_}
 use mathlib.Core.List.{List, [], _∷_, map}
 use Prim.Native.Nat.{ℕ, zero, suc}
+use lib.IntN.{pos}
 use lib.ListN.{length}
 use Rattle.refusal.specs.Outcome.{Outcome, good, _>>=_}
 use Rattle.fields.specs.declared.Value.{Value}
+use Rattle.fields.specs.declared.Value.the-variants.{Whole}
+use Rattle.fields.specs.declared.Level.the-variants.{Owner}
 use Rattle.sheet.specs.declared.Summary.{Summary}
 use Rattle.layout.specs.Image.{contents}
 use Rattle.sheet.specs.Check.{summary, readField}
+use Rattle.build.specs.Build.{slot}
 use Rattle.dartelm.specs.declared.values.DartelmFields.{DartelmFields}
 use Rattle.dartelm.specs.declared.answers.DartelmSheetAnswer.{DartelmSheetAnswer}
-use Rattle.dartelm.specs.Values.{byFlags, noValue}
+use Rattle.dartelm.specs.Values.{templateFlag, byFlags, noValue, sheetOf}
 use Rattle.dartelm.specs.Answers.{toldAs, padded, Numbers, numbers, noNumbers}
 
 -- What a check gives, and the values of all fields.
@@ -34,21 +39,28 @@ readFields kind image = do
 
 -- ---- the struct
 
--- What a check gives, as numbers, and the values of all fields.
+-- What a check gives, as numbers, the template's flag, and the values of all fields.
 pub record FieldNumbers : Type 0 where
   pub numbers : Numbers
+  pub resistance : ℕ
   pub values : List Value
 
 abbrev pub fieldNumbers : AllFields → FieldNumbers
-fieldNumbers s = record { numbers = numbers (s .summary); values = s .values }
+fieldNumbers s = record { numbers = numbers (s .summary); resistance = templateFlag (s .summary .template); values = s .values }
 
 abbrev pub noFields : FieldNumbers
-noFields = record { numbers = noNumbers; values = [] }
+noFields = record { numbers = noNumbers; resistance = 0; values = [] }
 
--- Field f stands at index f − 1. A level is not stored: the owner's number is told.
+-- Field f is at index f − 1. A level is not stored: the owner's number is returned.
 abbrev pub fieldsTold : FieldNumbers → DartelmFields
 fieldsTold s =
-    record { values = padded 21 noValue (map byFlags (s .values)); «end_bit» = s .numbers .endBit; level = 0; template = s .numbers .template }
+    record {
+      values = padded 21 noValue (map byFlags (s .values));
+      «end_bit» = s .numbers .endBit;
+      level = 0;
+      unused = 0;
+      «is_resistance» = s .resistance;
+    }
 
 abbrev pub sheetAnswer : ℕ → ℕ → FieldNumbers → DartelmSheetAnswer
 sheetAnswer n p s =
@@ -67,3 +79,17 @@ sheetAnswer n p s =
 
 abbrev pub sheetCall : ℕ → List ℕ → DartelmSheetAnswer
 sheetCall kind image = toldAs sheetAnswer fieldNumbers noFields (readFields kind image)
+
+-- ---- handed in again
+
+-- What is returned of a sheet may be handed to a build: it is the sheet record of these values, with zeros after the template's last field, which a build
+-- does not look at, and the owner's level, which it does not test.
+abbrev pub SheetAgain : Type 0
+SheetAgain =
+    (s : AllFields) → sheetOf (fieldsTold (fieldNumbers s)) ≡
+    record {
+      template = s .summary .template;
+      fields = padded 21 (slot (Whole (pos 0))) (map slot (s .values));
+      «end_bit» = s .summary .«end_bit»;
+      level = Owner;
+    }

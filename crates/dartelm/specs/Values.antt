@@ -9,7 +9,6 @@ use Rattle.fields.specs.declared.Value.{Value}
 use Rattle.fields.specs.declared.Value.the-variants.{Whole, Single, Missing}
 use Rattle.fields.specs.declared.Template.{Template}
 use Rattle.fields.specs.declared.Template.the-variants.{Bridge, Resistance}
-use Rattle.fields.specs.Lines.{numberOf}
 use Rattle.fields.specs.declared.Level.{Level}
 use Rattle.fields.specs.declared.Level.the-variants.{Owner, CalibrationRoom, Maker}
 use Rattle.fields.specs.declared.Segment.{Segment}
@@ -40,9 +39,14 @@ levelOf (suc zero) = CalibrationRoom
 levelOf (suc (suc zero)) = Maker
 levelOf (suc (suc (suc n))) = Owner
 
--- A template by its number: 32 is template 32, any other is taken as 33.
+-- Note 7: a build takes the template as one of two cases, so that no third can be handed in. It is a flag: 0 is template 33, anything else 32.
 abbrev pub templateBy : ℕ → Template
-templateBy number = cond (eqb number (numberOf Resistance)) Resistance Bridge
+templateBy flag = cond (yes flag) Resistance Bridge
+
+-- The flag that is returned.
+abbrev pub templateFlag : Template → ℕ
+templateFlag Bridge = 0
+templateFlag Resistance = 1
 
 -- A dash by its number: 0 is the large one, any other the small one.
 abbrev pub dashBy : ℕ → Dash
@@ -67,7 +71,7 @@ abbrev pub slotOf : DartelmValue → Slot
 slotOf v = slot (valueOf v)
 
 abbrev pub sheetOf : DartelmFields → Sheet
-sheetOf f = record { template = templateBy (f .template); fields = map slotOf (f .values); «end_bit» = yes (f .«end_bit»); level = levelOf (f .level) }
+sheetOf f = record { template = templateBy (f .«is_resistance»); fields = map slotOf (f .values); «end_bit» = yes (f .«end_bit»); level = levelOf (f .level) }
 
 -- The curve handed in.
 abbrev pub segmentOf : DartelmCurveSegment → Segment

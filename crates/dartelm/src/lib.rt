@@ -298,7 +298,7 @@ pub extern "C" fn dartelm_build(
         (r ≡ told writeAnswer [] outcome) × (now (image .exit) ≡ afterwards (now (image .entry)) outcome)) ⌝ }
 {
     let found = coding::domain_of(domain as u64);
-    let template = values::template_of(fields.template);
+    let template = values::template_of(fields.is_resistance);
     let mut sorts = [0u8; 21];
     let mut wholes = [0i64; 21];
     let mut singles = [0.0f32; 21];
@@ -330,7 +330,7 @@ pub extern "C" fn dartelm_build_curve(
         (r ≡ told writeAnswer [] outcome) × (now (image .exit) ≡ afterwards (now (image .entry)) outcome)) ⌝ }
 {
     let drawn = values::curve_of(curve);
-    let template = values::template_of(fields.template);
+    let template = values::template_of(fields.is_resistance);
     let mut sorts = [0u8; 21];
     let mut wholes = [0i64; 21];
     let mut singles = [0.0f32; 21];

@@ -4,6 +4,7 @@ use crate::answers::domain_number;
 use crate::values::DartelmFields;
 use crate::values::by_flags;
 use crate::values::no_value;
+use crate::values::template_flag;
 use refusal::Refusal;
 use sheet::Opened;
 use sheet::value_in;
@@ -36,7 +37,8 @@ pub fn sheet_in(sheet: Opened, image: &[u8]) -> DartelmSheetAnswer
         values,
         end_bit: summary.end_bit as u8,
         level: 0,
-        template: fields::template_number(template) as u8,
+        unused: 0,
+        is_resistance: template_flag(template),
     };
     DartelmSheetAnswer {
         number: 0,
@@ -60,7 +62,8 @@ pub fn no_sheet(r: Refusal) -> DartelmSheetAnswer
         values: [no_value(); 21],
         end_bit: 0,
         level: 0,
-        template: 0,
+        unused: 0,
+        is_resistance: 0,
     };
     DartelmSheetAnswer {
         number: r.number,

@@ -7,6 +7,7 @@ ghost use Rattle.dartelm.specs.Values.{
   yes,
   levelOf,
   templateBy,
+  templateFlag,
   dashBy,
   valueOf,
   byFlags,
@@ -35,13 +36,15 @@ pub struct DartelmValue {
 }
 
 // The values of a template's fields from 1 on, the end bit, a flag, the writer's level, which a build neither tests nor stores,
-// and the template's number. Values behind the template's last field are not looked at.
+// a byte that is not looked at and returned as 0, and whether the template is 32, a flag. Values after the template's last field
+// are not looked at.
 #[repr(C)]
 pub struct DartelmFields {
     pub values: [DartelmValue; 21],
     pub end_bit: u8,
     pub level: u8,
-    pub template: u8,
+    pub unused: u8,
+    pub is_resistance: u8,
 }
 
 // A segment of a curve that is handed in: its start in billionths of the span, and the number of its terms.
@@ -85,14 +88,24 @@ pub fn level_of(given: u8) -> Level
     }
 }
 
-// A template as C hands it in: 32 is template 32, any other is taken as 33.
-pub fn template_of(given: u8) -> Template
-    ensures { λ r. ⌜ r ≡ templateBy given ⌝ }
+// A template as C hands it in, by a flag: two cases, and no third can be handed in.
+pub fn template_of(is_resistance: u8) -> Template
+    ensures { λ r. ⌜ r ≡ templateBy «is_resistance» ⌝ }
 {
-    if given == 32 {
-        return Template::Resistance;
+    if is_resistance == 0 {
+        return Template::Bridge;
     }
-    Template::Bridge
+    Template::Resistance
+}
+
+// The flag of a template, as C is handed it.
+pub fn template_flag(template: Template) -> u8
+    ensures { λ r. ⌜ r ≡ templateFlag template ⌝ }
+{
+    match template {
+        Template::Bridge => 0,
+        Template::Resistance => 1,
+    }
 }
 
 // A dash as C hands it in: 0 is the large one, any other the small one.

@@ -31,12 +31,11 @@ impl Differ {
         self.random.pick(&[0, 1, 1, 2, 2, 2, 2, 3, any])
     }
 
-    /// A template as a byte: mostly its number; 33 also as any byte but 32.
+    /// A template as a flag.
     pub fn template(&mut self, template: Template) -> u8 {
-        let any = self.random.word() as u8;
         match template {
-            Template::Bridge if self.random.percent(20) && any != 32 => any,
-            _ => template.number(),
+            Template::Bridge => 0,
+            Template::Resistance => self.yes(),
         }
     }
 

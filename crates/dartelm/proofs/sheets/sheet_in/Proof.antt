@@ -9,16 +9,15 @@ use native.Mathlib.Omega.{arith}
 use Rattle.sheet.specs.declared.opening.Opened.{Opened}
 use Rattle.layout.specs.Contents.{Contents}
 use Rattle.sheet.specs.Opened.{Opens}
-use Rattle.dartelm.specs.Values.{byFlags, noValue}
+use Rattle.dartelm.specs.Values.{templateFlag, byFlags, noValue}
 use Rattle.dartelm.specs.Found.{foundFields}
 use Rattle.dartelm.proofs.Filling.{filled}
 use Rattle.build.proofs.BuiltIn.{end-byte}
 use Rattle.fields.specs.declared.Layout.{Layout}
-use Rattle.fields.specs.Lines.{lastField, numberOf}
+use Rattle.fields.specs.Lines.{lastField}
 use Rattle.fields.proofs.TemplateFacts.{last-most}
 use Rattle.layout.proofs.Places.{fields-count}
 use Rattle.sheet.proofs.HeldLaws.{layout-is, holding}
-use Rattle.dartelm.proofs.Handing.{number-small}
 use Rattle.dartelm.proofs.SheetReads.{one-more, all-told}
 use Rattle.dartelm.proofs.sheets.sheet_in.Statement.{statement}
 use Rattle.dartelm.proofs.sheets.sheet_in.Tie as tie
@@ -63,9 +62,6 @@ loop-again c =
           (omega (arith, counted h (n .last-field .ensures))) (l .loop .inv .1 k x h) (c .before .value-in .ensures k x h) (c .by-flags .ensures),
     )
 
-number-fits : tie.Need-cast-t23 Inv-loop μ-loop
-number-fits c = omega (arith, number-small (c .before .before .before .before .before .before .before .before .before .args .sheet .layout .template) (c .template-number .ensures))
-
 returns : tie.Need-returns Inv-loop μ-loop
 returns c =
     let l = c .before .before .before .before .before in
@@ -74,7 +70,7 @@ returns c =
     λ k x h.
     rw (end-byte (s .args .sheet .summary .«end_bit»))
     (all-told x (l .loop .at) _ _ (s .args .sheet .summary) _ _ (c .before .before .before .before .loop-test .left) (counted h (n .last-field .ensures))
-    (c .before .template-number .ensures ∙ ap numberOf (ap (λ (y : Layout). y .template) (layout-is h) ∙ sym (ap (λ (o : Opened). o .summary .template) (h .is))))
+    (c .before .template-flag .ensures ∙ ap templateFlag (ap (λ (y : Layout). y .template) (layout-is h) ∙ sym (ap (λ (o : Opened). o .summary .template) (h .is))))
     (c .domain-number .ensures)
     (l .loop .inv .1 k x h) (ap (λ (o : Opened). o .summary) (h .is)))
 
@@ -97,6 +93,5 @@ sheet-in-spec =
     loop-again
     (λ c. search needs)
     (λ c κs. search needs)
-    number-fits
     (λ c κs. search needs)
     returns)
