@@ -29,7 +29,7 @@ extern "C" {
 #endif
 
 /* This header's number, which rises when a call or a struct changes; dartelm_version() is the archive's. */
-#define DARTELM_VERSION 7
+#define DARTELM_VERSION 8
 
 /* ---- numbers ---- */
 

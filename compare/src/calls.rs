@@ -2,13 +2,13 @@
 //! handed the same and are compared in the same.
 
 use crate::plain::{
-    self, Calibration, Comparison, Conformity, Curve, Dash, Distance, Level, Proposal, Reading, Refusal, Segment, Sheet, Summary,
-    Term, Text, Value,
+    self, Calibration, Comparison, Conformity, Curve, Dash, Distance, Level, Proposal, Reading, Refusal, Segment,
+    Sheet, Summary, Term, Text, Value,
 };
 use crate::structs::{
-    ByFlags, CharacterAnswer, CheckAnswer, CodeAnswer, ComparedAnswer, ConformityAnswer, DistanceAnswer, FieldAnswer, Fields, NO_DOMAIN,
-    PageAnswer, PairAnswer, ProposalAnswer, ReadingAnswer, SegmentAnswer, SheetAnswer, TermAnswer, TextAnswer,
-    WriteAnswer, dash_of, domain_byte, domain_of, level_of, template_of,
+    ByFlags, CharacterAnswer, CheckAnswer, CodeAnswer, ComparedAnswer, ConformityAnswer, DistanceAnswer, FieldAnswer,
+    Fields, NO_DOMAIN, PageAnswer, PairAnswer, ProposalAnswer, ReadingAnswer, SegmentAnswer, SheetAnswer, TermAnswer,
+    TextAnswer, WriteAnswer, dash_of, domain_byte, domain_of, level_of, template_of,
 };
 
 /// The calls of the header; the provided ones give the plain implementation's types.

@@ -4,7 +4,8 @@ use std::fmt::{self, Display, Formatter};
 
 use crate::calls::Calls;
 use crate::plain::{
-    Calibration, Comparison, Conformity, Curve, Dash, Distance, Domain, Level, Refusal, Segment, Summary, Template, Term, Value,
+    Calibration, Comparison, Conformity, Curve, Dash, Distance, Domain, Level, Refusal, Segment, Summary, Template,
+    Term, Value,
 };
 use crate::structs::{ByFlags, Fields};
 
@@ -96,9 +97,7 @@ pub fn parse(line: &str) -> Option<Command> {
             Command::Compare(unsigned(kind)?, bytes(image)?, list(slow, signed)?, list(fast, signed)?)
         }
         ["distance", points] => Command::Distance(list(points, signed)?),
-        ["conform", kind, image, points] => {
-            Command::Conform(unsigned(kind)?, bytes(image)?, list(points, signed)?)
-        }
+        ["conform", kind, image, points] => Command::Conform(unsigned(kind)?, bytes(image)?, list(points, signed)?),
         ["text", field, code] => Command::Text(unsigned(field)?, unsigned(code)?),
         ["code", field, text] => Command::Code(unsigned(field)?, bytes(text)?),
         ["index", kind, image, buffer] => Command::Index(unsigned(kind)?, bytes(image)?, bytes(buffer)?),

@@ -3,8 +3,9 @@
 use crate::calls::Calls;
 use crate::plain::Curve;
 use crate::structs::{
-    ByFlags, CharacterAnswer, CheckAnswer, CodeAnswer, ComparedAnswer, ConformityAnswer, DistanceAnswer, FieldAnswer, Fields, PageAnswer,
-    PairAnswer, ProposalAnswer, ReadingAnswer, SegmentAnswer, SheetAnswer, TermAnswer, TextAnswer, WriteAnswer,
+    ByFlags, CharacterAnswer, CheckAnswer, CodeAnswer, ComparedAnswer, ConformityAnswer, DistanceAnswer, FieldAnswer,
+    Fields, PageAnswer, PairAnswer, ProposalAnswer, ReadingAnswer, SegmentAnswer, SheetAnswer, TermAnswer, TextAnswer,
+    WriteAnswer,
 };
 
 mod dartelm {
@@ -189,9 +190,7 @@ impl Calls for Product {
     }
 
     fn conformity(&self, kind: u8, image: &[u8], points: &[i64]) -> ConformityAnswer {
-        unsafe {
-            dartelm::dartelm_conformity(kind, image.as_ptr(), image.len(), points.as_ptr(), points.len())
-        }
+        unsafe { dartelm::dartelm_conformity(kind, image.as_ptr(), image.len(), points.as_ptr(), points.len()) }
     }
 
     fn text(&self, field: u64, code: u64) -> TextAnswer {

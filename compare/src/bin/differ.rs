@@ -14,9 +14,9 @@ use compare::layout::{Layout, get, image_length, pages, stream_bits};
 use compare::plain::{self, Level, Template, Value};
 use compare::random::Random;
 use compare::structs::{
-    ByFlags, CharacterAnswer, CheckAnswer, CodeAnswer, ComparedAnswer, DistanceAnswer, FieldAnswer, Fields, PageAnswer,
-    PairAnswer, ProposalAnswer, ReadingAnswer, SegmentAnswer, SheetAnswer, TermAnswer, TextAnswer, WriteAnswer,
-    dash_of, domain_of, level_of,
+    ByFlags, CharacterAnswer, CheckAnswer, CodeAnswer, ComparedAnswer, ConformityAnswer, DistanceAnswer, FieldAnswer,
+    Fields, PageAnswer, PairAnswer, ProposalAnswer, ReadingAnswer, SegmentAnswer, SheetAnswer, TermAnswer, TextAnswer,
+    WriteAnswer, dash_of, domain_of, level_of,
 };
 
 #[path = "differ/curves.rs"]
@@ -131,6 +131,7 @@ numbered!(
     ProposalAnswer,
     ReadingAnswer,
     ComparedAnswer,
+    ConformityAnswer,
     DistanceAnswer,
     TextAnswer,
     CodeAnswer

@@ -39,7 +39,7 @@ use Rattle.dartelm.specs.Answers.{toldAs, told, numbers, noNumbers, chec
 
 -- The number of this archive and its header.
 abbrev pub version : ℕ
-version = 7
+version = 8
 
 -- ---- kinds
 

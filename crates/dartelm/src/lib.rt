@@ -79,7 +79,7 @@ use values::DartelmValue;
 pub extern "C" fn dartelm_version() -> u32
     ensures { λ r. ⌜ r ≡ version ⌝ }
 {
-    7
+    8
 }
 
 // The kind of the images that have so many bytes: 0, 1 or 2; 255 where no kind has.
@@ -522,11 +522,11 @@ pub extern "C" fn dartelm_conformity(
             bound: 0,
             is_straight: 0,
         },
-        ConformityAnswer::Is(found) => DartelmConformityAnswer {
+        ConformityAnswer::Is(compared) => DartelmConformityAnswer {
             number: 0,
             place: 0,
-            slope: found.slope,
-            bound: found.bound,
+            slope: compared.slope,
+            bound: compared.bound,
             is_straight: 1,
         },
         ConformityAnswer::NotStraight => DartelmConformityAnswer {

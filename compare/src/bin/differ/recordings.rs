@@ -133,7 +133,8 @@ impl Differ {
         for index in 0..stored {
             let Ok((point, deviation)) = plain::pair(self.kind, self.image(), index) else { continue };
             if self.random.percent(90) {
-                let moved = point + self.random.pick(&[0, 0, 1, -1, 7_649, -7_650]) + self.random.pick(&[0, 0, far, -far]);
+                let moved =
+                    point + self.random.pick(&[0, 0, 1, -1, 7_649, -7_650]) + self.random.pick(&[0, 0, far, -far]);
                 let bent = deviation + self.random.pick(&[0, 1, -1, 499, -500]) + self.random.pick(&[0, 0, far, -far]);
                 points.extend([moved.clamp(0, 1_002_670_200), bent.clamp(-BILLION, 1_097_150_000)]);
             }
