@@ -2058,10 +2058,10 @@ mod tests {
         let one = tabled(Domain::Electrical, &[153_000, 5_000]).unwrap();
         assert_eq!(told(&one, &[]), Ok(Some((0, 2_000 + 2_000 * 5_000))));
         assert_eq!(told(&one, &[153_000, 5_000]), Ok(Some((0, 2_000))));
-        // The line of 3 points with rises of a third at the stored one: 2000 / 3, rounded up.
-        let level = tabled(Domain::Electrical, &[15_300, 0]).unwrap();
-        assert_eq!(told(&level, &[15_299, 0, 15_302, 1]), Err(Refusal { number: 7, place: 1 }));
-        assert_eq!(told(&level, &[0, 0, 45_900, 1]), Ok(Some((1, 2_001 + 2_000))));
+        // At the second stored point the certificate's line is a third: 2000 x 999 2/3, rounded up.
+        let bent = tabled(Domain::Electrical, &[0, 0, 15_300, 1_000, 45_900, 0]).unwrap();
+        assert_eq!(told(&bent, &[0, 0, 45_900, 1]), Ok(Some((1, 2_001 + 1_999_334))));
+        assert_eq!(told(&bent, &[15_299, 0, 15_302, 1]), Err(Refusal { number: 7, place: 1 }));
         let physical = tabled(Domain::Physical, &[0, 0, 153_000, 5_000]).unwrap();
         assert_eq!(told(&physical, &[0, 0]), Ok(None));
         assert_eq!(told(&physical, &[0]), Err(Refusal { number: 16, place: 1 }));

@@ -525,11 +525,11 @@ pub extern "C" fn dartelm_conformity(
             bound: 0,
             is_straight: 0,
         },
-        ConformityAnswer::Is(found) => DartelmConformityAnswer {
+        ConformityAnswer::Is(compared) => DartelmConformityAnswer {
             number: 0,
             place: 0,
-            slope: found.slope,
-            bound: found.bound,
+            slope: compared.slope,
+            bound: compared.bound,
             is_straight: 1,
         },
         ConformityAnswer::NotStraight => DartelmConformityAnswer {
