@@ -1,3 +1,4 @@
 pub mod Build
-pub mod Tested
-pub mod Filled
+pub mod Lent
+pub mod Listed
+pub mod Planning
