@@ -1,14 +1,25 @@
 -- A lent buffer that is filled element by element.
-use mathlib.Core.Path.{_≡_, refl, ap, _∙_}
-use mathlib.Core.Bool.{true, false, true≢false, false≢true}
+use mathlib.Core.Path.{_≡_, refl, sym, ap, _∙_}
+use mathlib.Core.Bool.{Bool, true, false, cond, true≢false, false≢true}
 use mathlib.Core.List.{List, [], _∷_, _++_, append-assoc, append-nil, map}
 use mathlib.Core.Option.{Option, none, some, Option·some-injective, Option·none-ne-some}
-use Prim.Native.Nat.{ℕ, suc, _+_, _≤_, _<_}
+use Prim.Native.Nat.{ℕ, suc, _+_, _-_, _≤_, _<_}
+use native.Mathlib.Nat.{sub-zero}
 use native.Mathlib.Numerals.{add-one}
 use native.Mathlib.Omega.{arith}
 use lib.ListN.{length, getD, take, drop, set, length-set, take-append-drop, drop-of-length-le}
 use lib.Seq.{take-suc-set, drop-cons, drop-set-lt, take-all}
-use Rattle.words.specs.Said.{one, every, written, isWhole, filled}
+use Rattle.words.specs.declared.Filled.{Filled}
+use Rattle.words.specs.declared.Filled.the-variants.{To, Not}
+use Rattle.words.specs.Said.{says_if_, Held, one, every, written, isWhole, filled, begun, fits, counted, countSaid, filledSaid}
+
+says-true : {B : Type 0} (b : B) (t : Bool) (c : B) → some c ≡ (says b if t) → t ≡ true
+says-true b true c e = refl
+says-true b false c e = absurd (Option·none-ne-some c (sym e))
+
+says-none : {B : Type 0} (b : B) (t : Bool) → none ≡ (says b if t) → t ≡ false
+says-none b true e = absurd (Option·none-ne-some b e)
+says-none b false e = refl
 
 module _ {A : Type 0} where
   -- Of what is said, `count` elements are put and `left` is still to come: what it will come to is the whole.
@@ -33,18 +44,80 @@ module _ {A : Type 0} where
         }
 
     -- All are put; the next says nothing; or there is no room for it.
-    pub fill-end : left ≡ [] → record { count = some count; all = out } ≡ filled said first
+    pub fill-end : left ≡ [] → record { count = some count; all = out } ≡ begun said first
     fill-end e =
         let n : length said ≡ count = omega (arith, f .many, ap length e) in
         rw (← f .whole, ← f .all, e, take-append-drop count out, n)
 
-    pub fill-stop : (rest : List (Option A)) → left ≡ none ∷ rest → record { count = none; all = out } ≡ filled said first
+    pub fill-stop : (rest : List (Option A)) → left ≡ none ∷ rest → record { count = none; all = out } ≡ begun said first
     fill-stop rest e = rw (← f .whole, ← f .all, e, take-append-drop count out)
 
-  pub fill-full : (said : List (Option A)) (first out : List A) (count : ℕ) (left : List (Option A)) → Filling said first out count left → 0 < length left → length out ≤ count → record { count = none; all = out } ≡ filled said first
+  pub fill-full : (said : List (Option A)) (first out : List A) (count : ℕ) (left : List (Option A)) → Filling said first out count left → 0 < length left → length out ≤ count → record { count = none; all = out } ≡ begun said first
   fill-full said first out count [] f l h = absurd (omega arith)
   fill-full said first out count (none ∷ rest) f l h = fill-stop said first out count (none ∷ rest) f rest refl
   fill-full said first out count (some a ∷ rest) f l h = rw (← f .whole, ← f .all, drop-of-length-le out h, take-all count out h, append-nil)
+
+  -- ---- counted first
+
+  -- A room is a buffer's length.
+  whole-fits : (said : List (Option A)) (first : List A) → isWhole said first ≡ fits said (length first)
+  whole-fits [] first = refl
+  whole-fits (none ∷ said) first = refl
+  whole-fits (some a ∷ said) [] = refl
+  whole-fits (some a ∷ said) (b ∷ first) = whole-fits said first
+
+  -- Of what is said, `count` elements have been counted and `left` is still to come.
+  pub record Counting (said : List (Option A)) (room count : ℕ) (left : List (Option A)) : Type 0 where
+    pub many : count + length left ≡ length said
+    pub whole : fits left (room - count) ≡ fits said room
+    pub inside : count ≤ room
+
+  pub count-start : (said : List (Option A)) (room : ℕ) → Counting said room 0 said
+  count-start said room = record { many = omega arith; whole = ap (fits said) (sub-zero room); inside = omega arith }
+
+  module _ (said : List (Option A)) (room count : ℕ) (left : List (Option A)) (f : Counting said room count left) where
+    pub count-on : (a : A) (rest : List (Option A)) → left ≡ some a ∷ rest → count < room → Counting said room (count + 1) rest
+    count-on a rest e h =
+        let less : room - count ≡ suc (room - (count + 1)) = omega arith in
+        record { many = omega (arith, f .many, ap length e); whole = rw (e, less) at (f .whole); inside = omega arith }
+
+    pub count-end : left ≡ [] → some count ≡ counted said room
+    count-end e =
+        let n : length said ≡ count = omega (arith, f .many, ap length e) in
+        rw (← f .whole, e, n)
+
+    pub count-stop : (rest : List (Option A)) → left ≡ none ∷ rest → none ≡ counted said room
+    count-stop rest e = rw (← f .whole, e)
+
+  pub count-full : (said : List (Option A)) (room count : ℕ) (left : List (Option A)) → Counting said room count left → 0 < length left → room ≤ count → none ≡ counted said room
+  count-full said room count [] f l h = absurd (omega arith)
+  count-full said room count (none ∷ rest) f l h = count-stop said room count (none ∷ rest) f rest refl
+  count-full said room count (some a ∷ rest) f l h = let full : room - count ≡ 0 = omega arith in rw (← f .whole, full)
+
+  -- Counted and put; or not counted, and nothing is put.
+  module _ (said : List (Option A)) (first : List A) where
+    pub filled-all : {n : ℕ} → some n ≡ counted said (length first) → begun said first ≡ filled said first
+    filled-all {n} e = rw (whole-fits said first, says-true (length said) (fits said (length first)) n e)
+
+    pub filled-none : none ≡ counted said (length first) → record { count = none; all = first } ≡ filled said first
+    filled-none e = rw (whole-fits said first, says-none (length said) (fits said (length first)) e)
+
+    pub filled-to : {n : ℕ} (r : Filled) → countSaid r ≡ counted said (length first) → r ≡ To n → begun said first ≡ filled said first
+    filled-to r e k = filled-all (rw k at e)
+
+    pub filled-not : (r : Filled) → countSaid r ≡ counted said (length first) → r ≡ Not → record { count = none; all = first } ≡ filled said first
+    filled-not r e k = filled-none (rw k at e)
+
+    -- The parts of it.
+    pub filled-count : (filled said first) .count ≡ (says length said if isWhole said first)
+    filled-count = go (isWhole said first)
+      where
+        go : (b : Bool) → (cond {A = Held A} b (record { count = some (length said); all = written said first }) (record { count = none; all = first })) .count ≡ (says length said if b)
+        go true = refl
+        go false = refl
+
+    pub filled-whole : isWhole said first ≡ true → filled said first ≡ record { count = some (length said); all = written said first }
+    filled-whole e = rw e
 
   -- ---- what is said, from what a buffer holds
 
@@ -59,6 +132,16 @@ module _ {A : Type 0} where
   whole-room (none ∷ said) first h = absurd (false≢true h)
   whole-room (some a ∷ said) [] h = absurd (false≢true h)
   whole-room (some a ∷ said) (b ∷ first) h = omega (arith, whole-room said first h)
+
+  pub filled-short : (said : List (Option A)) (first : List A) → length first < length said → record { count = none; all = first } ≡ filled said first
+  filled-short said first h = go (isWhole said first) refl
+    where
+      go : (b : Bool) → isWhole said first ≡ b → record { count = none; all = first } ≡ filled said first
+      go true e = absurd (omega (arith, whole-room said first e))
+      go false e = rw e
+
+  pub begun-filled : (said : List (Option A)) (first out : List A) (n : ℕ) → record { count = some n; all = out } ≡ begun said first → record { count = some n; all = out } ≡ filled said first
+  begun-filled said first out n e = e ∙ rw (says-true (length said) (isWhole said first) n (ap (λ (x : Held A). x .count) e))
 
   pub whole-said : (said : List (Option A)) (first : List A) → isWhole said first ≡ true → every said ≡ some (take (length said) (written said first))
   whole-said [] first h = refl

@@ -18,12 +18,12 @@ use Rattle.words.specs.declared.Figure.{Figure}
 use Rattle.words.specs.declared.Figure.the-variants.{Is, Not as NoFigure}
 use Rattle.words.specs.declared.Filled.{Filled}
 use Rattle.words.specs.declared.Filled.the-variants.{To, Not}
-use Rattle.words.specs.Said.{every, isWhole, Held, figureSaid, filled, filledSaid}
+use Rattle.words.specs.Said.{every, written, isWhole, Held, figureSaid, filled, filledSaid}
 use Rattle.words.specs.Figures.{figure}
 use Rattle.words.specs.Hexadecimal.{bytes}
 use Rattle.words.specs.Values.{highFirst, single, value}
 use Rattle.words.proofs.FigureLaws.{says-is, says-not}
-use Rattle.words.proofs.FilledLaws.{written-long, whole-room, whole-said, not-whole}
+use Rattle.words.proofs.FilledLaws.{filled-count, filled-whole, written-long, whole-room, whole-said, not-whole}
 
 -- ---- a NaN
 
@@ -60,18 +60,21 @@ module _ (said : List (Option ℕ)) (first held : List ℕ) (four : length first
   module _ (r : Filled) (e : filledSaid r held ≡ filled said first) where
     pub single-not : r ≡ Not → none ≡ single (every said)
     single-not k =
-        let w : isWhole said first ≡ false = says-not (length said) _ (ap (λ (x : Held ℕ). x .count) (rw k at e)) in
+        let w : isWhole said first ≡ false = says-not (length said) _ (ap (λ (x : Held ℕ). x .count) (rw k at e) ∙ filled-count said first) in
         not-said (every said) (λ l i. rw four at (not-whole said first l w i))
 
     module _ (n : ℕ) (k : r ≡ To n) where
       counted : (isWhole said first ≡ true) × (n ≡ length said)
-      counted = says-is (length said) _ n (ap (λ (x : Held ℕ). x .count) (rw k at e))
+      counted = says-is (length said) _ n (ap (λ (x : Held ℕ). x .count) (rw k at e) ∙ filled-count said first)
+
+      held-is : held ≡ written said first
+      held-is = ap (λ (x : Held ℕ). x .all) (rw k at e ∙ filled-whole said first (counted .0))
 
       holds : every said ≡ some (take n held)
-      holds = whole-said said first (counted .0) ∙ rw (← counted .1, ap (λ (x : Held ℕ). x .all) (rw k at e))
+      holds = whole-said said first (counted .0) ∙ rw (← counted .1, held-is)
 
       long : length held ≡ 4
-      long = ap (λ (x : Held ℕ). length (x .all)) (rw k at e) ∙ (written-long said first ∙ four)
+      long = ap length held-is ∙ (written-long said first ∙ four)
 
       pub single-other : (n ≡ 4 → ⊥) → none ≡ single (every said)
       single-other h =

@@ -1,8 +1,8 @@
 -- What a word of a console line says, or nothing, and the answers that say so; and what a lent buffer then holds.
-use mathlib.Core.Bool.{Bool, true, false}
+use mathlib.Core.Bool.{Bool, true, false, cond}
 use mathlib.Core.List.{List, [], _∷_}
 use mathlib.Core.Option.{Option, none, some}
-use Prim.Native.Nat.{ℕ}
+use Prim.Native.Nat.{ℕ, zero, suc}
 use lib.Dec.{ltb}
 use lib.IntN.{ℤ}
 use lib.ListN.{length}
@@ -73,8 +73,28 @@ pub record Held (A : Type 0) : Type 0 where
   pub count : Option ℕ
   pub all : List A
 
+-- All of them at its start; or none, and it is as it was.
 abbrev pub filled : {A : Type 0} → List (Option A) → List A → Held A
-filled said held = record { count = says length said if isWhole said held; all = written said held }
+filled said held =
+    cond (isWhole said held) (record { count = some (length said); all = written said held })
+    (record { count = none; all = held })
+
+-- Only inner contracts need these: elements put as far as they go, and counted in a room before they are.
+abbrev pub begun : {A : Type 0} → List (Option A) → List A → Held A
+begun said held = record { count = says length said if isWhole said held; all = written said held }
+
+abbrev pub fits : {A : Type 0} → List (Option A) → ℕ → Bool
+fits [] room = true
+fits (none ∷ said) room = false
+fits (some a ∷ said) zero = false
+fits (some a ∷ said) (suc room) = fits said room
+
+abbrev pub counted : {A : Type 0} → List (Option A) → ℕ → Option ℕ
+counted said room = says length said if fits said room
+
+abbrev pub countSaid : Filled → Option ℕ
+countSaid (To n) = some n
+countSaid NotFilled = none
 
 abbrev pub filledSaid : {A : Type 0} → Filled → List A → Held A
 filledSaid (To n) held = record { count = some n; all = held }

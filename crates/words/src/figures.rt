@@ -6,7 +6,7 @@ use crate::parts::is_minus;
 use crate::parts::piece;
 ghost use mathlib.Core.Path.{_≡_};
 ghost use lib.ListN.{drop};
-ghost use Rattle.words.specs.Said.{numberSaid, figureSaid, filled, filledSaid};
+ghost use Rattle.words.specs.Said.{numberSaid, figureSaid, filled, begun, counted, countSaid, filledSaid};
 ghost use Rattle.words.specs.Figures.{longer as withDigit, number, above as aboveZero, below as belowZero, figure as figureOf, figures as figuresIn};
 
 // A number with one digit more behind it, if the character is a digit and 64 bits hold the number.
@@ -99,11 +99,34 @@ pub fn figure_of(word: &[u8]) -> Figure
     above(number_from(word, 0))
 }
 
-// Puts a word's figures, which commas separate, at the start of out, and says how many they are; `-` is none at all. Not
-// where one is no figure, or out is too short for them: then out has the figures before the first that is none, as many as it
-// has room for.
-pub fn figures_of(word: &[u8], out: &mut [i64]) -> Filled
-    ensures { λ r. ⌜ filledSaid r (now (out .exit)) ≡ filled (figuresIn (now (word .entry))) (now (out .entry)) ⌝ }
+// How many figures a word has, which commas separate; `-` is none at all. Not where one is no figure, or they are more than a
+// room holds.
+fn count_figures(word: &[u8], room: usize) -> Filled
+    ensures { λ r. ⌜ countSaid r ≡ counted (figuresIn (now (word .entry))) room ⌝ }
+{
+    if is_minus(word) {
+        return Filled::To(0);
+    }
+    let mut count = 0;
+    let mut at = 0;
+    while count < room {
+        let part = piece(word, at, b',');
+        let to = at + part.len();
+        match figure_of(part) {
+            Figure::Is(_) => count += 1,
+            Figure::Not => return Filled::Not,
+        }
+        if to >= word.len() {
+            return Filled::To(count);
+        }
+        at = to + 1;
+    }
+    Filled::Not
+}
+
+// Puts a word's figures at the start of out, up to the first that is none or for which there is no room.
+fn put_figures(word: &[u8], out: &mut [i64]) -> Filled
+    ensures { λ r. ⌜ filledSaid r (now (out .exit)) ≡ begun (figuresIn (now (word .entry))) (now (out .entry)) ⌝ }
 {
     if is_minus(word) {
         return Filled::To(0);
@@ -124,4 +147,15 @@ pub fn figures_of(word: &[u8], out: &mut [i64]) -> Filled
         at = to + 1;
     }
     Filled::Not
+}
+
+// Puts a word's figures, which commas separate, at the start of out, and says how many they are; `-` is none at all. Not
+// where one is no figure, or out is too short for them: then out is as it was.
+pub fn figures_of(word: &[u8], out: &mut [i64]) -> Filled
+    ensures { λ r. ⌜ filledSaid r (now (out .exit)) ≡ filled (figuresIn (now (word .entry))) (now (out .entry)) ⌝ }
+{
+    match count_figures(word, out.len()) {
+        Filled::To(_) => put_figures(word, out),
+        Filled::Not => Filled::Not,
+    }
 }

@@ -6,7 +6,7 @@ ghost use mathlib.Core.List.{_∷_, map};
 ghost use mathlib.Core.Option.{some};
 ghost use Prim.Native.Nat.{_+_, _<_};
 ghost use lib.ListN.{length, getD, drop};
-ghost use Rattle.words.specs.Said.{byteSaid, filled, filledSaid};
+ghost use Rattle.words.specs.Said.{byteSaid, filled, begun, counted, countSaid, filledSaid};
 ghost use Rattle.words.specs.Hexadecimal.{counts, digitOf, paired, bytes as bytesIn, spelt};
 
 // What a hexadecimal digit counts, or 16.
@@ -58,11 +58,35 @@ fn byte_at(word: &[u8], at: usize) -> u64
     (16 * high + low) as u64
 }
 
-// Puts the bytes that a word spells, two digits each, at the start of out, and says how many they are; `-` is none at all.
-// Not where the word is anything else, or out is too short for them: then out has the bytes before the first that is none,
-// as many as it has room for.
-pub fn bytes_of(word: &[u8], out: &mut [u8]) -> Filled
-    ensures { λ r. ⌜ filledSaid r (now (out .exit)) ≡ filled (bytesIn (now (word .entry))) (now (out .entry)) ⌝ }
+// How many bytes a word spells, two digits each; `-` is none at all. Not where the word is anything else, or they are more than
+// a room holds.
+fn count_bytes(word: &[u8], room: usize) -> Filled
+    ensures { λ r. ⌜ countSaid r ≡ counted (bytesIn (now (word .entry))) room ⌝ }
+{
+    if is_minus(word) {
+        return Filled::To(0);
+    }
+    if word.len() == 0 {
+        return Filled::Not;
+    }
+    let mut count = 0;
+    let mut at = 0;
+    while at < word.len() {
+        if byte_at(word, at) > 255 {
+            return Filled::Not;
+        }
+        if count >= room {
+            return Filled::Not;
+        }
+        count += 1;
+        at += 2;
+    }
+    Filled::To(count)
+}
+
+// Puts the bytes that a word spells at the start of out, up to the first that is none or for which there is no room.
+fn put_bytes(word: &[u8], out: &mut [u8]) -> Filled
+    ensures { λ r. ⌜ filledSaid r (now (out .exit)) ≡ begun (bytesIn (now (word .entry))) (now (out .entry)) ⌝ }
 {
     if is_minus(word) {
         return Filled::To(0);
@@ -85,6 +109,17 @@ pub fn bytes_of(word: &[u8], out: &mut [u8]) -> Filled
         at += 2;
     }
     Filled::To(count)
+}
+
+// Puts the bytes that a word spells, two digits each, at the start of out, and says how many they are; `-` is none at all.
+// Not where the word is anything else, or out is too short for them: then out is as it was.
+pub fn bytes_of(word: &[u8], out: &mut [u8]) -> Filled
+    ensures { λ r. ⌜ filledSaid r (now (out .exit)) ≡ filled (bytesIn (now (word .entry))) (now (out .entry)) ⌝ }
+{
+    match count_bytes(word, out.len()) {
+        Filled::To(_) => put_bytes(word, out),
+        Filled::Not => Filled::Not,
+    }
 }
 
 // How many digits bytes have: two each, and the minus for none.
@@ -113,16 +148,16 @@ fn spelt_at(bytes: &[u8], index: usize) -> u8
 }
 
 // Puts the digits of bytes at the start of out, and says how many digits they are; `-` for no bytes. Not where out is too
-// short for them: then it is full of the first digits.
+// short for them: then out is as it was.
 pub fn spell(bytes: &[u8], out: &mut [u8]) -> Filled
     ensures { λ r. ⌜ filledSaid r (now (out .exit)) ≡ filled (map some (spelt (now (bytes .entry)))) (now (out .entry)) ⌝ }
 {
     let all = spelt_length(bytes);
+    if all > out.len() {
+        return Filled::Not;
+    }
     let mut count = 0;
     while count < all {
-        if count >= out.len() {
-            return Filled::Not;
-        }
         out[count] = spelt_at(bytes, count);
         count += 1;
     }

@@ -1,36 +1,23 @@
--- The loop's invariant: the bytes of the digits passed are put, and those of the rest are to come.
-use mathlib.Core.Path.{sym, _∙_}
-use Prim.Native.Nat.{_-_}
-use native.Mathlib.Omega.{arith}
-use borrow.Author.Tests.{lt-ltb, le-ltb}
-use lib.ListN.{length, drop, drop-of-length-le}
-use Rattle.words.specs.Hexadecimal.{paired, bytes}
-use Rattle.words.proofs.FilledLaws.{Filling, fill-start, fill-on, fill-end, fill-stop, fill-full}
-use Rattle.words.proofs.HexLaws.{bytes-minus, bytes-empty, bytes-paired}
+use mathlib.Core.Path.{_∙_}
 use borrow.Author.Needs.{needs}
+use Rattle.words.specs.Hexadecimal.{bytes}
+use Rattle.words.proofs.FilledLaws.{filled-to, filled-not}
 use Rattle.words.proofs.hexadecimal.bytes_of.Statement.{statement}
 use Rattle.words.proofs.hexadecimal.bytes_of.Tie as tie
 
+returns : tie.Need-returns
+returns c =
+    let p = c .before .before in
+    let k = p .before .before .before .before in
+    let a = k .before .before .before .args in
+    p .put-bytes .ensures ∙ filled-to (bytes (a .word .now)) (a .out .now) (k .count-bytes .result) (k .count-bytes .ensures) (p .before .before .enum-told .given .1)
+
+returns-2 : tie.Need-returns-2
+returns-2 c =
+    let k = c .before .before in
+    let a = k .before .before .before .args in
+    filled-not (bytes (a .word .now)) (a .out .now) (k .count-bytes .result) (k .count-bytes .ensures) (c .enum-told2 .given .1)
+
 pub bytes-of-spec : {M : Type 1} → statement M
 bytes-of-spec =
-    tie.close
-    (tie.spec
-    (λ word out₀ count₀ at₀ out count at. Filling (bytes word) out₀ out count (paired (drop at word)))
-    (λ word out₀ count₀ at₀ out count at. length word - at)
-    (λ c κs. search needs)
-    (λ c. rw (bytes-minus (c .before .before .before .before .args .word .now) (sym (c .before .is-minus .ensures) ∙ c .if1 .taken)))
-    (λ c. rw (bytes-empty (c .before .before .before .before .before .args .word .now) (c .if2 .taken)))
-    (λ c. rw (bytes-paired (c .before .before .before .before .before .args .word .now) (sym (c .before .before .is-minus .ensures) ∙ c .before .if1 .left) (c .if2 .left)) (fill-start _ _))
-    (λ c κs. search needs)
-    (λ c. search needs)
-    (λ c. fill-stop _ _ _ _ _ (c .before .before .before .loop .inv) _ (rw (le-ltb (c .before .byte-at .result) 256 (c .if3 .taken)) at (c .before .byte-at .ensures)))
-    (λ c. search needs)
-    (λ c. fill-full _ _ _ _ _ (c .before .before .before .before .loop .inv) (rw (c .before .before .byte-at .ensures) (omega arith)) (c .if4 .taken))
-    (λ c. search needs)
-    (λ c. search needs)
-    (λ c. search needs)
-    (λ c. search needs)
-    (λ c. omega arith)
-    (λ c. fill-on _ _ _ _ _ (c .before .before .before .before .loop .inv) (c .before .before .byte-at .result) _ (rw (lt-ltb (c .before .before .byte-at .result) 256 (omega arith)) at (c .before .before .byte-at .ensures)) (c .if4 .left))
-    (λ c. search needs)
-    (λ c. fill-end _ _ _ _ _ (c .before .loop .inv) (rw (drop-of-length-le (c .before .before .before .before .before .before .before .args .word .now) (c .loop-test .left)))))
+    tie.close (tie.spec (λ c κs. search needs) (λ c. search needs) (λ c κs. search needs) (λ c. search needs) (λ c. search needs) returns returns-2)
