@@ -55,6 +55,20 @@ FigureNearLine =
     → 2000 * (2 ^ 53 * natAbs (units (figure least greatest q) *ℤ pos (billion * den) -ℤ exactFigureAt least greatest num den))
     ≤ (2000 * (natAbs (units least) * billion + natAbs (units greatest -ℤ units least) * (4 * natAbs q + 1)) + 2 ^ 53 * (natAbs (units greatest -ℤ units least) * B)) * den
 
+-- Of any finite fraction x up to 2^400 either way, as a curve gives it: the figure's distance from least + (greatest − least) · x, exact, is at most 2^−53 of
+-- |least| + 4 · |greatest − least| · |x|, and a unit. In units, of which `one` are 1.
+abbrev pub one : ℕ
+one = 2 ^ 1074
+
+pub record NearShare (least greatest x figure : Float) : Type 0 where
+  pub near : 2 ^ 53 * natAbs (units figure *ℤ pos one -ℤ (units least *ℤ pos one +ℤ (units greatest -ℤ units least) *ℤ units x))
+      ≤ natAbs (units least) * one + 4 * (natAbs (units greatest -ℤ units least) * natAbs (units x)) + one * 2 ^ 53
+
+abbrev pub FigureNearShare : Type 0
+FigureNearShare =
+    (least greatest x : Float) → End least → End greatest → T (fits binary64 x) → finite x ≡ true → natAbs (units x) ≤ 2 ^ 400 * one
+    → NearShare least greatest x (physicalFigure least greatest x)
+
 -- It follows the fraction: with the fraction it rises where greatest is least or more, and falls where it is least or less. That is so
 -- of every finite fraction, as a curve gives it, and so of q.
 pub record Follows (least greatest x y x' y' : Float) : Type 0 where

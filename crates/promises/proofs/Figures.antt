@@ -38,7 +38,7 @@ use Rattle.fields.specs.declared.Domain.the-variants.{Physical}
 use Rattle.reading.specs.declared.Dash.{Dash}
 use Rattle.reading.specs.declared.Reading.{Reading}
 use Rattle.reading.specs.declared.span.Span.{Span}
-use Rattle.reading.specs.Reading.{isResistance, tooMany, isMissing, float, least, greatest, spanOf, tooFar, position, fraction, share, readingAt, takeReading}
+use Rattle.reading.specs.Reading.{isResistance, tooMany, isMissing, float, least, greatest, spanOf, tooFar, position, fraction, servingTerms, share, readingAt, takeReading}
 use Rattle.reading.proofs.Opening.{bridge}
 use Rattle.reading.proofs.Orders.{shown}
 use Rattle.reading.proofs.Spans.{spanned, span-ready}
@@ -47,9 +47,11 @@ use Rattle.reading.proofs.Fractions.{fraction-small}
 use Rattle.promises.proofs.Needles.{needle, needle-by-physical-point}
 use Rattle.promises.specs.Needle.{NeverFalls}
 use Rattle.figures.specs.Figures.{figure, End}
+use Rattle.figures.proofs.ShareLaws.{near-share}
+use Rattle.curve.specs.Curve.{fractionOf}
 use Rattle.figures.proofs.FigureLaws.{figure-finite, figure-close, figure-follows, fraction-finite, fraction-rises}
-use Rattle.promises.proofs.CurveFigures.{curve-number}
-use Rattle.promises.specs.Figure.{NoCurve, low, high, ShownNear, ShownFinite, ShownFollows, ShownRises, ShownRisesByPhysicalPoint}
+use Rattle.promises.proofs.CurveFigures.{curve-held, curve-number}
+use Rattle.promises.specs.Figure.{NoCurve, low, high, CurveShownNear, ShownNear, ShownFinite, ShownFollows, ShownRises, ShownRisesByPhysicalPoint}
 
 -- ---- the ends
 
@@ -167,6 +169,16 @@ shown-finite kind image v dash r e =
     go c t at bare h l = figure-finite (low c) (high c) (fraction bare (position v (least c) (greatest c))) (t .foot) (t .top) l
     go c t at (table domain pairs) h l = figure-finite (low c) (high c) (fraction (table domain pairs) (position v (least c) (greatest c))) (t .foot) (t .top) l
     go c t at (curve segments) h l = curve-number (low c) (high c) (position v (least c) (greatest c)) _ segments (t .foot) (t .top) (t .near) (h .stand)
+
+pub curve-shown-near : CurveShownNear
+curve-shown-near kind image c segments v dash r accepted e reads =
+    let t = taken kind image c v dash r accepted reads in
+    let p = position v (least c) (greatest c) in
+    let q : r .fraction ≡ p = t .counts ∙ ap (λ (k : Calibration). fraction k p) e in
+    let x : r .figure ≡ physicalFigure (low c) (high c) (fractionOf (servingTerms p segments) p) = t .shows ∙ ap (λ (k : Calibration). physicalFigure (low c) (high c) (share k p)) e in
+    let h : CalibrationAt _ (curve segments) = subst (CalibrationAt _) e (contents-accepted kind image c accepted .holding .formed .calibrated) in
+    let w = curve-held p _ segments (t .near) (h .stand) in
+    rw (x, q) (near-share (low c) (high c) (fractionOf (servingTerms p segments) p) (t .foot) (t .top) (w .negative) (w .count) (w .value) (w .most))
 
 pub shown-follows : ShownFollows
 shown-follows kind image c v w one other r s accepted plain e k more =

@@ -14,7 +14,7 @@ use Rattle.fields.specs.declared.Domain.{Domain}
 use Rattle.fields.specs.Calibration.{D, R}
 use Rattle.fields.specs.Figure.{billion}
 use Rattle.fields.specs.Rules.{finite}
-use Rattle.layout.specs.Contents.{Calibration, bare, table, curve, Contents}
+use Rattle.layout.specs.Contents.{FoundSegment, Calibration, bare, table, curve, Contents}
 use Rattle.layout.specs.Image.{contents, field}
 use Rattle.sheet.specs.declared.TableDomain.the-variants.{Is}
 use Rattle.sheet.specs.Check.{readField, domainIn}
@@ -26,9 +26,10 @@ use Rattle.distance.specs.Distance.{distance}
 use Rattle.fields.specs.declared.Domain.the-variants.{Electrical, Physical}
 use Rattle.reading.specs.declared.Dash.{Dash}
 use Rattle.reading.specs.declared.Reading.{Reading}
-use Rattle.reading.specs.Reading.{float, takeReading}
+use Rattle.curve.specs.Curve.{fractionOf}
+use Rattle.reading.specs.Reading.{float, servingTerms, takeReading}
 use Rattle.promises.specs.Needle.{NeverFalls}
-use Rattle.figures.specs.Figures.{units, exactFigure, exactFigureAt}
+use Rattle.figures.specs.Figures.{units, exactFigure, exactFigureAt, NearShare}
 use Rattle.promises.specs.Lent.{Lendable}
 use Rattle.promises.specs.Alterations.{Alteration, RealAlterations, altered}
 use Rattle.promises.specs.Certificate.{Straight, leastIn, greatestIn, lineFor}
@@ -55,6 +56,12 @@ abbrev pub ShownNear : Type 0
 ShownNear =
     (kind : ℕ) (image : List ℕ) (c : Contents) (v : ℤ) (dash : Dash) (r : Reading) → contents kind image ≡ good c → NoCurve (c .calibration) →
     takeReading kind image v dash ≡ good r → NearTheExact c r
+
+-- By a curve, whose q is the position: near the exact figure of the curve's own fraction.
+abbrev pub CurveShownNear : Type 0
+CurveShownNear =
+    (kind : ℕ) (image : List ℕ) (c : Contents) (segments : List FoundSegment) (v : ℤ) (dash : Dash) (r : Reading) → contents kind image ≡ good c → c .calibration ≡ curve segments →
+    takeReading kind image v dash ≡ good r → NearShare (low c) (high c) (fractionOf (servingTerms (r .fraction) segments) (r .fraction)) (r .figure)
 
 -- ---- from the certificate to the figure
 
