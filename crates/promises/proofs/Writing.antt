@@ -2,31 +2,30 @@
 use mathlib.Core.Path.{_≡_, refl, sym, ap, _∙_}
 use mathlib.Core.Bool.{Bool, true, false, not}
 use mathlib.Core.List.{List}
-use mathlib.Core.Logic.{_⊎_, inl, inr, _↔_}
-use Prim.Native.Nat.{ℕ, zero, suc, _+_, _*_, _/_, _≤_}
+use mathlib.Core.Logic.{_⊎_, inl, inr}
+use Prim.Native.Nat.{ℕ, zero, suc, _/_, _≤_}
 use native.Mathlib.Omega.{arith}
-use lib.ListN.{length, getD}
+use lib.ListN.{length}
 use lib.Seq.{ext-getD}
 use Rattle.refusal.specs.declared.Refusal.{Refusal}
 use Rattle.refusal.specs.Outcome.{Outcome, good, refused, _>>_, _>>=_, refuse_if_}
 use Rattle.refusal.specs.Rows.{wrongSum, blankChip}
-use Rattle.refusal.proofs.Outcomes.{good-same, no-value, bind-good, then-refused}
+use Rattle.refusal.proofs.Outcomes.{no-value, bind-good, then-refused}
 use Rattle.memory.specs.declared.Sizes.{Sizes}
 use Rattle.memory.specs.Bits.{Bytes}
-use Rattle.memory.specs.Image.{imageBytes, imageSizes, pageTest, isGood, blankFrom, sumsFrom, sums}
-use Rattle.memory.proofs.Chips.{sizes-chip}
+use Rattle.memory.specs.Image.{imageSizes, pageTest, isGood, blankFrom, sumsFrom, sums}
 use Rattle.layout.specs.Format.{parse}
-use Rattle.layout.specs.Contents.{Contents, sheetOf}
+use Rattle.layout.specs.Contents.{sheetOf}
 use Rattle.layout.specs.Image.{contents, streamIn}
 use Rattle.writing.specs.Numbers.{count}
 use Rattle.sheet.specs.declared.Summary.{Summary}
 use Rattle.sheet.specs.Check.{check}
-use Rattle.writing.specs.Steps.{differs, differing as differingRows, Step, done, write, step, nextRow}
+use Rattle.writing.specs.Steps.{differs, differing as differingRows, Step, write, step, nextRow}
 use Rattle.writing.specs.Chip.{after, Torn, Refuses, WantedOrRefused}
 use Rattle.writing.specs.Answers.{Fits}
 use Rattle.writing.proofs.StepLaws.{left, there-done, step-whole, step-torn, step-bytes, step-fits, left-none, left-most, left-two, step-nearer, done-there, step-changes}
 use Rattle.writing.proofs.CallLaws.{Called, called, calls, kind-pages}
-use Rattle.promises.specs.Writing.{carriedOut, next, writes, Reached, start, whole, torn, RefusedBySums, Safe, differing, enough, NotRefused, Ends, DoneExactly, GoesOn, Resumes, Sparing}
+use Rattle.promises.specs.Writing.{carriedOut, next, writes, Reached, start, whole, torn, RefusedBySums, Safe, differing, enough, Ends, DoneExactly, Resumes, Sparing}
 
 -- ---- refused by its sums
 

@@ -19,7 +19,7 @@ use Rattle.writing.specs.Chip.{after, Changes, Torn, Refuses, WantedOrRe
 use Rattle.writing.specs.Answers.{Fits}
 use Rattle.writing.proofs.NumberLaws.{Last, last-is, last-below, count-near, count-less, count-false}
 use Rattle.writing.proofs.RowLaws.{row-length, over-length, over-in, over-out, row-byte, alike, differs-not, differs-same, differs-to, first-same}
-use Rattle.writing.proofs.PageLaws.{But, first-told, second-told, second-same, refused-by, raised-length, raised-other, raised-differs, raised-sum, raised-bytes, written-bytes, but-same, whole-row, same-none, alike-length, row-below, row-room, check-below, none-differs, not-yet, refit}
+use Rattle.writing.proofs.PageLaws.{But, first-told, second-told, second-same, refused-by, raised-length, raised-other, raised-differs, raised-sum, raised-bytes, written-bytes, but-same, whole-row, same-none, alike-length, row-below, row-room, check-below, none-differs, not-yet}
 
 -- ---- a row, torn
 

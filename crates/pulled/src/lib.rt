@@ -1,3 +1,0 @@
-pub fn nothing() -> u8 {
-    0
-}
