@@ -29,7 +29,7 @@ extern "C" {
 #endif
 
 /* This header's number, which rises when a call or a struct changes; dartelm_version() is the archive's. */
-#define DARTELM_VERSION 7
+#define DARTELM_VERSION 8
 
 /* ---- numbers ---- */
 
@@ -155,6 +155,10 @@ enum {
 
 /* The bytes of the longest image. */
 #define DARTELM_LONGEST_IMAGE 512
+
+/* The bytes of a row, which a chip writes at once, and the most writes that it takes to write an image. */
+#define DARTELM_ROW_LENGTH 8
+#define DARTELM_MOST_WRITES 68
 
 /* The bytes of an index of an image with so many calibration points (with template 32 the last 8 of them are not needed), and of
  * the longest index. */
@@ -303,6 +307,15 @@ typedef struct dartelm_distance_answer {
     uint64_t bound; /* B, in 2000ths of a billionth of the span */
 } dartelm_distance_answer;
 
+/* The next row of an image that is written to a chip. */
+typedef struct dartelm_row_answer {
+    uint8_t number;
+    uint64_t place;
+    uint8_t is_done;                   /* a flag: nothing more is to be written */
+    uint64_t offset;                   /* else the row's first byte in the image */
+    uint8_t bytes[DARTELM_ROW_LENGTH]; /* and its bytes */
+} dartelm_row_answer;
+
 /* A text. */
 typedef struct dartelm_text_answer {
     uint8_t number;
@@ -413,6 +426,25 @@ dartelm_compared_answer dartelm_compare(uint8_t kind, const uint8_t *image, size
  * input and after any changes and commits. Refused as a build would refuse the list, with 7, 10 and 16. */
 dartelm_distance_answer dartelm_distance(const int64_t *points, size_t points_length);
 
+/* The next row to write to a chip that holds present, so that it comes to hold wanted. Nothing is kept between calls: present is
+ * what the chip holds now, whatever bytes those are. A chip that is pulled between two writes, or loses power in one, holds what it
+ * held at first, wanted, or what a check refuses with 2 or 17 (of a chip of kind 0 this is so for rows that are written whole); the
+ * same loop then goes on from there. Refused as a check refuses wanted, then with 1 for the length of present.
+ *
+ *     for (int writes = 0; writes <= DARTELM_MOST_WRITES; writes++) {
+ *         read_chip(present, length);
+ *         dartelm_row_answer row = dartelm_next_row(kind, present, length, wanted, length);
+ *         if (row.number != DARTELM_ACCEPTED || row.is_done) {
+ *             return row.number;
+ *         }
+ *         write_chip((size_t)row.offset, row.bytes);
+ *     }
+ *     return CHIP_DOES_NOT_TAKE_WRITES;
+ *
+ * A row that is to be written is another than the chip holds there. DARTELM_MOST_WRITES are enough for every kind. */
+dartelm_row_answer dartelm_next_row(uint8_t kind, const uint8_t *present, size_t present_length, const uint8_t *wanted,
+                                    size_t wanted_length);
+
 /* The text of a code of field 3, 18 or 19, as template 33 has them: a letter, a date as 2018-01-02, three letters. Refused with 8
  * and 10. */
 dartelm_text_answer dartelm_text(uint64_t field, uint64_t code);
@@ -506,6 +538,10 @@ DARTELM_AT(dartelm_compared_answer, tick, 24);
 DARTELM_ANSWER(dartelm_distance_answer, 32);
 DARTELM_AT(dartelm_distance_answer, slope, 16);
 DARTELM_AT(dartelm_distance_answer, bound, 24);
+DARTELM_ANSWER(dartelm_row_answer, 40);
+DARTELM_AT(dartelm_row_answer, is_done, 16);
+DARTELM_AT(dartelm_row_answer, offset, 24);
+DARTELM_AT(dartelm_row_answer, bytes, 32);
 DARTELM_ANSWER(dartelm_text_answer, 40);
 DARTELM_AT(dartelm_text_answer, length, 16);
 DARTELM_AT(dartelm_text_answer, characters, 24);

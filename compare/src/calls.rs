@@ -5,10 +5,11 @@ use crate::plain::{
     self, Calibration, Comparison, Curve, Dash, Distance, Level, Proposal, Reading, Refusal, Segment, Sheet, Summary,
     Term, Text, Value,
 };
+use crate::rows::{self, Row};
 use crate::structs::{
     ByFlags, CharacterAnswer, CheckAnswer, CodeAnswer, ComparedAnswer, DistanceAnswer, FieldAnswer, Fields, NO_DOMAIN,
-    PageAnswer, PairAnswer, ProposalAnswer, ReadingAnswer, SegmentAnswer, SheetAnswer, TermAnswer, TextAnswer,
-    WriteAnswer, dash_of, domain_byte, domain_of, level_of, template_of,
+    PageAnswer, PairAnswer, ProposalAnswer, ReadingAnswer, RowAnswer, SegmentAnswer, SheetAnswer, TermAnswer,
+    TextAnswer, WriteAnswer, dash_of, domain_byte, domain_of, level_of, template_of,
 };
 
 /// The calls of the header; the provided ones give the plain implementation's types.
@@ -30,6 +31,7 @@ pub trait Calls {
     fn reading(&self, kind: u8, image: &[u8], input: i64, dash: u8) -> ReadingAnswer;
     fn compare(&self, kind: u8, image: &[u8], slow: &[i64], fast: &[i64]) -> ComparedAnswer;
     fn distance(&self, points: &[i64]) -> DistanceAnswer;
+    fn next_row(&self, kind: u8, present: &[u8], wanted: &[u8]) -> RowAnswer;
     fn text(&self, field: u64, code: u64) -> TextAnswer;
     fn code(&self, field: u64, text: &[u8]) -> CodeAnswer;
     fn page(&self, kind: u8, image: &[u8], page: u64) -> PageAnswer;
@@ -151,6 +153,12 @@ pub trait Calls {
         let DistanceAnswer { number, place, slope, bound } = self.distance(points);
         accepted(number, place)?;
         Ok(Distance { slope, bound })
+    }
+
+    fn row_told(&self, kind: u8, present: &[u8], wanted: &[u8]) -> Result<Row, Refusal> {
+        let RowAnswer { number, place, is_done, offset, bytes } = self.next_row(kind, present, wanted);
+        accepted(number, place)?;
+        Ok(if is_done != 0 { Row::Done } else { Row::Write { offset, bytes } })
     }
 
     fn text_of(&self, field: u64, code: u64) -> Result<Text, Refusal> {
@@ -297,6 +305,14 @@ impl Calls for Plain {
         match plain::distance(points) {
             Ok(Distance { slope, bound }) => DistanceAnswer { slope, bound, ..DistanceAnswer::default() },
             Err(Refusal { number, place }) => DistanceAnswer { number, place, ..DistanceAnswer::default() },
+        }
+    }
+
+    fn next_row(&self, kind: u8, present: &[u8], wanted: &[u8]) -> RowAnswer {
+        match rows::next_row(kind, present, wanted) {
+            Ok(Row::Done) => RowAnswer { is_done: 1, ..RowAnswer::default() },
+            Ok(Row::Write { offset, bytes }) => RowAnswer { offset, bytes, ..RowAnswer::default() },
+            Err(Refusal { number, place }) => RowAnswer { number, place, ..RowAnswer::default() },
         }
     }
 

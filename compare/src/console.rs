@@ -6,6 +6,7 @@ use crate::calls::Calls;
 use crate::plain::{
     Calibration, Comparison, Curve, Dash, Distance, Domain, Level, Refusal, Segment, Summary, Template, Term, Value,
 };
+use crate::rows::Row;
 use crate::structs::{ByFlags, Fields};
 
 /// A line's command with what it is handed.
@@ -36,6 +37,8 @@ pub enum Command {
     /// The slow recording, and the fast one.
     Compare(u8, Vec<u8>, Vec<i64>, Vec<i64>),
     Distance(Vec<i64>),
+    /// What the chip holds, and the image to be written.
+    Next(u8, Vec<u8>, Vec<u8>),
     Text(u64, u64),
     Code(u64, Vec<u8>),
     Index(u8, Vec<u8>, Vec<u8>),
@@ -95,6 +98,7 @@ pub fn parse(line: &str) -> Option<Command> {
             Command::Compare(unsigned(kind)?, bytes(image)?, list(slow, signed)?, list(fast, signed)?)
         }
         ["distance", points] => Command::Distance(list(points, signed)?),
+        ["next", kind, present, wanted] => Command::Next(unsigned(kind)?, bytes(present)?, bytes(wanted)?),
         ["text", field, code] => Command::Text(unsigned(field)?, unsigned(code)?),
         ["code", field, text] => Command::Code(unsigned(field)?, bytes(text)?),
         ["index", kind, image, buffer] => Command::Index(unsigned(kind)?, bytes(image)?, bytes(buffer)?),
@@ -354,6 +358,7 @@ impl Display for Command {
                 write!(to, "compare {kind} {} {} {}", Hex(image), Figures(slow), Figures(fast))
             }
             Command::Distance(points) => write!(to, "distance {}", Figures(points)),
+            Command::Next(kind, present, wanted) => write!(to, "next {kind} {} {}", Hex(present), Hex(wanted)),
             Command::Text(field, code) => write!(to, "text {field} {code}"),
             Command::Code(field, text) => write!(to, "code {field} {}", Hex(text)),
             Command::Index(kind, image, buffer) => write!(to, "index {kind} {} {}", Hex(image), Hex(buffer)),
@@ -442,6 +447,10 @@ impl Command {
                 let Distance { slope, bound } = calls.distance_told(points)?;
                 format!("{slope} {bound}")
             }
+            Command::Next(kind, present, wanted) => match calls.row_told(*kind, present, wanted)? {
+                Row::Done => "done".to_string(),
+                Row::Write { offset, bytes } => format!("{offset} {}", Hex(&bytes)),
+            },
             Command::Text(field, code) => {
                 let text = calls.text_of(*field, *code)?;
                 Hex(&text.characters[..text.length]).to_string()
@@ -497,6 +506,10 @@ mod tests {
             "distance - -",
             "distance 0,1,",
             "distance w1",
+            "next 1 00",
+            "next 1 00 0",
+            "next 1 00 00 00",
+            "next x 00 00",
             "text 18 18446744073709551616",
             "text 18 ",
             "change 0 - 1 s0000000 maker",
@@ -564,6 +577,8 @@ mod tests {
             "compare 1 00 - -",
             "compare 2 - 5,-6,7 -9223372036854775808",
             "distance -",
+            "next 1 - 00ff",
+            "next 0 00 -",
             "distance 0,-5,15300,9223372036854775807,3",
             "text 18 0",
             "code 18 -",

@@ -4,7 +4,8 @@ use crate::calls::Calls;
 use crate::plain::Curve;
 use crate::structs::{
     ByFlags, CharacterAnswer, CheckAnswer, CodeAnswer, ComparedAnswer, DistanceAnswer, FieldAnswer, Fields, PageAnswer,
-    PairAnswer, ProposalAnswer, ReadingAnswer, SegmentAnswer, SheetAnswer, TermAnswer, TextAnswer, WriteAnswer,
+    PairAnswer, ProposalAnswer, ReadingAnswer, RowAnswer, SegmentAnswer, SheetAnswer, TermAnswer, TextAnswer,
+    WriteAnswer,
 };
 
 mod dartelm {
@@ -75,6 +76,13 @@ mod dartelm {
             fast_length: usize,
         ) -> ComparedAnswer;
         pub fn dartelm_distance(points: *const i64, points_length: usize) -> DistanceAnswer;
+        pub fn dartelm_next_row(
+            kind: u8,
+            present: *const u8,
+            present_length: usize,
+            wanted: *const u8,
+            wanted_length: usize,
+        ) -> RowAnswer;
         pub safe fn dartelm_text(field: u64, code: u64) -> TextAnswer;
         pub fn dartelm_code(field: u64, text: *const u8, text_length: usize) -> CodeAnswer;
         pub fn dartelm_page(kind: u8, image: *const u8, image_length: usize, page: u64) -> PageAnswer;
@@ -179,6 +187,11 @@ impl Calls for Product {
 
     fn distance(&self, points: &[i64]) -> DistanceAnswer {
         unsafe { dartelm::dartelm_distance(points.as_ptr(), points.len()) }
+    }
+
+    fn next_row(&self, kind: u8, present: &[u8], wanted: &[u8]) -> RowAnswer {
+        let (present, present_length) = (present.as_ptr(), present.len());
+        unsafe { dartelm::dartelm_next_row(kind, present, present_length, wanted.as_ptr(), wanted.len()) }
     }
 
     fn text(&self, field: u64, code: u64) -> TextAnswer {

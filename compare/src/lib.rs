@@ -11,4 +11,5 @@ pub mod layout;
 pub mod limit;
 pub mod plain;
 pub mod random;
+pub mod rows;
 pub mod structs;

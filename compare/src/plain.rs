@@ -172,7 +172,7 @@ pub struct Text {
     pub characters: [u8; 10],
 }
 
-type Answer<T> = Result<T, Refusal>;
+pub type Answer<T> = Result<T, Refusal>;
 
 fn refuse<T>(number: u8, place: u64) -> Answer<T> {
     Err(Refusal { number, place })

@@ -265,6 +265,16 @@ pub struct DistanceAnswer {
 
 #[derive(Clone, Copy, Debug, Default, PartialEq)]
 #[repr(C)]
+pub struct RowAnswer {
+    pub number: u8,
+    pub place: u64,
+    pub is_done: u8,
+    pub offset: u64,
+    pub bytes: [u8; 8],
+}
+
+#[derive(Clone, Copy, Debug, Default, PartialEq)]
+#[repr(C)]
 pub struct TextAnswer {
     pub number: u8,
     pub place: u64,

@@ -40,6 +40,8 @@ struct Case {
     points: Vec<i64>,
     curve: Curve,
     index: [u8; 480],
+    /// What the chip holds that is to hold the image.
+    present: Vec<u8>,
     slow: Vec<i64>,
     fast: Vec<i64>,
     /// How many fast ticks are compared in a call, and from which on in the next.
@@ -132,6 +134,7 @@ impl Case {
             points: (0..points).flat_map(point).collect(),
             curve: Curve::default(),
             index: [0; 480],
+            present: Vec::new(),
             slow: Vec::new(),
             fast: Vec::new(),
             ticks: 0,
@@ -165,6 +168,12 @@ impl Case {
         self.slow = self.fast.chunks_exact(12).flat_map(|ticks| [ticks[0], ticks[1]]).collect();
         assert_eq!(Plain.compare(self.kind, self.image, &self.slow, &self.fast).agrees, 1);
         self.ticks = ticks;
+        self
+    }
+
+    /// On a chip that holds something.
+    fn on(mut self, present: Vec<u8>) -> Case {
+        self.present = present;
         self
     }
 
@@ -290,6 +299,12 @@ fn compare<C: Calls>(calls: &C, case: &mut Case, _: usize) -> u8 {
 #[inline(never)]
 fn distance<C: Calls>(calls: &C, case: &mut Case, _: usize) -> u8 {
     black_box(&calls.distance(black_box(&case.points))).number
+}
+
+#[inline(never)]
+fn next_row<C: Calls>(calls: &C, case: &mut Case, _: usize) -> u8 {
+    let (present, wanted) = (black_box(&case.present[..]), black_box(&*case.image));
+    black_box(&calls.next_row(black_box(case.kind), present, wanted)).number
 }
 
 // ---- rows ----
@@ -517,6 +532,27 @@ fn others(bench: &mut Bench) {
     }
 }
 
+/// The next row for a chip that holds the image, is blank, holds the image with another date, and lacks its last write.
+fn written(bench: &mut Bench) {
+    bench.table("The next row of an image", &["Kind", "Points"]);
+    for chip in CHIPS {
+        let case = || Case::new(Template::Bridge, values(), chip);
+        let labels = [chip.0.into(), chip.1];
+        let whole = case().image.to_vec();
+        bench.rows(case().on(whole.clone()), &labels, 1, [call!("done", next_row)]);
+        bench.rows(case().on(vec![0xff; whole.len()]), &labels, 1, [call!("onto a blank chip", next_row)]);
+        let mut dated = case();
+        change(&Plain, &mut dated, 1);
+        let present = dated.image.to_vec();
+        bench.rows(case().on(present), &labels, 1, [call!("onto another date", next_row)]);
+        if chip.0 != 0 {
+            let mut unsealed = whole;
+            unsealed[32] = unsealed[32].wrapping_add(1);
+            bench.rows(case().on(unsealed), &labels, 1, [call!("the last write", next_row)]);
+        }
+    }
+}
+
 const FETCH_LAST: &str = "fetch 21";
 
 fn nanoseconds(figure: f64) -> String {
@@ -567,7 +603,10 @@ fn targets(tables: &[Table]) {
     let fetched = fetched
         .map(|((table, fetched), (_, read))| (fetched.figure(PRODUCT) / read.figure(PRODUCT), named(table, fetched)));
     target("fetch of field 21 at 99 points: fetch / field read", 0.2, fetched.into_iter());
-    let others = all().filter(|(table, _)| !table.title.starts_with("Template"));
+    let rows = all().filter(|(table, _)| table.title.starts_with("The next row"));
+    target("the next row: product / plain", 0.9, rows.map(plain));
+    let others =
+        all().filter(|(table, _)| !table.title.starts_with("Template") && !table.title.starts_with("The next row"));
     target("the other tables (no target): product / plain", 0.9, others.map(plain));
 }
 
@@ -575,6 +614,7 @@ fn main() {
     let mut bench = Bench::default();
     sheets(&mut bench);
     others(&mut bench);
+    written(&mut bench);
     bench.measure();
     bench.tables.iter().for_each(print);
     targets(&bench.tables);

@@ -15,8 +15,8 @@ use compare::plain::{self, Level, Template, Value};
 use compare::random::Random;
 use compare::structs::{
     ByFlags, CharacterAnswer, CheckAnswer, CodeAnswer, ComparedAnswer, DistanceAnswer, FieldAnswer, Fields, PageAnswer,
-    PairAnswer, ProposalAnswer, ReadingAnswer, SegmentAnswer, SheetAnswer, TermAnswer, TextAnswer, WriteAnswer,
-    dash_of, domain_of, level_of,
+    PairAnswer, ProposalAnswer, ReadingAnswer, RowAnswer, SegmentAnswer, SheetAnswer, TermAnswer, TextAnswer,
+    WriteAnswer, dash_of, domain_of, level_of,
 };
 
 #[path = "differ/curves.rs"]
@@ -27,14 +27,16 @@ mod images;
 mod met;
 #[path = "differ/recordings.rs"]
 mod recordings;
+#[path = "differ/rows.rs"]
+mod rows;
 #[path = "differ/values.rs"]
 mod values;
 
 use met::Met;
 
-const CALLS: [&str; 21] = [
+const CALLS: [&str; 22] = [
     "check", "page", "field", "pair", "char", "build", "change", "reading", "text", "code", "sheet", "kind", "index",
-    "fetch", "propose", "commit", "segment", "term", "curve", "compare", "distance",
+    "fetch", "propose", "commit", "segment", "term", "curve", "compare", "distance", "next",
 ];
 const CHECK: usize = 0;
 const PAGE: usize = 1;
@@ -57,6 +59,7 @@ const TERM: usize = 17;
 const CURVE: usize = 18;
 const COMPARE: usize = 19;
 const DISTANCE: usize = 20;
+const NEXT: usize = 21;
 
 /// Refusal numbers, and 0.
 const NUMBERS: usize = 27;
@@ -131,6 +134,7 @@ numbered!(
     ReadingAnswer,
     ComparedAnswer,
     DistanceAnswer,
+    RowAnswer,
     TextAnswer,
     CodeAnswer
 );
@@ -153,6 +157,8 @@ struct Differ {
     kinds: [[u64; 3]; CALLS.len()],
     /// Recordings that agree.
     agreed: u64,
+    /// Images with nothing more to write.
+    done: u64,
     /// By kind.
     ends: [Ends; 3],
     met: Met,
@@ -169,6 +175,7 @@ impl Differ {
             numbers: [[0; NUMBERS]; CALLS.len()],
             kinds: [[0; 3]; CALLS.len()],
             agreed: 0,
+            done: 0,
             ends: [0, 1, 2].map(Ends::new),
             met: Met::default(),
         }
@@ -689,7 +696,7 @@ impl Differ {
 
     /// A call on the image.
     fn act(&mut self) {
-        match self.random.below(106) {
+        match self.random.below(112) {
             0..=9 => self.check(),
             10..=13 => self.sheet(),
             14..=17 => self.page(),
@@ -708,7 +715,8 @@ impl Differ {
             92..=95 => self.text(),
             96..=99 => self.code(),
             100..=103 => self.compare(),
-            _ => self.distance(),
+            104..=105 => self.distance(),
+            _ => self.next_row(),
         }
     }
 
@@ -771,8 +779,9 @@ impl Differ {
             println!("| {name} | {} | {zero} | {one} | {two} | {} |", numbers.iter().sum::<u64>(), times(numbers));
         }
         println!(
-            "seed {seed}; recordings that agree {}; accepted {}; refused {}; calls {} differ {}",
+            "seed {seed}; recordings that agree {}; images written whole {}; accepted {}; refused {}; calls {} differ {}",
             self.agreed,
+            self.done,
             totals[0],
             times(&totals),
             self.calls,

@@ -11,6 +11,7 @@ mod indexes; // indexes.rt: index and fetch
 mod printing; // printing.rt: what an answer is made of
 mod readings; // readings.rt: reading
 mod reads; // reads.rt: the commands that leave the image alone
+mod rows; // rows.rt: next
 mod runs; // runs.rt: compare
 mod serving; // serving.rt: lines from standard input
 mod turned; // turned.rt: text and codes

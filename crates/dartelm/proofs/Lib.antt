@@ -1,5 +1,6 @@
 pub mod Filling
 pub mod Telling
 pub mod Padding
+pub mod NextRows
 pub mod SheetReads
 pub mod Handing

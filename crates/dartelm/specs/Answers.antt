@@ -1,6 +1,6 @@
 -- include/dartelm.h: the struct that a call answers, from its outcome. Each struct is made of a number, a place and the call's values.
 use mathlib.Core.List.{List, [], _++_, map}
-use Prim.Native.Nat.{ℕ, _-_}
+use Prim.Native.Nat.{ℕ, _-_, _*_}
 use lib.IntN.{pos}
 use lib.Ieee.{binary32, binary64}
 use lib.ListN.{length, replicate}
@@ -20,6 +20,7 @@ use Rattle.change.specs.declared.Proposal.{Proposal}
 use Rattle.reading.specs.declared.Reading.{Reading}
 use Rattle.recordings.specs.Recordings.{Compared, agree, tickFails}
 use Rattle.distance.specs.declared.ToldDistance.{ToldDistance}
+use Rattle.writing.specs.Steps.{Step, done, write}
 use Rattle.dartelm.specs.declared.answers.DartelmCheckAnswer.{DartelmCheckAnswer}
 use Rattle.dartelm.specs.declared.answers.DartelmFieldAnswer.{DartelmFieldAnswer}
 use Rattle.dartelm.specs.declared.answers.DartelmSheetAnswer.{DartelmSheetAnswer}
@@ -32,6 +33,7 @@ use Rattle.dartelm.specs.declared.answers.DartelmProposalAnswer.{Dartelm
 use Rattle.dartelm.specs.declared.answers.DartelmReadingAnswer.{DartelmReadingAnswer}
 use Rattle.dartelm.specs.declared.answers.DartelmComparedAnswer.{DartelmComparedAnswer}
 use Rattle.dartelm.specs.declared.answers.DartelmDistanceAnswer.{DartelmDistanceAnswer}
+use Rattle.dartelm.specs.declared.answers.DartelmRowAnswer.{DartelmRowAnswer}
 use Rattle.dartelm.specs.declared.answers.DartelmTextAnswer.{DartelmTextAnswer}
 use Rattle.dartelm.specs.declared.answers.DartelmCodeAnswer.{DartelmCodeAnswer}
 use Rattle.dartelm.specs.declared.answers.DartelmPageAnswer.{DartelmPageAnswer}
@@ -157,6 +159,14 @@ distanceAnswer n p d = record { number = n; place = p; slope = d .slope; bound =
 
 abbrev pub noDistance : ToldDistance
 noDistance = record { slope = 0; bound = 0 }
+
+-- Nothing more to write is a flag; the row beside it is 0 where there is none.
+abbrev pub rowAnswer : ℕ → ℕ → Step → DartelmRowAnswer
+rowAnswer n p done = record { number = n; place = p; «is_done» = 1; offset = 0; bytes = replicate 8 0 }
+rowAnswer n p (write r bytes) = record { number = n; place = p; «is_done» = 0; offset = 8 * r; bytes = bytes }
+
+abbrev pub noRow : Step
+noRow = write 0 (replicate 8 0)
 
 -- A text ends with a zero, as C's strings do: it has ten characters at most.
 abbrev pub textAnswer : ℕ → ℕ → List ℕ → DartelmTextAnswer

@@ -16,6 +16,7 @@ use Rattle.change.specs.Change.{change, propose, commit}
 use Rattle.reading.specs.Reading.{takeReading}
 use Rattle.recordings.specs.Recordings.{compare}
 use Rattle.distance.specs.Distance.{distance}
+use Rattle.writing.specs.Steps.{nextRow}
 use Rattle.dartelm.specs.declared.values.DartelmValue.{DartelmValue}
 use Rattle.dartelm.specs.declared.values.DartelmFields.{DartelmFields}
 use Rattle.dartelm.specs.declared.values.DartelmCurve.{DartelmCurve}
@@ -29,15 +30,16 @@ use Rattle.dartelm.specs.declared.answers.DartelmProposalAnswer.{Dartelm
 use Rattle.dartelm.specs.declared.answers.DartelmReadingAnswer.{DartelmReadingAnswer}
 use Rattle.dartelm.specs.declared.answers.DartelmComparedAnswer.{DartelmComparedAnswer}
 use Rattle.dartelm.specs.declared.answers.DartelmDistanceAnswer.{DartelmDistanceAnswer}
+use Rattle.dartelm.specs.declared.answers.DartelmRowAnswer.{DartelmRowAnswer}
 use Rattle.dartelm.specs.declared.answers.DartelmTextAnswer.{DartelmTextAnswer}
 use Rattle.dartelm.specs.declared.answers.DartelmCodeAnswer.{DartelmCodeAnswer}
 use Rattle.dartelm.specs.declared.answers.DartelmPageAnswer.{DartelmPageAnswer}
 use Rattle.dartelm.specs.Values.{levelOf, dashBy, valueOf, sheetOf, curveOf}
-use Rattle.dartelm.specs.Answers.{toldAs, told, numbers, noNumbers, checkAnswer, fieldAnswer, pairAnswer, noPair, segmentAnswer, noSegment, termAnswer, noTerm, characterAnswer, proposalAnswer, noProposal, readingAnswer, noReading, comparedAnswer, noComparison, distanceAnswer, noDistance, textAnswer, codeAnswer, pageAnswer}
+use Rattle.dartelm.specs.Answers.{toldAs, told, numbers, noNumbers, checkAnswer, fieldAnswer, pairAnswer, noPair, segmentAnswer, noSegment, termAnswer, noTerm, characterAnswer, proposalAnswer, noProposal, readingAnswer, noReading, comparedAnswer, noComparison, distanceAnswer, noDistance, rowAnswer, noRow, textAnswer, codeAnswer, pageAnswer}
 
 -- The number of this archive and its header.
 abbrev pub version : ℕ
-version = 7
+version = 8
 
 -- ---- kinds
 
@@ -100,7 +102,7 @@ commitCall kind image level field present new = commit kind image (levelOf level
 abbrev pub proposeCall : ℕ → List ℕ → ℕ → ℕ → DartelmValue → DartelmProposalAnswer
 proposeCall kind image level field value = told proposalAnswer noProposal (propose kind image (levelOf level) field (valueOf value))
 
--- ---- a reading, recordings, a distance, texts, a page
+-- ---- a reading, recordings, a distance, a row, texts, a page
 
 abbrev pub readingCall : ℕ → List ℕ → ℤ → ℕ → DartelmReadingAnswer
 readingCall kind image input dash = told readingAnswer noReading (takeReading kind image input (dashBy dash))
@@ -110,6 +112,9 @@ compareCall kind image slow fast = told comparedAnswer noComparison (compare kin
 
 abbrev pub distanceCall : List ℤ → DartelmDistanceAnswer
 distanceCall points = told distanceAnswer noDistance (distance points)
+
+abbrev pub rowCall : ℕ → List ℕ → List ℕ → DartelmRowAnswer
+rowCall kind present wanted = told rowAnswer noRow (nextRow kind present wanted)
 
 abbrev pub textCall : ℕ → ℕ → DartelmTextAnswer
 textCall field code = told textAnswer [] (textOf field code)

@@ -126,6 +126,16 @@ pub struct DartelmDistanceAnswer {
     pub bound: u64,
 }
 
+// The next row of an image that is written to a chip: whether nothing more is to be written, else its offset and its bytes.
+#[repr(C)]
+pub struct DartelmRowAnswer {
+    pub number: u8,
+    pub place: u64,
+    pub is_done: u8,
+    pub offset: u64,
+    pub bytes: [u8; 8],
+}
+
 // The text of a code: how many characters, and them, with zeros behind.
 #[repr(C)]
 pub struct DartelmTextAnswer {

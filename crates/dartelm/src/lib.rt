@@ -28,6 +28,7 @@ ghost use Rattle.dartelm.specs.Calls.{
   readingCall,
   compareCall,
   distanceCall,
+  rowCall,
   textCall,
   codeCall,
   pageCall,
@@ -48,6 +49,7 @@ use answers::DartelmPageAnswer;
 use answers::DartelmPairAnswer;
 use answers::DartelmProposalAnswer;
 use answers::DartelmReadingAnswer;
+use answers::DartelmRowAnswer;
 use answers::DartelmSegmentAnswer;
 use answers::DartelmSheetAnswer;
 use answers::DartelmTermAnswer;
@@ -70,13 +72,14 @@ use texts::TextAnswer;
 use values::DartelmCurve;
 use values::DartelmFields;
 use values::DartelmValue;
+use writing::Answer;
 
 // The number of this archive, which its header has too.
 #[no_mangle]
 pub extern "C" fn dartelm_version() -> u32
     ensures { λ r. ⌜ r ≡ version ⌝ }
 {
-    7
+    8
 }
 
 // The kind of the images that have so many bytes: 0, 1 or 2; 255 where no kind has.
@@ -498,6 +501,39 @@ pub extern "C" fn dartelm_distance(points: &[i64]) -> DartelmDistanceAnswer
             place: 0,
             slope: found.slope,
             bound: found.bound,
+        },
+    }
+}
+
+// The next row to write to a chip that holds `present`, so that it comes to hold `wanted`.
+#[no_mangle]
+pub extern "C" fn dartelm_next_row(kind: u8, present: &[u8], wanted: &[u8]) -> DartelmRowAnswer
+    ensures { λ r. ⌜ r ≡ rowCall kind (now (present .entry)) (now (wanted .entry)) ⌝ }
+{
+    let next = writing::next_row(kind, present, wanted);
+    let answer = next.answer;
+    let bytes = next.bytes;
+    match answer {
+        Answer::Refused(r) => DartelmRowAnswer {
+            number: r.number,
+            place: r.place,
+            is_done: 0,
+            offset: 0,
+            bytes: [0u8; 8],
+        },
+        Answer::Done => DartelmRowAnswer {
+            number: 0,
+            place: 0,
+            is_done: 1,
+            offset: 0,
+            bytes: [0u8; 8],
+        },
+        Answer::Write => DartelmRowAnswer {
+            number: 0,
+            place: 0,
+            is_done: 0,
+            offset: next.offset as u64,
+            bytes,
         },
     }
 }

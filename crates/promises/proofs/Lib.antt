@@ -19,6 +19,7 @@ pub mod Distance
 pub mod Beforehand
 pub mod Crossed
 pub mod Needles
+pub mod Writing
 pub mod Lending
 pub mod Calling
 pub mod EdgesHold

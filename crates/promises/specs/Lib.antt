@@ -7,6 +7,7 @@ pub mod Alterations
 pub mod Proposals
 pub mod Levels
 pub mod Index
+pub mod Writing
 pub mod Readings
 pub mod Certificate
 pub mod Beforehand

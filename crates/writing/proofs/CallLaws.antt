@@ -1,8 +1,9 @@
 -- What an answered call says of its images.
-use mathlib.Core.Path.{_≡_, sym, ap, _∙_}
+use mathlib.Core.Path.{_≡_, sym, _∙_}
 use mathlib.Core.Bool.{not}
 use mathlib.Core.List.{List}
-use Prim.Native.Nat.{ℕ, zero, suc, _%_}
+use Prim.Native.Nat.{ℕ, zero, suc, _%_, _≤_}
+use native.Mathlib.Omega.{arith}
 use lib.Dec.{eqb}
 use lib.ListN.{length}
 use Rattle.refusal.specs.declared.Refusal.{Refusal}
@@ -35,6 +36,16 @@ kind-whole zero z e = rw (← good-same e)
 kind-whole (suc zero) z e = rw (← good-same e)
 kind-whole (suc (suc zero)) z e = rw (← good-same e)
 kind-whole (suc (suc (suc k))) z e = no-value e
+
+-- Kinds 1 and 2 have two pages or more.
+pub kind-pages : (kind bytes : ℕ) (z : Sizes) → imageSizes kind bytes ≡ good z → 1 ≤ kind → 2 ≤ z .pages
+kind-pages kind bytes z e some = go kind (kind-sizes kind bytes z e) some
+  where
+    go : (k : ℕ) → sizesOf k ≡ good z → 1 ≤ k → 2 ≤ z .pages
+    go zero d h = absurd (omega arith)
+    go (suc zero) d h = rw (← good-same d) (omega arith)
+    go (suc (suc zero)) d h = rw (← good-same d) (omega arith)
+    go (suc (suc (suc k))) d h = no-value d
 
 -- What an accepted check and the sizes of what the chip holds come to.
 pub record Asked (z : Sizes) (present wanted : List ℕ) : Type 0 where

@@ -77,6 +77,25 @@ count-le test (suc n) = go (test n) (count-le test n)
 pub tally-more : (p w : List ℕ) (check i : ℕ) (t : Tally) (b : Bool) → t ≡ tallyTo p w check i → b ≡ same p w 8 (8 * i) → tallied t i check (not b) ≡ tallyTo p w check (i + 1)
 tally-more p w check i t b e f = rw (e, f, add-one i)
 
+-- The same where every byte is looked at: alike so far, and the rest.
+module _ (p w : List ℕ) (end i : ℕ) (a b : Bool) {x : Bool} (so-far : (a && same p w (end - i) i) ≡ x) where
+  pub alike-stop : i < end → (getD p i 0 ≡ getD w i 0 → ⊥) → b ≡ false → (b && same p w (end - (i + 1)) (i + 1)) ≡ x
+  alike-stop h n e = rw e (sym (and-false a) ∙ ap (λ s. a && s) (sym (same-stop p w end i h n)) ∙ so-far)
+    where
+      and-false : (c : Bool) → (c && false) ≡ false
+      and-false true = refl
+      and-false false = refl
+
+  pub alike-turn : i < end → getD p i 0 ≡ getD w i 0 → b ≡ a → (b && same p w (end - (i + 1)) (i + 1)) ≡ x
+  alike-turn h d e = rw e (ap (λ s. a && s) (sym (same-turn p w end i h d)) ∙ so-far)
+
+  pub alike-end : end ≤ i → a ≡ x
+  alike-end h = sym (and-true a) ∙ ap (λ s. a && s) (sym (same-end p w end i h)) ∙ so-far
+    where
+      and-true : (c : Bool) → (c && true) ≡ c
+      and-true true = refl
+      and-true false = refl
+
 -- A row without the raised byte.
 pub same-out : (p w : List ℕ) (at r : ℕ) → (at / 8 ≡ r → ⊥) → same p w 8 (8 * r) ≡ same p (raised w at 1) 8 (8 * r)
 same-out p w at r n = sym (same-to p (raised w at 1) w 8 (8 * r) (λ k h l. raised-other w at 1 k (λ e. n (omega arith))))

@@ -12,6 +12,7 @@ use lib.Seq.{ext-getD}
 use borrow.Author.Tests.{ltb-true, eqb-true, eqb-false, eq-eqb, ne-eqb, not-true, le-ltb}
 use Rattle.refusal.proofs.Outcomes.{both, neither}
 use Rattle.memory.specs.declared.Sizes.{Sizes}
+use Rattle.memory.specs.Bits.{Bytes}
 use Rattle.memory.specs.Image.{pageSum}
 use Rattle.writing.specs.Numbers.{count}
 use Rattle.writing.specs.Steps.{row, rows, checkRow, written, differs, differing, lastRow, lastOther, raised, Step, done, write, writeRow, addsUp, raiseBy, sumAhead, onePage}
@@ -19,7 +20,7 @@ use Rattle.writing.specs.Chip.{after, Changes}
 use Rattle.writing.specs.Answers.{Fits}
 use Rattle.writing.proofs.NumberLaws.{Last, last-is, last-same, count-same, count-near, count-less, count-false, count-one}
 use Rattle.writing.proofs.RowLaws.{row-length, over-length, over-in, over-out, row-byte, alike, differs-not, differs-same}
-use Rattle.writing.proofs.PageLaws.{raised-length, raised-other, raised-at, raised-sum, whole-row, same-none, alike-length, row-below, row-room, check-below, none-differs, refit}
+use Rattle.writing.proofs.PageLaws.{raised-length, raised-other, raised-at, raised-sum, raised-bytes, written-bytes, whole-row, same-none, alike-length, row-below, row-room, check-below, none-differs, refit}
 
 -- ---- two sums
 
@@ -241,6 +242,12 @@ module _ (z : Sizes) (p w : List ℕ) (fits : Fits z p w) where
   one-page-long =
       by-cases (λ x. length (after x p) ≡ length p) (λ e. refl) (λ e. over-length (lastRow z p w) w p (alike-length z p w fits) (one-room e))
       (λ h e. over-length (checkRow z) (invalid (raiseBy s t)) p (raised-length p (z .register) (raiseBy s t)) check-room) (λ h e. moved-length h)
+
+  pub one-page-bytes : Bytes p → Bytes w → Bytes (after (onePage z p w) p)
+  one-page-bytes bp bw =
+      by-cases (λ x. Bytes (after x p)) (λ e. bp) (λ e. written-bytes (lastRow z p w) w p (alike-length z p w fits) (one-room e) bw bp)
+      (λ h e. written-bytes (checkRow z) (invalid (raiseBy s t)) p (raised-length p (z .register) (raiseBy s t)) check-room (raised-bytes p (z .register) (raiseBy s t) bp) bp)
+      (λ h e. written-bytes (lastOther z p w) w p (alike-length z p w fits) (r-room h) bw bp)
 
   -- ---- the steps left
 

@@ -3,11 +3,12 @@ use mathlib.Core.Path.{_≡_, refl, sym, ap, _∙_}
 use mathlib.Core.List.{List}
 use Prim.Native.Nat.{ℕ, _+_, _-_, _*_, _/_, _%_, _≤_, _<_}
 use native.Mathlib.Omega.{arith}
-use native.Mathlib.Decide.{ℕ-discrete}
-use lib.ListN.{length, take, drop, getD, set, length-set, length-drop}
+use native.Mathlib.Decide.{ℕ-discrete, decLt}
+use lib.ListN.{length, take, drop, getD, set, length-set, length-drop, List·getD-eq-default}
 use lib.Seq.{length-take-le, ext-getD, getD-take, getD-drop, getD-set-same, getD-set-other}
 use Rattle.refusal.specs.Outcome.{Outcome, good, refused}
 use Rattle.memory.specs.declared.Sizes.{Sizes}
+use Rattle.memory.specs.Bits.{Bytes}
 use Rattle.memory.specs.Image.{imageBytes, pageAt, total, pageSum, sums}
 use Rattle.memory.proofs.SumLaws.{sums-right}
 use Rattle.writing.specs.Steps.{row, rows, checkRow, written, differs, differing, raised}
@@ -100,6 +101,14 @@ module _ (l : List ℕ) (at d : ℕ) where
 pub raised-differs : (l : List ℕ) (at : ℕ) → at < length l → getD (raised l at 1) at 0 % 256 ≡ getD l at 0 % 256 → ⊥
 raised-differs l at h e = omega (arith, raised-at l at 1 h)
 
+pub raised-bytes : (l : List ℕ) (at d : ℕ) → Bytes l → Bytes (raised l at d)
+raised-bytes l at d bytes i = go (ℕ-discrete i at) (decLt at (length l))
+  where
+    go : Dec (i ≡ at) → Dec (at < length l) → getD (raised l at d) i 0 < 256
+    go (no n) h = omega (arith, raised-other l at d i n, bytes i)
+    go (yes e) (yes h) = rw e (omega (arith, raised-at l at d h))
+    go (yes e) (no h) = rw e (omega (arith, List·getD-eq-default (raised l at d) 0 {n = at} (omega (arith, raised-length l at d))))
+
 -- Page 0's sum, with its check byte raised.
 pub raised-sum : (z : Sizes) (l : List ℕ) → z .register + 32 ≤ length l → (d : ℕ) → pageSum z (raised l (z .register) d) 0 ≡ (pageSum z l 0 + d) % 256
 raised-sum z l room d =
@@ -134,6 +143,13 @@ but-same l m at e f d = ext-getD 0 l m e (λ i h. go i (ℕ-discrete i at))
     go i (no k) = f i k
 
 -- ---- rows
+
+pub written-bytes : (r : ℕ) (t l : List ℕ) → length t ≡ length l → 8 * r + 8 ≤ length l → Bytes t → Bytes l → Bytes (written r (row r t) l)
+written-bytes r t l e h bt bl i = go (ℕ-discrete (i / 8) r)
+  where
+    go : Dec (i / 8 ≡ r) → getD (written r (row r t) l) i 0 < 256
+    go (yes d) = omega (arith, over-in r t l e h i d, bt i)
+    go (no d) = omega (arith, over-out r t l e h i d, bl i)
 
 -- Where a row is all that differs, writing it is all.
 pub whole-row : (p t : List ℕ) (q : ℕ) → length t ≡ length p → 8 * q + 8 ≤ length p → ((i : ℕ) → i < length p → (i / 8 ≡ q → ⊥) → getD t i 0 ≡ getD p i 0)

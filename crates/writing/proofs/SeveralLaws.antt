@@ -19,7 +19,7 @@ use Rattle.writing.specs.Chip.{after, Changes, Torn, Refuses, WantedOrRe
 use Rattle.writing.specs.Answers.{Fits}
 use Rattle.writing.proofs.NumberLaws.{Last, last-is, last-below, count-near, count-less, count-false}
 use Rattle.writing.proofs.RowLaws.{row-length, over-length, over-in, over-out, row-byte, alike, differs-not, differs-same, differs-to, first-same}
-use Rattle.writing.proofs.PageLaws.{But, first-told, second-told, second-same, refused-by, raised-length, raised-other, raised-differs, raised-sum, but-same, whole-row, same-none, alike-length, row-below, row-room, check-below, none-differs, not-yet, refit}
+use Rattle.writing.proofs.PageLaws.{But, first-told, second-told, second-same, refused-by, raised-length, raised-other, raised-differs, raised-sum, raised-bytes, written-bytes, but-same, whole-row, same-none, alike-length, row-below, row-room, check-below, none-differs, not-yet}
 
 -- ---- a row, torn
 
@@ -224,6 +224,13 @@ module _ (z : Sizes) (p w : List ℕ) (fits : Fits z p w) (two : 2 ≤ z .pages)
   several-long =
       by-cases (λ s. length (after s p) ≡ length p) (λ e. refl) (λ n e. over-length (coveredRows z) w p (alike-length z p w fits) guard-room)
       (λ n m e. over-length (checkRow z) invalid p (raised-length p (z .register) 1) check-room) (λ n m e. over-length (r m) (unsealed z w) p target-length (r-room m))
+
+  pub several-bytes : Bytes p → Bytes w → Bytes (after (severalPages z p w) p)
+  unfolding unsealed
+  several-bytes bp bw =
+      by-cases (λ s. Bytes (after s p)) (λ e. bp) (λ n e. written-bytes (coveredRows z) w p (alike-length z p w fits) guard-room bw bp)
+      (λ n m e. written-bytes (checkRow z) invalid p (raised-length p (z .register) 1) check-room (raised-bytes p (z .register) 1 bp) bp)
+      (λ n m e. written-bytes (r m) (unsealed z w) p target-length (r-room m) (raised-bytes w (pageAt z 1) 1 bw) bp)
 
   -- ---- how many rows differ
 

@@ -15,8 +15,8 @@ use Rattle.writing.specs.Steps.{differing, done, onePage, severalPages, 
 use Rattle.writing.specs.Chip.{after, Changes, Torn, WantedOrRefused}
 use Rattle.writing.specs.Answers.{Fits}
 use Rattle.writing.proofs.PageLaws.{refused-by, refit}
-use Rattle.writing.proofs.OnePageLaws.{onePageLeft, one-page-safe, one-page-long, one-page-none, one-page-left-most, one-page-nearer, one-page-there, one-page-done, one-page-changes}
-use Rattle.writing.proofs.SeveralLaws.{severalLeft, several-safe, several-whole, several-long, several-left-none, several-left-most, several-nearer, several-there, several-done, several-changes}
+use Rattle.writing.proofs.OnePageLaws.{onePageLeft, one-page-safe, one-page-long, one-page-bytes, one-page-none, one-page-left-most, one-page-nearer, one-page-there, one-page-done, one-page-changes}
+use Rattle.writing.proofs.SeveralLaws.{severalLeft, several-safe, several-whole, several-long, several-bytes, several-left-none, several-left-most, several-nearer, several-there, several-done, several-changes}
 
 -- What the chip holds after a step.
 abbrev pub next : Sizes → List ℕ → List ℕ → List ℕ
@@ -56,6 +56,11 @@ module _ (z : Sizes) (p w : List ℕ) (fits : Fits z p w) where
   step-fits =
       refit z p w fits (next z w p)
       (by-pages z w (λ b. length (after (cond b (onePage z p w) (severalPages z p w)) p) ≡ length p) (λ e. one-page-long z p w fits) (λ two. several-long z p w fits two))
+
+  pub step-bytes : Bytes p → Bytes w → Bytes (next z w p)
+  unfolding step
+  step-bytes bp bw =
+      by-pages z w (λ b. Bytes (after (cond b (onePage z p w) (severalPages z p w)) p)) (λ e. one-page-bytes z p w fits bp bw) (λ two. several-bytes z p w fits two bp bw)
 
   pub left-none : left z w p ≡ 0 → p ≡ w
   unfolding left

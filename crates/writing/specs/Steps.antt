@@ -1,5 +1,4 @@
 -- How an image is written to a chip, row by row, so that a chip pulled on the way is refused: the next row, from what the chip holds and what it is to hold.
-use mathlib.Core.Path.{_≡_}
 use mathlib.Core.Bool.{Bool, true, not, _&&_, _||_, cond}
 use mathlib.Core.List.{List, _++_}
 use Prim.Native.Nat.{ℕ, zero, suc, _+_, _*_, _/_, _%_}

@@ -47,19 +47,21 @@ pub fn raised_row(image: &[u8], at: usize, d: u8, r: usize) -> [u8; 8]
     bytes
 }
 
+// All eight are looked at, so that the compiler compares them at once.
 fn same_row(present: &[u8], wanted: &[u8], r: usize) -> bool
     requires { ⌜ (8 * r + 8 ≤ length (now present)) × (8 * r + 8 ≤ length (now wanted)) ⌝ }
     ensures { λ b. ⌜ b ≡ same (now (present .entry)) (now (wanted .entry)) 8 (8 * r) ⌝ }
 {
     let end = 8 * r + 8;
+    let mut alike = true;
     let mut i = 8 * r;
     while i < end {
         if present[i] != wanted[i] {
-            return false;
+            alike = false;
         }
         i += 1;
     }
-    true
+    alike
 }
 
 // Byte i of the image with the byte at an offset one higher.

@@ -5,7 +5,6 @@ use mathlib.Core.List.{List}
 use Prim.Native.Nat.{ℕ, _≤_}
 use native.Mathlib.Omega.{arith}
 use Rattle.refusal.specs.Outcome.{good}
-use Rattle.memory.specs.Image.{pageSum}
 use Rattle.writing.specs.Steps.{row, rows, checkRow, written, differing, raised, write}
 use Rattle.writing.specs.Answers.{answered, tallyTo}
 use Rattle.writing.proofs.RowLaws.{over-length}

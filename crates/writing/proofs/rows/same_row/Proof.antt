@@ -1,27 +1,23 @@
--- `rows::same_row` meets its contract.
+-- `rows::same_row` meets its contract. The loop's invariant: what is alike so far and the rest are the whole row.
 use borrow.Author.Needs.{needs}
-use mathlib.Core.Path.{_≡_, sym, ap, _∙_}
+use mathlib.Core.Path.{_≡_, ap}
+use mathlib.Core.Bool.{_&&_}
+use mathlib.Core.Logic.{⊎-elim}
 use Prim.Native.Nat.{ℕ, _+_, _-_, _*_, _≤_}
 use native.Mathlib.Omega.{arith}
 use Rattle.writing.specs.Steps.{same}
-use Rattle.writing.proofs.CodeLaws.{same-turn, same-stop, same-end}
+use Rattle.writing.proofs.CodeLaws.{alike-stop, alike-turn, alike-end}
 use Rattle.writing.proofs.rows.same_row.Statement.{statement}
 use Rattle.writing.proofs.rows.same_row.Tie as tie
 
 abbrev Inv-loop : tie.InvT-loop
-Inv-loop present wanted r end i₀ i = (i ≤ end) × (8 * r ≤ i) × (same present wanted (end - i) i ≡ same present wanted 8 (8 * r))
+Inv-loop present wanted r end alike₀ i₀ alike i = (i ≤ end) × (8 * r ≤ i) × ((alike && same present wanted (end - i) i) ≡ same present wanted 8 (8 * r))
 
 abbrev μ-loop : tie.MeasureT-loop
-μ-loop present wanted r end i₀ i = end - i
+μ-loop present wanted r end alike₀ i₀ alike i = end - i
 
 loop-holds : tie.Need-loop-holds Inv-loop μ-loop
 loop-holds c = (omega arith, omega arith, ap (λ (n : ℕ). same (c .args .present .now) (c .args .wanted .now) n (8 * c .args .r)) (omega arith))
-
-returns : tie.Need-returns Inv-loop μ-loop
-returns c =
-    let l = c .before .before .before .before in
-    let a = l .before .args in
-    sym (same-stop (a .present .now) (a .wanted .now) (8 * a .r + 8) (l .loop .i) (omega arith) (c .if1 .taken)) ∙ l .loop .inv .2
 
 loop-again : tie.Need-loop-again Inv-loop μ-loop
 loop-again c =
@@ -29,13 +25,17 @@ loop-again c =
     let a = l .before .args in (
       omega arith,
       omega arith,
-      sym (same-turn (a .present .now) (a .wanted .now) (8 * a .r + 8) (l .loop .i) (omega arith) (c .if1 .left)) ∙ l .loop .inv .2,
+      ⊎-elim
+          (λ w. alike-stop (a .present .now) (a .wanted .now) (8 * a .r + 8) (l .loop .i) (l .loop .alike) (c .if1 .alike) (l .loop .inv .2) (omega arith) (w .0 .taken) (w .1))
+          (λ w. alike-turn (a .present .now) (a .wanted .now) (8 * a .r + 8) (l .loop .i) (l .loop .alike) (c .if1 .alike) (l .loop .inv .2) (omega arith) (w .0 .left) (w .1))
+          (c .if1 .came),
     )
 
-returns-2 : tie.Need-returns-2 Inv-loop μ-loop
-returns-2 c =
-    let a = c .before .before .args in
-    sym (same-end (a .present .now) (a .wanted .now) (8 * a .r + 8) (c .before .loop .i) (omega arith)) ∙ c .before .loop .inv .2
+returns : tie.Need-returns Inv-loop μ-loop
+returns c =
+    let l = c .before in
+    let a = l .before .args in
+    alike-end (a .present .now) (a .wanted .now) (8 * a .r + 8) (l .loop .i) (l .loop .alike) (l .loop .alike) (l .loop .inv .2) (omega arith)
 
 pub same-row-spec : {M : Type 1} → statement M
 same-row-spec =
@@ -49,8 +49,7 @@ same-row-spec =
     loop-holds
     (λ c. search needs)
     (λ c. search needs)
-    returns
     (λ c. search needs)
     (λ c. search needs)
     loop-again
-    returns-2)
+    returns)

@@ -1,0 +1,28 @@
+-- What the call for a row tells of its callee's answer.
+-- Assumes nothing.
+use mathlib.Core.Path.{_≡_, refl, ap}
+use Prim.Native.Nat.{ℕ}
+use native.Mathlib.Omega.{arith}
+use Rattle.refusal.specs.declared.Refusal.{Refusal}
+use Rattle.refusal.specs.Outcome.{Outcome, good, refused}
+use Rattle.writing.specs.declared.Answer.the-variants.{Done, Write, Refused}
+use Rattle.writing.specs.declared.NextRow.{NextRow}
+use Rattle.writing.specs.Steps.{Step, done, write}
+use Rattle.writing.specs.Answers.{answered}
+use Rattle.dartelm.specs.Answers.{told, rowAnswer, noRow}
+
+pub row-refused : (o : Outcome Step) {n : NextRow} {r : Refusal} → n ≡ answered o → n .answer ≡ Refused r → told rowAnswer noRow (refused r) ≡ told rowAnswer noRow o
+row-refused (good done) e f = let g = ap (λ (x : NextRow). x .answer) e in let z : _≡_ {A = ℕ} 0 1 = cc in absurd (omega arith)
+row-refused (good (write r bytes)) e f = let g = ap (λ (x : NextRow). x .answer) e in let z : _≡_ {A = ℕ} 0 1 = cc in absurd (omega arith)
+row-refused (refused s) {r = r} e f = let g = ap (λ (x : NextRow). x .answer) e in let same : r ≡ s = cc in rw same
+
+pub row-done : (o : Outcome Step) {n : NextRow} → n ≡ answered o → n .answer ≡ Done → told rowAnswer noRow (good done) ≡ told rowAnswer noRow o
+row-done (good done) e f = refl
+row-done (good (write r bytes)) e f = let g = ap (λ (x : NextRow). x .answer) e in let z : _≡_ {A = ℕ} 0 1 = cc in absurd (omega arith)
+row-done (refused r) e f = let g = ap (λ (x : NextRow). x .answer) e in let z : _≡_ {A = ℕ} 0 1 = cc in absurd (omega arith)
+
+pub row-written : (o : Outcome Step) {n : NextRow} → n ≡ answered o → n .answer ≡ Write
+    → record { number = 0; place = 0; «is_done» = 0; offset = n .offset; bytes = n .bytes } ≡ told rowAnswer noRow o
+row-written (good (write r bytes)) e f = rw e
+row-written (good done) e f = let g = ap (λ (x : NextRow). x .answer) e in let z : _≡_ {A = ℕ} 0 1 = cc in absurd (omega arith)
+row-written (refused r) e f = let g = ap (λ (x : NextRow). x .answer) e in let z : _≡_ {A = ℕ} 0 1 = cc in absurd (omega arith)
