@@ -2,11 +2,13 @@
 import re
 
 from . import mir
+from .fold import constant
 from .live import Reads, derefs, reads_of, stored
 from .mir import Unknown
 from .values import POSTFIX, Spot, Values
 
 WIDEST = 120
+MOST_TURNS = 32    # of a loop that is unrolled
 
 
 class Level:
@@ -305,6 +307,8 @@ class Statements(Values):
                 self.before = []
             else:
                 test = f'while ({text})'
+                if self.turns_are_known(first.test):
+                    self.say('DM_UNROLLED')
                 rest = body[1:]
                 self.declare_in[id(rest)] = self.declare_in.get(id(body), [])
                 self.kept.append(rest)
@@ -313,6 +317,17 @@ class Statements(Values):
         self.enter(levels, body)
         self.say('}')
         self.labelled(levels[0])
+
+    def turns_are_known(self, test):
+        """Whether a counter is compared with a small constant, or with what a call gives that is handed nothing but constants."""
+        if not isinstance(test, mir.Op2) or test.op not in ('Lt', 'Le'):
+            return False
+        if isinstance(test.y, mir.Int):
+            return 1 < test.y.value <= MOST_TURNS
+        if not isinstance(test.y, mir.Copy) or test.y.place.steps or not isinstance(test.y.place.base, int):
+            return False
+        stores = [s for s in mir.statements(self.fn.body) if stored(s) == test.y.place.base]
+        return len(stores) == 1 and isinstance(stores[0].value, mir.CallOf) and all(constant(x) for x in stores[0].value.args)
 
     def enter(self, levels, body):
         outer, self.reached = self.reached, levels

@@ -1276,6 +1276,7 @@ static void dm_build_building_spread(const dm_array_build_Slot_21 *slots, dm_sli
     dm_slice_f32 singles)
 {
     uint64_t i = 0u;
+    DM_UNROLLED
     while (i < 21u) {
         dm_build_Slot slot = slots->at[i];
         dm_fields_Value value = slot.value;

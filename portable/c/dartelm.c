@@ -28,14 +28,15 @@
 #define DM_JOIN(a, b) a##b
 #define DM_SIZE(type, bytes) typedef char DM_JOIN(dm_size_of_, type)[sizeof(type) == (bytes) ? 1 : -1]
 
-/* Small functions go where they are called, on processors with large caches; elsewhere the compiler weighs flash against time, and in
- * the programs the time to compile them. */
-#if defined(DARTELM_PROGRAM)
-#define DM_SMALL static
-#elif defined(__GNUC__) && defined(__OPTIMIZE__) && !defined(__OPTIMIZE_SIZE__) && (defined(__x86_64__) || defined(__aarch64__))
+/* Small functions go where they are called, and loops whose turns are known are unrolled, on processors with large caches; elsewhere the
+ * compiler weighs flash against time, and in the programs the time to compile them. */
+#if defined(__GNUC__) && defined(__OPTIMIZE__) && !defined(__OPTIMIZE_SIZE__) && !defined(DARTELM_PROGRAM) && \
+    (defined(__x86_64__) || defined(__aarch64__))
 #define DM_SMALL static inline __attribute__((always_inline))
+#define DM_UNROLLED _Pragma("GCC unroll 32")
 #else
 #define DM_SMALL static
+#define DM_UNROLLED
 #endif
 
 static inline float dm_float_from_bits(uint32_t bits)
@@ -3422,6 +3423,7 @@ DM_SMALL uint8_t dm_texts_letters_letter(uint64_t code)
 static uint64_t dm_texts_letters_letter_code(uint8_t character)
 {
     uint64_t at = 0u;
+    DM_UNROLLED
     while (at < 32u) {
         if ((uint32_t)dm_table_LETTERS[at] == (uint32_t)character) {
             return at;
@@ -4958,6 +4960,7 @@ static dm_build_plan_Planned dm_build_plan_plan_fields(dm_fields_Template templa
     uint64_t precision = 0u;
     uint64_t bits = 10u;
     uint64_t i = 0u;
+    DM_UNROLLED
     while (i < basic) {
         uint64_t field = i + 1u;
         dm_fields_Row row = dm_fields_templates_basic_row(field);
@@ -4981,6 +4984,7 @@ static dm_build_plan_Planned dm_build_plan_plan_fields(dm_fields_Template templa
     }
     if (template_ == dm_fields_Template_Bridge) {
         uint64_t last = dm_fields_templates_last_field(dm_fields_Template_Bridge);
+        DM_UNROLLED
         while (i < last) {
             uint64_t field = i + 1u;
             dm_fields_Row row = dm_fields_templates_bridge_row(precision, field);
@@ -5009,6 +5013,7 @@ static dm_build_plan_Planned dm_build_plan_plan_fields(dm_fields_Template templa
         return result_2;
     } else { /* dm_fields_Template_Resistance */
         uint64_t last = dm_fields_templates_last_field(dm_fields_Template_Resistance);
+        DM_UNROLLED
         while (i < last) {
             uint64_t field = i + 1u;
             dm_fields_Row row = dm_fields_templates_resistance_row(precision, field);
@@ -6735,6 +6740,7 @@ static dm_fields_Judged dm_sheet_walk_judge_basic(const dm_memory_Sizes *sizes, 
     uint64_t at = 0u;
     uint64_t field = 1u;
     dm_fields_Judged result;
+    DM_UNROLLED
     while (field <= last) {
         dm_fields_Row row = dm_fields_templates_basic_row(field);
         dm_fields_Judged v9 = dm_sheet_walk_judge_at(sizes, image, &row, at);
@@ -6759,6 +6765,7 @@ static dm_fields_Judged dm_sheet_walk_judge_bridge(const dm_memory_Sizes *sizes,
     uint64_t at = 74u;
     uint64_t field = dm_fields_templates_basic_fields() + 1u;
     dm_fields_Judged result;
+    DM_UNROLLED
     while (field <= last) {
         dm_fields_Row row = dm_fields_templates_bridge_row(precision, field);
         dm_fields_Judged v12 = dm_sheet_walk_judge_at(sizes, image, &row, at);
@@ -6784,6 +6791,7 @@ static dm_fields_Judged dm_sheet_walk_judge_resistance(const dm_memory_Sizes *si
     uint64_t at = 74u;
     uint64_t field = dm_fields_templates_basic_fields() + 1u;
     dm_fields_Judged result;
+    DM_UNROLLED
     while (field <= last) {
         dm_fields_Row row = dm_fields_templates_resistance_row(precision, field);
         dm_fields_Judged v12 = dm_sheet_walk_judge_at(sizes, image, &row, at);
@@ -7293,6 +7301,7 @@ static dm_index_fetching_RowAnswer dm_index_fetching_row_of_length(dm_fields_Tem
 {
     uint64_t precision = 0u;
     dm_index_fetching_RowAnswer result;
+    DM_UNROLLED
     while (precision < 4u) {
         dm_fields_Layout layout;
         layout.template_ = template_;
@@ -7422,6 +7431,7 @@ static void dm_index_making_write_basic(dm_slice_u8 buffer)
     uint64_t last = dm_fields_templates_basic_fields();
     uint64_t at = 0u;
     uint64_t i = 0u;
+    DM_UNROLLED
     while (i < last) {
         dm_fields_Row row = dm_fields_templates_basic_row(i + 1u);
         dm_index_Entry v14;
@@ -7440,6 +7450,7 @@ static void dm_index_making_write_bridge(dm_slice_u8 buffer, uint64_t precision)
     uint64_t last = dm_fields_templates_last_field(dm_fields_Template_Bridge);
     uint64_t at = 74u;
     uint64_t i = dm_fields_templates_basic_fields();
+    DM_UNROLLED
     while (i < last) {
         dm_fields_Row row = dm_fields_templates_bridge_row(precision, i + 1u);
         dm_index_Entry v16;
@@ -7458,6 +7469,7 @@ static void dm_index_making_write_resistance(dm_slice_u8 buffer, uint64_t precis
     uint64_t last = dm_fields_templates_last_field(dm_fields_Template_Resistance);
     uint64_t at = 74u;
     uint64_t i = dm_fields_templates_basic_fields();
+    DM_UNROLLED
     while (i < last) {
         dm_fields_Row row = dm_fields_templates_resistance_row(precision, i + 1u);
         dm_index_Entry v16;
@@ -8739,6 +8751,7 @@ static void dm_dartelm_values_spread(const dartelm_fields *given, dm_slice_u8 so
     dm_slice_f32 singles)
 {
     uint64_t i = 0u;
+    DM_UNROLLED
     while (i < 21u) {
         dartelm_value value = given->values[i];
         if ((uint32_t)value.is_missing != 0u) {
@@ -8782,6 +8795,7 @@ static dm_array_fields_Segment_20 dm_dartelm_values_segments_of(const dm_array_d
         result.at[i1] = v6;
     }
     uint64_t v4 = 0u;
+    DM_UNROLLED
     while (v4 < 20u) {
         dartelm_curve_segment v5 = given->at[v4];
         result.at[v4] = dm_dartelm_values_segment_of(&v5);
@@ -8800,6 +8814,7 @@ static dm_array_fields_Term_30 dm_dartelm_values_terms_of(const dm_array_dartelm
         result.at[i1] = v6;
     }
     uint64_t v4 = 0u;
+    DM_UNROLLED
     while (v4 < 30u) {
         dartelm_curve_term v5 = given->at[v4];
         result.at[v4] = dm_dartelm_values_term_of(&v5);
