@@ -256,7 +256,8 @@ STRUCTS = {
     ),
 }
 
-# What each call returns, and its parameters. A parameter `T[]` is a pointer and a length; without const it is written to.
+# What each call returns, and its parameters. A parameter `T[]` is a pointer and a length; without const it is written
+# to.
 CALLS = {
     "version": (
         "uint32_t",
