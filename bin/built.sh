@@ -92,12 +92,12 @@ help() {
     exit 0
 }
 
-# How many crates have to be proved for a crate: itself and those below it.
+# How many crates have to be proved for a crate: itself and those below it. The kit's own have no line.
 crates_of() {
     awk -v wanted="$1" -F '[: ]+' '
-        !/^#/ { for (i = 2; i <= NF; i++) below[$1] = below[$1] " " $i }
+        !/^#/ { below[$1] = ""; for (i = 2; i <= NF; i++) below[$1] = below[$1] " " $i }
         function count(one, parts, n, i) {
-            if (one == "" || one in seen) return 0
+            if (!(one in below) || one in seen) return 0
             seen[one]
             n = split(below[one], parts, " ")
             for (i = 1; i <= n; i++) total += count(parts[i])

@@ -14,7 +14,7 @@ from .refusals import headline
 from .trouble import ACCEPTED, REFUSED, UNREAD, Refusal, Trouble, misused
 
 VALUED = ("-o", "-s", "--level", "--table", "--dash", "--kind", "--today", "--point", "--deviation", "--error")
-VALUED += ("--certificate", "--within", "--span", "--certificates", "--customer", "--job", "--make")
+VALUED += ("--certificate", "--within", "--span", "--certificates", "--customer", "--job", "--make", "--to", "--keep")
 STATUS = "Ends with 0 if accepted, 1 if refused or different, 2 if it is not understood, 3 if a file cannot be read or written."
 
 
@@ -115,6 +115,12 @@ def parser():
     save = command(commands, "save", "a chip's bytes as they are, into a file")
     save.add_argument("file", metavar="ow:ID", help="a chip as chips lists it, or ow: for the only one")
     add_output(save)
+
+    write = command(commands, "write", "an image onto a chip, so that one that is pulled on the way is refused")
+    write.add_argument("file", metavar="FILE", help="an image of 128 or 512 bytes")
+    write.add_argument("--to", required=True, metavar="ow:ID", help="the chip, as chips lists it")
+    write.add_argument("--keep", metavar="OLD", help="the file for what is on the chip now (ID-old.kindN)")
+    write.add_argument("--force", action="store_true", help="write over another sender's sheet")
 
     report = command(commands, "report", "one page in HTML, to be printed or kept")
     report.add_argument("file", metavar="FILE", help="an image of 40, 128 or 512 bytes")

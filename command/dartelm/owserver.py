@@ -11,7 +11,7 @@ import socket
 import struct
 import time
 
-from .trouble import misused, unread
+from .trouble import UNREAD, Trouble, misused, unread
 
 PREFIX = "ow:"
 HEAD = struct.Struct(">6i")
@@ -37,6 +37,10 @@ class Denied(Exception):
     def __init__(self, number):
         super().__init__(os.strerror(number))
         self.number = number
+
+
+class ReadOnly(Trouble):
+    """Nothing is written to this chip."""
 
 
 class Owserver:
@@ -151,7 +155,7 @@ class Chip:
         if denied.number == NO_SUCH:
             return unread(f"ow:{self.name}: there is no such chip at {self.server.where()}; there are {listed(self.server.chips())}")
         if denied.number in READ_ONLY:
-            return unread(f"ow:{self.name}: it is read-only, or the server is: {denied}")
+            return ReadOnly(f"ow:{self.name}: it is read-only, or the server is: {denied}", UNREAD)
         return unread(f"ow:{self.name}: the server answers: {denied}")
 
 

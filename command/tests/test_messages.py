@@ -48,6 +48,16 @@ class Messages(support.Case):
         for text, shown in (("power", "power, W (45)"), ("frequency", "frequency, Hz (26)"), ("psi", "pressure, psi (13)")):
             self.gives(0, "set", CELL, f"measurand={text}", "--level", "maker", "--dry-run", out=f"{shown} {shown}\n")
 
+    def test_units_that_are_taken(self):
+        for change, part in (
+            ("period=1year", "calibration period: 'year' is not understood here; write it in days\n"),
+            ("excitation nominal=5", "'5' has no unit; write it in V, mV or kV, as 5V\n"),
+            ("impedance=5", "'5' has no unit; write it in ohm, mohm, kohm or Mohm, as 5ohm\n"),
+            ("max elec=2", "'2' has no unit; write it in V/V, mV/V, uV/V or nV/V, as 2mV/V\n"),
+            ("max phys=5Pa", "'Pa' is not understood here; write it in N, mN, kN, MN, daN, lbf or kgf\n"),
+        ):
+            self.gives(2, "set", CELL, change, "--level", "maker", "--dry-run", err=part)
+
     def test_points_of_a_sheet(self):
         sheet, _ = self.gives(0, "export", CELL)
         for old, new, part in (

@@ -31,7 +31,7 @@ class Newcomer(support.Case):
         """A home that has nothing built, and an rt of its own."""
         os.mkdir(self.path("path"))
         shutil.copytree(os.path.join(support.HOME, "bin"), self.path("home/bin"))
-        self.file("home/crates.txt", "# crates\nrefusal:\nmemory: refusal\nwords: memory refusal\nconsole: words\nother: words\n")
+        self.file("home/crates.txt", "# crates\nrefusal:\nmemory: refusal\nwords: memory refusal\nconsole: words libc io\nother: words\n")
         with open(self.path("path/rt"), "w", encoding="ascii") as file:
             file.write(rt)
         os.chmod(self.path("path/rt"), 0o755)

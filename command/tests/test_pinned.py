@@ -377,6 +377,15 @@ class Whole(support.Case):
             self.assertNotEqual(dumps.bytes_of(f"{bad}\n:00000001FF\n".encode()), bytes(16))
             self.assertIsNone(dumps.intel([line for line in f"{bad}\n:00000001FF".splitlines()]))
 
+    def test_offsets(self):
+        """Seven digits before bytes are octal, or hexadecimal where the bytes before say so; a wrong offset is no dump."""
+        data = bytes(range(128))
+        for form in ("{:07o} {}", "{:07x} {}", "{:08x}: {}", "{:06x} {}"):
+            lines = [form.format(n, data[n : n + 16].hex(" ")) for n in range(0, 128, 16)]
+            self.assertEqual(dumps.bytes_of("\n".join(lines).encode()), data, form)
+            lines[3] = lines[4]
+            self.assertNotEqual(dumps.bytes_of("\n".join(lines).encode()), data, form)
+
     def test_parts_of_a_line(self):
         draft = sheets.Draft("sheet")
         self.assertEqual(sheets.two(draft, 1, "1 %, 2 %", "point"), ["1 %", "2 %"])
