@@ -1,5 +1,5 @@
 -- A correction at a whole position, in parts; and of points lent, by how many lie before it.
-use mathlib.Core.Path.{_≡_, refl, sym, ap, ap₂, _∙_}
+use mathlib.Core.Path.{_≡_, refl, sym, ap, _∙_}
 use mathlib.Core.Bool.{true, false, cond}
 use mathlib.Core.List.{List, [], _∷_}
 use Prim.Native.Nat.{ℕ, zero, suc, _+_, _*_, _/_, _^_, _≤_, _<_}
@@ -17,15 +17,15 @@ use Rattle.build.specs.Build.{pairsLent}
 use Rattle.build.specs.Tested.{pairAt}
 use Rattle.build.proofs.PairPlans.{pairs-length}
 use Rattle.line.specs.Before.{pointOf, Before}
-use Rattle.line.specs.Line.{Correction, atEnd, between, correctionAfter, correction}
-use Rattle.line.specs.Ranges.{Weights, Between, Table}
+use Rattle.line.specs.Line.{atEnd, between, correctionAfter, correction}
+use Rattle.line.specs.Ranges.{Between, Table}
 use Rattle.line.proofs.Distances.{scaled}
 use Rattle.line.proofs.Order.{Ahead}
 use Rattle.line.proofs.Weights.{at, weights-run, weights-num}
-use Rattle.line.proofs.Told.{gap-parts, Gaps, gaps}
+use Rattle.line.proofs.Told.{gap-parts, gaps}
 use Rattle.line.proofs.Places.{Pieced, first-piece, last-piece, next-piece, figures-at, next-between}
 use Rattle.conformity.specs.declared.corrections.Corrected.{Corrected}
-use Rattle.conformity.specs.Steps.{Sized, Exact}
+use Rattle.conformity.specs.Steps.{Exact}
 
 -- ---- in parts
 

@@ -1,8 +1,8 @@
 -- The difference of two corrections at a point of one of them, and the greatest over its points.
 use mathlib.Core.Path.{_≡_, refl, sym, ap, ap₂, _∙_, subst}
 use mathlib.Core.List.{List, [], _∷_}
-use mathlib.Core.Logic.{_⊎_, inl, inr}
-use Prim.Native.Nat.{ℕ, zero, suc, max, _+_, _*_, _/_, _^_, _≤_, _<_}
+use mathlib.Core.Logic.{inl, inr}
+use Prim.Native.Nat.{ℕ, zero, suc, max, _+_, _*_, _/_, _≤_, _<_}
 use native.Mathlib.Nat.{mul-pos, mul-comm}
 use native.Mathlib.Numerals.{add-one}
 use native.Mathlib.Omega.{arith}
@@ -21,7 +21,7 @@ use Rattle.build.proofs.PairTurns.{pairsFrom, pairs-left, pairs-end}
 use Rattle.line.specs.Before.{pointOf, Before}
 use Rattle.line.specs.Certificate.{Rises}
 use Rattle.line.specs.Ranges.{Table}
-use Rattle.line.specs.Line.{Correction, atEnd, between, correctionAfter, correction}
+use Rattle.line.specs.Line.{Correction, correction}
 use Rattle.line.proofs.Distances.{scaled}
 use Rattle.line.proofs.Weights.{at}
 use Rattle.line.proofs.Bends.{Is, is-held, is-right, correction-some}
@@ -29,7 +29,7 @@ use Rattle.line.proofs.Places.{first-piece, next-piece, rise-at}
 use Rattle.distance.specs.Distance.{ceiling}
 use Rattle.conformity.specs.declared.corrections.Corrected.{Corrected}
 use Rattle.conformity.specs.Conformity.{difference, differenceAt, greatestOver, comparedWith}
-use Rattle.conformity.specs.Steps.{Sized, Exact, Apart, upwardDifference}
+use Rattle.conformity.specs.Steps.{Exact, Apart, upwardDifference}
 use Rattle.conformity.proofs.Ceilings.{ceiling-same}
 use Rattle.conformity.proofs.Exacts.{correction-pieced, pair-lent}
 

@@ -1,9 +1,9 @@
 -- The conformity in the order of its rows, and whether there is a straight table.
-use mathlib.Core.Path.{_≡_, refl, sym, ap, ap₂, _∙_}
-use mathlib.Core.Bool.{Bool, true, false, true≢false}
+use mathlib.Core.Path.{_≡_, refl, sym, ap₂, _∙_}
+use mathlib.Core.Bool.{true, false, true≢false}
 use mathlib.Core.List.{List, map}
 use mathlib.Core.Option.{Option, none, some}
-use Prim.Native.Nat.{ℕ, _≤_}
+use Prim.Native.Nat.{ℕ}
 use native.Mathlib.Omega.{arith}
 use lib.Dec.{eqb, eqb→eq}
 use Rattle.integers.proofs.PartLaws.{is-true}
@@ -20,7 +20,6 @@ use Rattle.layout.specs.Image.{contents, pairsIn, pairIn, segmentsIn, segmentIn
 use Rattle.layout.specs.Places.{firstSelector}
 use Rattle.layout.proofs.Calibrations.{CalibrationAt}
 use Rattle.build.specs.Build.{pairsLent}
-use Rattle.sheet.specs.declared.TableDomain.{TableDomain}
 use Rattle.sheet.specs.declared.TableDomain.the-variants.{Is}
 use Rattle.sheet.specs.declared.opening.Opened.{Opened}
 use Rattle.sheet.specs.Check.{domainIn}

@@ -1,5 +1,5 @@
 -- The physical figure of two Singles and any fraction, near the exact one.
-use mathlib.Core.Path.{_≡_, refl, sym, ap, _∙_, subst}
+use mathlib.Core.Path.{_≡_, refl, ap, _∙_, subst}
 use mathlib.Core.Bool.{Bool, true, false}
 use Prim.Native.Nat.{ℕ, zero, suc, _+_, _*_, _^_, _≤_}
 use native.Mathlib.Nat.{mul-zero}
@@ -10,7 +10,7 @@ use lib.Ieee.{Float, binary64, unlike, add, sub, mul}
 use lib.Ieee.Exact.{HasValue}
 use Rattle.fields.specs.Figure.{physicalFigure}
 use Rattle.fields.specs.Singles.{signed}
-use Rattle.figures.specs.Figures.{units, End, one, NearShare, FigureNearShare}
+use Rattle.figures.specs.Figures.{End, NearShare, FigureNearShare}
 use Rattle.figures.proofs.Signed.{plus, minus}
 use Rattle.figures.proofs.Operations.{Sized, in-units}
 use Rattle.figures.proofs.Chain.{difference, Near-by, Near-at}

@@ -1,5 +1,5 @@
 -- The physical figure of any finite fraction x, in any format: least + (greatest − least) × x. The ends and x are ±l, ±g and ±n units, of which K are 1.
-use mathlib.Core.Path.{_≡_, sym, subst}
+use mathlib.Core.Path.{sym, subst}
 use mathlib.Core.Bool.{Bool}
 use mathlib.Core.Logic.{_⊎_, inl, inr}
 use Prim.Native.Nat.{ℕ, _+_, _*_, _^_, _≤_, _<_}
@@ -15,7 +15,7 @@ use Rattle.figures.proofs.Signed.{plus, minus}
 use Rattle.figures.proofs.Operations.{round-value, mul-value, Sized, sized, add-units}
 use Rattle.figures.proofs.Errors.{sum-near}
 use Rattle.figures.proofs.ShareErrors.{Within, share-high, share-low}
-use Rattle.figures.proofs.Chain.{differs, differs-close, differs-most, sum-most, size-most, Near-at, Near-by}
+use Rattle.figures.proofs.Chain.{differs, differs-close, differs-most, sum-most, size-most, Near-at}
 
 -- Nothing overflows: the ends are W units at most, and x is X.
 pub record Wide (f : Format) (W X : ℕ) : Type 0 where

@@ -1,14 +1,13 @@
 -- Conformity: what the call tells holds of every reading, is what was told beforehand or less, is moved by nothing, and is no more than it need be.
 use mathlib.Core.Path.{_≡_, refl, sym, ap, _∙_, subst}
-use mathlib.Core.Bool.{Bool, false}
+use mathlib.Core.Bool.{false}
 use mathlib.Core.List.{List, [], _∷_, map}
-use mathlib.Core.Option.{Option, none, some}
-use Prim.Native.Nat.{ℕ, _+_, _*_, _≤_, _<_}
+use mathlib.Core.Option.{none, some}
+use Prim.Native.Nat.{ℕ, _+_, _*_, _<_}
 use native.Mathlib.Omega.{arith}
 use lib.IntN.{ℤ, pos, natAbs, _+ℤ_, _-ℤ_, _*ℤ_}
 use lib.Signed.{_<ℤ_}
 use Rattle.integers.proofs.PartLaws.{sub-parts-ℤ, abs-parts, ltZ-parts}
-use Rattle.refusal.specs.declared.Refusal.{Refusal}
 use Rattle.refusal.specs.Outcome.{Outcome, good, refused}
 use Rattle.refusal.proofs.Outcomes.{good-same}
 use Rattle.memory.specs.Bits.{Bytes}
@@ -17,7 +16,6 @@ use Rattle.memory.proofs.Images.{image-bytes}
 use Rattle.fields.specs.declared.Domain.{Domain}
 use Rattle.fields.specs.declared.Domain.the-variants.{Electrical, Physical}
 use Rattle.fields.specs.declared.Pair.{Pair}
-use Rattle.fields.specs.declared.Template.{Template}
 use Rattle.fields.specs.Calibration.{D, R}
 use Rattle.fields.specs.Figure.{billion}
 use Rattle.layout.specs.Contents.{Calibration, bare, table, curve, Contents}
@@ -33,7 +31,7 @@ use Rattle.line.specs.Conformity.{WithinOf}
 use Rattle.line.specs.Line.{deviation, certificateLine}
 use Rattle.line.proofs.Bound.{close-conforms}
 use Rattle.distance.specs.declared.ToldDistance.{ToldDistance}
-use Rattle.distance.specs.Distance.{distance, toldBy, steepest}
+use Rattle.distance.specs.Distance.{distance, toldBy}
 use Rattle.distance.proofs.Accepted.{told-by, least-slope, no-slope, taking}
 use Rattle.reading.specs.Reading.{isResistance, least, greatest, position}
 use Rattle.reading.proofs.Opening.{calibration-table}
@@ -41,9 +39,9 @@ use Rattle.reading.proofs.Orders.{shown}
 use Rattle.reading.proofs.Fractions.{by-deviation}
 use Rattle.conformity.specs.Conformity.{greatestDifference, comparedWith, straightTable, compared, conformity}
 use Rattle.conformity.proofs.Bounds.{greatest-within, greatest-least, greatest-attained}
-use Rattle.conformity.proofs.Orders.{compares-refused, compares, Compared, compared-from, straight-points}
+use Rattle.conformity.proofs.Orders.{compares-refused, compares, compared-from, straight-points}
 use Rattle.promises.specs.Again.{keptPair}
-use Rattle.promises.specs.Alterations.{Alteration, altered, held}
+use Rattle.promises.specs.Alterations.{altered, held}
 use Rattle.promises.specs.Certificate.{Straight, leastIn, greatestIn, lineFor}
 use Rattle.promises.specs.Beforehand.{StraysAtMost}
 use Rattle.promises.specs.Conformity.{Conforms, FigureConforms, ToldIsKept, NoAlterationMoves, BoundTight}

@@ -1,5 +1,5 @@
 -- Demand 3: what was built holds points near those lent, no change or commit moves them, and a reading of them stays within the distance.
-use mathlib.Core.Path.{_≡_, refl, sym, ap, _∙_}
+use mathlib.Core.Path.{_≡_, refl, sym, _∙_}
 use mathlib.Core.List.{List, [], _∷_, map}
 use mathlib.Core.Option.{none}
 use Prim.Native.Nat.{ℕ, _+_}

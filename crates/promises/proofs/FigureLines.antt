@@ -1,36 +1,29 @@
 -- From the certificate line to the figure.
-use mathlib.Core.Path.{_≡_, refl, sym, ap, _∙_, subst}
-use mathlib.Core.Bool.{_||_}
+use mathlib.Core.Path.{_≡_, ap}
 use mathlib.Core.List.{List, [], _∷_, map}
-use mathlib.Core.Option.{Option, none, some}
-use Prim.Native.Nat.{ℕ, _+_, _*_, _^_, _≤_, _<_}
-use native.Mathlib.Nat.{le-refl, mul-le-mul-left, mul-le-mul-right}
+use mathlib.Core.Option.{some}
+use Prim.Native.Nat.{ℕ, _+_, _*_, _≤_}
+use native.Mathlib.Nat.{le-refl}
 use native.Mathlib.Omega.{arith}
-use lib.IntN.{ℤ, pos, natAbs, _+ℤ_, _-ℤ_, _*ℤ_}
-use lib.Ieee.{Float}
+use lib.IntN.{ℤ}
 use Rattle.integers.specs.Nearest.{Fraction}
 use Rattle.refusal.specs.Outcome.{good}
-use Rattle.fields.specs.declared.Domain.{Domain}
-use Rattle.fields.specs.declared.Domain.the-variants.{Electrical, Physical}
 use Rattle.fields.specs.Calibration.{D, R}
 use Rattle.fields.specs.Lines.{lastField}
 use Rattle.fields.proofs.TemplateFacts.{span-listed}
 use Rattle.layout.specs.Contents.{Calibration, bare, table, curve, Contents}
-use Rattle.layout.specs.Image.{contents, field, segmentIn, segmentsIn}
+use Rattle.layout.specs.Image.{contents, segmentIn, segmentsIn}
 use Rattle.layout.proofs.Accepted.{contents-accepted}
 use Rattle.layout.proofs.Calibrations.{CalibrationAt}
 use Rattle.sheet.proofs.ReadLaws.{accepted-reads}
-use Rattle.build.specs.Build.{pairsLent}
 use Rattle.reading.specs.declared.Dash.{Dash}
 use Rattle.reading.specs.declared.Reading.{Reading}
 use Rattle.reading.specs.Reading.{takeReading}
 use Rattle.reading.proofs.Orders.{shown}
-use Rattle.figures.specs.Figures.{figure, exactFigureAt, units}
 use Rattle.figures.proofs.LineLaws.{figure-near-line}
 use Rattle.promises.specs.Beforehand.{StraysAtMost}
-use Rattle.promises.specs.Certificate.{lineFor, leastIn, greatestIn}
 use Rattle.promises.specs.Alterations.{altered}
-use Rattle.promises.specs.Figure.{NoCurve, low, high, single, lowIn, highIn, FigureWithin, FigureStraysAtMost, CertificateFigure}
+use Rattle.promises.specs.Figure.{NoCurve, low, high, single, lowIn, highIn, FigureStraysAtMost, CertificateFigure}
 use Rattle.promises.proofs.Distance.{certificate-distance}
 use Rattle.promises.proofs.KeptLent.{kept-lent}
 use Rattle.promises.proofs.Figures.{taken, figure-is}

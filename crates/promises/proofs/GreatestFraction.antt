@@ -1,9 +1,9 @@
 -- The greatest fraction that a straight table can give, and the figure's distance told beforehand.
-use mathlib.Core.Path.{_≡_, refl, sym, ap, _∙_, subst}
+use mathlib.Core.Path.{_≡_, refl, sym, ap, _∙_}
 use mathlib.Core.Bool.{Bool, true, false, _||_, true≢false}
 use mathlib.Core.List.{List, [], _∷_, map}
 use mathlib.Core.Option.{Option, none, some}
-use Prim.Native.Nat.{ℕ, _+_, _*_, _^_, _≤_, _<_}
+use Prim.Native.Nat.{ℕ, _+_, _*_, _≤_, _<_}
 use native.Mathlib.Nat.{mul-le-mul-left, mul-le-mul-right}
 use native.Mathlib.Omega.{arith}
 use borrow.Author.Tests.{ltb-false}
@@ -14,7 +14,6 @@ use lib.Ieee.{Float}
 use Rattle.integers.specs.Parts.{up, dn}
 use Rattle.integers.specs.Nearest.{Fraction, _over_}
 use Rattle.integers.proofs.PartLaws.{add-parts, sub-parts-ℤ, mul-parts, abs-parts, up-neg, dn-neg, ltZ-parts, nltZ-parts, is-false}
-use Rattle.refusal.specs.Outcome.{good}
 use Rattle.refusal.specs.Rows.{outsideTable}
 use Rattle.refusal.proofs.Outcomes.{passed}
 use Rattle.fields.specs.declared.Codes.{Codes}
@@ -24,8 +23,8 @@ use Rattle.fields.specs.Calibration.{R, leastDeviation, calDeviation}
 use Rattle.fields.specs.Figure.{billion}
 use Rattle.fields.specs.Rules.{topCode, steppedValue, decode}
 use Rattle.fields.proofs.RuleLaws.{stepped-whole}
-use Rattle.layout.specs.Contents.{Found, FoundPair, Calibration, bare, table, curve, Contents, codesIn}
-use Rattle.layout.specs.Image.{contents, figure, pairIn}
+use Rattle.layout.specs.Contents.{Found, FoundPair, Calibration, bare, table, curve, codesIn}
+use Rattle.layout.specs.Image.{figure, pairIn}
 use Rattle.layout.proofs.Accepted.{contents-accepted}
 use Rattle.layout.proofs.Fields.{FieldAt}
 use Rattle.layout.proofs.Calibrations.{PairsAt, CalibrationAt}

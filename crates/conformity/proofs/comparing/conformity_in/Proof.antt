@@ -1,5 +1,5 @@
 -- `comparing::conformity_in` meets its contract.
-use mathlib.Core.Path.{_≡_, sym, ap, _∙_}
+use mathlib.Core.Path.{sym, ap, _∙_}
 use borrow.Author.Needs.{needs}
 use Rattle.refusal.proofs.Outcomes.{told}
 use Rattle.distance.specs.Distance.{distanceSaid}

@@ -1,5 +1,5 @@
 -- `comparing::conformity_to` meets its contract.
-use mathlib.Core.Path.{_≡_, sym, ap, _∙_}
+use mathlib.Core.Path.{sym, ap, _∙_}
 use mathlib.Core.Option.{some}
 use borrow.Author.Needs.{needs}
 use Rattle.refusal.specs.Outcome.{good}

@@ -1,5 +1,4 @@
 -- `differences::passed` meets its contract. The loop's invariant: the last of the points passed lies before p.
-use mathlib.Core.Path.{_≡_}
 use Prim.Native.Nat.{_*_, _-_, _/_}
 use borrow.Author.Needs.{needs}
 use native.Mathlib.Omega.{arith}

@@ -1,5 +1,5 @@
 -- `differences::upward` meets its contract.
-use Prim.Native.Nat.{_≤_, _^_, _/_}
+use Prim.Native.Nat.{_^_}
 use borrow.Author.Needs.{needs}
 use native.Mathlib.Omega.{arith}
 use Rattle.conformity.proofs.Ceilings.{rest-less, parts-up, whole-small, rest-up-small}
