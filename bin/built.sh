@@ -82,7 +82,7 @@ compile() {
         touch -r "$began" "$new" && mv -f "$new" "$compiled" && rm -f "$began" && return
     fi
     rm -f "$began" "$new"
-    printf '%s\n' "$log" | tail -n 20 >&2
+    [ -z "$log" ] || printf '%s\n' "$log" | tail -n 20 >&2
     fail 'it cannot be compiled'
 }
 

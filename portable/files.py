@@ -108,7 +108,9 @@ class File:
         used = {n for n in self.program.tables.values() if re.search(rf'\b{n}\b', text)}
         tables = [x for k in self.tables if self.program.tables[k] in used for x in self.program.table_lines(k)]
         types = self.types_for(text + '\n'.join(heads) + '\n'.join(tables))
-        parts = blocks(prelude) if not self.below else [(b, names) for b, names in blocks(prelude) if names and b not in self.below.prelude]
+        parts = blocks(prelude)
+        if self.below:
+            parts = [(b, names) for b, names in parts if names and b not in self.below.prelude]
         self.prelude = needed(parts, text)
         return self.prelude, types, tables, heads, code
 

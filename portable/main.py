@@ -19,7 +19,8 @@ def sums(home, crates):
     """The sums of the sources that the C is made from, as sha256sum writes them."""
     paths = ['include/dartelm.h']
     for crate in sorted(crates):
-        paths += sorted(os.path.relpath(p, home) for p in glob.glob(os.path.join(home, 'crates', crate, 'src', '**', '*.rt'), recursive=True))
+        found = glob.glob(os.path.join(home, 'crates', crate, 'src', '**', '*.rt'), recursive=True)
+        paths += sorted(os.path.relpath(p, home) for p in found)
     out = ''
     for path in paths:
         with open(os.path.join(home, path), 'rb') as f:

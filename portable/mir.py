@@ -253,38 +253,37 @@ def body_of_json(body):
             return one() + one()
         if s == 'Skip':
             return []
-        if s == 'Return':
-            return [Return()]
-        if s == 'Block':
-            return [Block(one())]
-        if s == 'Loop':
-            return [Loop(one())]
+        if s in ('Block', 'Loop'):
+            return [{'Block': Block, 'Loop': Loop}[s](one())]
         k, v = only(s) if not isinstance(s, str) else (s, None)
-        if k == 'Exit':
-            return [Exit(v)]
-        if k == 'Assign':
-            return [Assign(place_of_json(v[0]), value_of_json(v[1]))]
-        if k == 'Call':
-            how, name = only(v[0])
-            if how == 'Direct':
-                return [Assign(place_of_json(v[2]), CallOf(name, [operand_of_json(x) for x in v[1]]))]
-            k = 'Call ' + how
         if k == 'If':
             test = operand_of_json(v)
             yes = one()
             return [If(test, yes, one())]
         if k == 'Switch':
-            value = operand_of_json(v[0])
             arms = [(tuple(keys), one()) for keys in v[1]]
-            return [Switch(value, arms, one() if v[2] else None)]
-        if k == 'Foreign':
-            return [Foreign(v['symbol'], v['signs'])]
-        raise Unknown(f'a statement: {k}')
+            return [Switch(operand_of_json(v[0]), arms, one() if v[2] else None)]
+        return [simple_of_json(k, v)]
 
     read = one()
     if next(at, None) is not None:
         raise Unknown('a body that goes on behind its end')
     return read
+
+
+def simple_of_json(k, v):
+    """A statement without a body inside it."""
+    if k == 'Return':
+        return Return()
+    if k == 'Exit':
+        return Exit(v)
+    if k == 'Assign':
+        return Assign(place_of_json(v[0]), value_of_json(v[1]))
+    if k == 'Call' and 'Direct' in v[0]:
+        return Assign(place_of_json(v[2]), CallOf(v[0]['Direct'], [operand_of_json(x) for x in v[1]]))
+    if k == 'Foreign':
+        return Foreign(v['symbol'], v['signs'])
+    raise Unknown(f'a statement: {k}')
 
 
 def shape_of_json(shape):

@@ -23,6 +23,10 @@ class Program:
         for fn in functions.values():
             self.types.learn(fn.shapes)
             fn.named = self.named(fn)
+        for name in self.exported:
+            if name not in functions:
+                raise Unknown(f'the header has {name}, which is in no library')
+            header.meet(functions[name], self.types.shapes)
         for fn in functions.values():
             fold.prepare(fn, self.is_large)
 
@@ -47,7 +51,8 @@ class Program:
             names[at] = source.params[first[at][1].place.base - 1]
             at += 1
         stored = [first.get(at + i) for i in range(len(source.bindings))]
-        by_pattern = [x is not None and isinstance(x[1], mir.Copy) and any(k == 'Variant' for k, _ in x[1].place.steps) for x in stored]
+        by_pattern = [x is not None and isinstance(x[1], mir.Copy) and any(k == 'Variant' for k, _ in x[1].place.steps)
+                      for x in stored]
         order = [x[0] for x in stored if x is not None]
         if order != sorted(order) or any(x is not None and p != b for x, p, (_, b) in zip(stored, by_pattern, source.bindings)):
             return {k: v for k, v in names.items() if k <= fn.params}
@@ -86,7 +91,8 @@ class Program:
     def table_lines(self, key):
         (_, element, count), numbers = key
         rows = wrapped('    ' + ', '.join(f'{n}u' for n in numbers))
-        return [f'static const {self.types.c(element)} {self.tables[key]}[{count}] = {{'] + ['    ' + r.strip() for r in rows] + ['};']
+        head = f'static const {self.types.c(element)} {self.tables[key]}[{count}] = {{'
+        return [head] + ['    ' + r.strip() for r in rows] + ['};']
 
     @staticmethod
     def string(numbers):

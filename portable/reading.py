@@ -68,8 +68,9 @@ class Proved:
                 self.functions[function] = mir.function_of_json(function, of)
             elif function not in self.functions:
                 self.crate(function.split('::')[0])
-            if function in self.functions and function.split('::')[0] != name and not term.same(of, self.functions[function].proved):
+            if function.split('::')[0] != name and not term.same(of, self.functions[function].proved):
                 raise Unknown(f'{function} as printed is not the one that was proved')
         self.crates.append(name)
-        self.sources.crate(1 + max(self.levels.values()), name, os.path.join(self.home, 'crates', name, 'src'), f'crates/{name}/src')
+        folder = os.path.join(self.home, 'crates', name, 'src')
+        self.sources.crate(1 + max(self.levels.values()), name, folder, f'crates/{name}/src')
         return main

@@ -105,20 +105,28 @@ class Statements(Values):
 
     def body(self, body):
         waiting = list(self.declare_in.get(id(body), []))
-        for n, s in enumerate(body):
+        for s in body:
             mentioned = self.mentioned(s)
             for local in [x for x in waiting if x in mentioned]:
                 waiting.remove(local)
-                t = self.fn.locals[local].type
-                if local in self.pointees:
-                    t = ('Ref', True, self.pointees[local])
-                self.spots[local] = Spot(self.names[local][0], t)
-                if stored(s) == local and not isinstance(s.value, (mir.Aggregate, mir.Repeat)) and local not in reads_of(self.fn, s).locals:
+                own = reads_of(self.fn, s).locals
+                if stored(s) == local and not isinstance(s.value, (mir.Aggregate, mir.Repeat)) and local not in own:
+                    self.place(local)
                     self.declared = local
                 else:
-                    self.say(f'{self.types.c(t)} {self.names[local][0]};'.replace('* ', '*'))
-            self.statement(s, body[n + 1:])
+                    self.declare(local)
+            self.statement(s)
             self.declared = None
+
+    def place(self, local):
+        t = self.fn.locals[local].type
+        if local in self.pointees:
+            t = ('Ref', True, self.pointees[local])
+        self.spots[local] = Spot(self.names[local][0], t)
+        return t
+
+    def declare(self, local):
+        self.say(f'{self.types.c(self.place(local))} {self.names[local][0]};'.replace('* ', '*'))
 
     def mentioned(self, s):
         out = set()
@@ -126,7 +134,7 @@ class Statements(Values):
             out |= set(reads_of(self.fn, x).locals) | {stored(x)}
         return out
 
-    def statement(self, s, rest):
+    def statement(self, s):
         if isinstance(s, mir.Assign):
             self.assign(s)
         elif isinstance(s, mir.Return):
@@ -288,6 +296,8 @@ class Statements(Values):
     def block(self, s):
         """`block`: an `exit` of it goes on behind it. Around a loop alone it is what the loop is left to."""
         if len(s.body) == 1 and isinstance(s.body[0], mir.Loop):
+            for local in self.declare_in.get(id(s.body), []):
+                self.declare(local)
             self.loop(s.body[0], [Level('block'), Level('loop')])
             return
         level = Level('block')

@@ -77,8 +77,6 @@ class Types:
         kind, parts = self.shapes[name]
         own = self.header.struct_of(name)
         if own:
-            if kind != 'Fields' or len(parts) != len(self.header.structs[own]):
-                raise Unknown(f'the header has another {own}')
             self.say(own + ' ', self.sized(own, t))
             return own
         own = ident(name)

@@ -13,7 +13,8 @@ POSTFIX, UNARY, PRODUCT, SUM, OTHER = range(5)    # how tightly a C expression h
 LIMITS = {'*': (PRODUCT, UNARY, PRODUCT), '/': (UNARY, UNARY, PRODUCT), '%': (UNARY, UNARY, PRODUCT),
           '+': (SUM, PRODUCT, SUM), '-': (SUM, PRODUCT, SUM), '<': (SUM, SUM, OTHER), '<=': (SUM, SUM, OTHER),
           '>': (SUM, SUM, OTHER), '>=': (SUM, SUM, OTHER), '==': (SUM, SUM, OTHER), '!=': (SUM, SUM, OTHER)}
-ARITHMETIC = {'Add': '+', 'Sub': '-', 'Mul': '*', 'Div': '/', 'Rem': '%', 'And': '&', 'Or': '|', 'Xor': '^', 'Shl': '<<', 'Shr': '>>'}
+ARITHMETIC = {'Add': '+', 'Sub': '-', 'Mul': '*', 'Div': '/', 'Rem': '%', 'And': '&', 'Or': '|', 'Xor': '^',
+              'Shl': '<<', 'Shr': '>>'}
 COMPARED = {'Eq': '==', 'Ne': '!=', 'Lt': '<', 'Le': '<='}
 NEGATED = {'==': '!=', '!=': '==', '<': '>=', '<=': '>'}
 FLOATS = {32: 'float', 64: 'double'}
@@ -232,7 +233,8 @@ class Values:
             return Value(self.address(e, at.type), UNARY, ('Ref', True, at.type))
         if isinstance(e, mir.SliceOf):
             name = self.types.c(('Slice', e.element))
-            return Value(f'{name}_of({self.address(e.pointer, e.element)}, {self.value(e.length).text})', POSTFIX, ('Slice', e.element))
+            parts = f'{self.address(e.pointer, e.element)}, {self.value(e.length).text}'
+            return Value(f'{name}_of({parts})', POSTFIX, ('Slice', e.element))
         if isinstance(e, mir.CallOf):
             return self.call(e)
         raise Unknown(f'a value: {type(e).__name__}')
@@ -251,7 +253,8 @@ class Values:
         for i, x in enumerate(e.args, 1):
             if callee.locals[i].type == ('Unit',):
                 continue
-            args.append(self.lent(x, callee.locals[i].type) if i in self.program.lent(e.name) else self.as_type(x, callee.locals[i].type).text)
+            t = callee.locals[i].type
+            args.append(self.lent(x, t) if i in self.program.lent(e.name) else self.as_type(x, t).text)
         return Value(f"{self.program.c_name(e.name)}({', '.join(args)})", POSTFIX, callee.locals[0].type)
 
     def lent(self, x, t):
@@ -339,7 +342,8 @@ class Values:
         if e.op == 'Not' and kind == 'Bool':
             return Value(f'!{x.within(UNARY)}', UNARY, ('Bool',))
         if e.op == 'Not' and kind == 'Int':
-            return Value(f'~{x.within(UNARY)}' if x.type[1] >= 32 else f'(uint{x.type[1]}_t)~(uint32_t){x.within(UNARY)}', UNARY, x.type)
+            narrowed = f'(uint{x.type[1]}_t)~(uint32_t)' if x.type[1] < 32 else '~'
+            return Value(narrowed + x.within(UNARY), UNARY, x.type)
         if e.op == 'Cast' and kind in ('Int', 'Bool'):
             return self.cast(e.args, x)
         if e.op == 'FloatNeg' and kind == 'Float':

@@ -1,12 +1,13 @@
-"""Which Dartelm this is: the header's number, and in a release what it was made from."""
+"""Which Dartelm this is: the header's number, in a release what it was made from, and which build of the console answers."""
 import os
 import re
+import subprocess
 
 from .console import HOME
 
 
 def line():
-    return "Dartelm " + " ".join(part for part in (number(), made_from()) if part)
+    return "Dartelm " + " ".join(part for part in (number(), made_from()) if part) + built()
 
 
 def number():
@@ -24,3 +25,13 @@ def made_from():
             return f"({file.read().strip()})"
     except OSError:
         return ""
+
+
+def built():
+    """Compiled from portable/c, or the toolchain's."""
+    try:
+        words = [os.path.join(HOME, "bin", "console"), "--version"]
+        said = subprocess.run(words, stdout=subprocess.PIPE, text=True, check=False).stdout
+    except OSError:
+        return ""
+    return said.strip()[said.find(","):] if "," in said else ""
