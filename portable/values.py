@@ -249,6 +249,8 @@ class Values:
     def call(self, e):
         """`call`: the operands are evaluated, then the function runs; a large one is lent by its address, and only read."""
         callee = self.program.functions[e.name]
+        if len(e.args) != callee.params:
+            raise Unknown(f'{self.fn.name} calls {e.name} with other arguments than it takes: prove both again')
         args = []
         for i, x in enumerate(e.args, 1):
             if callee.locals[i].type == ('Unit',):
