@@ -1,7 +1,7 @@
 """Builds the package for pip, with Python's own library and a C compiler alone (PEP 517).
 
 A wheel has the package, the shared library compiled from portable/c/dartelm.c, and the command `dartelm` with its two programs.
-Below the package the command finds what it finds in the repository: bin/, command/, docs/ and include/.
+Below the package the command finds what it finds in a release: bin/, command/, docs/, include/ and target/bin/.
 """
 import base64
 import hashlib
@@ -21,10 +21,10 @@ from dartelm import library  # noqa: E402
 
 HOME = library.HOME
 PROGRAMS = ("console", "tray")
-# What the command reads when it runs.
-READ = ("docs/REFUSALS.md", "include/dartelm.h")
+# What the command runs and reads.
+NEEDED = ("bin/built.sh", "bin/console", "bin/tray", "docs/REFUSALS.md", "include/dartelm.h")
 # What a source distribution has.
-SOURCES = ("pyproject.toml", "python", "portable/c", "include", "command/dartelm", "docs/REFUSALS.md", "docs/PYTHON.md")
+SOURCES = ("pyproject.toml", "python", "portable/c", "command/dartelm", "docs/PYTHON.md", *NEEDED)
 
 
 class Unbuilt(Exception):
@@ -85,8 +85,9 @@ def modules():
         for name in sorted(os.listdir(os.path.join(HOME, "command", "dartelm"))):
             if name.endswith(".py"):
                 files[f"dartelm/command/dartelm/{name}"] = read(os.path.join(HOME, "command", "dartelm", name)), 0o644
-        for name in READ:
-            files[f"dartelm/{name}"] = read(os.path.join(HOME, *name.split("/"))), 0o644
+        for name in NEEDED:
+            path = os.path.join(HOME, *name.split("/"))
+            files[f"dartelm/{name}"] = read(path), 0o755 if os.access(path, os.X_OK) else 0o644
     return files
 
 
@@ -103,7 +104,7 @@ def compiled():
             words = [*compiler, "-std=c99", "-O2", "-I" + os.path.join(HOME, "include"), source(name), "-o", path]
             if subprocess.run(words, check=False).returncode != 0:
                 raise Unbuilt(" ".join(words))
-            files[f"dartelm/bin/{name}"] = read(path), 0o755
+            files[f"dartelm/target/bin/{name}"] = read(path), 0o755
     return files
 
 

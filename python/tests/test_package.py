@@ -266,9 +266,17 @@ class Installed(unittest.TestCase):
         self.assertEqual(done.stdout.split(" ")[0], "500400001", done.stderr)
         self.assertTrue(done.stdout.split(" ")[1].startswith(room), done.stdout)
         command = os.path.join(room, "venv", "bin", "dartelm")
-        done = run(command, "show", os.path.join(HOME, "samples", "load-cell.kind1"), cwd=room, env={"PATH": room})
-        self.assertEqual((done.returncode, done.stderr), (0, ""))
-        self.assertIn("accepted, kind 1 (128 bytes)", done.stdout)
+        env = {"PATH": "/usr/bin:/bin", "CC": "false"}
+        cell = os.path.join(HOME, "samples", "load-cell.kind1")
+        for words, wanted in (
+            (("show", cell), "accepted, kind 1 (128 bytes)"),
+            (("tray", cell), "total 716 bits"),
+            (("why", os.path.join(HOME, "samples", "damaged.kind1")), "page 2"),
+            (("--version",), f"Dartelm {declared.VERSION}"),
+        ):
+            done = run(command, *words, cwd=room, env=env, stdin=subprocess.DEVNULL)
+            self.assertEqual(done.stderr, "", words)
+            self.assertIn(wanted, done.stdout, words)
 
 
 if __name__ == "__main__":
