@@ -211,9 +211,9 @@ pub fn basic_closed() -> u64
     3
 }
 
-// The same of a template.
+// The same of a template, whose last field is never one of them.
 pub fn last_closed(template: Template) -> u64
-    ensures { λ r. ⌜ (r ≤ lastField template) × OpenBehind template r (lastField template) ⌝ }
+    ensures { λ r. ⌜ (r < lastField template) × OpenBehind template r (lastField template) ⌝ }
 {
     match template {
         Template::Bridge => 12,

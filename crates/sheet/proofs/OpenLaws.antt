@@ -1,18 +1,21 @@
 -- What an opened sheet says of its image.
 use mathlib.Core.Path.{_≡_, refl, sym, ap, _∙_}
 use mathlib.Core.List.{List}
-use Prim.Native.Nat.{ℕ}
+use mathlib.Core.Bool.{not}
+use Prim.Native.Nat.{ℕ, zero, suc, _≤_}
+use native.Mathlib.Omega.{arith}
+use lib.Dec.{eqb}
 use lib.ListN.{length}
 use Rattle.refusal.specs.declared.Refusal.{Refusal}
 use Rattle.refusal.specs.Outcome.{Outcome, good, refused, _>>=_}
-use Rattle.refusal.specs.Rows.{wrongSum, blankChip}
-use Rattle.refusal.proofs.Outcomes.{good-same, no-value, told, good-bind, bind-assoc}
+use Rattle.refusal.specs.Rows.{wrongImage, wrongSum, blankChip}
+use Rattle.refusal.proofs.Outcomes.{good-same, no-value, told, good-bind, passed, bind-assoc}
 use Rattle.memory.specs.declared.Sizes.{Sizes}
 use Rattle.memory.specs.declared.kinds.SizesAnswer.{SizesAnswer}
 use Rattle.memory.specs.declared.kinds.SizesAnswer.the-variants.{Are, Refused as NoSizes}
 use Rattle.memory.specs.declared.pages.Sums.{Sums}
 use Rattle.memory.specs.declared.pages.Sums.the-variants.{Right, Wrong, Blank}
-use Rattle.memory.specs.Image.{imageSizes, sums}
+use Rattle.memory.specs.Image.{sizesOf, imageBytes, streamBits, imageSizes, sums}
 use Rattle.memory.specs.Answers.{Whole, sizesSaid, sumsSaid}
 use Rattle.memory.proofs.Chips.{sizes-whole}
 use Rattle.layout.specs.Format.{parse}
@@ -22,9 +25,16 @@ use Rattle.sheet.specs.declared.opening.Opened.{Opened}
 use Rattle.sheet.specs.declared.opening.OpenedAnswer.{OpenedAnswer}
 use Rattle.sheet.specs.declared.opening.OpenedAnswer.the-variants.{Sheet, Refused as NoSheet}
 use Rattle.sheet.specs.Opened.{openedAs, opened, openedSaid, Opens, Held}
-use Rattle.sheet.specs.Walk.{walked}
+use Rattle.sheet.specs.Walk.{Roomy, walked}
 
 -- ---- an opening, step by step
+
+-- The stream of each kind has 312 bits or more.
+bits-least : (kind : ℕ) (z : Sizes) → sizesOf kind ≡ good z → 312 ≤ streamBits z
+bits-least zero z e = rw (← good-same e) (omega arith)
+bits-least (suc zero) z e = rw (← good-same e) (omega arith)
+bits-least (suc (suc zero)) z e = rw (← good-same e) (omega arith)
+bits-least (suc (suc (suc k))) z e = no-value e
 
 module _ (kind : ℕ) (image : List ℕ) (x : SizesAnswer) (e : sizesSaid x ≡ imageSizes kind (length image)) where
   pub sizes-refused : {r : Refusal} → x ≡ NoSizes r → refused r ≡ opened kind image
@@ -34,6 +44,13 @@ module _ (kind : ℕ) (image : List ℕ) (x : SizesAnswer) (e : sizesSaid x ≡ 
   module _ {z : Sizes} (h : x ≡ Are z) where
     pub sized : Whole z image
     sized = sizes-whole kind image z (sym (told sizesSaid h e))
+
+    pub roomy : Roomy z image
+    unfolding imageSizes
+    roomy =
+        let (y, s, t) = good-bind (sizesOf kind) _ z (sym (told sizesSaid h e)) in
+        let (right, same) = passed wrongImage (not (eqb (length image) (imageBytes y))) (good y) z t in
+        record { whole = sized; room = bits-least kind z (s ∙ same) }
 
     pub sums-wrong : {y : Sums} {page : ℕ} → sumsSaid y ≡ sums z image → y ≡ Wrong page → refused (wrongSum page) ≡ opened kind image
     unfolding opened contents

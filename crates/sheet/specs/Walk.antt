@@ -6,13 +6,12 @@ use mathlib.Core.Option.{Option, none}
 use Prim.Native.Nat.{ℕ, zero, suc, _+_, _-_, _*_, _/_, _≤_}
 use lib.Dec.{eqb, ltb}
 use lib.IntN.{pos, natAbs}
-use lib.ListN.{length, take, drop}
+use lib.ListN.{length}
 use Rattle.refusal.specs.Outcome as outcome
 use Rattle.refusal.specs.Outcome.{Outcome, good, refused}
 use Rattle.refusal.specs.Rows.{wrongBlock}
 use Rattle.memory.specs.declared.Sizes.{Sizes}
-use Rattle.memory.specs.Bits.{fieldAt}
-use Rattle.memory.specs.Image.{streamBits, streamNumber}
+use Rattle.memory.specs.Image.{streamBits}
 use Rattle.memory.specs.Answers.{Whole}
 use Rattle.stream.specs.declared.cursor.Cursor.{Cursor}
 use Rattle.stream.specs.declared.cursor.Taken.{Taken}
@@ -32,11 +31,12 @@ use Rattle.fields.specs.declared.Term.{Term}
 use Rattle.fields.specs.Answers.{earlierSaid}
 use Rattle.fields.specs.Curves.{segmentStart, exponent, coefficient, tenthsOf, tenthsBefore, exponentFollows}
 use Rattle.fields.specs.Judgement.{judge}
-use Rattle.fields.specs.Lines.{Line, basic, templateLines, linesOf}
+use Rattle.fields.specs.Lines.{Line, basic, templateLines}
 use Rattle.layout.specs.Format.{Format, ends, _>>=_, _>>_, bits, refuse_if_, Stream, Parsed, parse}
 use Rattle.layout.specs.Contents.{Found, Calibration, table, Passed, Ending, fieldOf, fieldsOf, selectorOf, pairsOf, blockAt, sheetOf}
 use Rattle.layout.specs.Image.{streamIn, lastChoice, pairsIn, segmentsIn, allTerms, figure, float}
-use Rattle.layout.specs.Places.{blockBits, firstSelector, fieldPlace, behindFields, segmentHead, termBits}
+use Rattle.layout.specs.Places.{blockBits, firstSelector, segmentHead, termBits}
+use Rattle.layout.specs.Judgement.{judged, frontLines}
 use Rattle.sheet.specs.declared.opening.Opened.{Opened}
 use Rattle.sheet.specs.declared.walk.CodeStep.{CodeStep}
 use Rattle.sheet.specs.declared.walk.CodeStep.the-variants.{Code, Refused as NoCode}
@@ -122,10 +122,6 @@ numberIn (refused r) = 0
 
 -- ---- what is walked over
 
--- The lines of fields first to last, counted from 1.
-abbrev pub linesFrom : Template → ℕ → ℕ → List Line
-linesFrom template first last = take (suc last - first) (drop (first - 1) (linesOf template))
-
 -- Of Basic, and of a template's own fields behind the first block, the latest choice.
 abbrev pub basicChoice : Stream → Outcome (Parsed ℕ)
 basicChoice s = keeping (choiceOn basic 0) (parse s (fieldsOf basic 0) 0)
@@ -139,11 +135,14 @@ ownChoice s template = keeping (choiceOn (templateLines template) 0) (parse s (f
 abbrev pub layoutAt : Template → ℕ → Layout
 layoutAt template precision = record { template = template; precision = precision }
 
--- The fields of a layout all lie in an image's stream, which has the layout's precision at its place.
-pub record Lies (z : Sizes) (image : List ℕ) (layout : Layout) : Type 0 where
+-- Of a layout's own fields but the last, judged at their places.
+abbrev pub ownJudged : Stream → Layout → Outcome (Unit {0})
+ownJudged s layout = judged s (frontLines (layout .template)) (layout .precision) ownStart
+
+-- An image whose stream has the 312 bits that every kind's has: all fields but the last lie in it.
+pub record Roomy (z : Sizes) (image : List ℕ) : Type 0 where
   pub whole : Whole z image
-  pub precise : layout .precision ≡ fieldAt (streamNumber z image) (fieldPlace layout 9) 2
-  pub inside : behindFields layout ≤ streamBits z
+  pub room : 312 ≤ streamBits z
 
 -- Row 4: a code that has to be the one wanted, in the block whose selector stands at a place.
 abbrev pub markOf : ℕ → ℕ → ℕ → Format (Unit {0})

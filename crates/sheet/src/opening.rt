@@ -1,8 +1,7 @@
 // The whole check, once.
 ghost use mathlib.Core.Path.{_≡_};
-ghost use Rattle.memory.specs.Answers.{Whole};
 ghost use Rattle.sheet.specs.Opened.{opened, openedSaid};
-ghost use Rattle.sheet.specs.Walk.{walked};
+ghost use Rattle.sheet.specs.Walk.{Roomy, walked};
 use crate::Summary;
 use crate::block;
 use crate::block::BlockStep;
@@ -32,7 +31,7 @@ pub enum OpenedAnswer {
 
 // The stream from its start.
 fn walk_sheet(sizes: Sizes, image: &[u8]) -> OpenedAnswer
-    requires { ⌜ Whole sizes (now image) ⌝ }
+    requires { ⌜ Roomy sizes (now image) ⌝ }
     ensures { λ r. ⌜ openedSaid r ≡ walked sizes (now (image .entry)) ⌝ }
 {
     match walk::judge_basic(sizes, image) {

@@ -4,23 +4,21 @@ ghost use Prim.Native.Nat.{_+_, _≤_};
 ghost use Rattle.memory.specs.Bits.{fieldAt};
 ghost use Rattle.memory.specs.Image.{streamBits, streamNumber};
 ghost use Rattle.memory.specs.Answers.{Whole};
-ghost use Rattle.fields.specs.Lines.{chose, lastField, rowOf};
 ghost use Rattle.fields.specs.Stored.{Sound};
 ghost use Rattle.fields.specs.Judgement.{judge};
 ghost use Rattle.fields.specs.Answers.{judgedSaid};
 ghost use Rattle.layout.specs.Format.{parse};
-ghost use Rattle.layout.specs.Contents.{fieldOf, fieldsOf, firstBlock};
+ghost use Rattle.layout.specs.Contents.{fieldOf, firstBlock};
 ghost use Rattle.layout.specs.Image.{streamIn};
-ghost use Rattle.layout.specs.Places.{firstSelector, behindFields};
+ghost use Rattle.layout.specs.Places.{firstSelector};
 ghost use Rattle.sheet.specs.Walk.{
   keeping,
   coded,
-  choiceOn,
-  linesFrom,
+  Roomy,
   basicChoice,
+  ownJudged,
   ownChoice,
   layoutAt,
-  Lies,
   markOf,
   judgedAt,
   codeSaid,
@@ -129,67 +127,6 @@ pub fn take_mark(
     }
 }
 
-// The code of a field: `take_code` of its row. The row is asked for twice, for its bits and to judge the code, so that the
-// compiler judges in the arm of the row and keeps no part of it while the code is taken.
-fn take_field(sizes: Sizes, image: &[u8], cursor: Cursor, layout: Layout, field: u64) -> CodeStep
-    requires { ⌜ Whole sizes (now image) × (1 ≤ field) × (field ≤ lastField (layout .template)) ⌝ }
-    ensures { λ r. ⌜ codeSaid (cursor .at) r ≡ keeping coded (parse (streamIn sizes (now (image .entry))) (fieldOf (rowOf layout field)) (cursor .at)) ⌝ }
-{
-    match cursor.take(sizes, image, fields::row_of(layout, field).width as usize) {
-        Taken::Refused(r) => CodeStep::Refused(r),
-        Taken::Field(code, next) => match coding::judge(
-            fields::row_of(layout, field),
-            cursor.at as u64,
-            code,
-        ) {
-            Judged::Refused(r) => CodeStep::Refused(r),
-            Judged::Stands => CodeStep::Code(code, next),
-        },
-    }
-}
-
-// The latest choice behind a field.
-fn chosen(sets: bool, code: u64, latest: u64) -> u64
-    ensures { λ r. ⌜ r ≡ chose sets code latest ⌝ }
-{
-    if sets { code } else { latest }
-}
-
-// The fields from number `first` to number `last` of a template: the latest choice behind them.
-fn take_fields(
-    sizes: Sizes,
-    image: &[u8],
-    start: Cursor,
-    template: Template,
-    first: u64,
-    last: u64,
-) -> ChoiceStep
-    requires { ⌜ Whole sizes (now image) × (1 ≤ first) × (last ≤ lastField template) ⌝ }
-    ensures { λ r. let lines = linesFrom template first last in
-        ⌜ choiceSaid r ≡ keeping (choiceOn lines 0) (parse (streamIn sizes (now (image .entry))) (fieldsOf lines 0) (start .at)) ⌝ }
-{
-    let mut cursor = start;
-    let mut precision: u64 = 0;
-    let mut field = first;
-    while field <= last {
-        let layout = Layout {
-            template,
-            precision,
-        };
-        match take_field(sizes, image, cursor, layout, field) {
-            CodeStep::Refused(r) => {
-                return ChoiceStep::Refused(r);
-            }
-            CodeStep::Code(code, next) => {
-                precision = chosen(fields::is_choice(template, field), code, precision);
-                cursor = next;
-            }
-        }
-        field += 1;
-    }
-    ChoiceStep::Chosen(precision, cursor)
-}
-
 // ---- fields that lie in the stream
 
 // Whether the code of a row may stand in its field: 5 or 6.
@@ -225,10 +162,10 @@ pub fn judge_basic(sizes: Sizes, image: &[u8]) -> Judged
     Judged::Stands
 }
 
-// The fields of template 33 at a precision, up to the last that can turn a code down.
+// The fields of template 33 at a precision, all but the last, up to the last that can turn a code down.
 fn judge_bridge(sizes: Sizes, image: &[u8], precision: u64) -> Judged
-    requires { ⌜ Lies sizes (now image) (layoutAt Template.Bridge precision) ⌝ }
-    ensures { λ r. ⌜ stoodTo precision (behindFields (layoutAt Template.Bridge precision)) r ≡ ownChoice (streamIn sizes (now (image .entry))) Template.Bridge ⌝ }
+    requires { ⌜ Roomy sizes (now image) ⌝ }
+    ensures { λ r. ⌜ judgedSaid r ≡ ownJudged (streamIn sizes (now (image .entry))) (layoutAt Template.Bridge precision) ⌝ }
 {
     let last = fields::last_closed(Template::Bridge);
     let mut cursor = Cursor { at: OWN_FIELDS };
@@ -247,8 +184,8 @@ fn judge_bridge(sizes: Sizes, image: &[u8], precision: u64) -> Judged
 
 // The same of template 32.
 fn judge_resistance(sizes: Sizes, image: &[u8], precision: u64) -> Judged
-    requires { ⌜ Lies sizes (now image) (layoutAt Template.Resistance precision) ⌝ }
-    ensures { λ r. ⌜ stoodTo precision (behindFields (layoutAt Template.Resistance precision)) r ≡ ownChoice (streamIn sizes (now (image .entry))) Template.Resistance ⌝ }
+    requires { ⌜ Roomy sizes (now image) ⌝ }
+    ensures { λ r. ⌜ judgedSaid r ≡ ownJudged (streamIn sizes (now (image .entry))) (layoutAt Template.Resistance precision) ⌝ }
 {
     let last = fields::last_closed(Template::Resistance);
     let mut cursor = Cursor { at: OWN_FIELDS };
@@ -266,8 +203,8 @@ fn judge_resistance(sizes: Sizes, image: &[u8], precision: u64) -> Judged
 }
 
 fn judge_own(sizes: Sizes, image: &[u8], layout: Layout) -> Judged
-    requires { ⌜ Lies sizes (now image) layout ⌝ }
-    ensures { λ r. ⌜ stoodTo (layout .precision) (behindFields layout) r ≡ ownChoice (streamIn sizes (now (image .entry))) (layout .template) ⌝ }
+    requires { ⌜ Roomy sizes (now image) ⌝ }
+    ensures { λ r. ⌜ judgedSaid r ≡ ownJudged (streamIn sizes (now (image .entry))) layout ⌝ }
 {
     let template = layout.template;
     match template {
@@ -293,10 +230,10 @@ pub fn take_template(sizes: Sizes, image: &[u8]) -> TemplateStep
     }
 }
 
-// A template's own fields. Where they all lie in the stream at the precision that stands there, they are judged at their
-// places, else walked over.
+// A template's own fields, at the precision that stands there. All but the last lie in every stream, and the last takes every
+// code: so 3 comes behind 5 and 6, and only at the last.
 pub fn take_own(sizes: Sizes, image: &[u8], template: Template) -> ChoiceStep
-    requires { ⌜ Whole sizes (now image) ⌝ }
+    requires { ⌜ Roomy sizes (now image) ⌝ }
     ensures { λ r. ⌜ choiceSaid r ≡ ownChoice (streamIn sizes (now (image .entry))) template ⌝ }
 {
     let choice = Field { at: PRECISION };
@@ -305,19 +242,13 @@ pub fn take_own(sizes: Sizes, image: &[u8], template: Template) -> ChoiceStep
         template,
         precision,
     };
+    if let Judged::Refused(r) = judge_own(sizes, image, layout) {
+        return ChoiceStep::Refused(r);
+    }
     let end = places::fields_end(layout);
     if 8 * (image.len() - sizes.pages) < end {
-        return take_fields(
-            sizes,
-            image,
-            Cursor { at: OWN_FIELDS },
-            template,
-            fields::basic_fields() + 1,
-            fields::last_field(template),
-        );
+        let last = places::locate(layout, fields::last_field(template));
+        return ChoiceStep::Refused(refusal::past_end(last as u64));
     }
-    match judge_own(sizes, image, layout) {
-        Judged::Refused(r) => ChoiceStep::Refused(r),
-        Judged::Stands => ChoiceStep::Chosen(precision, Cursor { at: end }),
-    }
+    ChoiceStep::Chosen(precision, Cursor { at: end })
 }

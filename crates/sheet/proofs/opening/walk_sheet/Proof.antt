@@ -7,7 +7,7 @@ take-ending-requires : tie.Need-take-ending-requires
 take-ending-requires c κs =
     let o = c .before .before .before .before .before .before .before in
     let b = o .before .before .before .before .before .before .before in
-    b .before .before .pre
+    b .before .before .pre .whole
 
 returns : tie.Need-returns
 returns c =
