@@ -1,5 +1,5 @@
 // Document 01, "Layout", and document 02, Note 7: the order of the table of fields. Basic comes first, then the lines of the
-// template that the first block names. The numbers of fields and templates stand here and nowhere else.
+// template that the first block names.
 use crate::Layout;
 use crate::Mark;
 use crate::Row;

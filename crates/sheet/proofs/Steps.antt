@@ -76,6 +76,21 @@ pub keep-twice : {A B C : Type 0} (other : B → C) (part : A → B) (o : Outcom
 keep-twice other part (good x) = refl
 keep-twice other part (refused r) = refl
 
+-- What a format and those behind it come to, from what is kept of it.
+pub keep-through : {A B C D : Type 0} (part : A → B) (s : Stream) (m : Format A) (k : A → Format C) (at : ℕ) (final : Parsed C → Outcome D) (rest : Parsed B → Outcome D) →
+    ((x : Parsed A) → good x ≡ parse s m at → outcome._>>=_ (parse s (k (x .found)) (x .next)) final ≡ rest (parsed (part (x .found)) (x .next))) →
+    outcome._>>=_ (parse s (m >>= k) at) final ≡ outcome._>>=_ (keeping part (parse s m at)) rest
+keep-through {A} part s m k at final rest h = ap (λ o. outcome._>>=_ o final) (parse-bind s m k at) ∙ go (parse s m at) h
+  where
+    go : (o : Outcome (Parsed A)) → ((x : Parsed A) → good x ≡ o → outcome._>>=_ (parse s (k (x .found)) (x .next)) final ≡ rest (parsed (part (x .found)) (x .next))) →
+        outcome._>>=_ (outcome._>>=_ o (λ x. parse s (k (x .found)) (x .next))) final ≡ outcome._>>=_ (keeping part o) rest
+    go (good x) g = g x refl
+    go (refused r) g = refl
+
+-- What an answer says and what follows from it, its case known.
+pub carried : {X A B : Type 0} (said : X → Outcome A) (k : A → Outcome B) {x y : X} {o : Outcome A} → x ≡ y → said x ≡ o → outcome._>>=_ (said y) k ≡ outcome._>>=_ o k
+carried said k h e = ap (λ o. outcome._>>=_ o k) (told said h e)
+
 -- Of n things how many there are, where so many are left: those before are passed.
 abbrev pub countLeft : {A : Type 0} → Stream → (ℕ → Format (List A)) → ℕ → ℕ → ℕ → Outcome (Parsed ℕ)
 countLeft s many n left at = keeping (λ l. n - left + length l) (parse s (many left) at)

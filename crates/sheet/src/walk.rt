@@ -19,6 +19,7 @@ ghost use Rattle.sheet.specs.Walk.{
   ownJudged,
   ownChoice,
   layoutAt,
+  EndsBehind,
   markOf,
   judgedAt,
   codeSaid,
@@ -27,7 +28,6 @@ ghost use Rattle.sheet.specs.Walk.{
   stoodTo,
   templateStepSaid,
 };
-use crate::places;
 use fields::Judged;
 use fields::Layout;
 use fields::Row;
@@ -62,21 +62,6 @@ pub enum TemplateStep {
     Named(Template),
     Refused(Refusal),
 }
-
-// The bits of a selector and of a template number.
-pub const SELECTOR_BITS: usize = 2;
-
-pub const NUMBER_BITS: usize = 8;
-
-// The first block stands behind Basic, and the fields of its template behind it. The precision is the fourth of them: measurand,
-// least and greatest physical stand before it.
-const FIRST_BLOCK: usize = 64;
-
-const OWN_FIELDS: usize = FIRST_BLOCK + SELECTOR_BITS + NUMBER_BITS;
-
-const PRECISION: usize = OWN_FIELDS + 6 + 32 + 32;
-
-const PRECISION_BITS: usize = 2;
 
 // The code that was taken at bit `at`: its refusal, or 5 or 6 as its row says.
 pub fn judged(row: Row, at: u64, taken: Taken) -> CodeStep
@@ -168,7 +153,9 @@ fn judge_bridge(sizes: Sizes, image: &[u8], precision: u64) -> Judged
     ensures { λ r. ⌜ judgedSaid r ≡ ownJudged (streamIn sizes (now (image .entry))) (layoutAt Template.Bridge precision) ⌝ }
 {
     let last = fields::last_closed(Template::Bridge);
-    let mut cursor = Cursor { at: OWN_FIELDS };
+    let mut cursor = Cursor {
+        at: layout::OWN_FIELDS,
+    };
     let mut field = fields::basic_fields() + 1;
     while field <= last {
         let row = fields::bridge_row(precision, field);
@@ -188,7 +175,9 @@ fn judge_resistance(sizes: Sizes, image: &[u8], precision: u64) -> Judged
     ensures { λ r. ⌜ judgedSaid r ≡ ownJudged (streamIn sizes (now (image .entry))) (layoutAt Template.Resistance precision) ⌝ }
 {
     let last = fields::last_closed(Template::Resistance);
-    let mut cursor = Cursor { at: OWN_FIELDS };
+    let mut cursor = Cursor {
+        at: layout::OWN_FIELDS,
+    };
     let mut field = fields::basic_fields() + 1;
     while field <= last {
         let row = fields::resistance_row(precision, field);
@@ -219,14 +208,18 @@ pub fn take_template(sizes: Sizes, image: &[u8]) -> TemplateStep
     requires { ⌜ Whole sizes (now image) ⌝ }
     ensures { λ r. ⌜ templateStepSaid r ≡ parse (streamIn sizes (now (image .entry))) firstBlock firstSelector ⌝ }
 {
-    let first = Field { at: FIRST_BLOCK };
-    let block = first.code(sizes, image, SELECTOR_BITS + NUMBER_BITS);
+    let first = Field {
+        at: layout::FIRST_SELECTOR,
+    };
+    let block = first.code(sizes, image, layout::BLOCK_BITS);
     if block & 3 != 0 {
-        return TemplateStep::Refused(refusal::wrong_block(FIRST_BLOCK as u64));
+        return TemplateStep::Refused(refusal::wrong_block(layout::FIRST_SELECTOR as u64));
     }
-    match fields::template_of(block >> SELECTOR_BITS) {
+    match fields::template_of(block >> layout::SELECTOR_BITS) {
         TemplateAnswer::Is(template) => TemplateStep::Named(template),
-        TemplateAnswer::Unknown => TemplateStep::Refused(refusal::wrong_block(FIRST_BLOCK as u64)),
+        TemplateAnswer::Unknown => TemplateStep::Refused(refusal::wrong_block(
+            layout::FIRST_SELECTOR as u64,
+        )),
     }
 }
 
@@ -234,10 +227,12 @@ pub fn take_template(sizes: Sizes, image: &[u8]) -> TemplateStep
 // code: so 3 comes behind 5 and 6, and only at the last.
 pub fn take_own(sizes: Sizes, image: &[u8], template: Template) -> ChoiceStep
     requires { ⌜ Roomy sizes (now image) ⌝ }
-    ensures { λ r. ⌜ choiceSaid r ≡ ownChoice (streamIn sizes (now (image .entry))) template ⌝ }
+    ensures { λ r. ⌜ (choiceSaid r ≡ ownChoice (streamIn sizes (now (image .entry))) template) × EndsBehind template r ⌝ }
 {
-    let choice = Field { at: PRECISION };
-    let precision = choice.code(sizes, image, PRECISION_BITS);
+    let choice = Field {
+        at: layout::PRECISION,
+    };
+    let precision = choice.code(sizes, image, layout::PRECISION_BITS);
     let layout = Layout {
         template,
         precision,
@@ -245,9 +240,9 @@ pub fn take_own(sizes: Sizes, image: &[u8], template: Template) -> ChoiceStep
     if let Judged::Refused(r) = judge_own(sizes, image, layout) {
         return ChoiceStep::Refused(r);
     }
-    let end = places::fields_end(layout);
+    let end = layout::fields_end(layout);
     if 8 * (image.len() - sizes.pages) < end {
-        let last = places::locate(layout, fields::last_field(template));
+        let last = layout::locate(layout, fields::last_field(template));
         return ChoiceStep::Refused(refusal::past_end(last as u64));
     }
     ChoiceStep::Chosen(precision, Cursor { at: end })

@@ -27,7 +27,7 @@ returns : tie.Need-returns
 returns c =
     let j = c .before .before .before in
     let b = j .before .before .before in
-    own-turned (b .pre) (layoutAt (b .args .template) (j .before .code .result)) (precise (j .before)) _ (j .judge-own .ensures) (c .before .r .given .1)
+    (own-turned (b .pre) (layoutAt (b .args .template) (j .before .code .result)) (precise (j .before)) _ (j .judge-own .ensures) (c .before .r .given .1), tt)
 
 locate-requires : tie.Need-locate-requires
 locate-requires c κs =
@@ -40,18 +40,22 @@ returns-2 c =
     let e = f .before .before .before in
     let j = e .before .before .before in
     let b = j .before .before .before in
-    let layout = layoutAt (b .args .template) (j .before .code .result) in
-    ap refused (c .past-end .ensures)
-    ∙ own-past (b .pre) layout (precise (j .before)) _ (j .judge-own .ensures) (e .before .enum-told .given .1)
-    (c .before .locate .ensures ∙ ap (fieldPlace layout) (f .last-field .ensures)) (omega (arith, e .fields-end .ensures, f .before .if1 .taken, b .pre .whole .long))
+    let layout = layoutAt (b .args .template) (j .before .code .result) in (
+      ap refused (c .past-end .ensures)
+          ∙ own-past (b .pre) layout (precise (j .before)) _ (j .judge-own .ensures) (e .before .enum-told .given .1)
+          (c .before .locate .ensures ∙ ap (fieldPlace layout) (f .last-field .ensures)) (omega (arith, e .fields-end .ensures, f .before .if1 .taken, b .pre .whole .long)),
+      tt,
+    )
 
 returns-3 : tie.Need-returns-3
 returns-3 c =
     let e = c .before .before in
     let j = e .before .before .before in
-    let b = j .before .before .before in
-    own-stands (b .pre) (layoutAt (b .args .template) (j .before .code .result)) (precise (j .before)) _ (j .judge-own .ensures) (e .before .enum-told .given .1)
-    (e .fields-end .ensures) (omega (arith, c .if1 .left, b .pre .whole .long))
+    let b = j .before .before .before in (
+      own-stands (b .pre) (layoutAt (b .args .template) (j .before .code .result)) (precise (j .before)) _ (j .judge-own .ensures) (e .before .enum-told .given .1)
+          (e .fields-end .ensures) (omega (arith, c .if1 .left, b .pre .whole .long)),
+      e .fields-end .ensures,
+    )
 
 pub take-own-spec : {M : Type 1} → statement M
 take-own-spec =
