@@ -2,6 +2,7 @@
 use mathlib.Core.Bool.{Bool}
 use Prim.Native.Nat.{ℕ}
 use Rattle.fields.specs.declared.Row.{Row}
+use Rattle.fields.specs.declared.Earlier.{Earlier}
 use Rattle.fields.specs.Answers.{earlierSaid}
 use Rattle.fields.specs.Curves.{segmentCount, segmentStart, termCount, exponent, isSegmentCount, isTermCount, startFollows, tenthsOf, tenthsBefore, exponentFollows}
 use Rattle.coding.specs.declared.curves.CurveField.{CurveField}
@@ -9,12 +10,13 @@ use Rattle.coding.specs.declared.curves.CurveField.the-variants.{Segment
 
 abbrev pub curveRow : CurveField → Row
 curveRow SegmentCount = segmentCount
-curveRow (Start before) = segmentStart
+curveRow Start = segmentStart
 curveRow TermCount = termCount
-curveRow (Exponent before) = exponent
+curveRow Exponent = exponent
 
-abbrev pub curveRule : CurveField → ℕ → Bool
-curveRule SegmentCount = isSegmentCount
-curveRule (Start before) = startFollows (earlierSaid before)
-curveRule TermCount = isTermCount
-curveRule (Exponent before) = λ code. exponentFollows (tenthsBefore (earlierSaid before)) (tenthsOf code)
+-- A start and an exponent are held against the one before them.
+abbrev pub curveRule : CurveField → Earlier → ℕ → Bool
+curveRule SegmentCount before = isSegmentCount
+curveRule Start before = startFollows (earlierSaid before)
+curveRule TermCount before = isTermCount
+curveRule Exponent before = λ code. exponentFollows (tenthsBefore (earlierSaid before)) (tenthsOf code)

@@ -43,12 +43,12 @@ const MOST_OWN: u64 = 6;
 
 const MOST_TERMS: u64 = 30;
 
-// A field of a curve whose codes obey a rule of its own; a start and an exponent are held against the one before them.
+// A field of a curve whose codes obey a rule of its own.
 pub enum CurveField {
     SegmentCount,
-    Start(Earlier),
+    Start,
     TermCount,
-    Exponent(Earlier),
+    Exponent,
 }
 
 pub fn curve_domain() -> Row
@@ -57,7 +57,7 @@ pub fn curve_domain() -> Row
     always(DOMAIN_BITS, Rule::Plain(0, 0))
 }
 
-pub fn segment_count() -> Row
+fn segment_count() -> Row
     ensures { λ r. ⌜ r ≡ spec.segmentCount ⌝ }
 {
     any(SEGMENT_COUNT_BITS)
@@ -199,20 +199,21 @@ pub fn curve_row(field: CurveField) -> Row
 {
     match field {
         CurveField::SegmentCount => segment_count(),
-        CurveField::Start(_) => segment_start(),
+        CurveField::Start => segment_start(),
         CurveField::TermCount => term_count(),
-        CurveField::Exponent(_) => term_exponent(),
+        CurveField::Exponent => term_exponent(),
     }
 }
 
-// Whether its rule takes a code.
-pub fn obeys(field: CurveField, code: u64) -> bool
-    ensures { λ r. ⌜ r ≡ curveRule field code ⌝ }
+// Whether its rule takes a code; a start and an exponent are held against the one before them. That is no part of the field, so
+// that the compiler sees which field it is where it is named.
+pub fn obeys(field: CurveField, before: Earlier, code: u64) -> bool
+    ensures { λ r. ⌜ r ≡ curveRule field before code ⌝ }
 {
     match field {
         CurveField::SegmentCount => is_segment_count(code),
-        CurveField::Start(before) => start_follows(before, code),
+        CurveField::Start => start_follows(before, code),
         CurveField::TermCount => is_term_count(code),
-        CurveField::Exponent(before) => exponent_follows(before, code),
+        CurveField::Exponent => exponent_follows(before, code),
     }
 }

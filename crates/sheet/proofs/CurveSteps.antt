@@ -1,7 +1,7 @@
 -- The walk over block 41.
 use mathlib.Core.Path.{_≡_, refl, sym, ap, ap₂, _∙_}
 use mathlib.Core.Bool.{Bool, true, false, not, cond}
-use mathlib.Core.List.{List, [], _∷_, _++_}
+use mathlib.Core.List.{List, _∷_, _++_}
 use mathlib.Core.Option.{Option, none, some}
 use Prim.Native.Nat.{ℕ, zero, suc, _+_, _-_, _≤_, _<_}
 use native.Mathlib.Omega.{arith}
@@ -60,9 +60,7 @@ use Rattle.layout.proofs.Formats.{parsed, parse-split}
 use Rattle.sheet.specs.declared.TableDomain.the-variants.{NoTable as NotThere}
 use Rattle.sheet.specs.declared.walk.CodeStep.{CodeStep}
 use Rattle.sheet.specs.declared.walk.CodeStep.the-variants.{Code, Refused as NoCode}
-use Rattle.sheet.specs.declared.block.Counts.{Counts}
 use Rattle.sheet.specs.declared.curve_block.EarlierStep.{EarlierStep}
-use Rattle.sheet.specs.declared.curve_block.EarlierStep.the-variants.{Behind as Before, Refused as NoTerm}
 use Rattle.sheet.specs.declared.curve_block.SegmentStep.{SegmentStep}
 use Rattle.sheet.specs.declared.curve_block.SegmentStep.the-variants.{Behind as BeforeSegment, Refused as NoSegment}
 use Rattle.sheet.specs.Walk.{keeping, Coded, coded, countsOf, termsBehind, countBehind, passedBy, behind, codeSaid, earlierStepSaid, segmentStepSaid}
@@ -71,9 +69,9 @@ use Rattle.sheet.proofs.Steps.{kept, keep-next, keep-refused, keep-made
 -- The rows of the fields that a rule takes.
 pub curve-sound : (field : CurveField) → Sound (curveRow field)
 curve-sound SegmentCount = segment-count-sound
-curve-sound (Start before) = start-sound
+curve-sound Start = start-sound
 curve-sound TermCount = term-count-sound
-curve-sound (Exponent before) = exponent-sound
+curve-sound Exponent = exponent-sound
 
 -- ---- a field that a rule takes
 

@@ -15,7 +15,7 @@ use Rattle.fields.specs.declared.Template.{Template}
 use Rattle.fields.specs.Lines.{basic, templateLines, linesOf}
 use Rattle.layout.specs.Format.{Format, ends, _>>=_, place, Stream, Parsed, parse}
 use Rattle.layout.specs.Contents.{Found, Calibration, Contents, Ending, fieldsOf, firstBlock, calibrationOf, endingOf, sheetOf}
-use Rattle.layout.specs.Image.{streamIn, lastChoice, layoutOf, pairIn, pairsIn, segmentIn, segmentsIn, termIn, allTerms}
+use Rattle.layout.specs.Image.{streamIn, lastChoice, pairIn, pairsIn, segmentIn, segmentsIn, termIn, allTerms}
 use Rattle.layout.specs.Places.{behindFields}
 use Rattle.layout.proofs.Formats.{parsed, parse-bind, parsed-by}
 use Rattle.layout.proofs.Fields.{laid-pieces, laid-length}

@@ -1,6 +1,6 @@
 // Document 02, Note 11: block 41, a curve. The walk over its segments and their terms.
 ghost use mathlib.Core.Path.{_≡_};
-ghost use mathlib.Core.Bool.{Bool, cond};
+ghost use mathlib.Core.Bool.{cond};
 ghost use mathlib.Core.Option.{none};
 ghost use Prim.Native.Nat.{_≤_};
 ghost use Rattle.refusal.specs.Outcome.{refused};
@@ -60,14 +60,20 @@ fn ruled(takes: bool, at: u64, code: u64, next: Cursor) -> CodeStep
 }
 
 // A field of a curve that a rule holds for: 3 and 5, then 24.
-fn take_ruled(sizes: Sizes, image: &[u8], cursor: Cursor, field: CurveField) -> CodeStep
+fn take_ruled(
+    sizes: Sizes,
+    image: &[u8],
+    cursor: Cursor,
+    field: CurveField,
+    before: Earlier,
+) -> CodeStep
     requires { ⌜ Whole sizes (now image) ⌝ }
-    ensures { λ r. ⌜ codeSaid (cursor .at) r ≡ keeping coded (parse (streamIn sizes (now (image .entry))) (ruledOf (curveRow field) (curveRule field)) (cursor .at)) ⌝ }
+    ensures { λ r. ⌜ codeSaid (cursor .at) r ≡ keeping coded (parse (streamIn sizes (now (image .entry))) (ruledOf (curveRow field) (curveRule field before)) (cursor .at)) ⌝ }
 {
     match walk::take_code(sizes, image, cursor, coding::curve_row(field)) {
         CodeStep::Refused(r) => CodeStep::Refused(r),
         CodeStep::Code(code, next) => ruled(
-            coding::obeys(field, code),
+            coding::obeys(field, before, code),
             cursor.at as u64,
             code,
             next,
@@ -80,7 +86,7 @@ fn take_term(sizes: Sizes, image: &[u8], cursor: Cursor, before: Earlier) -> Ear
     requires { ⌜ Whole sizes (now image) ⌝ }
     ensures { λ r. ⌜ earlierStepSaid r ≡ keeping (behindTerm (earlierSaid before)) (parse (streamIn sizes (now (image .entry))) (termOf (earlierSaid before)) (cursor .at)) ⌝ }
 {
-    match take_ruled(sizes, image, cursor, CurveField::Exponent(before)) {
+    match take_ruled(sizes, image, cursor, CurveField::Exponent, before) {
         CodeStep::Refused(r) => EarlierStep::Refused(r),
         CodeStep::Code(code, middle) => match walk::take_code(
             sizes,
@@ -143,7 +149,13 @@ fn take_counted(sizes: Sizes, image: &[u8], cursor: Cursor, start: u64, terms: u
     requires { ⌜ Whole sizes (now image) × (terms ≤ mostTerms) ⌝ }
     ensures { λ r. ⌜ segmentStepSaid r ≡ countBehind (streamIn sizes (now (image .entry))) start terms (cursor .at) ⌝ }
 {
-    match take_ruled(sizes, image, cursor, CurveField::TermCount) {
+    match take_ruled(
+        sizes,
+        image,
+        cursor,
+        CurveField::TermCount,
+        Earlier::Nothing,
+    ) {
         CodeStep::Refused(r) => SegmentStep::Refused(r),
         CodeStep::Code(count, next) => {
             take_own_terms(sizes, image, next, start, terms + count, count)
@@ -163,7 +175,7 @@ fn take_segment(
     ensures { λ r. let stand = passed before terms in
         ⌜ segmentStepSaid r ≡ keeping (behindSegment stand) (parse (streamIn sizes (now (image .entry))) (segmentOf stand) (cursor .at)) ⌝ }
 {
-    match take_ruled(sizes, image, cursor, CurveField::Start(before)) {
+    match take_ruled(sizes, image, cursor, CurveField::Start, before) {
         CodeStep::Refused(r) => SegmentStep::Refused(r),
         CodeStep::Code(start, next) => take_counted(sizes, image, next, start, terms),
     }
@@ -206,6 +218,7 @@ pub fn take_curve(sizes: Sizes, image: &[u8], cursor: Cursor) -> BlockStep
             image,
             second,
             CurveField::SegmentCount,
+            Earlier::Nothing,
         ) {
             CodeStep::Refused(r) => BlockStep::Refused(r),
             CodeStep::Code(count, third) => match take_segments(sizes, image, third, count) {

@@ -6,7 +6,6 @@ use native.Mathlib.Omega.{arith}
 use lib.ListN.{length}
 use Rattle.fields.specs.declared.Layout.{Layout}
 use Rattle.fields.specs.Lines.{lastField}
-use Rattle.fields.proofs.TemplateFacts.{last-most}
 use Rattle.layout.specs.Places.{pairPlace}
 use Rattle.layout.proofs.PlaceSteps.{end-few}
 use Rattle.index.specs.Index.{entryBytes}

@@ -1,5 +1,5 @@
 use borrow.Author.Needs.{needs}
-use mathlib.Core.Path.{ap, _∙_}
+use mathlib.Core.Path.{ap}
 use Rattle.refusal.specs.Outcome.{refused}
 use Rattle.sheet.proofs.curve_block.ruled.Statement.{statement}
 use Rattle.sheet.proofs.curve_block.ruled.Tie as tie

@@ -1,7 +1,7 @@
 use borrow.Author.Needs.{needs}
 use mathlib.Core.Path.{_≡_, ap, _∙_}
 use native.Mathlib.Omega.{arith}
-use Prim.Native.Nat.{ℕ, _+_}
+use Prim.Native.Nat.{_+_}
 use Rattle.layout.specs.Format.{bits, parse}
 use Rattle.layout.specs.Image.{streamIn}
 use Rattle.sheet.specs.Walk.{numberIn}
