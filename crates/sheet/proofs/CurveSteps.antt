@@ -3,11 +3,14 @@ use mathlib.Core.Path.{_≡_, refl, sym, ap, ap₂, _∙_}
 use mathlib.Core.Bool.{Bool, true, false, not, cond}
 use mathlib.Core.List.{List, _∷_, _++_}
 use mathlib.Core.Option.{Option, none, some}
-use Prim.Native.Nat.{ℕ, zero, suc, _+_, _-_, _≤_, _<_}
+use Prim.Native.Nat.{ℕ, zero, suc, _+_, _-_, _*_, _/_, _%_, _^_, _≤_, _<_}
 use native.Mathlib.Omega.{arith}
 use borrow.Author.Tests.{ltb-false}
 use lib.Dec.{ltb}
 use lib.ListN.{length, length-append}
+use lib.Pow.{high, low}
+use Rattle.memory.specs.Bits.{fieldAt}
+use Rattle.memory.proofs.FieldLaws.{field-lt, field-add}
 use Rattle.refusal.specs.declared.Refusal.{Refusal}
 use Rattle.refusal.specs.Outcome as outcome
 use Rattle.refusal.specs.Outcome.{Outcome, good, refused}
@@ -56,6 +59,7 @@ use Rattle.layout.specs.Contents.{
   curveOf,
 }
 use Rattle.layout.specs.Image.{allTerms}
+use Rattle.layout.specs.Places.{termBits}
 use Rattle.layout.proofs.Formats.{parsed, parse-split}
 use Rattle.sheet.specs.declared.TableDomain.the-variants.{NoTable as NotThere}
 use Rattle.sheet.specs.declared.walk.CodeStep.{CodeStep}
@@ -63,8 +67,8 @@ use Rattle.sheet.specs.declared.walk.CodeStep.the-variants.{Code, Refuse
 use Rattle.sheet.specs.declared.curve_block.EarlierStep.{EarlierStep}
 use Rattle.sheet.specs.declared.curve_block.SegmentStep.{SegmentStep}
 use Rattle.sheet.specs.declared.curve_block.SegmentStep.the-variants.{Behind as BeforeSegment, Refused as NoSegment}
-use Rattle.sheet.specs.Walk.{keeping, Coded, coded, countsOf, termsBehind, countBehind, passedBy, behind, codeSaid, earlierStepSaid, segmentStepSaid}
-use Rattle.sheet.proofs.Steps.{kept, keep-next, keep-refused, keep-made, keep-bind, keep-twice, keep-through}
+use Rattle.sheet.specs.Walk.{keeping, Coded, coded, countsOf, TermCodes, termsBehind, countBehind, passedBy, behind, codeSaid, earlierStepSaid, segmentStepSaid}
+use Rattle.sheet.proofs.Steps.{field-inside, kept, keep-next, keep-refused, keep-made, keep-bind, keep-twice, keep-through}
 
 -- The rows of the fields that a rule takes.
 pub curve-sound : (field : CurveField) → Sound (curveRow field)
@@ -172,6 +176,40 @@ module _ (s : Stream) (before : Option ℕ) (at : ℕ) (x : CodeStep) (e : codeS
         let (p, q, w) = at-coefficient in
         let (c, q′, w′) = keep-next coded s (fieldOf coefficient) (ended p) (middle .at) (told (codeSaid (middle .at)) g f) in
         ap (λ (u : Coded). behind (some (u .code)) next) (sym q) ∙ sym (ap (keeping (behindTerm before)) (w ∙ w′))
+
+-- Its codes taken as one field.
+pub term-at-once : (s : Stream) (before : Option ℕ) (at : ℕ) {both : ℕ} → both ≡ fieldAt (s .number) at termBits → at + termBits ≤ s .bits → TermCodes before at both →
+    good (parsed (some (both % 2 ^ 7)) (at + termBits)) ≡ keeping (behindTerm before) (parse s (termOf before) at)
+term-at-once s before at {both} e inside h =
+    ap (λ (n : ℕ). good (parsed (some (both % 2 ^ 7)) n)) places
+    ∙ term-stands s before at (Code (both % 2 ^ 7) middle) (ruled-steps s exponent (rises before) at (Code (both % 2 ^ 7) middle) power refl (sym (h .rising))) refl (Code (both / 2 ^ 7) end) factor refl
+  where
+    N : ℕ
+    N = s .number
+
+    middle : Cursor
+    middle = record { at = at + 7 }
+
+    end : Cursor
+    end = record { at = at + 7 + 32 }
+
+    places : at + termBits ≡ at + 7 + 32
+    places = omega arith
+
+    halves : both ≡ fieldAt N (at + 7) 32 * 2 ^ 7 + fieldAt N at 7
+    halves = e ∙ field-add N at 32 7
+
+    low-is : both % 2 ^ 7 ≡ fieldAt N at 7
+    low-is = ap (λ (n : ℕ). n % 2 ^ 7) halves ∙ low (fieldAt N (at + 7) 32) 7 (field-lt N at 7)
+
+    high-is : both / 2 ^ 7 ≡ fieldAt N (at + 7) 32
+    high-is = ap (λ (n : ℕ). n / 2 ^ 7) halves ∙ high (fieldAt N (at + 7) 32) 7 (field-lt N at 7)
+
+    power : codeSaid at (Code (both % 2 ^ 7) middle) ≡ keeping coded (parse s (fieldOf exponent) at)
+    power = field-inside s exponent at low-is (omega arith) (h .power)
+
+    factor : codeSaid (at + 7) (Code (both / 2 ^ 7) end) ≡ keeping coded (parse s (fieldOf coefficient) (at + 7))
+    factor = field-inside s coefficient (at + 7) high-is (omega arith) (h .factor)
 
 -- ---- a segment
 

@@ -1,9 +1,9 @@
 -- Only inner contracts need these: the walk over a stream, which parses it by the formats of layout and keeps of what they find only what a check gives.
 use mathlib.Core.Path.{_≡_}
-use mathlib.Core.Bool.{Bool, not, cond}
+use mathlib.Core.Bool.{Bool, true, not, cond}
 use mathlib.Core.List.{List, [], _∷_}
 use mathlib.Core.Option.{Option, none, some}
-use Prim.Native.Nat.{ℕ, zero, suc, _+_, _-_, _*_, _/_, _≤_}
+use Prim.Native.Nat.{ℕ, zero, suc, _+_, _-_, _*_, _/_, _%_, _^_, _≤_}
 use lib.Dec.{eqb, ltb}
 use lib.IntN.{pos, natAbs}
 use lib.ListN.{length}
@@ -29,7 +29,7 @@ use Rattle.fields.specs.declared.Earlier.{Earlier}
 use Rattle.fields.specs.declared.Segment.{Segment}
 use Rattle.fields.specs.declared.Term.{Term}
 use Rattle.fields.specs.Answers.{earlierSaid}
-use Rattle.fields.specs.Curves.{segmentStart, termCount, exponent, coefficient, isTermCount, mostTerms}
+use Rattle.fields.specs.Curves.{segmentStart, termCount, exponent, coefficient, isTermCount, mostTerms, tenthsOf, tenthsBefore, exponentFollows}
 use Rattle.fields.specs.Judgement.{judge}
 use Rattle.fields.specs.Lines.{Line, basic, templateLines}
 use Rattle.layout.specs.Format.{Format, ends, _>>=_, _>>_, bits, refuse_if_, Stream, Parsed, parse}
@@ -192,6 +192,12 @@ abbrev pub blockOpened : Sizes → Stream → ℕ → Outcome Opened
 blockOpened z s at = outcome._>>=_ (parse s firstBlock at) (λ t. ownOpened z s (t .found) (t .next))
 
 -- ---- what is passed of a segment from a place on
+
+-- The codes of a term as one number, the exponent's bits lowest, both of which may stand at a place behind the one before.
+pub record TermCodes (before : Option ℕ) (at both : ℕ) : Type 0 where
+  pub power : judge exponent at (both % 2 ^ 7) ≡ good tt
+  pub rising : exponentFollows (tenthsBefore before) (tenthsOf (both % 2 ^ 7)) ≡ true
+  pub factor : judge coefficient (at + 7) (both / 2 ^ 7) ≡ good tt
 
 -- From its terms on, so many of them, where they make a total; from their number on, behind so many terms.
 abbrev pub termsBehind : Stream → ℕ → ℕ → ℕ → ℕ → Outcome (Parsed Passed)

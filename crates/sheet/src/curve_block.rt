@@ -1,8 +1,8 @@
 // Document 02, Note 11: block 41, a curve. The walk over its segments and their terms.
 ghost use mathlib.Core.Path.{_≡_};
-ghost use mathlib.Core.Bool.{cond};
+ghost use mathlib.Core.Bool.{true, cond};
 ghost use mathlib.Core.Option.{none};
-ghost use Prim.Native.Nat.{_≤_};
+ghost use Prim.Native.Nat.{_^_, _≤_, _<_};
 ghost use Rattle.refusal.specs.Outcome.{refused};
 ghost use Rattle.refusal.specs.Rows.{wrongCurve};
 ghost use Rattle.memory.specs.Answers.{Whole};
@@ -16,6 +16,7 @@ ghost use Rattle.sheet.specs.Walk.{
   keeping,
   coded,
   countsOf,
+  TermCodes,
   termsBehind,
   countBehind,
   passedBy,
@@ -33,9 +34,11 @@ use crate::walk;
 use crate::walk::CodeStep;
 use coding::CurveField;
 use fields::Earlier;
+use fields::Judged;
 use memory::Sizes;
 use refusal::Refusal;
 use stream::Cursor;
+use stream::Taken;
 
 // The exponent of the last term.
 pub enum EarlierStep {
@@ -81,8 +84,8 @@ fn take_ruled(
     }
 }
 
-// A term behind the one before it in its segment: its exponent, then 3, 5 and 6 of its coefficient.
-fn take_term(sizes: Sizes, image: &[u8], cursor: Cursor, before: Earlier) -> EarlierStep
+// A term behind the one before it in its segment, field by field: its exponent, then 3, 5 and 6 of its coefficient.
+fn take_term_apart(sizes: Sizes, image: &[u8], cursor: Cursor, before: Earlier) -> EarlierStep
     requires { ⌜ Whole sizes (now image) ⌝ }
     ensures { λ r. ⌜ earlierStepSaid r ≡ keeping (behindTerm (earlierSaid before)) (parse (streamIn sizes (now (image .entry))) (termOf (earlierSaid before)) (cursor .at)) ⌝ }
 {
@@ -97,6 +100,42 @@ fn take_term(sizes: Sizes, image: &[u8], cursor: Cursor, before: Earlier) -> Ear
             CodeStep::Refused(r) => EarlierStep::Refused(r),
             CodeStep::Code(_, next) => EarlierStep::Behind(Earlier::Code(code), next),
         },
+    }
+}
+
+// Whether the codes of a term, which begins at bit `at`, both stand: the exponent's 7 bits are the lowest.
+fn is_term(before: Earlier, at: u64, both: u64) -> bool
+    requires { ⌜ at < 2 ^ 40 ⌝ }
+    ensures { λ r. ⌜ (r ≡ true → TermCodes (earlierSaid before) at both) ⌝ }
+{
+    let code = both & 0x7f;
+    if let Judged::Refused(_) = coding::judge(coding::term_exponent(), at, code) {
+        return false;
+    }
+    if let Judged::Refused(_) = coding::judge(
+        coding::term_coefficient(),
+        at + fields::EXPONENT_BITS,
+        both >> fields::EXPONENT_BITS,
+    ) {
+        return false;
+    }
+    coding::exponent_follows(before, code)
+}
+
+// The same, taken as one field where it stands. Nearly every term does; the fields one by one give the refusal of one that does
+// not.
+fn take_term(sizes: Sizes, image: &[u8], cursor: Cursor, before: Earlier) -> EarlierStep
+    requires { ⌜ Whole sizes (now image) ⌝ }
+    ensures { λ r. ⌜ earlierStepSaid r ≡ keeping (behindTerm (earlierSaid before)) (parse (streamIn sizes (now (image .entry))) (termOf (earlierSaid before)) (cursor .at)) ⌝ }
+{
+    match cursor.take(sizes, image, layout::TERM_BITS) {
+        Taken::Refused(_) => take_term_apart(sizes, image, cursor, before),
+        Taken::Field(both, next) => {
+            if is_term(before, cursor.at as u64, both) {
+                return EarlierStep::Behind(Earlier::Code(both & 0x7f), next);
+            }
+            take_term_apart(sizes, image, cursor, before)
+        }
     }
 }
 
