@@ -70,7 +70,7 @@ pub fn change(kind: u8, image: &mut [u8], level: Level, field: u64, value: Value
                             stream::rewrite(
                                 sizes,
                                 image,
-                                sheet::locate(layout, field),
+                                layout::locate(layout, field),
                                 row.width as usize,
                                 code,
                             );

@@ -99,7 +99,7 @@ pub fn commit(
                 stream::rewrite(
                     sizes,
                     image,
-                    sheet::locate(layout, field),
+                    layout::locate(layout, field),
                     row.width as usize,
                     new,
                 );

@@ -36,7 +36,7 @@ fn proposed(layout: Layout, field: u64, present: u64, new: u64) -> ProposalAnswe
     ensures { λ r. ⌜ proposalSaid r ≡ proposedAt (rowOf layout field) (fieldPlace layout field) present new ⌝ }
 {
     let row = fields::row_of(layout, field);
-    let at = sheet::locate(layout, field);
+    let at = layout::locate(layout, field);
     match coding::decode(row, at as u64, new) {
         Decoded::Refused(r) => ProposalAnswer::Refused(r),
         Decoded::Means(value) => ProposalAnswer::Proposed(Proposal {

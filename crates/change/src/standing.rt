@@ -18,7 +18,7 @@ pub fn code_in(sheet: Opened, image: &[u8], field: u64) -> u64
     let layout = sheet.layout;
     let row = fields::row_of(layout, field);
     let cursor = Cursor {
-        at: sheet::locate(layout, field),
+        at: layout::locate(layout, field),
     };
     match cursor.take(sizes, image, row.width as usize) {
         Taken::Refused(_) => 0,

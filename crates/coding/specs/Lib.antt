@@ -1,2 +1,3 @@
 pub mod Unscaled
 pub mod Swift
+pub mod CurveRules

@@ -1,17 +1,23 @@
 // Document 01, "Layout", and document 02, Note 9: the calibration table, template 40. The rows of its fields, the codes of a
 // pair, and the rules between neighbouring pairs. Figures are in billionths of the span.
 use crate::encoding::stepped;
+use fields::COUNT_BITS;
 use fields::Codes;
+use fields::D;
+use fields::DEVIATION_BITS;
+use fields::DOMAIN_BITS;
 use fields::Domain;
 use fields::Encoded;
 use fields::Judged;
+use fields::LEAST_DEVIATION;
+use fields::POINT_BITS;
 use fields::Pair;
 use fields::Previous;
+use fields::R;
 use fields::Row;
 use fields::Rule;
 use fields::Value;
 use fields::always;
-use refusal::Refusal;
 ghost use mathlib.Core.Path.{_≡_};
 ghost use mathlib.Core.Bool.{_&&_};
 ghost use Prim.Native.Nat.{_+_, _*_, _/_, _%_, _^_, _<_};
@@ -23,21 +29,10 @@ ghost use Rattle.fields.specs.Rules.{steppedValue, encode as encodeOf};
 ghost use Rattle.fields.specs.Calibration as spec;
 ghost use Rattle.fields.specs.Answers.{encodedSaid, judgedSaid, previousSaid};
 
-// The bits of a point and of its deviation, their steps and the least deviation.
-const POINT_BITS: u64 = 16;
-
-const D: u64 = 15_300;
-
-const DEVIATION_BITS: u64 = 21;
-
-const LEAST_DEVIATION: i64 = -1_000_000_000;
-
-const R: u64 = 1_000;
-
 pub fn cal_domain() -> Row
     ensures { λ r. ⌜ r ≡ spec.calDomain ⌝ }
 {
-    always(1, Rule::Plain(0, 1))
+    always(DOMAIN_BITS, Rule::Plain(0, 1))
 }
 
 pub fn domain_code(domain: Domain) -> u64
@@ -61,7 +56,7 @@ pub fn domain_of(code: u64) -> Domain
 pub fn point_count() -> Row
     ensures { λ r. ⌜ r ≡ spec.pointCount ⌝ }
 {
-    always(7, Rule::Plain(1, 127))
+    always(COUNT_BITS, Rule::Plain(1, 127))
 }
 
 pub fn cal_point() -> Row
@@ -97,8 +92,8 @@ pub fn pair_of(code: u64) -> Pair
     ensures { λ r. ⌜ r ≡ record { point = steppedValue (pos 0) spec.D (code % 2 ^ 16); deviation = steppedValue spec.leastDeviation spec.R (code / 2 ^ 16) } ⌝ }
 {
     Pair {
-        point: (D * (code % 0x1_0000)) as i64,
-        deviation: LEAST_DEVIATION + (R * (code / 0x1_0000)) as i64,
+        point: (D * (code & 0xffff)) as i64,
+        deviation: LEAST_DEVIATION + (R * (code >> POINT_BITS)) as i64,
     }
 }
 
@@ -133,10 +128,7 @@ pub fn follows(domain: Domain, before: Previous, place: u64, next: Codes) -> Jud
         Previous::Nothing => Judged::Stands,
         Previous::Pair(codes) => {
             if next.point <= codes.point {
-                return Judged::Refused(Refusal {
-                    number: refusal::NOT_RISING,
-                    place,
-                });
+                return Judged::Refused(refusal::not_rising(place));
             }
             climbs(domain, codes, place, next)
         }

@@ -2,10 +2,19 @@
 // the rules of a curve, which a check and a build share.
 use crate::encoding::bits;
 use crate::encoding::stepped;
+use fields::COEFFICIENT_BITS;
+use fields::DOMAIN_BITS;
+use fields::EXPONENT_BITS;
+use fields::EXPONENT_STEP;
 use fields::Earlier;
 use fields::Encoded;
+use fields::LEAST_EXPONENT;
 use fields::Row;
 use fields::Rule;
+use fields::SEGMENT_COUNT_BITS;
+use fields::START_BITS;
+use fields::START_STEP;
+use fields::TERM_COUNT_BITS;
 use fields::Value;
 use fields::always;
 use fields::any;
@@ -20,17 +29,7 @@ ghost use Rattle.refusal.specs.Rows.{wrongCurve};
 ghost use Rattle.fields.specs.Rules.{encode as encodeOf};
 ghost use Rattle.fields.specs.Curves as spec;
 ghost use Rattle.fields.specs.Answers.{encodedSaid, earlierSaid};
-
-// The bits of a start and its step, in billionths of the span; those of an exponent, in tenths, and the least.
-const START_BITS: u64 = 13;
-
-const START_STEP: u64 = 123_000;
-
-const EXPONENT_BITS: u64 = 7;
-
-const EXPONENT_STEP: u64 = 5;
-
-const LEAST_EXPONENT: i64 = -320;
+ghost use Rattle.coding.specs.CurveRules.{curveRow, curveRule};
 
 // The codes of the exponents 0 and 5; each whole number is two codes above the one before it.
 const FIRST_EXPONENT: u64 = 64;
@@ -44,16 +43,24 @@ const MOST_OWN: u64 = 6;
 
 const MOST_TERMS: u64 = 30;
 
+// A field of a curve whose codes obey a rule of its own.
+pub enum CurveField {
+    SegmentCount,
+    Start,
+    TermCount,
+    Exponent,
+}
+
 pub fn curve_domain() -> Row
     ensures { λ r. ⌜ r ≡ spec.curveDomain ⌝ }
 {
-    always(1, Rule::Plain(0, 0))
+    always(DOMAIN_BITS, Rule::Plain(0, 0))
 }
 
-pub fn segment_count() -> Row
+fn segment_count() -> Row
     ensures { λ r. ⌜ r ≡ spec.segmentCount ⌝ }
 {
-    any(8)
+    any(SEGMENT_COUNT_BITS)
 }
 
 pub fn segment_start() -> Row
@@ -65,7 +72,7 @@ pub fn segment_start() -> Row
 pub fn term_count() -> Row
     ensures { λ r. ⌜ r ≡ spec.termCount ⌝ }
 {
-    any(7)
+    any(TERM_COUNT_BITS)
 }
 
 pub fn term_exponent() -> Row
@@ -77,7 +84,7 @@ pub fn term_exponent() -> Row
 pub fn term_coefficient() -> Row
     ensures { λ r. ⌜ r ≡ spec.coefficient ⌝ }
 {
-    always(32, Rule::Single)
+    always(COEFFICIENT_BITS, Rule::Single)
 }
 
 // Row 24.
@@ -184,4 +191,29 @@ pub fn too_many(total: u64) -> bool
     ensures { λ r. ⌜ r ≡ ltb spec.mostTerms total ⌝ }
 {
     MOST_TERMS < total
+}
+
+// The row of such a field.
+pub fn curve_row(field: CurveField) -> Row
+    ensures { λ r. ⌜ r ≡ curveRow field ⌝ }
+{
+    match field {
+        CurveField::SegmentCount => segment_count(),
+        CurveField::Start => segment_start(),
+        CurveField::TermCount => term_count(),
+        CurveField::Exponent => term_exponent(),
+    }
+}
+
+// Whether its rule takes a code; a start and an exponent are held against the one before them. That is no part of the field, so
+// that the compiler sees which field it is where it is named.
+pub fn obeys(field: CurveField, before: Earlier, code: u64) -> bool
+    ensures { λ r. ⌜ r ≡ curveRule field before code ⌝ }
+{
+    match field {
+        CurveField::SegmentCount => is_segment_count(code),
+        CurveField::Start => start_follows(before, code),
+        CurveField::TermCount => is_term_count(code),
+        CurveField::Exponent => exponent_follows(before, code),
+    }
 }

@@ -9,7 +9,6 @@ use fields::all_ones;
 use fields::row_of;
 use fields::top_code;
 use integers::plus;
-use refusal::Refusal;
 use scales::greatest_value;
 use scales::least_value;
 use scales::scale_value;
@@ -31,19 +30,13 @@ ghost use Rattle.coding.specs.Swift.{Told};
 fn wrong_sort(place: u64) -> Encoded
     ensures { λ r. ⌜ encodedSaid r ≡ refused (wrongSort place) ⌝ }
 {
-    Encoded::Refused(Refusal {
-        number: refusal::WRONG_SORT,
-        place,
-    })
+    Encoded::Refused(refusal::wrong_sort(place))
 }
 
 fn out_of_range(place: u64) -> Encoded
     ensures { λ r. ⌜ encodedSaid r ≡ refused (outOfRange place) ⌝ }
 {
-    Encoded::Refused(Refusal {
-        number: refusal::OUT_OF_RANGE,
-        place,
-    })
+    Encoded::Refused(refusal::out_of_range(place))
 }
 
 // Whether the figure is below the lowest or above the highest.

@@ -4,7 +4,6 @@ use fields::Row;
 use fields::Rule;
 use fields::all_ones;
 use fields::top_code;
-use refusal::Refusal;
 ghost use mathlib.Core.Path.{_≡_};
 ghost use mathlib.Core.Bool.{_&&_, _||_};
 ghost use Prim.Native.Nat.{_≤_};
@@ -31,19 +30,13 @@ pub fn is_missing(row: Row, code: u64) -> bool
 fn outside_table(at: u64) -> Judged
     ensures { λ r. ⌜ judgedSaid r ≡ refused (outsideTable at) ⌝ }
 {
-    Judged::Refused(Refusal {
-        number: refusal::OUTSIDE_TABLE,
-        place: at,
-    })
+    Judged::Refused(refusal::outside_table(at))
 }
 
 fn not_finite(at: u64) -> Judged
     ensures { λ r. ⌜ judgedSaid r ≡ refused (notFinite at) ⌝ }
 {
-    Judged::Refused(Refusal {
-        number: refusal::NOT_FINITE,
-        place: at,
-    })
+    Judged::Refused(refusal::not_finite(at))
 }
 
 // 5 outside the table.
@@ -74,7 +67,7 @@ pub fn up_to_top(width: u64, at: u64, code: u64) -> Judged
 pub fn finite_bits(at: u64, code: u64) -> Judged
     ensures { λ r. ⌜ judgedSaid r ≡ singleRuled at code ⌝ }
 {
-    if code % 0x8000_0000 < 0x7f80_0000 {
+    if code & 0x7fff_ffff < 0x7f80_0000 {
         return Judged::Stands;
     }
     if code == 0xffff_ffff {

@@ -1,8 +1,10 @@
 // The steepest slope between neighbouring points, and the distance that follows from it.
 use crate::DistanceAnswer;
 use crate::ToldDistance;
+use fields::D;
 use fields::Domain;
 use fields::Judged;
+use fields::R;
 ghost use mathlib.Core.Path.{_≡_};
 ghost use Prim.Native.Nat.{max, _+_, _*_, _/_, _^_, _≤_, _<_};
 ghost use lib.IntN.{natAbs, _-ℤ_};
@@ -12,11 +14,6 @@ ghost use Rattle.build.specs.Planning.{pairAt};
 ghost use Rattle.line.specs.Certificate.{Neighbours};
 ghost use Rattle.distance.specs.Distance.{ceiling, leastSlope, steepest as steepestOf, toldBy, distance as distanceOf, distanceSaid};
 ghost use Rattle.distance.specs.Steps.{Step};
-
-// The steps of a point and of a deviation.
-const D: u64 = 15_300;
-
-const R: u64 = 1_000;
 
 // How far two figures are apart. Of any two, nothing overflows.
 fn apart(a: i64, b: i64) -> u64

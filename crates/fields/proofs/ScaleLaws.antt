@@ -1,4 +1,4 @@
--- The values of the scales, and the tables that code holds. What goes entry by entry is a test that antt computes, where code lends the table.
+-- The values of the scales, and the tables that code holds.
 use mathlib.Core.Path.{_≡_, ap}
 use mathlib.Core.Bool.{Bool, _&&_}
 use mathlib.Core.List.{List}
@@ -14,7 +14,7 @@ use Rattle.fields.specs.declared.Scale.{Scale}
 use Rattle.fields.specs.declared.Scale.the-variants.{ResponseTime, Current}
 use Rattle.fields.specs.Rules.{Progression, progression, scaleWidth, topCode, geometricValue, storedAt}
 use Rattle.fields.specs.Stored.{Rising, ValuesRise, NearestUnit, ValuesNearest}
-use Rattle.fields.specs.Tables.{listed, RisingList}
+use Rattle.fields.specs.Tables.{listed, RisingList, TableOf}
 use Rattle.fields.proofs.Table.{each, at}
 use Rattle.fields.proofs.StoringLaws.{stored-same}
 
@@ -61,7 +61,7 @@ values-nearest scale code =
     let g : Progression = progression scale in
     rw (size-is g code) (nearest-unit (g .start * (g .parts + 2 * g .tolerance) ^ code) (g .parts ^ code) (one-le-pow code (g .parts) (some-parts scale)))
 
--- ---- a list of a scale's values
+-- ---- the table of a scale
 
 abbrev right : Scale → List ℕ → ℕ → Bool
 right scale xs k = eqb (getD xs k 0) (size (progression scale) k)
@@ -69,31 +69,35 @@ right scale xs k = eqb (getD xs k 0) (size (progression scale) k)
 abbrev isTable : Scale → List ℕ → Bool
 isTable scale xs = eqb (length xs) (suc (topCode (scaleWidth scale))) && each (right scale xs) (topCode (scaleWidth scale))
 
-module _ (scale : Scale) (xs : List ℕ) (test : T (isTable scale xs)) where
-  parts : T (eqb (length xs) (suc (topCode (scaleWidth scale)))) × T (each (right scale xs) (topCode (scaleWidth scale)))
-  parts = and-yes (eqb (length xs) (suc (topCode (scaleWidth scale)))) (each (right scale xs) (topCode (scaleWidth scale))) test
+-- The test of a whole table, which antt computes.
+pub tested : (scale : Scale) (xs : List ℕ) → T (isTable scale xs) → TableOf scale xs
+unfolding listed
+tested scale xs test =
+    let top : ℕ = topCode (scaleWidth scale) in
+    let parts = and-yes (eqb (length xs) (suc top)) (each (right scale xs) top) test in
+    record {
+      long = eqb→eq (length xs) (suc top) (parts .0);
+      entry = λ k l. rw (size-is (progression scale) k) (eqb→eq (getD xs k 0) (size (progression scale) k) (at (right scale xs) top k (parts .1) l));
+    }
 
+module _ {scale : Scale} {xs : List ℕ} (h : TableOf scale xs) where
   top : length xs - 1 ≡ topCode (scaleWidth scale)
-  top = omega (arith, eqb→eq (length xs) (suc (topCode (scaleWidth scale))) (parts .0))
-
-  pub entry : (k : ℕ) → k ≤ topCode (scaleWidth scale) → listed xs k ≡ geometricValue (progression scale) k
-  unfolding listed
-  entry k l = rw (size-is (progression scale) k) (eqb→eq (getD xs k 0) (size (progression scale) k) (at (right scale xs) (topCode (scaleWidth scale)) k (parts .1) l))
+  top = omega (arith, h .long)
 
   -- It rises, and a figure is stored by it as by the scale.
   pub list-rises : RisingList xs
   list-rises =
       record {
-        some = omega (arith, eqb→eq (length xs) (suc (topCode (scaleWidth scale))) (parts .0));
+        some = omega (arith, h .long);
         rising = rw top
             (record {
-              positive = rw (entry 0 (omega arith)) (values-rise scale .positive);
-              rises = λ c l. rw (entry c (omega arith), entry (suc c) (omega arith)) (values-rise scale .rises c (omega arith));
+              positive = rw (h .entry 0 (omega arith)) (values-rise scale .positive);
+              rises = λ c l. rw (h .entry c (omega arith), h .entry (suc c) (omega arith)) (values-rise scale .rises c (omega arith));
             });
       }
 
   pub stored-by : (w : ℕ) → storedAt (listed xs) (length xs - 1) w ≡ storedAt (geometricValue (progression scale)) (topCode (scaleWidth scale)) w
-  stored-by w = rw top (stored-same (listed xs) (geometricValue (progression scale)) (topCode (scaleWidth scale)) w entry)
+  stored-by w = rw top (stored-same (listed xs) (geometricValue (progression scale)) (topCode (scaleWidth scale)) w (h .entry))
 
   pub within-list : (w : ℕ) → w ≤ geometricValue (progression scale) (topCode (scaleWidth scale)) → w ≤ listed xs (length xs - 1)
-  within-list w h = rw (top, entry (topCode (scaleWidth scale)) (le-refl _)) h
+  within-list w l = rw (top, h .entry (topCode (scaleWidth scale)) (le-refl _)) l

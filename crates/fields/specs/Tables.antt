@@ -1,7 +1,10 @@
--- Only inner contracts need these: a table that code lends.
+-- Only inner contracts need these: a table that code holds or lends.
+use mathlib.Core.Path.{_≡_}
 use mathlib.Core.List.{List}
-use Prim.Native.Nat.{ℕ, _-_, _<_}
+use Prim.Native.Nat.{ℕ, suc, _-_, _≤_, _<_}
 use lib.ListN.{length, getD}
+use Rattle.fields.specs.declared.Scale.{Scale}
+use Rattle.fields.specs.Rules.{progression, scaleWidth, topCode, geometricValue}
 use Rattle.fields.specs.Stored.{Rising}
 
 -- The entries as the values of codes.
@@ -12,3 +15,8 @@ listed table code = getD table code 0
 pub record RisingList (table : List ℕ) : Type 0 where
   pub some : 0 < length table
   pub rising : Rising (listed table) (length table - 1)
+
+-- The table of a scale: an entry for each code, which is the value of that code.
+pub record TableOf (scale : Scale) (table : List ℕ) : Type 0 where
+  pub long : length table ≡ suc (topCode (scaleWidth scale))
+  pub entry : (code : ℕ) → code ≤ topCode (scaleWidth scale) → listed table code ≡ geometricValue (progression scale) code

@@ -4,12 +4,30 @@
 // between codes and values are those of `scales` and `coding`.
 use refusal::Refusal;
 
+mod blocks; // blocks.rt: the figures of templates 40 and 41
 mod figure; // figure.rt: the physical figure
 mod levels; // levels.rt: who may write a field
 mod limits; // limits.rt: the last codes of a field's bits
 mod rows; // rows.rt: the rows of the table of fields
 mod templates; // templates.rt: the order of the fields
 
+pub use blocks::COEFFICIENT_BITS;
+pub use blocks::COUNT_BITS;
+pub use blocks::CURVE_TEMPLATE;
+pub use blocks::D;
+pub use blocks::DEVIATION_BITS;
+pub use blocks::DOMAIN_BITS;
+pub use blocks::EXPONENT_BITS;
+pub use blocks::EXPONENT_STEP;
+pub use blocks::LEAST_DEVIATION;
+pub use blocks::LEAST_EXPONENT;
+pub use blocks::POINT_BITS;
+pub use blocks::R;
+pub use blocks::SEGMENT_COUNT_BITS;
+pub use blocks::START_BITS;
+pub use blocks::START_STEP;
+pub use blocks::TABLE_TEMPLATE;
+pub use blocks::TERM_COUNT_BITS;
 pub use figure::float_fraction;
 pub use figure::physical_figure;
 pub use levels::may_write;

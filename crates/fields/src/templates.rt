@@ -1,5 +1,5 @@
 // Document 01, "Layout", and document 02, Note 7: the order of the table of fields. Basic comes first, then the lines of the
-// template that the first block names. The numbers of fields and templates stand here and nowhere else.
+// template that the first block names.
 use crate::Layout;
 use crate::Mark;
 use crate::Row;
@@ -211,9 +211,9 @@ pub fn basic_closed() -> u64
     3
 }
 
-// The same of a template.
+// The same of a template, whose last field is never one of them.
 pub fn last_closed(template: Template) -> u64
-    ensures { λ r. ⌜ (r ≤ lastField template) × OpenBehind template r (lastField template) ⌝ }
+    ensures { λ r. ⌜ (r < lastField template) × OpenBehind template r (lastField template) ⌝ }
 {
     match template {
         Template::Bridge => 12,

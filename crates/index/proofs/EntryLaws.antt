@@ -21,7 +21,7 @@ use Rattle.layout.proofs.Fields.{at-is, width-is}
 use Rattle.layout.proofs.Places.{get-front, get-back, fields-count}
 use Rattle.layout.proofs.Accepted.{Holding}
 use Rattle.layout.proofs.Standing.{field-stands, pair-here}
-use Rattle.sheet.proofs.PlaceSteps.{in-basic, behind-basic}
+use Rattle.layout.proofs.PlaceSteps.{in-basic, behind-basic}
 use Rattle.sheet.proofs.WalkSteps.{basic-most}
 use Rattle.index.specs.declared.Entry.{Entry}
 use Rattle.index.specs.Index.{entry, fieldEntry, pairEntry, entries}

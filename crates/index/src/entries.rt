@@ -44,7 +44,7 @@ fn two(index: &[u8], at: usize) -> u64
     requires { ⌜ at + 2 ≤ length (now index) ⌝ }
     ensures { λ r. ⌜ r ≡ number (getD (now (index .entry)) at 0 ∷ getD (now (index .entry)) (at + 1) 0 ∷ []) ⌝ }
 {
-    wide(index[at + 1]) * 256 + wide(index[at])
+    wide(index[at]) | (wide(index[at + 1]) << 8)
 }
 
 // Entry i, counted from 0.

@@ -31,11 +31,6 @@ enum RowAnswer {
 // How many codes a field that sets widths has at most.
 const CHOICES: u64 = 4;
 
-// The first bit of the first template's number, and its bits.
-const FIRST_NUMBER: usize = 66;
-
-const NUMBER_BITS: usize = 8;
-
 // The template that a number is taken as: any but 32 as 33.
 fn taken_as(number: u64) -> Template
     ensures { λ r. ⌜ r ≡ takenAs number ⌝ }
@@ -51,8 +46,10 @@ fn template_at(sizes: Sizes, image: &[u8]) -> Template
     requires { ⌜ Whole sizes (now image) × (1 ≤ sizes .pages) ⌝ }
     ensures { λ r. ⌜ r ≡ templateAt (streamNumber sizes (now (image .entry))) ⌝ }
 {
-    let cursor = Cursor { at: FIRST_NUMBER };
-    match cursor.take(sizes, image, NUMBER_BITS) {
+    let cursor = Cursor {
+        at: layout::FIRST_NUMBER,
+    };
+    match cursor.take(sizes, image, layout::NUMBER_BITS) {
         Taken::Refused(_) => Template::Bridge,
         Taken::Field(number, _) => taken_as(number),
     }

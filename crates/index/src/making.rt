@@ -4,6 +4,7 @@ ghost use Prim.Native.Nat.{_*_, _^_, _≤_, _<_};
 ghost use lib.ListN.{length};
 ghost use Rattle.refusal.specs.Written.{writtenSaid, afterwards};
 ghost use Rattle.fields.specs.Lines.{basic, lastField};
+ghost use Rattle.layout.specs.Places.{behindFields};
 ghost use Rattle.sheet.specs.Walk.{layoutAt};
 ghost use Rattle.index.specs.Index.{entryBytes, index as indexOf};
 ghost use Rattle.index.specs.Laid.{laid, firstEntries};
@@ -13,12 +14,7 @@ use fields::Layout;
 use fields::Template;
 use refusal::Written;
 use sheet::OpenedAnswer;
-
-// The template's own fields stand behind Basic's 64 bits and the first block's 10.
-const OWN_FIELDS: u64 = 74;
-
-// The bits of a calibration point and its deviation.
-const PAIR_BITS: u64 = 37;
+use stream::Cursor;
 
 // Writes the entries of Basic, the same in every layout. An entry begins where the one before it ends. Each loop has rows of its
 // own, and an end that is known when it is compiled: so no row is picked at run time.
@@ -27,19 +23,20 @@ fn write_basic(buffer: &mut [u8])
     ensures { λ _. ⌜ ((layout : Layout) → now (buffer .exit) ≡ laid (now (buffer .entry)) 0 (entryBytes (firstEntries layout (length basic)))) ⌝ }
 {
     let last = fields::basic_fields() as usize;
-    let mut at: u64 = 0;
+    let mut cursor = Cursor::start();
     let mut i: usize = 0;
     while i < last {
         let row = fields::basic_row(i as u64 + 1);
+        let passed = cursor.over(row.width as usize);
         entries::put_entry(
             buffer,
             4 * i,
             Entry {
-                offset: at,
+                offset: passed.field.at as u64,
                 length: row.width,
             },
         );
-        at += row.width;
+        cursor = passed.next;
         i += 1;
     }
 }
@@ -52,19 +49,22 @@ fn write_bridge(buffer: &mut [u8], precision: u64)
         ⌜ now (buffer .exit) ≡ laid (now (buffer .entry)) 0 (entryBytes (firstEntries layout (lastField Template.Bridge))) ⌝ }
 {
     let last = fields::last_field(Template::Bridge) as usize;
-    let mut at = OWN_FIELDS;
+    let mut cursor = Cursor {
+        at: layout::OWN_FIELDS,
+    };
     let mut i = fields::basic_fields() as usize;
     while i < last {
         let row = fields::bridge_row(precision, i as u64 + 1);
+        let passed = cursor.over(row.width as usize);
         entries::put_entry(
             buffer,
             4 * i,
             Entry {
-                offset: at,
+                offset: passed.field.at as u64,
                 length: row.width,
             },
         );
-        at += row.width;
+        cursor = passed.next;
         i += 1;
     }
 }
@@ -77,19 +77,22 @@ fn write_resistance(buffer: &mut [u8], precision: u64)
         ⌜ now (buffer .exit) ≡ laid (now (buffer .entry)) 0 (entryBytes (firstEntries layout (lastField Template.Resistance))) ⌝ }
 {
     let last = fields::last_field(Template::Resistance) as usize;
-    let mut at = OWN_FIELDS;
+    let mut cursor = Cursor {
+        at: layout::OWN_FIELDS,
+    };
     let mut i = fields::basic_fields() as usize;
     while i < last {
         let row = fields::resistance_row(precision, i as u64 + 1);
+        let passed = cursor.over(row.width as usize);
         entries::put_entry(
             buffer,
             4 * i,
             Entry {
-                offset: at,
+                offset: passed.field.at as u64,
                 length: row.width,
             },
         );
-        at += row.width;
+        cursor = passed.next;
         i += 1;
     }
 }
@@ -105,37 +108,40 @@ fn write_own(layout: Layout, buffer: &mut [u8])
     }
 }
 
-// Writes those of the calibration points behind the fields.
-fn write_points(layout: Layout, buffer: &mut [u8], count: usize)
-    requires { ⌜ (4 * count ≤ length (now buffer)) × (count < 2 ^ 32) × (lastField (layout .template) ≤ count) ⌝ }
+// Writes those of the calibration points behind the fields, which end at a cursor.
+fn write_points(layout: Layout, behind: Cursor, buffer: &mut [u8], count: usize)
+    requires { ⌜ (behind .at ≡ behindFields layout) × (4 * count ≤ length (now buffer)) × (count < 2 ^ 32) × (lastField (layout .template) ≤ count) ⌝ }
     requires { ⌜ now buffer ≡ laid (now buffer) 0 (entryBytes (firstEntries layout (lastField (layout .template)))) ⌝ }
     ensures { λ _. ⌜ now (buffer .exit) ≡ laid (now (buffer .entry)) 0 (entryBytes (firstEntries layout count)) ⌝ }
 {
     let template = layout.template;
-    let mut at = sheet::locate_pair(layout, 0) as u64;
+    let mut cursor = Cursor {
+        at: layout::locate_pair(behind.at, 0),
+    };
     let mut i = fields::last_field(template) as usize;
     while i < count {
+        let passed = cursor.over(layout::PAIR_BITS);
         entries::put_entry(
             buffer,
             4 * i,
             Entry {
-                offset: at,
-                length: PAIR_BITS,
+                offset: passed.field.at as u64,
+                length: layout::PAIR_BITS as u64,
             },
         );
-        at += PAIR_BITS;
+        cursor = passed.next;
         i += 1;
     }
 }
 
-// Writes so many entries of an accepted sheet, those of all fields among them. Bytes beyond them stay.
-fn write_entries(layout: Layout, buffer: &mut [u8], count: usize)
-    requires { ⌜ (4 * count ≤ length (now buffer)) × (count < 2 ^ 32) × (lastField (layout .template) ≤ count) ⌝ }
+// Writes so many entries of an accepted sheet, whose fields end at a cursor, those of all fields among them. Bytes beyond them stay.
+fn write_entries(layout: Layout, behind: Cursor, buffer: &mut [u8], count: usize)
+    requires { ⌜ (behind .at ≡ behindFields layout) × (4 * count ≤ length (now buffer)) × (count < 2 ^ 32) × (lastField (layout .template) ≤ count) ⌝ }
     ensures { λ _. ⌜ now (buffer .exit) ≡ laid (now (buffer .entry)) 0 (entryBytes (firstEntries layout count)) ⌝ }
 {
     write_basic(buffer);
     write_own(layout, buffer);
-    write_points(layout, buffer, count);
+    write_points(layout, behind, buffer, count);
 }
 
 // Makes the index of an image: an entry for each field in order, then one for each calibration point; bytes beyond them stay.
@@ -154,7 +160,7 @@ pub fn make_index(kind: u8, image: &[u8], buffer: &mut [u8]) -> Written
             if (buffer.len() as u64) < 4 * count {
                 return Written::Refused(refusal::short_index(4 * count));
             }
-            write_entries(layout, buffer, count as usize);
+            write_entries(layout, opened.behind, buffer, count as usize);
             Written::Done
         }
     }

@@ -1,4 +1,4 @@
--- Fields that all lie in the stream: judged at their places one after the other, which is what parsing them line by line comes to.
+-- Fields that lie in the stream: judged at their places one after the other, which is what parsing them line by line comes to.
 use mathlib.Core.Path.{_≡_, refl, sym, ap, ap₂, _∙_, subst}
 use mathlib.Core.Bool.{Bool, true, false, not, cond}
 use mathlib.Core.List.{List, [], _∷_, _++_}
@@ -6,9 +6,9 @@ use mathlib.Core.Option.{Option}
 use Prim.Native.Nat.{ℕ, zero, suc, _+_, _-_, _*_, _/_, _%_, _^_, _≤_, _<_}
 use native.Mathlib.Omega.{arith}
 use lib.Dec.{eqb, ltb}
-use lib.ListN.{length, take, drop, getD, length-append}
+use lib.ListN.{length, take, drop, getD}
 use lib.Pow.{high, low}
-use borrow.Author.Tests.{lt-ltb, le-ltb, eq-eqb, ne-eqb}
+use borrow.Author.Tests.{le-ltb, eq-eqb, ne-eqb}
 use Rattle.refusal.specs.declared.Refusal.{Refusal}
 use Rattle.refusal.specs.Outcome as outcome
 use Rattle.refusal.specs.Outcome.{Outcome, good, refused}
@@ -28,14 +28,15 @@ use Rattle.fields.specs.declared.Layout.{Layout}
 use Rattle.fields.specs.Answers.{judgedSaid, templateSaid}
 use Rattle.fields.specs.Rules.{decode}
 use Rattle.fields.specs.Judgement.{judge, Open}
-use Rattle.fields.specs.Lines.{Line, chose, basic, template33, template32, templateLines, templateOf, linesOf, lastField, bitsBefore}
+use Rattle.fields.specs.Lines.{Line, chose, basic, template33, template32, templateLines, templateOf, linesOf, lastField, lineOf, rowOf, bitsBefore}
+use Rattle.fields.proofs.OpenLaws.{row-open}
 use Rattle.layout.specs.Format.{Format, ends, _>>=_, bits, given, refuse_if_, Stream, Parsed, parse}
 use Rattle.layout.specs.Contents.{Found, fieldOf, fieldsOf, selectorOf, named, firstBlock}
 use Rattle.layout.specs.Image.{lastChoice}
 use Rattle.layout.specs.Places.{blockBits, firstSelector, fieldPlace, behindFields}
+use Rattle.layout.specs.Judgement.{judged, frontLines}
 use Rattle.layout.proofs.Formats.{parsed, parse-bind}
 use Rattle.layout.proofs.Fields.{found}
-use Rattle.layout.proofs.Choices.{bits-append}
 
 -- ---- fields judged at their places
 
@@ -43,12 +44,6 @@ use Rattle.layout.proofs.Choices.{bits-append}
 abbrev pub choiceBehind : Stream → List Line → ℕ → ℕ → Outcome (Parsed ℕ)
 choiceBehind s lines latest at =
     outcome._>>=_ (parse s (fieldsOf lines latest) at) (λ x. good (parsed (lastChoice lines (x .found) latest) (x .next)))
-
--- Fields judged in turn at a choice: that choice, and the place behind them.
-abbrev pub judged : Stream → List Line → ℕ → ℕ → Outcome (Parsed ℕ)
-judged s [] choice at = good (parsed choice at)
-judged s (l ∷ lines) choice at =
-    let row = l .rowAt choice in outcome._>>_ (judge row at (fieldAt (s .number) at (row .width))) (judged s lines choice (at + row .width))
 
 abbrev pub lineBits : List Line → ℕ → ℕ
 lineBits lines choice = bitsBefore lines choice (length lines)
@@ -60,14 +55,15 @@ Makes s (l ∷ lines) latest choice at =
     let row = l .rowAt choice in
     (l .rowAt latest ≡ row) × Makes s lines (chose (l .sets) (fieldAt (s .number) at (row .width)) latest) choice (at + row .width)
 
-pub fields-judged : (s : Stream) (lines : List Line) (latest choice at : ℕ) → Makes s lines latest choice at → at + lineBits lines choice ≤ s .bits →
-    choiceBehind s lines latest at ≡ judged s lines choice at
+-- Behind lines that lie in the stream and make the choice, others are parsed at it.
+pub fields-judged : (s : Stream) (lines more : List Line) (latest choice at : ℕ) → Makes s lines latest choice at → at + lineBits lines choice ≤ s .bits →
+    choiceBehind s (lines ++ more) latest at ≡ outcome._>>_ (judged s lines choice at) (choiceBehind s more choice (at + lineBits lines choice))
 unfolding fieldsOf fieldOf
-fields-judged s [] latest choice at m inside = ap (λ (c : ℕ). good (parsed c at)) m
-fields-judged s (l ∷ lines) latest choice at m inside =
+fields-judged s [] more latest choice at m inside = ap₂ (λ (c n : ℕ). choiceBehind s more c n) m (omega arith)
+fields-judged s (l ∷ lines) more latest choice at m inside =
     ap (λ (r : Row). kept (parse s (fieldOf r >>= others) at)) (m .0)
     ∙ ap (λ (t : Bool). kept (cond t (refused (pastEnd at)) (parse s (valued (decode row at code) >>= others) next))) (le-ltb (s .bits) next (omega arith))
-    ∙ go (decode row at code) (fields-judged s lines later choice next (m .1) (omega arith))
+    ∙ go (decode row at code) (fields-judged s lines more later choice next (m .1) (omega arith))
   where
     row : Row
     row = l .rowAt choice
@@ -82,22 +78,27 @@ fields-judged s (l ∷ lines) latest choice at m inside =
     later = chose (l .sets) code latest
 
     others : Found → Format (List Found)
-    others x = fieldsOf lines (chose (l .sets) (x .code) latest) >>= λ rest. ends (x ∷ rest)
+    others x = fieldsOf (lines ++ more) (chose (l .sets) (x .code) latest) >>= λ rest. ends (x ∷ rest)
 
     valued : Outcome Value → Format Found
     valued o = given o >>= λ v. ends (found row at code v)
 
     kept : Outcome (Parsed (List Found)) → Outcome (Parsed ℕ)
-    kept o = outcome._>>=_ o (λ x. good (parsed (lastChoice (l ∷ lines) (x .found) latest) (x .next)))
+    kept o = outcome._>>=_ o (λ x. good (parsed (lastChoice (l ∷ (lines ++ more)) (x .found) latest) (x .next)))
 
-    go : (o : Outcome Value) → choiceBehind s lines later next ≡ judged s lines choice next →
-        kept (parse s (valued o >>= others) next) ≡ outcome._>>_ (outcome._>>_ o (good (tt {0}))) (judged s lines choice next)
+    behind : ℕ → Outcome (Parsed ℕ)
+    behind n = choiceBehind s more choice n
+
+    go : (o : Outcome Value) → choiceBehind s (lines ++ more) later next ≡ outcome._>>_ (judged s lines choice next) (behind (next + lineBits lines choice)) →
+        kept (parse s (valued o >>= others) next)
+        ≡ outcome._>>_ (outcome._>>_ (outcome._>>_ o (good (tt {0}))) (judged s lines choice next)) (behind (at + lineBits (l ∷ lines) choice))
     go (refused r) rest = refl
     go (good v) rest =
         let make : Parsed (List Found) → Outcome (Parsed (List Found)) = λ x. good (parsed (found row at code v ∷ x .found) (x .next)) in
-        ap kept (parse-bind s (fieldsOf lines later) (λ xs. ends (found row at code v ∷ xs)) next)
-        ∙ bind-assoc (parse s (fieldsOf lines later) next) make (λ x. good (parsed (lastChoice (l ∷ lines) (x .found) latest) (x .next)))
+        ap kept (parse-bind s (fieldsOf (lines ++ more) later) (λ xs. ends (found row at code v ∷ xs)) next)
+        ∙ bind-assoc (parse s (fieldsOf (lines ++ more) later) next) make (λ x. good (parsed (lastChoice (l ∷ (lines ++ more)) (x .found) latest) (x .next)))
         ∙ rest
+        ∙ ap (λ (n : ℕ). outcome._>>_ (judged s lines choice next) (behind n)) (omega arith)
 
 -- ---- open fields are passed
 
@@ -116,25 +117,22 @@ behind-open [] none choice (suc i) zero h = tt
 behind-open [] none choice (suc i) (suc n) h = tt
 behind-open (l ∷ lines) none choice (suc i) n h = behind-open lines none choice i n (λ j lo hi. h (suc j) (omega arith) (omega arith))
 
-open-judged : (s : Stream) (lines : List Line) (choice at : ℕ) → AllOpen lines choice → judged s lines choice at ≡ good (parsed choice (at + lineBits lines choice))
-open-judged s [] choice at h = ap (λ (n : ℕ). good (parsed choice n)) (omega arith)
+open-judged : (s : Stream) (lines : List Line) (choice at : ℕ) → AllOpen lines choice → judged s lines choice at ≡ good tt
+open-judged s [] choice at h = refl
 open-judged s (l ∷ lines) choice at h =
     let row = l .rowAt choice in
-    then-good _ (h .0 at (fieldAt (s .number) at (row .width)) (field-lt (s .number) at (row .width)))
-    ∙ open-judged s lines choice (at + row .width) (h .1)
-    ∙ ap (λ (n : ℕ). good (parsed choice n)) (omega arith)
+    then-good _ (h .0 at (fieldAt (s .number) at (row .width)) (field-lt (s .number) at (row .width))) ∙ open-judged s lines choice (at + row .width) (h .1)
 
 -- ---- in turn
 
 -- The judging of fields has come to some lines at a place, on its way to an answer and to an end.
-pub record Come (s : Stream) (choice end : ℕ) (answer : Outcome (Parsed ℕ)) (lines : List Line) (at : ℕ) : Type 0 where
+pub record Come (s : Stream) (choice end : ℕ) (answer : Outcome (Unit {0})) (lines : List Line) (at : ℕ) : Type 0 where
   pub place : at + lineBits lines choice ≡ end
   pub same : judged s lines choice at ≡ answer
 
-module _ {s : Stream} {choice end : ℕ} {answer : Outcome (Parsed ℕ)} where
-  pub come-open : {lines : List Line} {at : ℕ} → Come s choice end answer lines at → AllOpen lines choice → good (parsed choice end) ≡ answer
-  come-open {lines} {at} h all =
-      ap (λ (n : ℕ). good (parsed choice n)) (sym (h .place)) ∙ sym (open-judged s lines choice at all) ∙ h .same
+module _ {s : Stream} {choice end : ℕ} {answer : Outcome (Unit {0})} where
+  pub come-open : {lines : List Line} {at : ℕ} → Come s choice end answer lines at → AllOpen lines choice → good tt ≡ answer
+  come-open {lines} {at} h all = sym (open-judged s lines choice at all) ∙ h .same
 
   module _ {l : Line} {lines : List Line} {at : ℕ} (h : Come s choice end answer (l ∷ lines) at) {row : Row} (e : row ≡ l .rowAt choice) where
     pub come-inside : end ≤ s .bits → at + row .width ≤ s .bits
@@ -158,62 +156,70 @@ module _ {s : Stream} {choice end : ℕ} {answer : Outcome (Parsed ℕ)} where
 -- ---- Basic and the templates
 
 module _ (s : Stream) where
-  pub basic-come : firstSelector ≤ s .bits → Come s 0 firstSelector (choiceBehind s basic 0 0) basic 0
-  unfolding basic
-  basic-come h = record { place = refl; same = sym (fields-judged s basic 0 0 0 (refl, (refl, (refl, (refl, (refl, refl))))) h) }
+  pub basic-judged : firstSelector ≤ s .bits → choiceBehind s basic 0 0 ≡ outcome._>>_ (judged s basic 0 0) (good (parsed 0 firstSelector))
+  unfolding basic fieldsOf
+  basic-judged h = fields-judged s basic [] 0 0 0 (refl, (refl, (refl, (refl, (refl, refl))))) h
 
   -- Field 9 of each stands at one place, and it sets the choice.
-  makes : (t : Template) {choice : ℕ} → choice ≡ fieldAt (s .number) 144 2 → Makes s (templateLines t) 0 choice 74
+  makes : (t : Template) {choice : ℕ} → choice ≡ fieldAt (s .number) 144 2 → Makes s (frontLines t) 0 choice 74
   unfolding template33 template32
   makes Bridge e =
-      subst (λ (c : ℕ). Makes s template33 0 c 74) (sym e)
-      (refl, (refl, (refl, (refl, (refl, (refl, (refl, (refl, (refl, (refl, (refl, (refl, (refl, (refl, (refl, (refl, refl))))))))))))))))
+      subst (λ (c : ℕ). Makes s (frontLines Bridge) 0 c 74) (sym e)
+      (refl, (refl, (refl, (refl, (refl, (refl, (refl, (refl, (refl, (refl, (refl, (refl, (refl, (refl, (refl, refl)))))))))))))))
   makes Resistance e =
-      subst (λ (c : ℕ). Makes s template32 0 c 74) (sym e)
-      (refl, (refl, (refl, (refl, (refl, (refl, (refl, (refl, (refl, (refl, (refl, (refl, (refl, (refl, refl))))))))))))))
+      subst (λ (c : ℕ). Makes s (frontLines Resistance) 0 c 74) (sym e)
+      (refl, (refl, (refl, (refl, (refl, (refl, (refl, (refl, (refl, (refl, (refl, (refl, (refl, refl)))))))))))))
+
+pub basic-end : lineBits basic 0 ≡ firstSelector
+unfolding basic
+basic-end = refl
 
 pub choice-place : (t : Template) (p : ℕ) → fieldPlace (record { template = t; precision = p }) 9 ≡ 144
 unfolding fieldPlace linesOf basic template33 template32
 choice-place Bridge p = refl
 choice-place Resistance p = refl
 
-basic-bits : (p : ℕ) → bitsBefore basic p (length basic) ≡ firstSelector
-unfolding basic
-basic-bits p = refl
+-- The last line sets no choice and takes every code. It stands behind 306 bits at most.
+own-lines : (t : Template) → frontLines t ++ (lineOf t (lastField t) ∷ []) ≡ templateLines t
+unfolding linesOf basic template33 template32
+own-lines Bridge = refl
+own-lines Resistance = refl
 
-own-end : (layout : Layout) → firstSelector + blockBits + lineBits (templateLines (layout .template)) (layout .precision) ≡ behindFields layout
-unfolding fieldPlace linesOf
-own-end layout =
-    omega (
-      arith,
-      basic-bits p,
-      bits-append basic lines p (length lines),
-      ap (bitsBefore (basic ++ lines) p) all,
-      ap (λ (b : Bool). cond b blockBits 0) (lt-ltb (length basic) (suc (lastField (layout .template))) (omega (arith, length-append basic lines))),
-    )
-  where
-    lines : List Line
-    lines = templateLines (layout .template)
+pub last-sets : (t : Template) → lineOf t (lastField t) .sets ≡ false
+unfolding linesOf basic template33 template32
+last-sets Bridge = refl
+last-sets Resistance = refl
 
-    p : ℕ
-    p = layout .precision
+pub last-open : (t : Template) (p : ℕ) → Open (lineOf t (lastField t) .rowAt p)
+unfolding linesOf basic template33 template32
+last-open Bridge p = row-open _ tt
+last-open Resistance p = row-open _ tt
 
-    all : length basic + length lines ≡ suc (length (basic ++ lines)) - 1
-    all = omega (arith, length-append basic lines)
+pub front-end : (t : Template) (p : ℕ) →
+    let layout : Layout = record { template = t; precision = p } in let last = fieldPlace layout (lastField t) in
+    (firstSelector + blockBits + lineBits (frontLines t) p ≡ last) × (last + rowOf layout (lastField t) .width ≡ behindFields layout) × (last ≤ 306)
+unfolding fieldPlace linesOf basic template33 template32
+front-end Bridge zero = (refl, refl, omega arith)
+front-end Bridge (suc zero) = (refl, refl, omega arith)
+front-end Bridge (suc (suc p)) = (refl, refl, omega arith)
+front-end Resistance zero = (refl, refl, omega arith)
+front-end Resistance (suc zero) = (refl, refl, omega arith)
+front-end Resistance (suc (suc zero)) = (refl, refl, omega arith)
+front-end Resistance (suc (suc (suc p))) = (refl, refl, omega arith)
 
--- A template's own fields, at the precision that stands in the stream.
-pub own-come : (s : Stream) (layout : Layout) → layout .precision ≡ fieldAt (s .number) (fieldPlace layout 9) 2 → behindFields layout ≤ s .bits →
-    let lines = templateLines (layout .template) in
-    Come s (layout .precision) (behindFields layout) (choiceBehind s lines 0 (firstSelector + blockBits)) lines (firstSelector + blockBits)
-own-come s layout e inside =
+-- A template's own fields, at the precision that stands in the stream: all but the last are judged, and the last is parsed.
+pub own-judged : (s : Stream) (layout : Layout) → layout .precision ≡ fieldAt (s .number) (fieldPlace layout 9) 2 →
+    let t = layout .template in let last = fieldPlace layout (lastField t) in let p = layout .precision in
+    last ≤ s .bits → choiceBehind s (templateLines t) 0 (firstSelector + blockBits)
+    ≡ outcome._>>_ (judged s (frontLines t) p (firstSelector + blockBits)) (choiceBehind s (lineOf t (lastField t) ∷ []) p last)
+own-judged s layout e inside =
     let t : Template = layout .template in
     let p : ℕ = layout .precision in
-    record {
-      place = own-end layout;
-      same =
-          sym (fields-judged s (templateLines t) 0 p (firstSelector + blockBits)
-          (makes s t (e ∙ ap (λ (n : ℕ). fieldAt (s .number) n 2) (choice-place t p))) (omega (arith, own-end layout)));
-    }
+    let start : ℕ = firstSelector + blockBits in
+    let place = front-end t p .0 in
+    ap (λ ls. choiceBehind s ls 0 start) (sym (own-lines t))
+    ∙ fields-judged s (frontLines t) (lineOf t (lastField t) ∷ []) 0 p start (makes s t (e ∙ ap (λ (n : ℕ). fieldAt (s .number) n 2) (choice-place t p))) (omega (arith, place))
+    ∙ ap (λ (n : ℕ). outcome._>>_ (judged s (frontLines t) p start) (choiceBehind s (lineOf t (lastField t) ∷ []) p n)) place
 
 -- ---- the first block
 

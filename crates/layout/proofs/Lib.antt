@@ -15,3 +15,4 @@ pub mod Standing
 pub mod CurvePlaces
 pub mod Numbers
 pub mod Rising
+pub mod PlaceSteps

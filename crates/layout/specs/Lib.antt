@@ -3,3 +3,4 @@ pub mod Contents
 pub mod Image
 pub mod Places
 pub mod Pieces
+pub mod Judgement

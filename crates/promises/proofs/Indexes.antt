@@ -20,7 +20,7 @@ use Rattle.layout.specs.Contents.{Contents}
 use Rattle.layout.specs.Image.{contents, nothing, field, layoutOf, pairsIn}
 use Rattle.layout.proofs.Accepted.{contents-accepted}
 use Rattle.sheet.specs.Check.{readField}
-use Rattle.sheet.proofs.PlaceSteps.{fields-end}
+use Rattle.layout.proofs.PlaceSteps.{fields-end}
 use Rattle.sheet.proofs.ReadLaws.{refused-reads}
 use Rattle.fields.specs.declared.Value.{Value}
 use Rattle.fields.specs.Rules.{decode}

@@ -2,10 +2,11 @@
 use curve::Powers;
 use memory::Sizes;
 use sheet::Opened;
-use sheet::curve_place;
+use sheet::curve_in;
 use sheet::segment_at;
 use sheet::segment_end;
 use sheet::term_at;
+use stream::Cursor;
 ghost use mathlib.Core.Path.{_≡_};
 ghost use Prim.Native.Nat.{ℕ, _^_, _≤_, _<_};
 ghost use lib.IntN.{natAbs};
@@ -17,45 +18,44 @@ ghost use Rattle.curve.specs.Powers.{noPowers, taken};
 ghost use Rattle.reading.specs.Reading.{fraction, servingTerms, share as shareOf};
 ghost use Rattle.reading.specs.Steps.{ownTerms};
 
-// The terms of a segment: its place, and how many they are.
+// The terms of a segment: the cursor at it, and how many they are.
 pub struct Run {
-    pub at: usize,
+    pub cursor: Cursor,
     pub terms: u64,
 }
 
 // The terms of the segment that serves at p.
 fn serving(sheet: Opened, image: &[u8], p: i64) -> Run
     requires { ⌜ Held sheet (now image) × (0 < sheet .summary .segments) ⌝ }
-    ensures { λ r. ⌜ (r .at < 2 ^ 32) × (r .terms < 2 ^ 7) × ((kind : ℕ) (c : Contents) → Opens kind (now (image .entry)) sheet c → ownTerms (streamIn (sheet .sizes) (now (image .entry))) (r .at) (r .terms) ≡ servingTerms p (segmentsIn (c .calibration))) ⌝ }
+    ensures { λ r. ⌜ (r .cursor .at < 2 ^ 32) × (r .terms < 2 ^ 7) × ((kind : ℕ) (c : Contents) → Opens kind (now (image .entry)) sheet c → ownTerms (streamIn (sheet .sizes) (now (image .entry))) (r .cursor .at) (r .terms) ≡ servingTerms p (segmentsIn (c .calibration))) ⌝ }
 {
     let sizes = sheet.sizes;
-    let layout = sheet.layout;
     let summary = sheet.summary;
-    let mut at = curve_place(layout);
-    let mut terms = segment_at(sizes, image, at).terms;
+    let mut cursor = curve_in(sheet);
+    let mut terms = segment_at(sizes, image, cursor).terms;
     let mut left = summary.segments;
     while 1 < left {
-        let behind = segment_end(at, terms);
+        let behind = segment_end(cursor, terms);
         let next = segment_at(sizes, image, behind);
         if p < next.start {
-            return Run { at, terms };
+            return Run { cursor, terms };
         }
-        at = behind;
+        cursor = behind;
         terms = next.terms;
         left -= 1;
     }
-    Run { at, terms }
+    Run { cursor, terms }
 }
 
 // Their coefficients by power.
 fn powers_of(sizes: Sizes, image: &[u8], run: Run) -> Powers
-    requires { ⌜ Whole sizes (now image) × (run .at < 2 ^ 32) × (run .terms < 2 ^ 7) ⌝ }
-    ensures { λ r. ⌜ (r .count ≤ 6) × (r ≡ taken noPowers (ownTerms (streamIn sizes (now (image .entry))) (run .at) (run .terms))) ⌝ }
+    requires { ⌜ Whole sizes (now image) × (run .cursor .at < 2 ^ 32) × (run .terms < 2 ^ 7) ⌝ }
+    ensures { λ r. ⌜ (r .count ≤ 6) × (r ≡ taken noPowers (ownTerms (streamIn sizes (now (image .entry))) (run .cursor .at) (run .terms))) ⌝ }
 {
     let mut powers = Powers::none();
     let mut index: u64 = 0;
     while index < run.terms {
-        let term = term_at(sizes, image, segment_end(run.at, index));
+        let term = term_at(sizes, image, segment_end(run.cursor, index));
         powers = powers.with(term.exponent as u64, term.coefficient);
         index += 1;
     }

@@ -21,9 +21,6 @@ ghost use Rattle.sheet.specs.Opened.{Opens, Held};
 ghost use Rattle.reading.specs.Reading.{isResistance, tooMany, tooFar, readingAt, takeReading, readingSaid};
 ghost use Rattle.reading.specs.Steps.{Ready};
 
-// The first selector's bit: Basic's 64 stand before it.
-const FIRST_SELECTOR: u64 = 64;
-
 // The reading of an input that no row turns down: the fraction q at its position, and the physical figure.
 fn shown(sheet: Opened, image: &[u8], span: Span, input: i64) -> Reading
     requires { ⌜ Held sheet (now image) × Ready span × (tooFar input (span .least) (span .greatest) ≡ false) ⌝ }
@@ -83,14 +80,14 @@ pub fn reading_in(sheet: Opened, image: &[u8], input: i64, dash: Dash) -> Readin
     let layout = sheet.layout;
     let template = layout.template;
     if is_resistance(template) {
-        return ReadingAnswer::Refused(refusal::wrong_block(FIRST_SELECTOR));
+        return ReadingAnswer::Refused(refusal::wrong_block(layout::FIRST_SELECTOR as u64));
     }
     dash_reading(sheet, image, input, dash)
 }
 
 // A reading of an image at an input in nV/V, on a dash: the fraction q and the physical figure. Else the check's refusal; 4 for
-// template 32; 23 where the small dash is handed more than 32 points; 13 where field 7, 8, 10 or 11 is missing; 21 where 10 or 11 is a Single outside −2 to 2 V/V; 13 where e is not below f; 14
-// for an input too far outside the span.
+// template 32; 23 where the small dash is handed more than 32 points; 13 where field 7, 8, 10 or 11 is missing; 21 where 10 or
+// 11 is a Single outside −2 to 2 V/V; 13 where e is not below f; 14 for an input too far outside the span.
 pub fn take_reading(kind: u8, image: &[u8], input: i64, dash: Dash) -> ReadingAnswer
     ensures { λ r. ⌜ readingSaid r ≡ takeReading kind (now (image .entry)) input dash ⌝ }
 {

@@ -7,7 +7,7 @@ ghost use Prim.Native.Nat.{_-_, _≤_, _<_};
 ghost use lib.IntN.{pos};
 ghost use lib.ListN.{length};
 ghost use Rattle.fields.specs.Rules.{topCode, progression, scaleWidth, geometricValue, goesUp, storedAt};
-ghost use Rattle.fields.specs.Tables.{listed, RisingList};
+ghost use Rattle.fields.specs.Tables.{listed, RisingList, TableOf};
 
 // Response times, in 10 ns: 100 × 1.292^code to the nearest, for codes 0 to 62.
 const RESPONSE_TIMES: [u32; 63] = [
@@ -335,6 +335,19 @@ const CURRENTS: [u32; 255] = [
     1202264435,
 ];
 
+// Each table is that of its scale: one test over all its entries, which antt computes.
+fn response_times() -> [u32; 63]
+    ensures { λ r. ⌜ TableOf Scale.ResponseTime r ⌝ }
+{
+    RESPONSE_TIMES
+}
+
+fn currents() -> [u32; 255]
+    ensures { λ r. ⌜ TableOf Scale.Current r ⌝ }
+{
+    CURRENTS
+}
+
 // ---- over any table
 
 // An entry or a figure in 64 bits.
@@ -387,8 +400,8 @@ pub fn scale_value(scale: Scale, code: u64) -> i64
     ensures { λ r. ⌜ r ≡ pos (geometricValue (progression scale) code) ⌝ }
 {
     match scale {
-        Scale::ResponseTime => value_in(&RESPONSE_TIMES, code),
-        Scale::Current => value_in(&CURRENTS, code),
+        Scale::ResponseTime => value_in(&response_times(), code),
+        Scale::Current => value_in(&currents(), code),
     }
 }
 
@@ -417,7 +430,7 @@ pub fn stored_code(scale: Scale, figure: u64) -> u64
     ensures { λ r. ⌜ r ≡ storedAt (geometricValue (progression scale)) (topCode (scaleWidth scale)) figure ⌝ }
 {
     match scale {
-        Scale::ResponseTime => stored_in(&RESPONSE_TIMES, figure),
-        Scale::Current => stored_in(&CURRENTS, figure),
+        Scale::ResponseTime => stored_in(&response_times(), figure),
+        Scale::Current => stored_in(&currents(), figure),
     }
 }

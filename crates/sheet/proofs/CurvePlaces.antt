@@ -1,6 +1,6 @@
 -- Where the segments and terms of a curve stand, as its own counts tell.
-use mathlib.Core.Path.{_≡_, refl, sym, ap, ap₂, _∙_, subst}
-use mathlib.Core.Bool.{Bool, true, false, cond}
+use mathlib.Core.Path.{_≡_, refl, sym, ap, ap₂, _∙_}
+use mathlib.Core.Bool.{Bool, cond}
 use mathlib.Core.List.{List, [], _∷_, _++_}
 use Prim.Native.Nat.{ℕ, zero, suc, _+_, _-_, _*_, _/_, _^_, _≤_, _<_}
 use native.Mathlib.Omega.{arith}
@@ -11,7 +11,6 @@ use lib.ListN.{length, getD, length-append}
 use borrow.Author.Tests.{le-ltb, lt-ltb, ltb-false}
 use Rattle.refusal.specs.Outcome.{Outcome, good, refused}
 use Rattle.refusal.specs.Rows.{pastEnd}
-use Rattle.memory.specs.Bits.{fieldAt}
 use Rattle.fields.specs.declared.Value.{Value}
 use Rattle.fields.specs.declared.Term.{Term}
 use Rattle.fields.specs.Curves.{mostTerms}

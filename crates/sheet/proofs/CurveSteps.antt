@@ -1,21 +1,44 @@
 -- The walk over block 41.
 use mathlib.Core.Path.{_≡_, refl, sym, ap, ap₂, _∙_}
 use mathlib.Core.Bool.{Bool, true, false, not, cond}
-use mathlib.Core.List.{List, [], _∷_, _++_}
+use mathlib.Core.List.{List, _∷_, _++_}
 use mathlib.Core.Option.{Option, none, some}
-use Prim.Native.Nat.{ℕ, zero, suc, _+_, _-_, _≤_, _<_}
+use Prim.Native.Nat.{ℕ, zero, suc, _+_, _-_, _*_, _/_, _%_, _^_, _≤_, _<_}
 use native.Mathlib.Omega.{arith}
 use borrow.Author.Tests.{ltb-false}
 use lib.Dec.{ltb}
 use lib.ListN.{length, length-append}
+use lib.Pow.{high, low}
+use Rattle.memory.specs.Bits.{fieldAt}
+use Rattle.memory.proofs.FieldLaws.{field-lt, field-add}
 use Rattle.refusal.specs.declared.Refusal.{Refusal}
+use Rattle.refusal.specs.Outcome as outcome
 use Rattle.refusal.specs.Outcome.{Outcome, good, refused}
 use Rattle.refusal.specs.Rows.{wrongCurve, tooManyTerms}
 use Rattle.refusal.proofs.Outcomes.{good-same, no-value, told}
 use Rattle.stream.specs.declared.cursor.Cursor.{Cursor}
 use Rattle.fields.specs.declared.Row.{Row}
 use Rattle.fields.specs.declared.Earlier.{Earlier}
-use Rattle.fields.specs.Curves.{curveDomain, segmentCount, segmentStart, termCount, exponent, coefficient, isSegmentCount, isTermCount, mostTerms, startFollows}
+use Rattle.fields.specs.Stored.{Sound}
+use Rattle.fields.specs.Curves.{
+  curveDomain,
+  segmentCount,
+  segmentStart,
+  termCount,
+  exponent,
+  coefficient,
+  isSegmentCount,
+  isTermCount,
+  mostTerms,
+  startFollows,
+  tenthsOf,
+  tenthsBefore,
+  exponentFollows,
+}
+use Rattle.fields.proofs.RowLaws.{segment-count-sound, start-sound, term-count-sound, exponent-sound}
+use Rattle.coding.specs.declared.curves.CurveField.{CurveField}
+use Rattle.coding.specs.declared.curves.CurveField.the-variants.{SegmentCount, Start, TermCount, Exponent}
+use Rattle.coding.specs.CurveRules.{curveRow}
 use Rattle.layout.specs.Format.{Format, ends, _>>=_, _>>_, refuse_if_, repeated, Stream, Parsed, parse}
 use Rattle.layout.specs.Contents.{
   Found,
@@ -36,17 +59,23 @@ use Rattle.layout.specs.Contents.{
   curveOf,
 }
 use Rattle.layout.specs.Image.{allTerms}
+use Rattle.layout.specs.Places.{termBits}
 use Rattle.layout.proofs.Formats.{parsed, parse-split}
 use Rattle.sheet.specs.declared.TableDomain.the-variants.{NoTable as NotThere}
 use Rattle.sheet.specs.declared.walk.CodeStep.{CodeStep}
 use Rattle.sheet.specs.declared.walk.CodeStep.the-variants.{Code, Refused as NoCode}
-use Rattle.sheet.specs.declared.block.Counts.{Counts}
-use Rattle.sheet.specs.declared.curve.EarlierStep.{EarlierStep}
-use Rattle.sheet.specs.declared.curve.EarlierStep.the-variants.{Behind as Before, Refused as NoTerm}
-use Rattle.sheet.specs.declared.curve.SegmentStep.{SegmentStep}
-use Rattle.sheet.specs.declared.curve.SegmentStep.the-variants.{Behind as BeforeSegment, Refused as NoSegment}
-use Rattle.sheet.specs.Walk.{keeping, Coded, coded, countsOf, passedBy, passed, rises, behind, codeSaid, earlierStepSaid, segmentStepSaid}
-use Rattle.sheet.proofs.Steps.{kept, keep-next, keep-refused, keep-made}
+use Rattle.sheet.specs.declared.curve_block.EarlierStep.{EarlierStep}
+use Rattle.sheet.specs.declared.curve_block.SegmentStep.{SegmentStep}
+use Rattle.sheet.specs.declared.curve_block.SegmentStep.the-variants.{Behind as BeforeSegment, Refused as NoSegment}
+use Rattle.sheet.specs.Walk.{keeping, Coded, coded, countsOf, TermCodes, termsBehind, countBehind, passedBy, behind, codeSaid, earlierStepSaid, segmentStepSaid}
+use Rattle.sheet.proofs.Steps.{field-inside, kept, keep-next, keep-refused, keep-made, keep-bind, keep-twice, keep-through}
+
+-- The rows of the fields that a rule takes.
+pub curve-sound : (field : CurveField) → Sound (curveRow field)
+curve-sound SegmentCount = segment-count-sound
+curve-sound Start = start-sound
+curve-sound TermCount = term-count-sound
+curve-sound Exponent = exponent-sound
 
 -- ---- a field that a rule takes
 
@@ -117,6 +146,10 @@ module _ {A B : Type 0} (s : Stream) (one : B → Format A) (behind : B → A �
 
 -- ---- a term
 
+-- The rule of an exponent, by its code.
+abbrev rises : Option ℕ → ℕ → Bool
+rises before code = exponentFollows (tenthsBefore before) (tenthsOf code)
+
 module _ (s : Stream) (before : Option ℕ) (at : ℕ) (x : CodeStep) (e : codeSaid at x ≡ keeping coded (parse s (ruledOf exponent (rises before)) at)) where
   abbrev ended : Found → Found → Format FoundTerm
   ended y c = ends (record { exponent = y; coefficient = c })
@@ -144,76 +177,95 @@ module _ (s : Stream) (before : Option ℕ) (at : ℕ) (x : CodeStep) (e : codeS
         let (c, q′, w′) = keep-next coded s (fieldOf coefficient) (ended p) (middle .at) (told (codeSaid (middle .at)) g f) in
         ap (λ (u : Coded). behind (some (u .code)) next) (sym q) ∙ sym (ap (keeping (behindTerm before)) (w ∙ w′))
 
+-- Its codes taken as one field.
+pub term-at-once : (s : Stream) (before : Option ℕ) (at : ℕ) {both : ℕ} → both ≡ fieldAt (s .number) at termBits → at + termBits ≤ s .bits → TermCodes before at both →
+    good (parsed (some (both % 2 ^ 7)) (at + termBits)) ≡ keeping (behindTerm before) (parse s (termOf before) at)
+term-at-once s before at {both} e inside h =
+    ap (λ (n : ℕ). good (parsed (some (both % 2 ^ 7)) n)) places
+    ∙ term-stands s before at (Code (both % 2 ^ 7) middle) (ruled-steps s exponent (rises before) at (Code (both % 2 ^ 7) middle) power refl (sym (h .rising))) refl (Code (both / 2 ^ 7) end) factor refl
+  where
+    N : ℕ
+    N = s .number
+
+    middle : Cursor
+    middle = record { at = at + 7 }
+
+    end : Cursor
+    end = record { at = at + 7 + 32 }
+
+    places : at + termBits ≡ at + 7 + 32
+    places = omega arith
+
+    halves : both ≡ fieldAt N (at + 7) 32 * 2 ^ 7 + fieldAt N at 7
+    halves = e ∙ field-add N at 32 7
+
+    low-is : both % 2 ^ 7 ≡ fieldAt N at 7
+    low-is = ap (λ (n : ℕ). n % 2 ^ 7) halves ∙ low (fieldAt N (at + 7) 32) 7 (field-lt N at 7)
+
+    high-is : both / 2 ^ 7 ≡ fieldAt N (at + 7) 32
+    high-is = ap (λ (n : ℕ). n / 2 ^ 7) halves ∙ high (fieldAt N (at + 7) 32) 7 (field-lt N at 7)
+
+    power : codeSaid at (Code (both % 2 ^ 7) middle) ≡ keeping coded (parse s (fieldOf exponent) at)
+    power = field-inside s exponent at low-is (omega arith) (h .power)
+
+    factor : codeSaid (at + 7) (Code (both / 2 ^ 7) end) ≡ keeping coded (parse s (fieldOf coefficient) (at + 7))
+    factor = field-inside s coefficient (at + 7) high-is (omega arith) (h .factor)
+
 -- ---- a segment
 
-module _ (s : Stream) (before : Passed) (at : ℕ) (x : CodeStep) (e : codeSaid at x ≡ keeping coded (parse s (ruledOf segmentStart (startFollows (before .start))) at)) where
+-- Its terms, where they make a total; and a total that is too great.
+module _ (s : Stream) (start total n at : ℕ) {many : Bool} (m : many ≡ ltb mostTerms total) where
+  abbrev limited : Bool → Outcome (Parsed Passed)
+  limited b =
+      outcome._>>_ (outcome.refuse_if_ (tooManyTerms total) b) (keeping (λ terms. record { start = some start; terms = total }) (parse s (termsOf n) at))
+
+  pub too-many : many ≡ true → refused (tooManyTerms total) ≡ termsBehind s start total n at
+  too-many t = ap limited (sym t ∙ m)
+
+  pub terms-passed : many ≡ false → {v w : EarlierStep} → v ≡ w → earlierStepSaid v ≡ keeping (passedBy behindTerm none) (parse s (termsOf n) at) →
+      keeping (λ last. record { start = some start; terms = total }) (earlierStepSaid w) ≡ termsBehind s start total n at
+  terms-passed t h e =
+      ap (keeping (λ last. record { start = some start; terms = total })) (told earlierStepSaid h e)
+      ∙ keep-twice (λ last. record { start = some start; terms = total }) (passedBy behindTerm none) (parse s (termsOf n) at)
+      ∙ ap limited (sym t ∙ m)
+
+-- From its start on.
+module _ (s : Stream) (before : Passed) where
   abbrev made : Found → Found → List FoundTerm → FoundSegment
   made start count terms = record { start = start; count = count; terms = terms }
-
-  abbrev limited : Bool → ℕ → Format FoundSegment → Format FoundSegment
-  limited many total next = refuse tooManyTerms total if many >> next
 
   abbrev withTerms : Found → Found → Format FoundSegment
   withTerms start count =
       let total = before .terms + count .code in
-      limited (ltb mostTerms total) total (termsOf (count .code) >>= λ terms. ends (made start count terms))
+      refuse tooManyTerms total if ltb mostTerms total >> (termsOf (count .code) >>= λ terms. ends (made start count terms))
 
-  abbrev withCount : Found → Format FoundSegment
-  withCount start = ruledOf termCount isTermCount >>= withTerms start
+  abbrev final : Parsed FoundSegment → Outcome (Parsed Passed)
+  final x = good (parsed (behindSegment before (x .found)) (x .next))
 
-  abbrev kept-of : Format FoundSegment → ℕ → Outcome (Parsed Passed)
-  kept-of f n = keeping (behindSegment before) (parse s f n)
+  from-terms : (start count : Found) (at : ℕ) →
+      outcome._>>=_ (parse s (withTerms start count) at) final ≡ termsBehind s (start .code) (before .terms + count .code) (count .code) at
+  from-terms start count at = go (ltb mostTerms (before .terms + count .code))
+    where
+      rest : Format FoundSegment
+      rest = termsOf (count .code) >>= λ terms. ends (made start count terms)
 
-  pub start-halts : {r : Refusal} → x ≡ NoCode r → refused r ≡ kept-of (segmentOf before) at
+      go : (b : Bool) →
+          outcome._>>=_ (parse s (refuse tooManyTerms (before .terms + count .code) if b >> rest) at) final
+          ≡ outcome._>>_ (outcome.refuse_if_ (tooManyTerms (before .terms + count .code)) b)
+          (keeping (λ terms. record { start = some (start .code); terms = before .terms + count .code }) (parse s (termsOf (count .code)) at))
+      go true = refl
+      go false = sym (keep-bind (behindSegment before) (parse s rest at)) ∙ keep-made (behindSegment before) (made start count) s (termsOf (count .code)) at
+
+  pub segment-by : (at : ℕ) →
+      outcome._>>=_ (keeping coded (parse s (ruledOf segmentStart (startFollows (before .start))) at)) (λ x. countBehind s (x .found .code) (before .terms) (x .next))
+      ≡ keeping (behindSegment before) (parse s (segmentOf before) at)
   unfolding segmentOf
-  start-halts h = sym (ap (keeping (behindSegment before)) (keep-refused coded s (ruledOf segmentStart (startFollows (before .start))) withCount at (told (codeSaid at) h e)))
-
-  module _ {start : ℕ} {second : Cursor} (h : x ≡ Code start second) (y : CodeStep) (f : codeSaid (second .at) y ≡ keeping coded (parse s (ruledOf termCount isTermCount) (second .at))) where
-    at-terms : (p : Found) × (coded p ≡ record { at = at; code = start }) × (parse s (segmentOf before) at ≡ parse s (withCount p) (second .at))
-    unfolding segmentOf
-    at-terms = keep-next coded s (ruledOf segmentStart (startFollows (before .start))) withCount at (told (codeSaid at) h e)
-
-    pub terms-halt : {r : Refusal} → y ≡ NoCode r → refused r ≡ kept-of (segmentOf before) at
-    terms-halt g =
-        let (p, q, w) = at-terms in
-        sym (ap (keeping (behindSegment before)) (w ∙ keep-refused coded s (ruledOf termCount isTermCount) (withTerms p) (second .at) (told (codeSaid (second .at)) g f)))
-
-    module _ {n : ℕ} {third : Cursor} (g : y ≡ Code n third) {many : Bool} (m : many ≡ ltb mostTerms (before .terms + n)) where
-      -- The terms of a segment that starts so, and so many of them.
-      at-limit : (p c : Found) × (p .code ≡ start) × (c .code ≡ n) ×
-          (kept-of (segmentOf before) at ≡ kept-of (limited many (before .terms + n) (termsOf n >>= λ terms. ends (made p c terms))) (third .at))
-      at-limit =
-          let (p, q, w) = at-terms in
-          let (c, q′, w′) = keep-next coded s (ruledOf termCount isTermCount) (withTerms p) (second .at) (told (codeSaid (second .at)) g f) in
-          let n-is : c .code ≡ n = ap (λ (u : Coded). u .code) q′ in (
-            p,
-            c,
-            ap (λ (u : Coded). u .code) q,
-            n-is,
-            ap (keeping (behindSegment before)) (w ∙ w′)
-                ∙ ap (λ (k : ℕ). kept-of (limited (ltb mostTerms (before .terms + k)) (before .terms + k) (termsOf k >>= λ terms. ends (made p c terms))) (third .at)) n-is
-                ∙ ap (λ (b : Bool). kept-of (limited b (before .terms + n) (termsOf n >>= λ terms. ends (made p c terms))) (third .at)) (sym m),
-          )
-
-      pub too-many : many ≡ true → refused (tooManyTerms (before .terms + n)) ≡ kept-of (segmentOf before) at
-      too-many t =
-          let (p, c, ps, cs, w) = at-limit in
-          sym (w ∙ ap (λ (b : Bool). kept-of (limited b (before .terms + n) (termsOf n >>= λ terms. ends (made p c terms))) (third .at)) t)
-
-      module _ (t : many ≡ false) (v : EarlierStep) (k : earlierStepSaid v ≡ keeping (passedBy behindTerm none) (parse s (termsOf n) (third .at))) where
-        pub own-halt : {r : Refusal} → v ≡ NoTerm r → refused r ≡ kept-of (segmentOf before) at
-        own-halt j =
-            let (p, c, ps, cs, w) = at-limit in
-            sym (w ∙ ap (λ (b : Bool). kept-of (limited b (before .terms + n) (termsOf n >>= λ terms. ends (made p c terms))) (third .at)) t
-            ∙ ap (keeping (behindSegment before)) (keep-refused (passedBy behindTerm none) s (termsOf n) (λ terms. ends (made p c terms)) (third .at) (told earlierStepSaid j k)))
-
-        pub segment-stands : {last : Earlier} {end : Cursor} → v ≡ Before last end →
-            behind (record { start = some start; terms = before .terms + n }) end ≡ kept-of (segmentOf before) at
-        segment-stands {last} {end} j =
-            let (p, c, ps, cs, w) = at-limit in
-            let (terms, q, l) = keep-next (passedBy behindTerm none) s (termsOf n) (λ terms. ends (made p c terms)) (third .at) (told earlierStepSaid j k) in
-            ap₂ (λ (a b : ℕ). behind (record { start = some a; terms = before .terms + b }) end) (sym ps) (sym cs)
-            ∙ sym (w ∙ ap (λ (b : Bool). kept-of (limited b (before .terms + n) (termsOf n >>= λ terms. ends (made p c terms))) (third .at)) t ∙ ap (keeping (behindSegment before)) l)
+  segment-by at =
+      sym (keep-bind (behindSegment before) (parse s (segmentOf before) at)
+      ∙ keep-through coded s (ruledOf segmentStart (startFollows (before .start))) (λ start. ruledOf termCount isTermCount >>= withTerms start) at final
+      (λ x. countBehind s (x .found .code) (before .terms) (x .next))
+      (λ x h. keep-through coded s (ruledOf termCount isTermCount) (withTerms (x .found)) (x .next) final
+      (λ c. termsBehind s (x .found .code) (before .terms + c .found .code) (c .found .code) (c .next)) (λ c g. from-terms (x .found) (c .found) (c .next))))
 
 -- ---- the curve
 

@@ -28,7 +28,7 @@ use Rattle.coding.specs.Unscaled.{Unscaled}
 use Rattle.layout.specs.Format.{bits, Stream, parse}
 use Rattle.layout.specs.Contents.{Found, Contents, FoundPair, FoundTerm, FoundSegment, fieldOf}
 use Rattle.layout.specs.Image.{streamIn, nothing, field, layoutOf, pairsIn, pairIn, segmentsIn, segmentIn, allTerms, termIn, figure, points, segments, terms}
-use Rattle.layout.specs.Places.{fieldPlace, behindFields, pairBits, pairPlace, behindBlock, characterPlace}
+use Rattle.layout.specs.Places.{fieldPlace, behindFields, tableStart, pairBits, tableBits, pairPlace, curveBits, behindBlock, characterPlace}
 use Rattle.layout.proofs.Formats.{parsed}
 use Rattle.layout.proofs.Accepted.{Holding, accepted-at}
 use Rattle.layout.proofs.Standing.{Stands, field-stands, stands-parse, PairStands, pair-here, character-here}
@@ -38,7 +38,7 @@ use Rattle.sheet.specs.declared.opening.Opened.{Opened}
 use Rattle.sheet.specs.Check.{domainIn}
 use Rattle.sheet.specs.Opened.{Opens}
 use Rattle.sheet.specs.Walk.{valueIn, segmentAt, termAt, behindSegments, termPlace}
-use Rattle.sheet.proofs.PlaceSteps.{table-least}
+use Rattle.layout.proofs.PlaceSteps.{end-few, table-least}
 use Rattle.sheet.proofs.CurvePlaces.{curve-few, segment-is, segment-place, term-place}
 
 -- An element of what is made of a list.
@@ -83,6 +83,12 @@ module _ {kind : ℕ} {image : List ℕ} {o : Opened} {c : Contents} (h : Opens 
 
   pub layout-is : o .layout ≡ layoutOf c
   layout-is = ap (λ u. u .layout) (h .is)
+
+  pub behind-is : o .behind .at ≡ behindFields (o .layout)
+  behind-is = ap (λ u. u .behind .at) (h .is) ∙ sym (ap behindFields layout-is)
+
+  pub behind-few : o .behind .at < 2 ^ 17
+  behind-few = omega (arith, behind-is, end-few (o .layout))
 
   pub points-are : o .summary .points ≡ length (points c)
   points-are = ap (λ u. u .summary .points) (h .is)
@@ -129,10 +135,11 @@ module _ {kind : ℕ} {image : List ℕ} {o : Opened} {c : Contents} (h : Opens 
   pub index-few : (i : ℕ) → i < o .summary .points → i < 2 ^ 32
   index-few i l = omega (arith, pair-stands i l .point .inside, bits-few)
 
-  pub held-pair : (i : ℕ) → i < o .summary .points → {at : ℕ} → at ≡ pairPlace (o .layout) i →
+  pub held-pair : (i : ℕ) → i < o .summary .points → {at : ℕ} → at ≡ o .behind .at + tableStart + pairBits * i →
       (parse s (bits pairBits) at ≡ good (parsed (fieldAt (s .number) at pairBits) (at + pairBits))) × (pairIn (pairFrom at (fieldAt (s .number) at pairBits)) ≡ getD (points c) i noPair)
-  held-pair i l {at} e =
-      let p = pair-stands i l in (
+  held-pair i l {at} e′ =
+      let p = pair-stands i l in
+      let e : at ≡ pairPlace (o .layout) i = omega (arith, e′, behind-is) in (
         ap (λ (b : Bool). cond b (refused (pastEnd at)) (good (parsed (fieldAt (s .number) at pairBits) (at + pairBits)))) (le-ltb (s .bits) (at + pairBits) (omega (arith, e, p .deviation .inside))),
         pair-from (subst (λ (n : ℕ). PairStands s n (getD (pairsIn (c .calibration)) i noFound)) (sym e) p) ∙ sym (List·getD-map pairIn (pairsIn (c .calibration)) i noFound),
       )
@@ -154,19 +161,22 @@ module _ {kind : ℕ} {image : List ℕ} {o : Opened} {c : Contents} (h : Opens 
       (character-here holding i (omega (arith, characters-are)))
 
   pub place-few : (i : ℕ) → i < o .summary .characters →
-      (o .summary .points < 2 ^ 32) × (o .summary .segments < 2 ^ 32) × (o .summary .terms < 2 ^ 32) × (i < 2 ^ 32)
+      (o .behind .at < 2 ^ 32) × (o .summary .points < 2 ^ 32) × (o .summary .segments < 2 ^ 32) × (o .summary .terms < 2 ^ 32) × (i < 2 ^ 32)
   place-few i l =
       let h = character-stands i l .1 in
       let few = curve-few (holding .formed .behind) (c .calibration) (holding .formed .calibrated) in (
+        omega (arith, behind-few),
         omega (arith, table-least (o .summary .points), bits-few),
         omega (arith, segments-are, length-map (segmentsIn (c .calibration)) segmentIn, few .0),
         omega (arith, terms-are, length-map (allTerms (segmentsIn (c .calibration))) termIn, few .1),
         omega (arith, bits-few),
       )
 
-  pub held-character : (i : ℕ) → i < o .summary .characters → {at : ℕ} → at ≡ place i → parse s (bits 7) at ≡ good (parsed (getD (c .text) i 0) (at + 7))
-  held-character i l {at} e =
+  pub held-character : (i : ℕ) → i < o .summary .characters → {at : ℕ} →
+      at ≡ o .behind .at + tableBits (o .summary .points) + curveBits (o .summary .segments) (o .summary .terms) + 3 + 7 * i → parse s (bits 7) at ≡ good (parsed (getD (c .text) i 0) (at + 7))
+  held-character i l {at} e′ =
       let (is, inside) = character-stands i l in
+      let e : at ≡ place i = omega (arith, e′, behind-is) in
       ap₂ (λ (b : Bool) (v : ℕ). cond b (refused (pastEnd at)) (good (parsed v (at + 7)))) (le-ltb (s .bits) (at + 7) (omega (arith, e, inside))) (ap (λ (n : ℕ). fieldAt (s .number) n 7) e ∙ is)
 
   -- ---- a segment and a term
@@ -176,8 +186,8 @@ module _ {kind : ℕ} {image : List ℕ} {o : Opened} {c : Contents} (h : Opens 
       omega (arith, segments-are, length-map (segmentsIn (c .calibration)) segmentIn, curve-few (holding .formed .behind) (c .calibration) (holding .formed .calibrated) .0)
 
   -- The first segment stands at the curve's place.
-  pub held-curve : CurveStands s (behindFields (o .layout) + 19) (segmentsIn (c .calibration))
-  held-curve = subst (λ (l : Layout). CurveStands s (behindFields l + 19) (segmentsIn (c .calibration))) (sym layout-is) (curve-here holding)
+  pub held-curve : CurveStands s (o .behind .at + 19) (segmentsIn (c .calibration))
+  held-curve = subst (λ (n : ℕ). CurveStands s (n + 19) (segmentsIn (c .calibration))) (sym (ap (λ u. u .behind .at) (h .is))) (curve-here holding)
 
   abbrev noFoundTerm : FoundTerm
   noFoundTerm = record { exponent = nothing; coefficient = nothing }
@@ -185,17 +195,17 @@ module _ {kind : ℕ} {image : List ℕ} {o : Opened} {c : Contents} (h : Opens 
   abbrev noFoundSegment : FoundSegment
   noFoundSegment = record { start = nothing; count = nothing; terms = [] }
 
-  pub held-segment : (i : ℕ) → i < o .summary .segments → segmentAt s (behindSegments s (behindFields (o .layout) + 19) i) ≡ getD (segments c) i noSegment
+  pub held-segment : (i : ℕ) → i < o .summary .segments → segmentAt s (behindSegments s (o .behind .at + 19) i) ≡ getD (segments c) i noSegment
   held-segment i l =
       let xs : List FoundSegment = segmentsIn (c .calibration) in
       let n : i < length xs = omega (arith, segments-are, length-map xs segmentIn) in
-      ap (segmentAt s) (segment-place (behindFields (o .layout) + 19) xs held-curve i noFoundSegment n) ∙ segment-is (held-curve .stand i noFoundSegment n)
+      ap (segmentAt s) (segment-place (o .behind .at + 19) xs held-curve i noFoundSegment n) ∙ segment-is (held-curve .stand i noFoundSegment n)
       ∙ sym (getD-mapped segmentIn xs i noFoundSegment noSegment n)
 
-  pub held-term : (i : ℕ) → i < o .summary .terms → termAt s (termPlace s (behindFields (o .layout) + 19) (o .summary .segments) i) ≡ getD (terms c) i noTerm
+  pub held-term : (i : ℕ) → i < o .summary .terms → termAt s (termPlace s (o .behind .at + 19) (o .summary .segments) i) ≡ getD (terms c) i noTerm
   held-term i l =
       let xs : List FoundSegment = segmentsIn (c .calibration) in
       let n : i < length (allTerms xs) = omega (arith, terms-are, length-map (allTerms xs) termIn) in
-      ap (λ (k : ℕ). termAt s (termPlace s (behindFields (o .layout) + 19) k i)) (segments-are ∙ length-map xs segmentIn)
-      ∙ term-place (behindFields (o .layout) + 19) xs held-curve i noFoundTerm n
+      ap (λ (k : ℕ). termAt s (termPlace s (o .behind .at + 19) k i)) (segments-are ∙ length-map xs segmentIn)
+      ∙ term-place (o .behind .at + 19) xs held-curve i noFoundTerm n
       ∙ sym (getD-mapped termIn (allTerms xs) i noFoundTerm noTerm n)

@@ -5,7 +5,6 @@ pub mod CurveSteps
 pub mod BlockSteps
 pub mod TextSteps
 pub mod SheetSteps
-pub mod PlaceSteps
 pub mod CurvePlaces
 pub mod OpenLaws
 pub mod HeldLaws

@@ -1,30 +1,45 @@
 -- What an opened sheet says of its image.
-use mathlib.Core.Path.{_≡_, refl, sym, ap, _∙_}
+use mathlib.Core.Path.{_≡_, refl, sym, ap, _∙_, subst}
 use mathlib.Core.List.{List}
-use Prim.Native.Nat.{ℕ}
+use mathlib.Core.Logic.{_⊎_, inl, inr}
+use mathlib.Core.Bool.{Bool, true, false, not}
+use Prim.Native.Nat.{ℕ, zero, suc, _≤_, _<_}
+use native.Mathlib.Omega.{arith}
+use lib.Dec.{eqb, leb}
 use lib.ListN.{length}
+use borrow.Author.Tests.{le-leb, lt-leb, leb-true, leb-false}
 use Rattle.refusal.specs.declared.Refusal.{Refusal}
-use Rattle.refusal.specs.Outcome.{Outcome, good, refused, _>>=_}
-use Rattle.refusal.specs.Rows.{wrongSum, blankChip}
-use Rattle.refusal.proofs.Outcomes.{good-same, no-value, told, good-bind, bind-assoc}
+use Rattle.refusal.specs.Outcome.{Outcome, good, refused, _>>=_, _>>_, refuse_if_}
+use Rattle.refusal.specs.Rows.{wrongImage, wrongSum, blankChip, noSuch}
+use Rattle.refusal.proofs.Outcomes.{good-same, no-value, told, good-bind, passed, bind-assoc}
 use Rattle.memory.specs.declared.Sizes.{Sizes}
 use Rattle.memory.specs.declared.kinds.SizesAnswer.{SizesAnswer}
 use Rattle.memory.specs.declared.kinds.SizesAnswer.the-variants.{Are, Refused as NoSizes}
 use Rattle.memory.specs.declared.pages.Sums.{Sums}
 use Rattle.memory.specs.declared.pages.Sums.the-variants.{Right, Wrong, Blank}
-use Rattle.memory.specs.Image.{imageSizes, sums}
+use Rattle.memory.specs.Image.{sizesOf, imageBytes, streamBits, imageSizes, sums}
 use Rattle.memory.specs.Answers.{Whole, sizesSaid, sumsSaid}
 use Rattle.memory.proofs.Chips.{sizes-whole}
 use Rattle.layout.specs.Format.{parse}
 use Rattle.layout.specs.Contents.{Contents, sheetOf}
 use Rattle.layout.specs.Image.{streamIn, contents}
+use Rattle.sheet.specs.declared.opening.Item.{Item}
 use Rattle.sheet.specs.declared.opening.Opened.{Opened}
 use Rattle.sheet.specs.declared.opening.OpenedAnswer.{OpenedAnswer}
 use Rattle.sheet.specs.declared.opening.OpenedAnswer.the-variants.{Sheet, Refused as NoSheet}
-use Rattle.sheet.specs.Opened.{openedAs, opened, openedSaid, Opens, Held}
-use Rattle.sheet.specs.Walk.{walked}
+use Rattle.sheet.specs.Check.{summary}
+use Rattle.sheet.specs.Opened.{openedAs, opened, counted, openedAt, openedSaid, Opens, Held}
+use Rattle.sheet.specs.Walk.{Roomy, walked}
+use Rattle.sheet.proofs.Steps.{carried}
 
 -- ---- an opening, step by step
+
+-- The stream of each kind has 312 bits or more.
+bits-least : (kind : ℕ) (z : Sizes) → sizesOf kind ≡ good z → 312 ≤ streamBits z
+bits-least zero z e = rw (← good-same e) (omega arith)
+bits-least (suc zero) z e = rw (← good-same e) (omega arith)
+bits-least (suc (suc zero)) z e = rw (← good-same e) (omega arith)
+bits-least (suc (suc (suc k))) z e = no-value e
 
 module _ (kind : ℕ) (image : List ℕ) (x : SizesAnswer) (e : sizesSaid x ≡ imageSizes kind (length image)) where
   pub sizes-refused : {r : Refusal} → x ≡ NoSizes r → refused r ≡ opened kind image
@@ -34,6 +49,13 @@ module _ (kind : ℕ) (image : List ℕ) (x : SizesAnswer) (e : sizesSaid x ≡ 
   module _ {z : Sizes} (h : x ≡ Are z) where
     pub sized : Whole z image
     sized = sizes-whole kind image z (sym (told sizesSaid h e))
+
+    pub roomy : Roomy z image
+    unfolding imageSizes
+    roomy =
+        let (y, s, t) = good-bind (sizesOf kind) _ z (sym (told sizesSaid h e)) in
+        let (right, same) = passed wrongImage (not (eqb (length image) (imageBytes y))) (good y) z t in
+        record { whole = sized; room = bits-least kind z (s ∙ same) }
 
     pub sums-wrong : {y : Sums} {page : ℕ} → sumsSaid y ≡ sums z image → y ≡ Wrong page → refused (wrongSum page) ≡ opened kind image
     unfolding opened contents
@@ -49,6 +71,10 @@ module _ (kind : ℕ) (image : List ℕ) (x : SizesAnswer) (e : sizesSaid x ≡ 
 
 -- ---- an opened sheet
 
+unsized : (kind : ℕ) (image : List ℕ) (q : Refusal) → imageSizes kind (length image) ≡ refused q → contents kind image ≡ refused q
+unfolding contents
+unsized kind image q h = rw h
+
 module _ (kind : ℕ) (image : List ℕ) (x : OpenedAnswer) (e : openedSaid x ≡ opened kind image) where
   pub opens : {o : Opened} → x ≡ Sheet o → (c : Contents) × Opens kind image o c
   unfolding opened
@@ -61,10 +87,6 @@ module _ (kind : ℕ) (image : List ℕ) (x : OpenedAnswer) (e : openedSaid x �
   pub held : {o : Opened} → x ≡ Sheet o → Held o image
   held h = let (c, p) = opens h in record { kind = kind; holds = c; opens = p }
 
-  unsized : (q : Refusal) → imageSizes kind (length image) ≡ refused q → contents kind image ≡ refused q
-  unfolding contents
-  unsized q h = rw h
-
   pub not-opened : {r : Refusal} → x ≡ NoSheet r → contents kind image ≡ refused r
   unfolding opened
   not-opened {r} h = go (imageSizes kind (length image)) refl (contents kind image) refl (told openedSaid h e)
@@ -73,4 +95,49 @@ module _ (kind : ℕ) (image : List ℕ) (x : OpenedAnswer) (e : openedSaid x �
           refused r ≡ (p >>= λ z. q >>= λ c. good (openedAs z c)) → contents kind image ≡ refused r
       go (good z) ep (good c) eq f = no-value f
       go (good z) ep (refused q) eq f = let g : q ≡ r = cc in eq ∙ ap refused g
-      go (refused q) ep o eq f = let g : q ≡ r = cc in unsized q ep ∙ ap refused g
+      go (refused q) ep o eq f = let g : q ≡ r = cc in unsized kind image q ep ∙ ap refused g
+
+-- ---- one of its items
+
+module _ (kind : ℕ) (image : List ℕ) (item : Item) (i : ℕ) where
+  abbrev numbered : Opened → Bool → Outcome Opened
+  numbered o b = refuse noSuch i if b >> good o
+
+  module _ (x : OpenedAnswer) (e : openedSaid x ≡ opened kind image) where
+    pub item-refused : {r : Refusal} → x ≡ NoSheet r → refused r ≡ openedAt kind image item i
+    item-refused h = carried openedSaid _ h e
+
+    pub no-item : {o : Opened} → x ≡ Sheet o → counted item (o .summary) ≤ i → refused (noSuch i) ≡ openedAt kind image item i
+    no-item {o} h l = sym (ap (numbered o) (le-leb (counted item (o .summary)) i l)) ∙ carried openedSaid _ h e
+
+    pub an-item : {o : Opened} → x ≡ Sheet o → i < counted item (o .summary) → good o ≡ openedAt kind image item i
+    an-item {o} h l = sym (ap (numbered o) (lt-leb (counted item (o .summary)) i l)) ∙ carried openedSaid _ h e
+
+  -- Of an accepted image that has it, or the refusal of the image, or 8.
+  module _ (x : OpenedAnswer) (e : openedSaid x ≡ openedAt kind image item i) where
+    pub item-opens : {o : Opened} → x ≡ Sheet o → (c : Contents) × Opens kind image o c × (i < counted item (o .summary))
+    item-opens {o} h =
+        let (p, f, g) = good-bind (opened kind image) _ o (sym (told openedSaid h e)) in
+        let (t, k) = passed (noSuch i) (leb (counted item (p .summary)) i) (good p) o g in
+        let q : p ≡ o = good-same k in
+        let (c, w) = opens kind image (Sheet o) (ap good (sym q) ∙ sym f) refl in
+        (c, w, subst (λ (u : Opened). i < counted item (u .summary)) q (leb-false (counted item (p .summary)) i t))
+
+    pub item-held : {o : Opened} → x ≡ Sheet o → Held o image × (i < counted item (o .summary))
+    item-held h = let (c, p, l) = item-opens h in (record { kind = kind; holds = c; opens = p }, l)
+
+    pub item-none : {r : Refusal} → x ≡ NoSheet r →
+        (contents kind image ≡ refused r) ⊎ ((c : Contents) × (contents kind image ≡ good c) × (counted item (summary c) ≤ i) × (r ≡ noSuch i))
+    unfolding opened
+    item-none {r} h = go (imageSizes kind (length image)) refl (contents kind image) refl (told openedSaid h e)
+      where
+        past : (o : Opened) (t : Bool) → leb (counted item (o .summary)) i ≡ t → refused r ≡ numbered o t → (counted item (o .summary) ≤ i) × (r ≡ noSuch i)
+        past o true s f = (leb-true (counted item (o .summary)) i s, cc)
+        past o false s f = no-value f
+
+        go : (p : Outcome Sizes) → imageSizes kind (length image) ≡ p → (q : Outcome Contents) → contents kind image ≡ q →
+            refused r ≡ (p >>= (λ z. q >>= λ c. good (openedAs z c)) >>= λ o. numbered o (leb (counted item (o .summary)) i)) →
+            (contents kind image ≡ refused r) ⊎ ((c : Contents) × (contents kind image ≡ good c) × (counted item (summary c) ≤ i) × (r ≡ noSuch i))
+        go (good z) ep (good c) eq f = let (l, s) = past (openedAs z c) (leb (counted item (summary c)) i) refl f in inr (c, eq, l, s)
+        go (good z) ep (refused q) eq f = let g : q ≡ r = cc in inl (eq ∙ ap refused g)
+        go (refused q) ep o eq f = let g : q ≡ r = cc in inl (unsized kind image q ep ∙ ap refused g)

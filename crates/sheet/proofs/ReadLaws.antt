@@ -1,5 +1,5 @@
 -- What is read of an accepted image, and what is refused.
-use mathlib.Core.Path.{_≡_, refl}
+use mathlib.Core.Path.{_≡_}
 use mathlib.Core.List.{List}
 use mathlib.Core.Logic.{_⊎_, ⊎-elim}
 use Prim.Native.Nat.{ℕ, _≤_, _<_}
@@ -7,7 +7,7 @@ use native.Mathlib.Omega.{arith}
 use lib.ListN.{length, getD}
 use borrow.Author.Tests.{eq-eqb, ne-eqb, lt-ltb, le-ltb, le-leb, lt-leb}
 use Rattle.refusal.specs.declared.Refusal.{Refusal}
-use Rattle.refusal.specs.Outcome.{Outcome, good, refused}
+use Rattle.refusal.specs.Outcome.{good, refused}
 use Rattle.refusal.specs.Rows.{noSuch}
 use Rattle.fields.specs.Calibration.{noPair}
 use Rattle.fields.specs.Curves.{noSegment, noTerm}

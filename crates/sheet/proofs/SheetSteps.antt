@@ -1,56 +1,47 @@
 -- The walk over a whole sheet.
-use mathlib.Core.Path.{_≡_, refl, sym, ap, ap₂, _∙_}
+use mathlib.Core.Path.{_≡_, sym, ap, _∙_}
 use mathlib.Core.Bool.{Bool}
 use mathlib.Core.List.{List, _++_, map}
-use Prim.Native.Nat.{ℕ, _+_}
+use Prim.Native.Nat.{ℕ}
 use native.Mathlib.Omega.{arith}
 use lib.ListN.{length, length-map}
-use Rattle.refusal.specs.declared.Refusal.{Refusal}
 use Rattle.refusal.specs.Outcome as outcome
-use Rattle.refusal.specs.Outcome.{Outcome, good, refused}
-use Rattle.refusal.proofs.Outcomes.{told}
+use Rattle.refusal.specs.Outcome.{Outcome, good}
+use Rattle.refusal.proofs.Outcomes.{bind-assoc, bind-same}
 use Rattle.memory.specs.declared.Sizes.{Sizes}
 use Rattle.stream.specs.declared.cursor.Cursor.{Cursor}
+use Rattle.fields.specs.declared.Layout.{Layout}
 use Rattle.fields.specs.declared.Template.{Template}
-use Rattle.fields.specs.declared.Judged.{Judged}
-use Rattle.fields.specs.declared.Judged.the-variants.{Stands, Refused as Turned}
 use Rattle.fields.specs.Lines.{basic, templateLines, linesOf}
 use Rattle.layout.specs.Format.{Format, ends, _>>=_, place, Stream, Parsed, parse}
 use Rattle.layout.specs.Contents.{Found, Calibration, Contents, Ending, fieldsOf, firstBlock, calibrationOf, endingOf, sheetOf}
-use Rattle.layout.specs.Image.{streamIn, lastChoice, layoutOf, pairIn, pairsIn, segmentIn, segmentsIn, termIn, allTerms}
-use Rattle.layout.specs.Places.{firstSelector}
-use Rattle.layout.proofs.Formats.{parsed, parse-next, parse-refused, parsed-by}
+use Rattle.layout.specs.Image.{streamIn, lastChoice, pairIn, pairsIn, segmentIn, segmentsIn, termIn, allTerms}
+use Rattle.layout.specs.Places.{behindFields}
+use Rattle.layout.proofs.Formats.{parsed, parse-bind, parsed-by}
 use Rattle.layout.proofs.Fields.{laid-pieces, laid-length}
 use Rattle.layout.proofs.Choices.{last-append, basic-last}
 use Rattle.sheet.specs.declared.opening.Opened.{Opened}
-use Rattle.sheet.specs.declared.walk.ChoiceStep.{ChoiceStep}
-use Rattle.sheet.specs.declared.walk.ChoiceStep.the-variants.{Chosen, Refused as NoChoice}
-use Rattle.sheet.specs.declared.walk.TemplateStep.{TemplateStep}
-use Rattle.sheet.specs.declared.walk.TemplateStep.the-variants.{Named, Refused as NoTemplate}
 use Rattle.sheet.specs.declared.block.Counts.{Counts}
-use Rattle.sheet.specs.declared.block.BlockStep.{BlockStep}
-use Rattle.sheet.specs.declared.block.BlockStep.the-variants.{Found as FoundBlock, Refused as NoBlock}
 use Rattle.sheet.specs.declared.ending.EndStep.{EndStep}
-use Rattle.sheet.specs.declared.ending.EndStep.the-variants.{Ended, Refused as NoEnd}
+use Rattle.sheet.specs.declared.ending.EndStep.the-variants.{Ended}
 use Rattle.sheet.specs.Check.{domainIn}
 use Rattle.sheet.specs.Opened.{openedAs}
 use Rattle.sheet.specs.Walk.{
   keeping,
   choiceOn,
   countsOf,
-  EndCount,
   endCount,
   basicChoice,
-  ownStart,
-  ownChoice,
+  layoutAt,
+  openedOf,
   walked,
-  choiceSaid,
-  stoodTo,
-  templateStepSaid,
-  blockSaid,
+  endingOpened,
+  calibrationOpened,
+  ownOpened,
+  blockOpened,
   endSaid,
 }
-use Rattle.sheet.proofs.Steps.{kept, keep-next, keep-refused}
+use Rattle.sheet.proofs.Steps.{keep-through, carried}
 
 abbrev made : Template → List Found → Calibration → Ending → ℕ → Contents
 made template fields calibration ending end = record {
@@ -74,23 +65,6 @@ afterBlock bs t = fieldsOf (templateLines t) 0 >>= λ os. afterOwn t (bs ++ os)
 
 abbrev afterBasics : List Found → Format Contents
 afterBasics bs = firstBlock >>= afterBlock bs
-
--- What is opened of a sheet whose parts are kept.
-abbrev pub opens : Sizes → Template → ℕ → Counts → EndCount → ℕ → Opened
-opens z template precision counts ending end = record {
-  sizes = z;
-  layout = record { template = template; precision = precision };
-  summary = record {
-    bits = end;
-    points = counts .points;
-    «end_bit» = ending .endBit;
-    characters = ending .characters;
-    template = template;
-    domain = counts .domain;
-    segments = counts .segments;
-    terms = counts .terms;
-  };
-}
 
 -- What is counted of a calibration, as a check gives it.
 abbrev countsIn : Calibration → Counts
@@ -118,76 +92,51 @@ choice-is s t bs os n e =
     last-append basic (templateLines t) bs os 0 (laid-length basic 0 0 bs (laid-pieces (s .bits) basic 0 0 (w .pieces) bs (w .parses) .1))
     ∙ ap (lastChoice (templateLines t) os) (basic-last bs 0)
 
-module _ (z : Sizes) (image : List ℕ) where
-  abbrev s : Stream
-  s = streamIn z image
+-- What is opened of the formats behind each part.
+module _ (z : Sizes) (s : Stream) where
+  abbrev final : Parsed Contents → Outcome Opened
+  final x = good (openedAs z (x .found))
 
-  -- The walk has come to a format at a place.
-  abbrev Reached : Format Contents → ℕ → Type 0
-  Reached f at = parse s sheetOf 0 ≡ parse s f at
+  module _ (bs : List Found) (n : ℕ) (e : good (parsed bs n) ≡ parse s (fieldsOf basic 0) 0) (t : Template) where
+    abbrev chosen : List Found → Layout
+    chosen os = layoutAt t (choiceOn (templateLines t) 0 os)
 
-  halted : {r : Refusal} → parse s sheetOf 0 ≡ refused r → refused r ≡ walked z image
-  halted e = sym (ap (λ o. outcome._>>=_ o (λ x. good (openedAs z (x .found)))) e)
+    from-ending : (os : List Found) (k : Calibration) (at : ℕ) → outcome._>>=_ (parse s (afterCalibration t (bs ++ os) k) at) final ≡ endingOpened z s (chosen os) (countsOf k) at
+    from-ending os k at =
+        keep-through endCount s endingOf (λ x. place >>= λ end. ends (made t (bs ++ os) k x end)) at final
+        (λ x. good (openedOf z (chosen os) (behindFields (chosen os)) (countsOf k) (x .found) (x .next)))
+        (λ x h i.
+        let layout : Layout = layoutAt t (choice-is s t bs os n e i) in good (openedOf z layout (behindFields layout) (counts-are k i) (endCount (x .found)) (x .next)))
 
-  module _ (x : Judged) (e : stoodTo 0 firstSelector x ≡ basicChoice s) where
-    pub basics-halt : {r : Refusal} → x ≡ Turned r → refused r ≡ walked z image
-    unfolding sheetOf
-    basics-halt h = halted (keep-refused (choiceOn basic 0) s (fieldsOf basic 0) afterBasics 0 (told (stoodTo 0 firstSelector) h e))
+    from-calibration : (os : List Found) (at : ℕ) → outcome._>>=_ (parse s (afterOwn t (bs ++ os)) at) final ≡ calibrationOpened z s (chosen os) at
+    from-calibration os at =
+        keep-through countsOf s calibrationOf (afterCalibration t (bs ++ os)) at final (λ c. endingOpened z s (chosen os) (c .found) (c .next))
+        (λ x h. from-ending os (x .found) (x .next))
 
-    module _ (h : x ≡ Stands) (y : TemplateStep) (f : templateStepSaid y ≡ parse s firstBlock firstSelector) where
-      basics : (bs : List Found) × (choiceOn basic 0 bs ≡ 0) × (good (parsed bs firstSelector) ≡ parse s (fieldsOf basic 0) 0)
-      basics = kept (choiceOn basic 0) (parse s (fieldsOf basic 0) 0) (told (stoodTo 0 firstSelector) h e)
+    from-own : (at : ℕ) → outcome._>>=_ (parse s (afterBlock bs t) at) final ≡ ownOpened z s t at
+    from-own at =
+        keep-through (choiceOn (templateLines t) 0) s (fieldsOf (templateLines t) 0) (λ os. afterOwn t (bs ++ os)) at final
+        (λ c. calibrationOpened z s (layoutAt t (c .found)) (c .next)) (λ x h. from-calibration (x .found) (x .next))
 
-      abbrev bs : List Found
-      bs = basics .0
+  from-block : (bs : List Found) (n : ℕ) → good (parsed bs n) ≡ parse s (fieldsOf basic 0) 0 → (at : ℕ) →
+      outcome._>>=_ (parse s (afterBasics bs) at) final ≡ blockOpened z s at
+  from-block bs n e at =
+      ap (λ o. outcome._>>=_ o final) (parse-bind s firstBlock (afterBlock bs) at)
+      ∙ bind-assoc (parse s firstBlock at) (λ x. parse s (afterBlock bs (x .found)) (x .next)) final
+      ∙ bind-same (parse s firstBlock at) (λ x. from-own bs n e (x .found) (x .next))
 
-      at-block : Reached (afterBasics bs) firstSelector
-      unfolding sheetOf
-      at-block = parse-next s (fieldsOf basic 0) afterBasics 0 (basics .2)
+-- So what is opened of a whole sheet.
+pub walked-by : (z : Sizes) (image : List ℕ) →
+    let s = streamIn z image in outcome._>>=_ (basicChoice s) (λ b. blockOpened z s (b .next)) ≡ walked z image
+unfolding sheetOf
+walked-by z image =
+    let s : Stream = streamIn z image in
+    sym (keep-through (choiceOn basic 0) s (fieldsOf basic 0) afterBasics 0 (λ x. good (openedAs z (x .found))) (λ b. blockOpened z s (b .next))
+    (λ x h. from-block z s (x .found) (x .next) h (x .next)))
 
-      pub block-halts : {r : Refusal} → y ≡ NoTemplate r → refused r ≡ walked z image
-      block-halts g = halted (at-block ∙ parse-refused s firstBlock (afterBlock bs) firstSelector (told templateStepSaid g f))
-
-      module _ {t : Template} (g : y ≡ Named t) (w : ChoiceStep) (k : choiceSaid w ≡ ownChoice s t) where
-        at-own : Reached (afterBlock bs t) ownStart
-        at-own = at-block ∙ parse-next s firstBlock (afterBlock bs) firstSelector (told templateStepSaid g f)
-
-        pub own-halts : {r : Refusal} → w ≡ NoChoice r → refused r ≡ walked z image
-        own-halts m =
-            halted (at-own ∙ keep-refused (choiceOn (templateLines t) 0) s (fieldsOf (templateLines t) 0) (λ os. afterOwn t (bs ++ os)) ownStart (told choiceSaid m k))
-
-        module _ {p : ℕ} {behind : Cursor} (m : w ≡ Chosen p behind) (v : BlockStep) (i : blockSaid v ≡ keeping countsOf (parse s calibrationOf (behind .at))) where
-          owns : (os : List Found) × (choiceOn (templateLines t) 0 os ≡ p) × Reached (afterOwn t (bs ++ os)) (behind .at)
-          owns =
-              let (os, q, r) = keep-next (choiceOn (templateLines t) 0) s (fieldsOf (templateLines t) 0) (λ os. afterOwn t (bs ++ os)) ownStart (told choiceSaid m k) in
-              (os, q, at-own ∙ r)
-
-          pub calibration-halts : {r : Refusal} → v ≡ NoBlock r → refused r ≡ walked z image
-          calibration-halts j =
-              let (os, q, r) = owns in
-              halted (r ∙ keep-refused countsOf s calibrationOf (afterCalibration t (bs ++ os)) (behind .at) (told blockSaid j i))
-
-          module _ {n : Counts} {last : Cursor} (j : v ≡ FoundBlock n last) (u : EndStep) (l : endSaid u ≡ keeping endCount (parse s endingOf (last .at))) where
-            at-end : (os : List Found) × (choiceOn (templateLines t) 0 os ≡ p) × (c : Calibration) × (countsOf c ≡ n) × Reached (afterCalibration t (bs ++ os) c) (last .at)
-            at-end =
-                let (os, q, r) = owns in
-                let (c, a, b) = keep-next countsOf s calibrationOf (afterCalibration t (bs ++ os)) (behind .at) (told blockSaid j i) in
-                (os, q, c, a, r ∙ b)
-
-            abbrev finish : List Found → Calibration → Ending → Format Contents
-            finish os c e = place >>= λ end. ends (made t (bs ++ os) c e end)
-
-            pub ending-halts : {r : Refusal} → u ≡ NoEnd r → refused r ≡ walked z image
-            ending-halts o =
-                let (os, q, c, a, r) = at-end in
-                halted (r ∙ keep-refused endCount s endingOf (finish os c) (last .at) (told endSaid o l))
-
-            pub sheet-opens : {endBit : Bool} {characters : ℕ} {end : Cursor} → u ≡ Ended endBit characters end →
-                good (opens z t p n (record { endBit = endBit; characters = characters }) (end .at)) ≡ walked z image
-            sheet-opens {endBit} {characters} {end} o =
-                let (os, q, c, a, r) = at-end in
-                let (e, b, d) = keep-next endCount s endingOf (finish os c) (last .at) (told endSaid o l) in
-                let precise : p ≡ lastChoice (linesOf t) (bs ++ os) 0 = sym (choice-is s t bs os firstSelector (basics .2) ∙ q) in
-                let table : n ≡ countsIn c = sym (counts-are c ∙ a) in
-                (λ i. good (opens z t (precise i) (table i) (sym b i) (end .at)))
-                ∙ sym (ap (λ o. outcome._>>=_ o (λ x. good (openedAs z (x .found)))) (r ∙ d))
+-- And its last part, where the place behind the fields is handed on.
+pub sheet-opens : (z : Sizes) (s : Stream) (layout : Layout) (behind : ℕ) (counts : Counts) (at : ℕ) (x : EndStep) → endSaid x ≡ keeping endCount (parse s endingOf at) → behind ≡ behindFields layout →
+    {endBit : Bool} {characters : ℕ} {end : Cursor} → x ≡ Ended endBit characters end →
+    good (openedOf z layout behind counts (record { endBit = endBit; characters = characters }) (end .at)) ≡ endingOpened z s layout counts at
+sheet-opens z s layout behind counts at x e f {endBit} {characters} {end} h =
+    ap (λ (n : ℕ). good (openedOf z layout n counts (record { endBit = endBit; characters = characters }) (end .at))) f ∙ carried endSaid _ h e

@@ -2,10 +2,11 @@
 use mathlib.Core.Path.{_≡_, refl, sym, ap, _∙_, subst}
 use mathlib.Core.Bool.{Bool, true, false, cond}
 use mathlib.Core.List.{List, [], _∷_}
-use Prim.Native.Nat.{ℕ, suc, _+_, _-_, _^_, _≤_, _<_}
+use Prim.Native.Nat.{ℕ, _+_, _-_, _^_, _≤_, _<_}
 use native.Mathlib.Omega.{arith}
 use lib.Dec.{ltb}
 use lib.ListN.{length}
+use borrow.Author.Tests.{le-ltb, ltb-false}
 use Rattle.refusal.specs.declared.Refusal.{Refusal}
 use Rattle.refusal.specs.Outcome as outcome
 use Rattle.refusal.specs.Outcome.{Outcome, good, refused}
@@ -26,6 +27,7 @@ use Rattle.fields.specs.declared.Decoded.{Decoded}
 use Rattle.fields.specs.declared.Decoded.the-variants.{Means, Refused as NoValue}
 use Rattle.fields.specs.Answers.{decodedSaid}
 use Rattle.fields.specs.Rules.{decode}
+use Rattle.fields.specs.Judgement.{judge}
 use Rattle.layout.specs.Format.{Format, ends, _>>=_, bits, given, Stream, Parsed, parse}
 use Rattle.layout.specs.Contents.{Found, fieldOf}
 use Rattle.layout.specs.Image.{streamIn}
@@ -75,6 +77,21 @@ keep-bind part (refused r) = refl
 pub keep-twice : {A B C : Type 0} (other : B → C) (part : A → B) (o : Outcome (Parsed A)) → keeping other (keeping part o) ≡ keeping (λ a. other (part a)) o
 keep-twice other part (good x) = refl
 keep-twice other part (refused r) = refl
+
+-- What a format and those behind it come to, from what is kept of it.
+pub keep-through : {A B C D : Type 0} (part : A → B) (s : Stream) (m : Format A) (k : A → Format C) (at : ℕ) (final : Parsed C → Outcome D) (rest : Parsed B → Outcome D) →
+    ((x : Parsed A) → good x ≡ parse s m at → outcome._>>=_ (parse s (k (x .found)) (x .next)) final ≡ rest (parsed (part (x .found)) (x .next))) →
+    outcome._>>=_ (parse s (m >>= k) at) final ≡ outcome._>>=_ (keeping part (parse s m at)) rest
+keep-through {A} part s m k at final rest h = ap (λ o. outcome._>>=_ o final) (parse-bind s m k at) ∙ go (parse s m at) h
+  where
+    go : (o : Outcome (Parsed A)) → ((x : Parsed A) → good x ≡ o → outcome._>>=_ (parse s (k (x .found)) (x .next)) final ≡ rest (parsed (part (x .found)) (x .next))) →
+        outcome._>>=_ (outcome._>>=_ o (λ x. parse s (k (x .found)) (x .next))) final ≡ outcome._>>=_ (keeping part o) rest
+    go (good x) g = g x refl
+    go (refused r) g = refl
+
+-- What an answer says and what follows from it, its case known.
+pub carried : {X A B : Type 0} (said : X → Outcome A) (k : A → Outcome B) {x y : X} {o : Outcome A} → x ≡ y → said x ≡ o → outcome._>>=_ (said y) k ≡ outcome._>>=_ o k
+carried said k h e = ap (λ o. outcome._>>=_ o k) (told said h e)
 
 -- Of n things how many there are, where so many are left: those before are passed.
 abbrev pub countLeft : {A : Type 0} → Stream → (ℕ → Format (List A)) → ℕ → ℕ → ℕ → Outcome (Parsed ℕ)
@@ -136,7 +153,32 @@ bits-lt s at w {code} {n} e = go (ltb (s .bits) (at + w)) e
     go true f = no-value (sym f)
     go false f = subst (λ (x : Parsed ℕ). x .found < 2 ^ w) (sym (good-same f)) (field-lt (s .number) at w)
 
+-- Bits that were taken lie in the stream.
+pub bits-here : (s : Stream) (at w : ℕ) {code n : ℕ} → good (parsed code n) ≡ parse s (bits w) at → (code ≡ fieldAt (s .number) at w) × (n ≡ at + w) × (at + w ≤ s .bits)
+bits-here s at w {code} {n} e = go (ltb (s .bits) (at + w)) refl e
+  where
+    go : (b : Bool) → ltb (s .bits) (at + w) ≡ b → good (parsed code n) ≡ cond b (refused (pastEnd at)) (good (parsed (fieldAt (s .number) at w) (at + w))) →
+        (code ≡ fieldAt (s .number) at w) × (n ≡ at + w) × (at + w ≤ s .bits)
+    go true t f = no-value (sym f)
+    go false t f = let g = good-same f in (ap (λ y. y .found) g, ap (λ y. y .next) g, ltb-false (s .bits) (at + w) t)
+
 -- ---- the field of a row
+
+-- A code that lies in the stream and may stand.
+pub field-inside : (s : Stream) (row : Row) (at : ℕ) {code : ℕ} → code ≡ fieldAt (s .number) at (row .width) → at + row .width ≤ s .bits → judge row at code ≡ good tt →
+    good (parsed (record { at = at; code = code }) (at + row .width)) ≡ keeping coded (parse s (fieldOf row) at)
+unfolding fieldOf
+field-inside s row at {code} e inside j =
+    go (decode row at here) (ap (judge row at) (sym e) ∙ j)
+    ∙ sym (ap (λ (b : Bool). keeping coded (cond b (refused (pastEnd at)) (parse s (given (decode row at here) >>= λ v. ends (found row at here v)) (at + row .width)))) (le-ltb (s .bits) (at + row .width) inside))
+  where
+    here : ℕ
+    here = fieldAt (s .number) at (row .width)
+
+    go : (o : Outcome Value) → outcome._>>_ o (good (tt {0})) ≡ good tt →
+        good (parsed (record { at = at; code = code }) (at + row .width)) ≡ keeping coded (parse s (given o >>= λ v. ends (found row at here v)) (at + row .width))
+    go (good v) h = ap (λ (k : ℕ). good (parsed (record { at = at; code = k }) (at + row .width))) e
+    go (refused r) h = no-value h
 
 module _ (z : Sizes) (image : List ℕ) (at : ℕ) (row : Row) (t : Taken) (e : takenSaid t ≡ takenAt z image at (row .width)) where
   abbrev s : Stream

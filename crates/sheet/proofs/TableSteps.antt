@@ -1,9 +1,8 @@
 -- The walk over block 40.
 use mathlib.Core.Path.{_≡_, refl, sym, ap, ap₂, _∙_}
-use mathlib.Core.List.{List, [], _∷_}
+use mathlib.Core.List.{List, _∷_}
 use mathlib.Core.Option.{Option, none, some}
 use Prim.Native.Nat.{ℕ, suc, _+_, _-_, _/_, _%_, _^_, _≤_, _<_}
-use native.Mathlib.Nat.{sub-zero}
 use native.Mathlib.Omega.{arith}
 use lib.ListN.{length}
 use Rattle.refusal.specs.declared.Refusal.{Refusal}
@@ -12,12 +11,9 @@ use Rattle.refusal.specs.Outcome.{Outcome, good, refused}
 use Rattle.refusal.proofs.Outcomes.{told}
 use Rattle.memory.specs.Bits.{fieldAt}
 use Rattle.stream.specs.declared.cursor.Cursor.{Cursor}
-use Rattle.fields.specs.declared.Judged.{Judged}
-use Rattle.fields.specs.declared.Judged.the-variants.{Stands, Refused as Turned}
 use Rattle.fields.specs.declared.Codes.{Codes}
 use Rattle.fields.specs.declared.Domain.{Domain}
 use Rattle.fields.specs.declared.Domain.the-variants.{Physical}
-use Rattle.fields.specs.Answers.{judgedSaid}
 use Rattle.fields.specs.Rules.{allOnes}
 use Rattle.fields.specs.Calibration.{calDomain, domainOf, pointCount, calPoint, calDeviation, codesOf, follows}
 use Rattle.layout.specs.Format.{Format, ends, _>>=_, _>>_, given, Stream, Parsed, parse}

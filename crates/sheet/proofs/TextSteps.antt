@@ -8,10 +8,10 @@ use lib.Dec.{eqb}
 use lib.ListN.{length}
 use borrow.Author.Tests.{eq-eqb, ne-eqb}
 use Rattle.refusal.specs.declared.Refusal.{Refusal}
-use Rattle.refusal.specs.Outcome.{Outcome, good, refused}
+use Rattle.refusal.specs.Outcome.{good, refused}
 use Rattle.refusal.proofs.Outcomes.{told}
 use Rattle.stream.specs.declared.cursor.Cursor.{Cursor}
-use Rattle.layout.specs.Format.{Format, ends, _>>=_, bits, remaining, Stream, Parsed, parse}
+use Rattle.layout.specs.Format.{Format, ends, _>>=_, bits, remaining, Stream, parse}
 use Rattle.layout.specs.Contents.{Ending, charactersOf, endingOf}
 use Rattle.layout.proofs.Formats.{parsed, parse-next, parse-refused}
 use Rattle.sheet.specs.declared.table.CountStep.{CountStep}

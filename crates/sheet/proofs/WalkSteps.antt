@@ -1,22 +1,24 @@
 -- The walk over fields and blocks.
-use mathlib.Core.Path.{_≡_, refl, sym, ap, ap₂, _∙_, subst, subst₂}
-use mathlib.Core.Bool.{Bool, not, cond}
-use mathlib.Core.List.{List, [], _∷_, _++_}
+use mathlib.Core.Path.{_≡_, refl, sym, ap, ap₂, _∙_, subst}
+use mathlib.Core.Bool.{not}
+use mathlib.Core.List.{List, [], _∷_}
 use Prim.Native.Nat.{ℕ, suc, _+_, _-_, _≤_, _<_}
 use native.Mathlib.Omega.{arith}
 use lib.Dec.{eqb}
 use lib.ListN.{length, take, drop, getD, length-append}
-use lib.Seq.{drop-cons, take-at, drop-at, take-length}
-use borrow.Author.Tests.{eq-eqb, ne-eqb}
+use lib.Seq.{drop-cons, take-at, drop-at}
+use borrow.Author.Tests.{lt-ltb, le-ltb, eq-eqb, ne-eqb}
 use Rattle.refusal.specs.declared.Refusal.{Refusal}
+use Rattle.refusal.specs.Outcome as outcome
 use Rattle.refusal.specs.Outcome.{Outcome, good, refused}
-use Rattle.refusal.specs.Rows.{wrongBlock}
-use Rattle.refusal.proofs.Outcomes.{told}
+use Rattle.refusal.specs.Rows.{pastEnd, wrongBlock}
+use Rattle.refusal.proofs.Outcomes.{no-value, told, then-good, then-refused}
 use Rattle.memory.specs.declared.Sizes.{Sizes}
 use Rattle.memory.specs.Bits.{fieldAt}
 use Rattle.memory.specs.Image.{streamBits, streamNumber}
 use Rattle.memory.specs.Answers.{Whole}
-use Rattle.stream.specs.declared.cursor.Cursor.{Cursor}
+use Rattle.memory.proofs.FieldLaws.{field-lt}
+use Rattle.fields.specs.declared.Value.{Value}
 use Rattle.fields.specs.declared.Row.{Row}
 use Rattle.fields.specs.declared.Template.{Template}
 use Rattle.fields.specs.declared.Layout.{Layout}
@@ -24,19 +26,20 @@ use Rattle.fields.specs.declared.Judged.{Judged}
 use Rattle.fields.specs.declared.Judged.the-variants.{Stands, Refused as Turned}
 use Rattle.fields.specs.Answers.{judgedSaid}
 use Rattle.fields.specs.Judgement.{judge, Open, OpenBehind}
-use Rattle.fields.specs.Lines.{Line, line, chose, basic, templateLines, linesOf, lastField, lineOf, noLine}
+use Rattle.fields.specs.Lines.{Line, chose, basic, templateLines, linesOf, lastField, lineOf, rowOf, noLine}
+use Rattle.fields.specs.Rules.{decode}
 use Rattle.fields.specs.Stored.{Sound}
 use Rattle.fields.proofs.RowLaws.{row-sound}
-use Rattle.layout.specs.Format.{Format, ends, _>>=_, bits, refuse_if_, Stream, Parsed, parse}
+use Rattle.layout.specs.Format.{Format, ends, _>>=_, bits, given, refuse_if_, Stream, parse}
 use Rattle.layout.specs.Contents.{Found, fieldOf, fieldsOf}
 use Rattle.layout.specs.Image.{streamIn}
-use Rattle.layout.specs.Places.{firstSelector, behindFields}
+use Rattle.layout.specs.Places.{firstSelector, fieldPlace, behindFields}
+use Rattle.layout.specs.Judgement.{judged, frontLines}
 use Rattle.layout.proofs.Formats.{parsed, parse-next, parse-refused}
-use Rattle.layout.proofs.Judging.{Come, come-open, come-inside, come-halt, come-next, behind-open, basic-come, own-come}
-use Rattle.sheet.specs.declared.walk.CodeStep.{CodeStep}
-use Rattle.sheet.specs.declared.walk.CodeStep.the-variants.{Code, Refused as NoCode}
-use Rattle.sheet.specs.Walk.{keeping, Coded, coded, choiceOn, linesFrom, basicChoice, ownStart, ownChoice, Lies, markOf, codeSaid}
-use Rattle.sheet.proofs.Steps.{keep-next, keep-refused, keep-made, keep-bind}
+use Rattle.layout.proofs.Fields.{found}
+use Rattle.layout.proofs.Judging.{Come, come-open, come-inside, come-halt, come-next, behind-open, basic-end, basic-judged, last-sets, last-open, front-end, own-judged}
+use Rattle.sheet.specs.Walk.{keeping, choiceOn, Roomy, basicChoice, ownStart, ownJudged, ownChoice, markOf, stoodTo}
+use Rattle.sheet.proofs.Steps.{keep-made, keep-bind}
 
 -- ---- a code that has to be the one wanted
 
@@ -57,18 +60,15 @@ module _ (s : Stream) (w wanted place at : ℕ) where
     pub mark-wrong : (code ≡ wanted → ⊥) → refused (wrongBlock place) ≡ parse s (markOf w wanted place) at
     mark-wrong h = sym (at-test ∙ ap (λ b. parse s (refuse wrongBlock place if not b) n) (ne-eqb code wanted h))
 
--- ---- fields line by line
+-- ---- fields judged at their places
 
--- Of the fields from number f on what is kept.
-abbrev pub fieldsLeft : Stream → Template → ℕ → ℕ → ℕ → ℕ → Outcome (Parsed ℕ)
-fieldsLeft s template f last latest at =
-    keeping (choiceOn (linesFrom template f last) latest) (parse s (fieldsOf (linesFrom template f last) latest) at)
+-- Basic, the first block and the precision lie in every stream.
+pub stream-holds : {z : Sizes} {image : List ℕ} → Whole z image → {n : ℕ} → n ≤ 248 → n ≤ streamBits z
+stream-holds w h = omega (arith, w .paged)
 
-pub fields-done : (s : Stream) (template : Template) (f last latest at : ℕ) → last < f → fieldsLeft s template f last latest at ≡ good (parsed latest at)
-unfolding fieldsOf
-fields-done s template f last latest at l =
-    let e : suc last - f ≡ 0 = omega arith in
-    ap (λ (n : ℕ). keeping (choiceOn (take n (drop (f - 1) (linesOf template))) latest) (parse s (fieldsOf (take n (drop (f - 1) (linesOf template))) latest) at)) e
+-- The lines of fields first to last, counted from 1.
+abbrev linesFrom : Template → ℕ → ℕ → List Line
+linesFrom template first last = take (suc last - first) (drop (first - 1) (linesOf template))
 
 -- The first of them.
 first-line : (template : Template) (f last : ℕ) → 1 ≤ f → f ≤ last → last ≤ lastField template → linesFrom template f last ≡ lineOf template f ∷ linesFrom template (f + 1) last
@@ -78,87 +78,50 @@ first-line template f last lo hi most =
     ap₂ (λ (k : ℕ) (ls : List Line). take k ls) n (drop-cons (linesOf template) (f - 1) noLine (omega arith))
     ∙ ap (λ (k : ℕ). lineOf template f ∷ take (suc last - (f + 1)) (drop k (linesOf template))) i
 
-module _ (s : Stream) (template : Template) (f last latest at : ℕ) (lo : 1 ≤ f) (hi : f ≤ last) (most : last ≤ lastField template) (x : CodeStep)
-    (e : codeSaid at x ≡ keeping coded (parse s (fieldOf (lineOf template f .rowAt latest)) at)) where
-  abbrev here : Line
-  here = lineOf template f
-
-  abbrev rest : List Line
-  rest = linesFrom template (f + 1) last
-
-  abbrev others : Found → Format (List Found)
-  others y = fieldsOf rest (chose (here .sets) (y .code) latest) >>= λ ys. ends (y ∷ ys)
-
-  at-field : fieldsLeft s template f last latest at ≡ keeping (choiceOn (here ∷ rest) latest) (parse s (fieldOf (here .rowAt latest) >>= others) at)
-  unfolding fieldsOf
-  at-field = ap (λ ls. keeping (choiceOn ls latest) (parse s (fieldsOf ls latest) at)) (first-line template f last lo hi most)
-
-  pub fields-halt : {r : Refusal} → x ≡ NoCode r → fieldsLeft s template f last latest at ≡ refused r
-  fields-halt h =
-      at-field ∙ ap (keeping (choiceOn (here ∷ rest) latest)) (keep-refused coded s (fieldOf (here .rowAt latest)) others at (told (codeSaid at) h e))
-
-  pub fields-next : {code : ℕ} {next : Cursor} (choice : ℕ) → x ≡ Code code next → choice ≡ chose (here .sets) code latest →
-      fieldsLeft s template f last latest at ≡ fieldsLeft s template (f + 1) last choice (next .at)
-  fields-next {code} {next} choice h g =
-      let (y, q, p) = keep-next coded s (fieldOf (here .rowAt latest)) others at (told (codeSaid at) h e) in
-      at-field ∙ ap (keeping (choiceOn (here ∷ rest) latest)) p
-      ∙ keep-made (choiceOn (here ∷ rest) latest) (λ ys. y ∷ ys) s (fieldsOf rest (chose (here .sets) (y .code) latest)) (next .at)
-      ∙ ap (λ (p : ℕ). fieldsLeft s template (f + 1) last p (next .at)) (ap (λ (c : Coded). chose (here .sets) (c .code) latest) q ∙ sym g)
-
--- Basic's lines, and the template's own.
+-- Basic's lines, and the template's own but the last.
 basic-lines : (template : Template) → linesFrom template 1 (length basic) ≡ basic
 unfolding linesOf
 basic-lines template = take-at basic (templateLines template) (suc (length basic) - 1) (omega arith)
 
-pub own-lines : (template : Template) {n m : ℕ} → n ≡ length basic → m ≡ lastField template → linesFrom template (n + 1) m ≡ templateLines template
+front-lines : (template : Template) {n : ℕ} → n ≡ length basic → linesFrom template (n + 1) (lastField template - 1) ≡ frontLines template
 unfolding linesOf
-own-lines template {n} {m} e f =
-    let k : suc m - (n + 1) ≡ length (templateLines template) = omega (arith, length-append basic (templateLines template)) in
-    ap₂ (λ (i : ℕ) (ls : List Line). take i ls) k (drop-at basic (templateLines template) (n + 1 - 1) (omega arith)) ∙ take-length (templateLines template)
+front-lines template {n} e =
+    let k : suc (lastField template - 1) - (n + 1) ≡ length (templateLines template) - 1 = omega (arith, length-append basic (templateLines template)) in
+    ap₂ (λ (i : ℕ) (ls : List Line). take i ls) k (drop-at basic (templateLines template) (n + 1 - 1) (omega arith))
 
 pub basic-most : (template : Template) → length basic ≤ lastField template
 unfolding linesOf
 basic-most template = omega (arith, length-append basic (templateLines template))
 
--- ---- fields judged at their places
-
--- Basic, the first block and the precision lie in every stream.
-pub stream-holds : {z : Sizes} {image : List ℕ} → Whole z image → {n : ℕ} → n ≤ 248 → n ≤ streamBits z
-stream-holds w h = omega (arith, w .paged)
-
 -- The judging has come to field f of Basic at a place, and to one of a template's own fields.
 abbrev pub BasicCome : Template → Sizes → List ℕ → ℕ → ℕ → Type 0
-BasicCome t z image f at = let s = streamIn z image in (0 < f) × Come s 0 firstSelector (basicChoice s) (linesFrom t f (length basic)) at
+BasicCome t z image f at = let s = streamIn z image in (0 < f) × Come s 0 firstSelector (judged s basic 0 0) (linesFrom t f (length basic)) at
 
 abbrev pub OwnCome : Sizes → List ℕ → Layout → ℕ → ℕ → Type 0
 OwnCome z image layout f at =
     let s = streamIn z image in
     let t = layout .template in
-    (length basic < f) × Come s (layout .precision) (behindFields layout) (ownChoice s t) (linesFrom t f (lastField t)) at
+    (length basic < f) × Come s (layout .precision) (fieldPlace layout (lastField t)) (ownJudged s layout) (linesFrom t f (lastField t - 1)) at
 
 -- It comes first to the first.
-pub basic-start : (t : Template) {z : Sizes} {image : List ℕ} → Whole z image → BasicCome t z image 1 0
-basic-start t {z} {image} w =
-    let s : Stream = streamIn z image in (
-      omega arith,
-      subst₂ (λ o ls. Come s 0 firstSelector o ls 0) (sym (keep-bind (choiceOn basic 0) (parse s (fieldsOf basic 0) 0))) (sym (basic-lines t))
-          (basic-come s (stream-holds w (omega arith))),
-    )
+pub basic-start : (t : Template) (z : Sizes) (image : List ℕ) → BasicCome t z image 1 0
+basic-start t z image =
+    let s : Stream = streamIn z image in
+    (omega arith, subst (λ ls. Come s 0 firstSelector (judged s basic 0 0) ls 0) (sym (basic-lines t)) (record { place = omega (arith, basic-end); same = refl }))
 
-pub own-start : {z : Sizes} {image : List ℕ} {layout : Layout} → Lies z image layout → {n : ℕ} → n ≡ length basic → OwnCome z image layout (n + 1) ownStart
-own-start {z} {image} {layout} h e =
+pub own-start : (layout : Layout) (z : Sizes) (image : List ℕ) {n : ℕ} → n ≡ length basic → OwnCome z image layout (n + 1) ownStart
+own-start layout z image e =
     let s : Stream = streamIn z image in
     let t : Template = layout .template in (
       omega arith,
-      subst₂ (λ o ls. Come s (layout .precision) (behindFields layout) o ls ownStart)
-          (sym (keep-bind (choiceOn (templateLines t) 0) (parse s (fieldsOf (templateLines t) 0) ownStart))) (sym (own-lines t e refl))
-          (own-come s layout (h .precise) (h .inside)),
+      subst (λ ls. Come s (layout .precision) (fieldPlace layout (lastField t)) (ownJudged s layout) ls ownStart) (sym (front-lines t e))
+          (record { place = front-end t (layout .precision) .0; same = refl }),
     )
 
 -- Behind the last field that can turn a code down.
-pub judged-all : {s : Stream} {choice end : ℕ} {answer : Outcome (Parsed ℕ)} (t : Template) (f last at : ℕ) → Come s choice end answer (linesFrom t f last) at →
-    {closed : ℕ} → OpenBehind t closed last → closed < f → good (parsed choice end) ≡ answer
-judged-all {choice = choice} t f last at h {closed} all l = come-open h (behind-open (linesOf t) noLine choice (f - 1) (suc last - f) rows)
+pub judged-all : {s : Stream} {choice end : ℕ} {answer : Outcome (Unit {0})} (t : Template) (f last at : ℕ) → Come s choice end answer (linesFrom t f last) at →
+    {closed most : ℕ} → OpenBehind t closed most → last ≤ most → closed < f → good tt ≡ answer
+judged-all {choice = choice} t f last at h {closed} all m l = come-open h (behind-open (linesOf t) noLine choice (f - 1) (suc last - f) rows)
   where
     rows : (j : ℕ) → f - 1 ≤ j → j < f - 1 + (suc last - f) → Open (getD (linesOf t) j noLine .rowAt choice)
     rows j lo hi =
@@ -166,12 +129,12 @@ judged-all {choice = choice} t f last at h {closed} all l = come-open h (behind-
         subst (λ (i : ℕ). Open (getD (linesOf t) i noLine .rowAt choice)) e (all choice (suc j) (omega arith) (omega arith))
 
 -- What a turn needs and gives: the row lies at its place, a refusal is the answer, and else the judging comes on.
-pub record Turn (z : Sizes) (image : List ℕ) (row : Row) (at : ℕ) (answer : Outcome (Parsed ℕ)) (Next : ℕ → Type 0) : Type 0 where
+pub record Turn (z : Sizes) (image : List ℕ) (row : Row) (at : ℕ) (answer : Outcome (Unit {0})) (Next : ℕ → Type 0) : Type 0 where
   pub fits : Whole z image × Sound row × (at + row .width ≤ streamBits z)
   pub halt : (j : Judged) → judgedSaid j ≡ judge row at (fieldAt (streamNumber z image) at (row .width)) → {r : Refusal} → j ≡ Turned r → refused r ≡ answer
   pub next : (j : Judged) → judgedSaid j ≡ judge row at (fieldAt (streamNumber z image) at (row .width)) → j ≡ Stands → Next (at + row .width)
 
-turn-at : {z : Sizes} {image : List ℕ} {choice end : ℕ} {answer : Outcome (Parsed ℕ)} → Whole z image → end ≤ streamBits z →
+turn-at : {z : Sizes} {image : List ℕ} {choice end : ℕ} {answer : Outcome (Unit {0})} → Whole z image → end ≤ streamBits z →
     (t : Template) (least f last at : ℕ) → (least < f) × Come (streamIn z image) choice end answer (linesFrom t f last) at → f ≤ last → last ≤ lastField t →
     {row : Row} → row ≡ lineOf t f .rowAt choice →
     Turn z image row at answer (λ (n : ℕ). (least < f + 1) × Come (streamIn z image) choice end answer (linesFrom t (f + 1) last) n)
@@ -185,11 +148,89 @@ turn-at {z} {image} {choice} {end} {answer} whole inside t least f last at (lo, 
     here = subst (λ ls. Come (streamIn z image) choice end answer ls at) (first-line t f last (omega arith) hi most) h
 
 pub basic-turn : (t : Template) {z : Sizes} {image : List ℕ} → Whole z image → (f at : ℕ) → BasicCome t z image f at → {closed : ℕ} → f ≤ closed → closed ≤ length basic →
-    {row : Row} → row ≡ lineOf t f .rowAt 0 → Turn z image row at (basicChoice (streamIn z image)) (BasicCome t z image (f + 1))
+    {row : Row} → row ≡ lineOf t f .rowAt 0 → Turn z image row at (judged (streamIn z image) basic 0 0) (BasicCome t z image (f + 1))
 basic-turn t w f at h hi l = turn-at w (stream-holds w (omega arith)) t 0 f (length basic) at h (omega arith) (basic-most t)
 
-pub own-turn : {z : Sizes} {image : List ℕ} {layout : Layout} → Lies z image layout → (f at : ℕ) → OwnCome z image layout f at → {closed : ℕ} → f ≤ closed →
-    closed ≤ lastField (layout .template) → {row : Row} → row ≡ lineOf (layout .template) f .rowAt (layout .precision) →
-    Turn z image row at (ownChoice (streamIn z image) (layout .template)) (OwnCome z image layout (f + 1))
-own-turn {layout = layout} lies f at h hi l =
-    turn-at (lies .whole) (lies .inside) (layout .template) (length basic) f (lastField (layout .template)) at h (omega arith) (omega arith)
+pub own-turn : (layout : Layout) {z : Sizes} {image : List ℕ} → Roomy z image → (f at : ℕ) → OwnCome z image layout f at → {closed : ℕ} → f ≤ closed →
+    closed < lastField (layout .template) → {row : Row} → row ≡ lineOf (layout .template) f .rowAt (layout .precision) →
+    Turn z image row at (ownJudged (streamIn z image) layout) (OwnCome z image layout (f + 1))
+own-turn layout w f at h hi l =
+    let t : Template = layout .template in
+    turn-at (w .whole) (omega (arith, w .room, front-end t (layout .precision) .2)) t (length basic) f (lastField t - 1) at h (omega arith) (omega arith)
+
+-- ---- what the judging comes to
+
+-- Basic, which lies in every stream.
+pub basic-stood : {z : Sizes} {image : List ℕ} → Whole z image → (j : Judged) → let s = streamIn z image in
+    judgedSaid j ≡ judged s basic 0 0 → stoodTo 0 firstSelector j ≡ basicChoice s
+basic-stood {z} {image} w j e =
+    let s : Stream = streamIn z image in
+    go j ∙ ap (λ o. outcome._>>_ o (good (parsed 0 firstSelector))) e
+    ∙ sym (keep-bind (choiceOn basic 0) (parse s (fieldsOf basic 0) 0) ∙ basic-judged s (stream-holds w (omega arith)))
+  where
+    go : (x : Judged) → stoodTo 0 firstSelector x ≡ outcome._>>_ (judgedSaid x) (good (parsed 0 firstSelector))
+    go Stands = refl
+    go (Turned r) = refl
+
+-- A field that passes the end, and one that lies in the stream and takes every code.
+module _ (s : Stream) (row : Row) (at : ℕ) where
+  field-past : s .bits < at + row .width → parse s (fieldOf row) at ≡ refused (pastEnd at)
+  unfolding fieldOf
+  field-past h = rw (lt-ltb (s .bits) (at + row .width) h)
+
+  field-open : Open row → at + row .width ≤ s .bits → (p : ℕ) → keeping (λ x. p) (parse s (fieldOf row) at) ≡ good (parsed p (at + row .width))
+  unfolding fieldOf
+  field-open all h p = rw (le-ltb (s .bits) (at + row .width) h) (go (decode row at code) (all at code (field-lt (s .number) at (row .width))))
+    where
+      code : ℕ
+      code = fieldAt (s .number) at (row .width)
+
+      go : (o : Outcome Value) → outcome._>>_ o (good (tt {0})) ≡ good tt →
+          keeping (λ x. p) (parse s (given o >>= λ v. ends (found row at code v)) (at + row .width)) ≡ good (parsed p (at + row .width))
+      go (good v) e = refl
+      go (refused r) e = no-value e
+
+-- A template's own fields: all but the last are judged, and the last may pass the end.
+module _ {z : Sizes} {image : List ℕ} (w : Roomy z image) (layout : Layout) (e : layout .precision ≡ fieldAt (streamNumber z image) (fieldPlace layout 9) 2) where
+  abbrev s : Stream
+  s = streamIn z image
+
+  abbrev t : Template
+  t = layout .template
+
+  abbrev last : Row
+  last = rowOf layout (lastField t)
+
+  abbrev place : ℕ
+  place = fieldPlace layout (lastField t)
+
+  behind-front : ownChoice s t ≡ outcome._>>_ (ownJudged s layout) (keeping (λ x. layout .precision) (parse s (fieldOf last) place))
+  unfolding fieldsOf
+  behind-front =
+      let p : ℕ = layout .precision in
+      let lines : List Line = lineOf t (lastField t) ∷ [] in
+      keep-bind (choiceOn (templateLines t) 0) (parse s (fieldsOf (templateLines t) 0) ownStart)
+      ∙ own-judged s layout e (omega (arith, w .room, front-end t p .2))
+      ∙ ap (λ o. outcome._>>_ (ownJudged s layout) o)
+      (sym (keep-bind (choiceOn lines p) (parse s (fieldsOf lines p) place))
+      ∙ keep-made (choiceOn lines p) (λ x. x ∷ []) s (fieldOf last) place
+      ∙ ap (λ b. keeping (λ (x : Found). chose b (x .code) p) (parse s (fieldOf last) place)) (last-sets t))
+
+  module _ (j : Judged) (i : judgedSaid j ≡ ownJudged s layout) where
+    pub own-turned : {r : Refusal} → j ≡ Turned r → refused r ≡ ownChoice s t
+    own-turned h = sym (behind-front ∙ then-refused _ (sym (told judgedSaid h i)))
+
+    module _ (h : j ≡ Stands) where
+      at-last : ownChoice s t ≡ keeping (λ x. layout .precision) (parse s (fieldOf last) place)
+      at-last = behind-front ∙ then-good _ (sym (told judgedSaid h i))
+
+      pub own-past : {at : ℕ} → at ≡ place → streamBits z < behindFields layout → refused (pastEnd at) ≡ ownChoice s t
+      own-past a l =
+          ap (λ (n : ℕ). refused (pastEnd n)) a
+          ∙ sym (at-last ∙ ap (keeping (λ x. layout .precision)) (field-past s last place (omega (arith, front-end t (layout .precision) .1))))
+
+      pub own-stands : {end : ℕ} → end ≡ behindFields layout → end ≤ streamBits z → good (parsed (layout .precision) end) ≡ ownChoice s t
+      own-stands a l =
+          let b = front-end t (layout .precision) .1 in
+          ap (λ (n : ℕ). good (parsed (layout .precision) n)) (a ∙ sym b)
+          ∙ sym (at-last ∙ field-open s last place (last-open t (layout .precision)) (omega (arith, a, b)) (layout .precision))

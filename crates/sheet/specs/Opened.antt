@@ -2,20 +2,26 @@
 use mathlib.Core.Path.{_≡_}
 use mathlib.Core.List.{List}
 use Prim.Native.Nat.{ℕ}
+use lib.Dec.{leb}
 use lib.ListN.{length}
-use Rattle.refusal.specs.Outcome.{Outcome, good, refused, _>>=_}
+use Rattle.refusal.specs.Outcome.{Outcome, good, refused, _>>=_, _>>_, refuse_if_}
+use Rattle.refusal.specs.Rows.{noSuch}
 use Rattle.memory.specs.declared.Sizes.{Sizes}
 use Rattle.memory.specs.Image.{imageSizes}
 use Rattle.layout.specs.Contents.{Contents}
 use Rattle.layout.specs.Image.{contents, layoutOf}
+use Rattle.layout.specs.Places.{behindFields}
+use Rattle.sheet.specs.declared.Summary.{Summary}
+use Rattle.sheet.specs.declared.opening.Item.{Item}
+use Rattle.sheet.specs.declared.opening.Item.the-variants.{Pair, Character, Segment, Term}
 use Rattle.sheet.specs.declared.opening.Opened.{Opened}
 use Rattle.sheet.specs.declared.opening.OpenedAnswer.{OpenedAnswer}
 use Rattle.sheet.specs.declared.opening.OpenedAnswer.the-variants.{Sheet, Refused}
 use Rattle.sheet.specs.Check.{summary}
 
--- The sizes of an accepted image, what its rows go by, and what a check gives.
+-- The sizes of an accepted image, what its rows go by, the place behind its fields, and what a check gives.
 abbrev pub openedAs : Sizes → Contents → Opened
-openedAs z c = record { sizes = z; layout = layoutOf c; summary = summary c }
+openedAs z c = record { sizes = z; layout = layoutOf c; behind = record { at = behindFields (layoutOf c) }; summary = summary c }
 
 unfoldable pub opened : ℕ → List ℕ → Outcome Opened
 opened kind image = do
@@ -26,6 +32,22 @@ opened kind image = do
 abbrev pub openedSaid : OpenedAnswer → Outcome Opened
 openedSaid (Sheet o) = good o
 openedSaid (Refused r) = refused r
+
+-- ---- an element of an accepted sheet by its index: check, then 8
+
+abbrev pub counted : Item → Summary → ℕ
+counted Pair s = s .points
+counted Character s = s .characters
+counted Segment s = s .segments
+counted Term s = s .terms
+
+abbrev pub openedAt : ℕ → List ℕ → Item → ℕ → Outcome Opened
+openedAt kind image item i = do
+  o ← opened kind image
+  refuse noSuch i if leb (counted item (o .summary)) i
+  good o
+
+-- ---- what holds of it
 
 -- An image of a kind that was accepted, and was opened as o.
 pub record Opens (kind : ℕ) (image : List ℕ) (o : Opened) (c : Contents) : Type 0 where

@@ -1,18 +1,17 @@
 -- Only inner contracts need these: the walk over a stream, which parses it by the formats of layout and keeps of what they find only what a check gives.
 use mathlib.Core.Path.{_≡_}
-use mathlib.Core.Bool.{Bool, not, cond}
+use mathlib.Core.Bool.{Bool, true, not, cond}
 use mathlib.Core.List.{List, [], _∷_}
-use mathlib.Core.Option.{Option, none}
-use Prim.Native.Nat.{ℕ, zero, suc, _+_, _-_, _*_, _/_, _≤_}
+use mathlib.Core.Option.{Option, none, some}
+use Prim.Native.Nat.{ℕ, zero, suc, _+_, _-_, _*_, _/_, _%_, _^_, _≤_}
 use lib.Dec.{eqb, ltb}
 use lib.IntN.{pos, natAbs}
-use lib.ListN.{length, take, drop}
+use lib.ListN.{length}
 use Rattle.refusal.specs.Outcome as outcome
 use Rattle.refusal.specs.Outcome.{Outcome, good, refused}
-use Rattle.refusal.specs.Rows.{wrongBlock}
+use Rattle.refusal.specs.Rows.{wrongBlock, tooManyTerms}
 use Rattle.memory.specs.declared.Sizes.{Sizes}
-use Rattle.memory.specs.Bits.{fieldAt}
-use Rattle.memory.specs.Image.{streamBits, streamNumber}
+use Rattle.memory.specs.Image.{streamBits}
 use Rattle.memory.specs.Answers.{Whole}
 use Rattle.stream.specs.declared.cursor.Cursor.{Cursor}
 use Rattle.stream.specs.declared.cursor.Taken.{Taken}
@@ -30,13 +29,14 @@ use Rattle.fields.specs.declared.Earlier.{Earlier}
 use Rattle.fields.specs.declared.Segment.{Segment}
 use Rattle.fields.specs.declared.Term.{Term}
 use Rattle.fields.specs.Answers.{earlierSaid}
-use Rattle.fields.specs.Curves.{segmentStart, exponent, coefficient, tenthsOf, tenthsBefore, exponentFollows}
+use Rattle.fields.specs.Curves.{segmentStart, termCount, exponent, coefficient, isTermCount, mostTerms, tenthsOf, tenthsBefore, exponentFollows}
 use Rattle.fields.specs.Judgement.{judge}
-use Rattle.fields.specs.Lines.{Line, basic, templateLines, linesOf}
+use Rattle.fields.specs.Lines.{Line, basic, templateLines}
 use Rattle.layout.specs.Format.{Format, ends, _>>=_, _>>_, bits, refuse_if_, Stream, Parsed, parse}
-use Rattle.layout.specs.Contents.{Found, Calibration, table, Passed, Ending, fieldOf, fieldsOf, selectorOf, pairsOf, blockAt, sheetOf}
+use Rattle.layout.specs.Contents.{Found, Calibration, table, Passed, Ending, fieldOf, fieldsOf, selectorOf, firstBlock, pairsOf, ruledOf, termsOf, blockAt, calibrationOf, endingOf, sheetOf}
 use Rattle.layout.specs.Image.{streamIn, lastChoice, pairsIn, segmentsIn, allTerms, figure, float}
-use Rattle.layout.specs.Places.{blockBits, firstSelector, fieldPlace, behindFields, segmentHead, termBits}
+use Rattle.layout.specs.Places.{blockBits, firstSelector, behindFields, segmentHead, termBits}
+use Rattle.layout.specs.Judgement.{judged, frontLines}
 use Rattle.sheet.specs.declared.opening.Opened.{Opened}
 use Rattle.sheet.specs.declared.walk.CodeStep.{CodeStep}
 use Rattle.sheet.specs.declared.walk.CodeStep.the-variants.{Code, Refused as NoCode}
@@ -53,10 +53,10 @@ use Rattle.sheet.specs.declared.table.CountStep.the-variants.{Counted, R
 use Rattle.sheet.specs.declared.block.Counts.{Counts}
 use Rattle.sheet.specs.declared.block.BlockStep.{BlockStep}
 use Rattle.sheet.specs.declared.block.BlockStep.the-variants.{Found as FoundBlock, Refused as NoBlock}
-use Rattle.sheet.specs.declared.curve.EarlierStep.{EarlierStep}
-use Rattle.sheet.specs.declared.curve.EarlierStep.the-variants.{Behind as Before, Refused as NoTerm}
-use Rattle.sheet.specs.declared.curve.SegmentStep.{SegmentStep}
-use Rattle.sheet.specs.declared.curve.SegmentStep.the-variants.{Behind as BeforeSegment, Refused as NoSegment}
+use Rattle.sheet.specs.declared.curve_block.EarlierStep.{EarlierStep}
+use Rattle.sheet.specs.declared.curve_block.EarlierStep.the-variants.{Behind as Before, Refused as NoTerm}
+use Rattle.sheet.specs.declared.curve_block.SegmentStep.{SegmentStep}
+use Rattle.sheet.specs.declared.curve_block.SegmentStep.the-variants.{Behind as BeforeSegment, Refused as NoSegment}
 use Rattle.sheet.specs.declared.ending.EndStep.{EndStep}
 use Rattle.sheet.specs.declared.ending.EndStep.the-variants.{Ended, Refused as NoEnd}
 use Rattle.sheet.specs.Check.{domainIn}
@@ -110,6 +110,24 @@ endCount e = record { endBit = e .endBit; characters = length (e .text) }
 abbrev pub walked : Sizes → List ℕ → Outcome Opened
 walked z image = outcome._>>=_ (parse (streamIn z image) sheetOf 0) (λ x. good (openedAs z (x .found)))
 
+-- What is opened of a sheet whose parts are kept.
+abbrev pub openedOf : Sizes → Layout → ℕ → Counts → EndCount → ℕ → Opened
+openedOf z layout behind counts ending end = record {
+  sizes = z;
+  layout = layout;
+  behind = record { at = behind };
+  summary = record {
+    bits = end;
+    points = counts .points;
+    «end_bit» = ending .endBit;
+    characters = ending .characters;
+    template = layout .template;
+    domain = counts .domain;
+    segments = counts .segments;
+    terms = counts .terms;
+  };
+}
+
 -- Of a field that stands its value.
 abbrev pub valueIn : Outcome (Parsed Found) → Value
 valueIn (good x) = x .found .value
@@ -121,10 +139,6 @@ numberIn (good x) = x .found
 numberIn (refused r) = 0
 
 -- ---- what is walked over
-
--- The lines of fields first to last, counted from 1.
-abbrev pub linesFrom : Template → ℕ → ℕ → List Line
-linesFrom template first last = take (suc last - first) (drop (first - 1) (linesOf template))
 
 -- Of Basic, and of a template's own fields behind the first block, the latest choice.
 abbrev pub basicChoice : Stream → Outcome (Parsed ℕ)
@@ -139,11 +153,14 @@ ownChoice s template = keeping (choiceOn (templateLines template) 0) (parse s (f
 abbrev pub layoutAt : Template → ℕ → Layout
 layoutAt template precision = record { template = template; precision = precision }
 
--- The fields of a layout all lie in an image's stream, which has the layout's precision at its place.
-pub record Lies (z : Sizes) (image : List ℕ) (layout : Layout) : Type 0 where
+-- Of a layout's own fields but the last, judged at their places.
+abbrev pub ownJudged : Stream → Layout → Outcome (Unit {0})
+ownJudged s layout = judged s (frontLines (layout .template)) (layout .precision) ownStart
+
+-- An image whose stream has the 312 bits that every kind's has: all fields but the last lie in it.
+pub record Roomy (z : Sizes) (image : List ℕ) : Type 0 where
   pub whole : Whole z image
-  pub precise : layout .precision ≡ fieldAt (streamNumber z image) (fieldPlace layout 9) 2
-  pub inside : behindFields layout ≤ streamBits z
+  pub room : 312 ≤ streamBits z
 
 -- Row 4: a code that has to be the one wanted, in the block whose selector stands at a place.
 abbrev pub markOf : ℕ → ℕ → ℕ → Format (Unit {0})
@@ -153,13 +170,44 @@ markOf width wanted at = bits width >>= λ code. refuse wrongBlock at if not (eq
 abbrev pub tableFrom : Domain → ℕ → Format Calibration
 tableFrom domain n = pairsOf domain n none >>= λ pairs. ends (table domain pairs)
 
--- The rule of an exponent, by its code.
-abbrev pub rises : Option ℕ → ℕ → Bool
-rises before code = exponentFollows (tenthsBefore before) (tenthsOf code)
-
 -- The block whose selector 0 was taken at a place, and selector 3 behind it.
 abbrev pub onlyBlock : ℕ → Format Calibration
 onlyBlock at = blockAt at >>= λ calibration. selectorOf 3 >> ends calibration
+
+-- ---- what is opened of a sheet from a place on
+
+-- From the ending on, behind a calibration; from the calibration on, behind the fields of a layout; from a template's own fields on; from the first block on.
+abbrev pub endingOpened : Sizes → Stream → Layout → Counts → ℕ → Outcome Opened
+endingOpened z s layout counts at = outcome._>>=_ (keeping endCount (parse s endingOf at)) (λ e. good (openedOf z layout (behindFields layout) counts (e .found) (e .next)))
+
+abbrev pub calibrationOpened : Sizes → Stream → Layout → ℕ → Outcome Opened
+calibrationOpened z s layout at = outcome._>>=_ (keeping countsOf (parse s calibrationOf at)) (λ c. endingOpened z s layout (c .found) (c .next))
+
+abbrev pub ownOpened : Sizes → Stream → Template → ℕ → Outcome Opened
+ownOpened z s template at =
+    let lines = templateLines template in
+    outcome._>>=_ (keeping (choiceOn lines 0) (parse s (fieldsOf lines 0) at)) (λ c. calibrationOpened z s (layoutAt template (c .found)) (c .next))
+
+abbrev pub blockOpened : Sizes → Stream → ℕ → Outcome Opened
+blockOpened z s at = outcome._>>=_ (parse s firstBlock at) (λ t. ownOpened z s (t .found) (t .next))
+
+-- ---- what is passed of a segment from a place on
+
+-- The codes of a term as one number, the exponent's bits lowest, both of which may stand at a place behind the one before.
+pub record TermCodes (before : Option ℕ) (at both : ℕ) : Type 0 where
+  pub power : judge exponent at (both % 2 ^ 7) ≡ good tt
+  pub rising : exponentFollows (tenthsBefore before) (tenthsOf (both % 2 ^ 7)) ≡ true
+  pub factor : judge coefficient (at + 7) (both / 2 ^ 7) ≡ good tt
+
+-- From its terms on, so many of them, where they make a total; from their number on, behind so many terms.
+abbrev pub termsBehind : Stream → ℕ → ℕ → ℕ → ℕ → Outcome (Parsed Passed)
+termsBehind s start total n at =
+    outcome._>>_ (outcome.refuse_if_ (tooManyTerms total) (ltb mostTerms total))
+    (keeping (λ terms. record { start = some start; terms = total }) (parse s (termsOf n) at))
+
+abbrev pub countBehind : Stream → ℕ → ℕ → ℕ → Outcome (Parsed Passed)
+countBehind s start terms at =
+    outcome._>>=_ (keeping coded (parse s (ruledOf termCount isTermCount) at)) (λ c. termsBehind s start (terms + c .found .code) (c .found .code) (c .next))
 
 -- ---- what stands in a curve
 
@@ -209,6 +257,11 @@ markSaid (NoMark r) = refused r
 abbrev pub choiceSaid : ChoiceStep → Outcome (Parsed ℕ)
 choiceSaid (Chosen code cursor) = behind code cursor
 choiceSaid (NoChoice r) = refused r
+
+-- A template's own fields end behind those of the layout that they choose.
+abbrev pub EndsBehind : Template → ChoiceStep → Type 0
+EndsBehind template (Chosen code cursor) = cursor .at ≡ behindFields (layoutAt template code)
+EndsBehind template (NoChoice r) = Unit {0}
 
 -- Fields that were judged at their places: the choice and the place behind them, where all stand.
 abbrev pub stoodTo : ℕ → ℕ → Judged → Outcome (Parsed ℕ)

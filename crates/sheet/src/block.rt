@@ -6,7 +6,7 @@ ghost use Rattle.layout.specs.Contents.{blockAt, calibrationOf};
 ghost use Rattle.layout.specs.Image.{streamIn};
 ghost use Rattle.sheet.specs.Walk.{keeping, countsOf, onlyBlock, blockSaid};
 use crate::TableDomain;
-use crate::curve;
+use crate::curve_block;
 use crate::table;
 use crate::walk;
 use crate::walk::MarkStep;
@@ -29,24 +29,19 @@ pub enum BlockStep {
     Refused(Refusal),
 }
 
-// The numbers of the templates of a calibration table and of a curve.
-const TABLE: u64 = 40;
-
-const CURVE: u64 = 41;
-
 // A block behind its selector, which stands at bit `at`: the template's number, and what it names.
 fn take_block(sizes: Sizes, image: &[u8], cursor: Cursor, at: u64) -> BlockStep
     requires { ⌜ Whole sizes (now image) ⌝ }
     ensures { λ r. ⌜ blockSaid r ≡ keeping countsOf (parse (streamIn sizes (now (image .entry))) (blockAt at) (cursor .at)) ⌝ }
 {
-    match cursor.take(sizes, image, walk::NUMBER_BITS) {
+    match cursor.take(sizes, image, layout::NUMBER_BITS) {
         Taken::Refused(r) => BlockStep::Refused(r),
         Taken::Field(number, next) => {
-            if number == TABLE {
+            if number == fields::TABLE_TEMPLATE {
                 return table::take_table(sizes, image, next);
             }
-            if number == CURVE {
-                return curve::take_curve(sizes, image, next);
+            if number == fields::CURVE_TEMPLATE {
+                return curve_block::take_curve(sizes, image, next);
             }
             BlockStep::Refused(refusal::wrong_block(at))
         }
@@ -64,7 +59,7 @@ fn take_only_block(sizes: Sizes, image: &[u8], cursor: Cursor, at: u64) -> Block
             sizes,
             image,
             last,
-            walk::SELECTOR_BITS,
+            layout::SELECTOR_BITS,
             3,
             last.at as u64,
         ) {
@@ -80,7 +75,7 @@ pub fn take_calibration(sizes: Sizes, image: &[u8], cursor: Cursor) -> BlockStep
     ensures { λ r. ⌜ blockSaid r ≡ keeping countsOf (parse (streamIn sizes (now (image .entry))) calibrationOf (cursor .at)) ⌝ }
 {
     let at = cursor.at as u64;
-    match cursor.take(sizes, image, walk::SELECTOR_BITS) {
+    match cursor.take(sizes, image, layout::SELECTOR_BITS) {
         Taken::Refused(r) => BlockStep::Refused(r),
         Taken::Field(selector, next) => {
             if selector == 0 {

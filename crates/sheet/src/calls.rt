@@ -21,8 +21,10 @@ use crate::PairAnswer;
 use crate::SegmentAnswer;
 use crate::TermAnswer;
 use crate::held;
+use crate::opening::Item;
 use crate::opening::OpenedAnswer;
 use crate::opening::open;
+use crate::opening::open_at;
 use crate::segments;
 
 // What an accepted image holds, in figures; or 1, 17, 2 by page, or the first of 3 to 7, 22, 24 and 25 from the stream's
@@ -63,15 +65,9 @@ pub fn read_field(kind: u8, image: &[u8], field: u64) -> FieldAnswer
 pub fn read_pair(kind: u8, image: &[u8], index: u64) -> PairAnswer
     ensures { λ r. ⌜ pairSaid r ≡ readPair kind (now (image .entry)) index ⌝ }
 {
-    match open(kind, image) {
+    match open_at(kind, image, Item::Pair, index) {
         OpenedAnswer::Refused(r) => PairAnswer::Refused(r),
-        OpenedAnswer::Sheet(sheet) => {
-            let summary = sheet.summary;
-            if summary.points <= index {
-                return PairAnswer::Refused(refusal::no_such(index));
-            }
-            PairAnswer::Holds(held::pair_in(sheet, image, index))
-        }
+        OpenedAnswer::Sheet(sheet) => PairAnswer::Holds(held::pair_in(sheet, image, index)),
     }
 }
 
@@ -79,15 +75,13 @@ pub fn read_pair(kind: u8, image: &[u8], index: u64) -> PairAnswer
 pub fn read_character(kind: u8, image: &[u8], index: u64) -> CharacterAnswer
     ensures { λ r. ⌜ characterSaid r ≡ readCharacter kind (now (image .entry)) index ⌝ }
 {
-    match open(kind, image) {
+    match open_at(kind, image, Item::Character, index) {
         OpenedAnswer::Refused(r) => CharacterAnswer::Refused(r),
-        OpenedAnswer::Sheet(sheet) => {
-            let summary = sheet.summary;
-            if summary.characters <= index {
-                return CharacterAnswer::Refused(refusal::no_such(index));
-            }
-            CharacterAnswer::Holds(held::character_in(sheet, image, index))
-        }
+        OpenedAnswer::Sheet(sheet) => CharacterAnswer::Holds(held::character_in(
+            sheet,
+            image,
+            index,
+        )),
     }
 }
 
@@ -95,15 +89,13 @@ pub fn read_character(kind: u8, image: &[u8], index: u64) -> CharacterAnswer
 pub fn read_segment(kind: u8, image: &[u8], index: u64) -> SegmentAnswer
     ensures { λ r. ⌜ segmentSaid r ≡ readSegment kind (now (image .entry)) index ⌝ }
 {
-    match open(kind, image) {
+    match open_at(kind, image, Item::Segment, index) {
         OpenedAnswer::Refused(r) => SegmentAnswer::Refused(r),
-        OpenedAnswer::Sheet(sheet) => {
-            let summary = sheet.summary;
-            if summary.segments <= index {
-                return SegmentAnswer::Refused(refusal::no_such(index));
-            }
-            SegmentAnswer::Holds(segments::segment_in(sheet, image, index))
-        }
+        OpenedAnswer::Sheet(sheet) => SegmentAnswer::Holds(segments::segment_in(
+            sheet,
+            image,
+            index,
+        )),
     }
 }
 
@@ -111,14 +103,8 @@ pub fn read_segment(kind: u8, image: &[u8], index: u64) -> SegmentAnswer
 pub fn read_term(kind: u8, image: &[u8], index: u64) -> TermAnswer
     ensures { λ r. ⌜ termSaid r ≡ readTerm kind (now (image .entry)) index ⌝ }
 {
-    match open(kind, image) {
+    match open_at(kind, image, Item::Term, index) {
         OpenedAnswer::Refused(r) => TermAnswer::Refused(r),
-        OpenedAnswer::Sheet(sheet) => {
-            let summary = sheet.summary;
-            if summary.terms <= index {
-                return TermAnswer::Refused(refusal::no_such(index));
-            }
-            TermAnswer::Holds(segments::term_in(sheet, image, index))
-        }
+        OpenedAnswer::Sheet(sheet) => TermAnswer::Holds(segments::term_in(sheet, image, index)),
     }
 }

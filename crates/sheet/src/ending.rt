@@ -30,7 +30,7 @@ fn take_text(sizes: Sizes, image: &[u8], start: Cursor, most: u64) -> CountStep
     let mut cursor = start;
     let mut left = most;
     while 0 < left {
-        match cursor.take(sizes, image, 7) {
+        match cursor.take(sizes, image, layout::CHARACTER_BITS) {
             Taken::Refused(r) => {
                 return CountStep::Refused(r);
             }
@@ -59,7 +59,7 @@ fn most_characters(sizes: Sizes, cursor: Cursor, bit: u64) -> u64
     if bits < at {
         return 0;
     }
-    ((bits - at) / 7) as u64
+    ((bits - at) / layout::CHARACTER_BITS) as u64
 }
 
 // The end bit, 3 where it would pass the end; and the text.
@@ -67,7 +67,7 @@ pub fn take_ending(sizes: Sizes, image: &[u8], cursor: Cursor) -> EndStep
     requires { ⌜ Whole sizes (now image) ⌝ }
     ensures { λ r. ⌜ endSaid r ≡ keeping endCount (parse (streamIn sizes (now (image .entry))) endingOf (cursor .at)) ⌝ }
 {
-    match cursor.take(sizes, image, 1) {
+    match cursor.take(sizes, image, layout::END_BITS) {
         Taken::Refused(r) => EndStep::Refused(r),
         Taken::Field(bit, next) => {
             let most = most_characters(sizes, next, bit);

@@ -14,8 +14,6 @@ ghost use Rattle.layout.specs.Image.{streamIn, field as fieldIn, figure as figu
 ghost use Rattle.sheet.specs.Opened.{Opens, Held};
 ghost use Rattle.sheet.specs.Walk.{valueIn};
 use crate::Opened;
-use crate::places;
-use crate::table::PAIR_BITS;
 use fields::Decoded;
 use fields::Pair;
 use fields::Row;
@@ -24,15 +22,14 @@ use memory::Sizes;
 use stream::Cursor;
 use stream::Taken;
 
-// The value of the field of a row at a place: missing where none stands.
-pub fn value_at(sizes: Sizes, image: &[u8], at: usize, row: Row) -> Value
+// The value of the field of a row at a cursor: missing where none stands.
+pub fn value_at(sizes: Sizes, image: &[u8], cursor: Cursor, row: Row) -> Value
     requires { ⌜ Whole sizes (now image) × Sound row ⌝ }
-    ensures { λ r. ⌜ r ≡ valueIn (parse (streamIn sizes (now (image .entry))) (fieldOf row) at) ⌝ }
+    ensures { λ r. ⌜ r ≡ valueIn (parse (streamIn sizes (now (image .entry))) (fieldOf row) (cursor .at)) ⌝ }
 {
-    let cursor = Cursor { at };
     match cursor.take(sizes, image, row.width as usize) {
         Taken::Refused(_) => Value::Missing,
-        Taken::Field(code, _) => match coding::decode(row, at as u64, code) {
+        Taken::Field(code, _) => match coding::decode(row, cursor.at as u64, code) {
             Decoded::Refused(_) => Value::Missing,
             Decoded::Means(value) => value,
         },
@@ -40,14 +37,13 @@ pub fn value_at(sizes: Sizes, image: &[u8], at: usize, row: Row) -> Value
 }
 
 // The same of a row whose rule is not geometric.
-pub fn unscaled_at(sizes: Sizes, image: &[u8], at: usize, row: Row) -> Value
+pub fn unscaled_at(sizes: Sizes, image: &[u8], cursor: Cursor, row: Row) -> Value
     requires { ⌜ Whole sizes (now image) × Sound row × Unscaled (row .rule) ⌝ }
-    ensures { λ r. ⌜ r ≡ valueIn (parse (streamIn sizes (now (image .entry))) (fieldOf row) at) ⌝ }
+    ensures { λ r. ⌜ r ≡ valueIn (parse (streamIn sizes (now (image .entry))) (fieldOf row) (cursor .at)) ⌝ }
 {
-    let cursor = Cursor { at };
     match cursor.take(sizes, image, row.width as usize) {
         Taken::Refused(_) => Value::Missing,
-        Taken::Field(code, _) => match coding::decode_unscaled(row, at as u64, code) {
+        Taken::Field(code, _) => match coding::decode_unscaled(row, cursor.at as u64, code) {
             Decoded::Refused(_) => Value::Missing,
             Decoded::Means(value) => value,
         },
@@ -72,12 +68,10 @@ pub fn value_in(sheet: Opened, image: &[u8], field: u64) -> Value
 {
     let sizes = sheet.sizes;
     let layout = sheet.layout;
-    value_at(
-        sizes,
-        image,
-        places::locate(layout, field),
-        fields::row_of(layout, field),
-    )
+    let cursor = Cursor {
+        at: layout::locate(layout, field),
+    };
+    value_at(sizes, image, cursor, fields::row_of(layout, field))
 }
 
 // The value of a field whose rule is not geometric.
@@ -88,12 +82,10 @@ pub fn unscaled_in(sheet: Opened, image: &[u8], field: u64) -> Value
 {
     let sizes = sheet.sizes;
     let layout = sheet.layout;
-    unscaled_at(
-        sizes,
-        image,
-        places::locate(layout, field),
-        fields::row_of(layout, field),
-    )
+    let cursor = Cursor {
+        at: layout::locate(layout, field),
+    };
+    unscaled_at(sizes, image, cursor, fields::row_of(layout, field))
 }
 
 // A pair, counted from 0: one field, its point's 16 bits lowest.
@@ -102,11 +94,10 @@ pub fn pair_in(sheet: Opened, image: &[u8], index: u64) -> Pair
     ensures { λ r. ⌜ ((kind : ℕ) (c : Contents) → Opens kind (now (image .entry)) sheet c → r ≡ getD (points c) index noPair) ⌝ }
 {
     let sizes = sheet.sizes;
-    let layout = sheet.layout;
     let cursor = Cursor {
-        at: places::locate_pair(layout, index),
+        at: layout::locate_pair(sheet.behind.at, index),
     };
-    match cursor.take(sizes, image, PAIR_BITS) {
+    match cursor.take(sizes, image, layout::PAIR_BITS) {
         Taken::Refused(_) => Pair {
             point: 0,
             deviation: 0,
@@ -121,18 +112,17 @@ pub fn character_in(sheet: Opened, image: &[u8], index: u64) -> u8
     ensures { λ r. ⌜ ((kind : ℕ) (c : Contents) → Opens kind (now (image .entry)) sheet c → r ≡ getD (c .text) index 0) ⌝ }
 {
     let sizes = sheet.sizes;
-    let layout = sheet.layout;
     let summary = sheet.summary;
     let cursor = Cursor {
-        at: places::locate_character(
-            layout,
+        at: layout::locate_character(
+            sheet.behind.at,
             summary.points,
             summary.segments,
             summary.terms,
             index,
         ),
     };
-    match cursor.take(sizes, image, 7) {
+    match cursor.take(sizes, image, layout::CHARACTER_BITS) {
         Taken::Refused(_) => 0,
         Taken::Field(character, _) => character as u8,
     }

@@ -3,11 +3,10 @@
 // anything of its caller: any kind, any slice, any number.
 mod block; // block.rt: the block behind the fields
 mod calls; // calls.rt: the calls of a dash
-mod curve; // curve.rt: the curve
+mod curve_block; // curve_block.rt: the curve
 mod ending; // ending.rt: the end bit and the text
 mod held; // held.rt: what an opened sheet holds
 mod opening; // opening.rt: the whole check, once
-mod places; // places.rt: where fields, pairs and characters stand
 mod segments; // segments.rt: the segments and terms of a curve
 mod table; // table.rt: the calibration table
 mod walk; // walk.rt: fields and blocks
@@ -31,11 +30,8 @@ pub use held::value_in;
 pub use opening::Opened;
 pub use opening::OpenedAnswer;
 pub use opening::open;
-pub use places::curve_place;
-pub use places::locate;
-pub use places::locate_character;
-pub use places::locate_pair;
 use refusal::Refusal;
+pub use segments::curve_in;
 pub use segments::segment_at;
 pub use segments::segment_end;
 pub use segments::segment_in;

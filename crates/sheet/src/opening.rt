@@ -1,11 +1,14 @@
 // The whole check, once.
 ghost use mathlib.Core.Path.{_≡_};
+ghost use Rattle.sheet.specs.Opened.{opened, counted, openedAt, openedSaid};
 ghost use Rattle.memory.specs.Answers.{Whole};
-ghost use Rattle.sheet.specs.Opened.{opened, openedSaid};
-ghost use Rattle.sheet.specs.Walk.{walked};
+ghost use Rattle.layout.specs.Image.{streamIn};
+ghost use Rattle.layout.specs.Places.{firstSelector, behindFields};
+ghost use Rattle.sheet.specs.Walk.{Roomy, ownStart, endingOpened, calibrationOpened, ownOpened, blockOpened, walked};
 use crate::Summary;
 use crate::block;
 use crate::block::BlockStep;
+use crate::block::Counts;
 use crate::ending;
 use crate::ending::EndStep;
 use crate::walk;
@@ -13,15 +16,18 @@ use crate::walk::ChoiceStep;
 use crate::walk::TemplateStep;
 use fields::Judged;
 use fields::Layout;
+use fields::Template;
 use memory::Sizes;
 use memory::SizesAnswer;
 use memory::Sums;
 use refusal::Refusal;
+use stream::Cursor;
 
-// An accepted sheet: the sizes of its image, what its rows go by, and what a check gives.
+// An accepted sheet: the sizes of its image, what its rows go by, the cursor behind its fields, and what a check gives.
 pub struct Opened {
     pub sizes: Sizes,
     pub layout: Layout,
+    pub behind: Cursor,
     pub summary: Summary,
 }
 
@@ -30,55 +36,100 @@ pub enum OpenedAnswer {
     Refused(Refusal),
 }
 
+// What is read by its index.
+pub enum Item {
+    Pair,
+    Character,
+    Segment,
+    Term,
+}
+
+// The ending behind a calibration that was counted, of a sheet whose fields end at a cursor.
+fn open_ending(
+    sizes: Sizes,
+    image: &[u8],
+    layout: Layout,
+    behind: Cursor,
+    counts: Counts,
+    cursor: Cursor,
+) -> OpenedAnswer
+    requires { ⌜ Whole sizes (now image) × (behind .at ≡ behindFields layout) ⌝ }
+    ensures { λ r. ⌜ openedSaid r ≡ endingOpened sizes (streamIn sizes (now (image .entry))) layout counts (cursor .at) ⌝ }
+{
+    match ending::take_ending(sizes, image, cursor) {
+        EndStep::Refused(r) => OpenedAnswer::Refused(r),
+        EndStep::Ended(end_bit, characters, end) => {
+            let template = layout.template;
+            let domain = counts.domain;
+            let summary = Summary {
+                bits: end.at as u64,
+                points: counts.points,
+                end_bit,
+                characters,
+                template,
+                domain,
+                segments: counts.segments,
+                terms: counts.terms,
+            };
+            OpenedAnswer::Sheet(Opened {
+                sizes,
+                layout,
+                behind,
+                summary,
+            })
+        }
+    }
+}
+
+// The block behind the fields of a layout, if there is one, and the ending.
+fn open_calibration(sizes: Sizes, image: &[u8], layout: Layout, cursor: Cursor) -> OpenedAnswer
+    requires { ⌜ Whole sizes (now image) × (cursor .at ≡ behindFields layout) ⌝ }
+    ensures { λ r. ⌜ openedSaid r ≡ calibrationOpened sizes (streamIn sizes (now (image .entry))) layout (cursor .at) ⌝ }
+{
+    match block::take_calibration(sizes, image, cursor) {
+        BlockStep::Refused(r) => OpenedAnswer::Refused(r),
+        BlockStep::Found(counts, next) => {
+            open_ending(sizes, image, layout, cursor, counts, next)
+        }
+    }
+}
+
+// A template's own fields, and what stands behind them.
+fn open_own(sizes: Sizes, image: &[u8], template: Template) -> OpenedAnswer
+    requires { ⌜ Roomy sizes (now image) ⌝ }
+    ensures { λ r. ⌜ openedSaid r ≡ ownOpened sizes (streamIn sizes (now (image .entry))) template ownStart ⌝ }
+{
+    match walk::take_own(sizes, image, template) {
+        ChoiceStep::Refused(r) => OpenedAnswer::Refused(r),
+        ChoiceStep::Chosen(precision, cursor) => {
+            let layout = Layout {
+                template,
+                precision,
+            };
+            open_calibration(sizes, image, layout, cursor)
+        }
+    }
+}
+
+// The first block, and what stands behind it.
+fn open_block(sizes: Sizes, image: &[u8]) -> OpenedAnswer
+    requires { ⌜ Roomy sizes (now image) ⌝ }
+    ensures { λ r. ⌜ openedSaid r ≡ blockOpened sizes (streamIn sizes (now (image .entry))) firstSelector ⌝ }
+{
+    match walk::take_template(sizes, image) {
+        TemplateStep::Refused(r) => OpenedAnswer::Refused(r),
+        TemplateStep::Named(template) => open_own(sizes, image, template),
+    }
+}
+
 // The stream from its start.
 fn walk_sheet(sizes: Sizes, image: &[u8]) -> OpenedAnswer
-    requires { ⌜ Whole sizes (now image) ⌝ }
+    requires { ⌜ Roomy sizes (now image) ⌝ }
     ensures { λ r. ⌜ openedSaid r ≡ walked sizes (now (image .entry)) ⌝ }
 {
     match walk::judge_basic(sizes, image) {
         Judged::Refused(r) => OpenedAnswer::Refused(r),
-        Judged::Stands => match walk::take_template(sizes, image) {
-            TemplateStep::Refused(r) => OpenedAnswer::Refused(r),
-            TemplateStep::Named(template) => match walk::take_own(sizes, image, template) {
-                ChoiceStep::Refused(r) => OpenedAnswer::Refused(r),
-                ChoiceStep::Chosen(precision, fields_end) => match block::take_calibration(
-                    sizes,
-                    image,
-                    fields_end,
-                ) {
-                    BlockStep::Refused(r) => OpenedAnswer::Refused(r),
-                    BlockStep::Found(counts, last) => match ending::take_ending(
-                        sizes,
-                        image,
-                        last,
-                    ) {
-                        EndStep::Refused(r) => OpenedAnswer::Refused(r),
-                        EndStep::Ended(end_bit, characters, end) => {
-                            let layout = Layout {
-                                template,
-                                precision,
-                            };
-                            let domain = counts.domain;
-                            let summary = Summary {
-                                bits: end.at as u64,
-                                points: counts.points,
-                                end_bit,
-                                characters,
-                                template,
-                                domain,
-                                segments: counts.segments,
-                                terms: counts.terms,
-                            };
-                            OpenedAnswer::Sheet(Opened {
-                                sizes,
-                                layout,
-                                summary,
-                            })
-                        }
-                    },
-                },
-            },
-        },
+        Judged::Stands => open_block(sizes, image),
     }
 }
 
@@ -93,5 +144,33 @@ pub fn open(kind: u8, image: &[u8]) -> OpenedAnswer
             Sums::Wrong(page) => OpenedAnswer::Refused(refusal::wrong_sum(page as u64)),
             Sums::Right => walk_sheet(sizes, image),
         },
+    }
+}
+
+// How many of them there are.
+fn count_of(item: Item, summary: Summary) -> u64
+    ensures { λ r. ⌜ r ≡ counted item summary ⌝ }
+{
+    match item {
+        Item::Pair => summary.points,
+        Item::Character => summary.characters,
+        Item::Segment => summary.segments,
+        Item::Term => summary.terms,
+    }
+}
+
+// The sheet that one of them is to be read of; or the check's refusal, or 8 where there are not so many.
+pub fn open_at(kind: u8, image: &[u8], item: Item, index: u64) -> OpenedAnswer
+    ensures { λ r. ⌜ openedSaid r ≡ openedAt kind (now (image .entry)) item index ⌝ }
+{
+    match open(kind, image) {
+        OpenedAnswer::Refused(r) => OpenedAnswer::Refused(r),
+        OpenedAnswer::Sheet(sheet) => {
+            let summary = sheet.summary;
+            if count_of(item, summary) <= index {
+                return OpenedAnswer::Refused(refusal::no_such(index));
+            }
+            OpenedAnswer::Sheet(sheet)
+        }
     }
 }

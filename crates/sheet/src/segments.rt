@@ -8,11 +8,11 @@ ghost use Rattle.fields.specs.Curves.{noSegment, noTerm};
 ghost use Rattle.layout.specs.Format.{bits, parse};
 ghost use Rattle.layout.specs.Contents.{Contents};
 ghost use Rattle.layout.specs.Image.{streamIn, float as floatOf, segments as segmentsOf, terms as termsOf};
+ghost use Rattle.layout.specs.Places.{curveStart};
 ghost use Rattle.sheet.specs.Opened.{Opens, Held};
 ghost use Rattle.sheet.specs.Walk.{numberIn, segmentAt, termAt, segmentEnd, behindSegments, termPlace};
 use crate::Opened;
 use crate::held;
-use crate::places;
 use fields::Segment;
 use fields::Term;
 use fields::Value;
@@ -20,44 +20,38 @@ use memory::Sizes;
 use stream::Cursor;
 use stream::Taken;
 
-// The bits of a segment's start, of its start and the number of its terms, and of a term.
-const START_BITS: usize = 13;
-
-const SEGMENT_HEAD: usize = 20;
-
-const TERM_BITS: usize = 39;
-
-// The number of terms of the segment at a place.
-fn terms_at(sizes: Sizes, image: &[u8], at: usize) -> u64
-    requires { ⌜ Whole sizes (now image) × (at < 2 ^ 40) ⌝ }
-    ensures { λ r. ⌜ (r ≡ numberIn (parse (streamIn sizes (now (image .entry))) (bits 7) (at + 13))) × (r < 128) ⌝ }
+// The number of terms of the segment at a cursor.
+fn terms_at(sizes: Sizes, image: &[u8], cursor: Cursor) -> u64
+    requires { ⌜ Whole sizes (now image) × (cursor .at < 2 ^ 40) ⌝ }
+    ensures { λ r. ⌜ (r ≡ numberIn (parse (streamIn sizes (now (image .entry))) (bits 7) (cursor .at + 13))) × (r < 128) ⌝ }
 {
-    let cursor = Cursor {
-        at: at + START_BITS,
-    };
-    match cursor.take(sizes, image, 7) {
+    let start = cursor.over(fields::START_BITS as usize);
+    match start
+        .next
+        .take(sizes, image, fields::TERM_COUNT_BITS as usize) {
         Taken::Refused(_) => 0,
         Taken::Field(count, _) => count,
     }
 }
 
-// The place behind so many terms of the segment at a place: that of the term behind them, or of the next segment.
-pub fn segment_end(at: usize, terms: u64) -> usize
-    requires { ⌜ (at < 2 ^ 40) × (terms < 2 ^ 32) ⌝ }
-    ensures { λ r. ⌜ r ≡ segmentEnd at terms ⌝ }
+// The cursor behind so many terms of the segment at a cursor: at the term behind them, or at the next segment.
+pub fn segment_end(cursor: Cursor, terms: u64) -> Cursor
+    requires { ⌜ (cursor .at < 2 ^ 40) × (terms < 2 ^ 32) ⌝ }
+    ensures { λ r. ⌜ r .at ≡ segmentEnd (cursor .at) terms ⌝ }
 {
-    at + SEGMENT_HEAD + TERM_BITS * (terms as usize)
+    let passed = cursor.over(layout::SEGMENT_HEAD + layout::TERM_BITS * (terms as usize));
+    passed.next
 }
 
-// The segment at a place.
-pub fn segment_at(sizes: Sizes, image: &[u8], at: usize) -> Segment
-    requires { ⌜ Whole sizes (now image) × (at < 2 ^ 40) ⌝ }
-    ensures { λ r. ⌜ r ≡ segmentAt (streamIn sizes (now (image .entry))) at ⌝ }
+// The segment at a cursor.
+pub fn segment_at(sizes: Sizes, image: &[u8], cursor: Cursor) -> Segment
+    requires { ⌜ Whole sizes (now image) × (cursor .at < 2 ^ 40) ⌝ }
+    ensures { λ r. ⌜ r ≡ segmentAt (streamIn sizes (now (image .entry))) (cursor .at) ⌝ }
 {
-    let start = held::unscaled_at(sizes, image, at, coding::segment_start());
+    let start = held::unscaled_at(sizes, image, cursor, coding::segment_start());
     Segment {
         start: held::figure(start),
-        terms: terms_at(sizes, image, at),
+        terms: terms_at(sizes, image, cursor),
     }
 }
 
@@ -72,57 +66,61 @@ fn float(value: Value) -> f32
     }
 }
 
-// The term at a place.
-pub fn term_at(sizes: Sizes, image: &[u8], at: usize) -> Term
-    requires { ⌜ Whole sizes (now image) × (at < 2 ^ 40) ⌝ }
-    ensures { λ r. ⌜ r ≡ termAt (streamIn sizes (now (image .entry))) at ⌝ }
+// The term at a cursor.
+pub fn term_at(sizes: Sizes, image: &[u8], cursor: Cursor) -> Term
+    requires { ⌜ Whole sizes (now image) × (cursor .at < 2 ^ 40) ⌝ }
+    ensures { λ r. ⌜ r ≡ termAt (streamIn sizes (now (image .entry))) (cursor .at) ⌝ }
 {
-    let row = coding::term_exponent();
-    let tenths = held::unscaled_at(sizes, image, at, row);
-    let coefficient = held::unscaled_at(
-        sizes,
-        image,
-        at + row.width as usize,
-        coding::term_coefficient(),
-    );
+    let tenths = held::unscaled_at(sizes, image, cursor, coding::term_exponent());
+    let exponent = cursor.over(fields::EXPONENT_BITS as usize);
+    let coefficient = held::unscaled_at(sizes, image, exponent.next, coding::term_coefficient());
     Term {
         exponent: coding::exponent_of(held::figure(tenths)),
         coefficient: float(coefficient),
     }
 }
 
-// The place behind so many segments from a place on.
-fn pass_segments(sizes: Sizes, image: &[u8], first: usize, count: u64) -> usize
-    requires { ⌜ Whole sizes (now image) × (first < 2 ^ 32) × (count < 2 ^ 16) ⌝ }
-    ensures { λ r. ⌜ (r ≡ behindSegments (streamIn sizes (now (image .entry))) first count) × (r < 2 ^ 40) ⌝ }
+// The cursor behind so many segments from a cursor on.
+fn pass_segments(sizes: Sizes, image: &[u8], first: Cursor, count: u64) -> Cursor
+    requires { ⌜ Whole sizes (now image) × (first .at < 2 ^ 32) × (count < 2 ^ 16) ⌝ }
+    ensures { λ r. ⌜ (r .at ≡ behindSegments (streamIn sizes (now (image .entry))) (first .at) count) × (r .at < 2 ^ 40) ⌝ }
 {
-    let mut at = first;
+    let mut cursor = first;
     let mut left = count;
     while 0 < left {
-        at = segment_end(at, terms_at(sizes, image, at));
+        cursor = segment_end(cursor, terms_at(sizes, image, cursor));
         left -= 1;
     }
-    at
+    cursor
 }
 
-// The place of a term, counted from 0 over so many segments from a place on.
-fn find_term(sizes: Sizes, image: &[u8], first: usize, segments: u64, index: u64) -> usize
-    requires { ⌜ Whole sizes (now image) × (first < 2 ^ 32) × (segments < 2 ^ 16) ⌝ }
-    ensures { λ r. ⌜ (r ≡ termPlace (streamIn sizes (now (image .entry))) first segments index) × (r < 2 ^ 40) ⌝ }
+// The cursor at a term, counted from 0 over so many segments from a cursor on.
+fn find_term(sizes: Sizes, image: &[u8], first: Cursor, segments: u64, index: u64) -> Cursor
+    requires { ⌜ Whole sizes (now image) × (first .at < 2 ^ 32) × (segments < 2 ^ 16) ⌝ }
+    ensures { λ r. ⌜ (r .at ≡ termPlace (streamIn sizes (now (image .entry))) (first .at) segments index) × (r .at < 2 ^ 40) ⌝ }
 {
-    let mut at = first;
+    let mut cursor = first;
     let mut left = segments;
     let mut ahead = index;
     while 0 < left {
-        let own = terms_at(sizes, image, at);
+        let own = terms_at(sizes, image, cursor);
         if ahead < own {
-            return segment_end(at, ahead);
+            return segment_end(cursor, ahead);
         }
-        at = segment_end(at, own);
+        cursor = segment_end(cursor, own);
         ahead -= own;
         left -= 1;
     }
-    at
+    cursor
+}
+
+// The cursor at the first segment of a sheet's curve.
+pub fn curve_in(sheet: Opened) -> Cursor
+    requires { ⌜ sheet .behind .at < 2 ^ 32 ⌝ }
+    ensures { λ r. ⌜ r .at ≡ sheet .behind .at + curveStart ⌝ }
+{
+    let block = sheet.behind.over(layout::CURVE_START);
+    block.next
 }
 
 // A segment, counted from 0.
@@ -131,11 +129,10 @@ pub fn segment_in(sheet: Opened, image: &[u8], index: u64) -> Segment
     ensures { λ r. ⌜ ((kind : ℕ) (c : Contents) → Opens kind (now (image .entry)) sheet c → r ≡ getD (segmentsOf c) index noSegment) ⌝ }
 {
     let sizes = sheet.sizes;
-    let layout = sheet.layout;
     segment_at(
         sizes,
         image,
-        pass_segments(sizes, image, places::curve_place(layout), index),
+        pass_segments(sizes, image, curve_in(sheet), index),
     )
 }
 
@@ -145,17 +142,10 @@ pub fn term_in(sheet: Opened, image: &[u8], index: u64) -> Term
     ensures { λ r. ⌜ ((kind : ℕ) (c : Contents) → Opens kind (now (image .entry)) sheet c → r ≡ getD (termsOf c) index noTerm) ⌝ }
 {
     let sizes = sheet.sizes;
-    let layout = sheet.layout;
     let summary = sheet.summary;
     term_at(
         sizes,
         image,
-        find_term(
-            sizes,
-            image,
-            places::curve_place(layout),
-            summary.segments,
-            index,
-        ),
+        find_term(sizes, image, curve_in(sheet), summary.segments, index),
     )
 }

@@ -25,11 +25,6 @@ use memory::Sizes;
 use refusal::Refusal;
 use stream::Cursor;
 
-// The bits of a point, and of a pair.
-const POINT_BITS: usize = 16;
-
-pub const PAIR_BITS: usize = 37;
-
 // The codes of a pair.
 pub enum CodesStep {
     Stand(Codes, Cursor),
@@ -87,10 +82,10 @@ fn all_rise(sizes: Sizes, image: &[u8], start: Cursor, domain: Domain, count: u6
     let mut floor: u64 = 0;
     let mut left = count;
     while 0 < left {
-        let read = cursor.read(sizes, image, PAIR_BITS);
+        let read = cursor.read(sizes, image, layout::PAIR_BITS);
         let both = read.code;
         let point = both & 0xffff;
-        let deviation = both >> POINT_BITS;
+        let deviation = both >> fields::POINT_BITS;
         if point < least {
             return false;
         }
@@ -149,9 +144,9 @@ fn take_pairs(sizes: Sizes, image: &[u8], start: Cursor, domain: Domain, count: 
     let at = start.at;
     let bits = memory::stream_bits(sizes);
     if at <= bits {
-        if count <= ((bits - at) / PAIR_BITS) as u64 {
+        if count <= ((bits - at) / layout::PAIR_BITS) as u64 {
             if all_rise(sizes, image, start, domain, count) {
-                let pairs = start.over(PAIR_BITS * (count as usize));
+                let pairs = start.over(layout::PAIR_BITS * (count as usize));
                 let end = pairs.next;
                 return CountStep::Counted(count, end);
             }

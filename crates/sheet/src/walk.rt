@@ -4,23 +4,22 @@ ghost use Prim.Native.Nat.{_+_, _≤_};
 ghost use Rattle.memory.specs.Bits.{fieldAt};
 ghost use Rattle.memory.specs.Image.{streamBits, streamNumber};
 ghost use Rattle.memory.specs.Answers.{Whole};
-ghost use Rattle.fields.specs.Lines.{chose, lastField, rowOf};
 ghost use Rattle.fields.specs.Stored.{Sound};
 ghost use Rattle.fields.specs.Judgement.{judge};
 ghost use Rattle.fields.specs.Answers.{judgedSaid};
 ghost use Rattle.layout.specs.Format.{parse};
-ghost use Rattle.layout.specs.Contents.{fieldOf, fieldsOf, firstBlock};
+ghost use Rattle.layout.specs.Contents.{fieldOf, firstBlock};
 ghost use Rattle.layout.specs.Image.{streamIn};
-ghost use Rattle.layout.specs.Places.{firstSelector, behindFields};
+ghost use Rattle.layout.specs.Places.{firstSelector};
 ghost use Rattle.sheet.specs.Walk.{
   keeping,
   coded,
-  choiceOn,
-  linesFrom,
+  Roomy,
   basicChoice,
+  ownJudged,
   ownChoice,
   layoutAt,
-  Lies,
+  EndsBehind,
   markOf,
   judgedAt,
   codeSaid,
@@ -29,7 +28,6 @@ ghost use Rattle.sheet.specs.Walk.{
   stoodTo,
   templateStepSaid,
 };
-use crate::places;
 use fields::Judged;
 use fields::Layout;
 use fields::Row;
@@ -64,21 +62,6 @@ pub enum TemplateStep {
     Named(Template),
     Refused(Refusal),
 }
-
-// The bits of a selector and of a template number.
-pub const SELECTOR_BITS: usize = 2;
-
-pub const NUMBER_BITS: usize = 8;
-
-// The first block stands behind Basic, and the fields of its template behind it. The precision is the fourth of them: measurand,
-// least and greatest physical stand before it.
-const FIRST_BLOCK: usize = 64;
-
-const OWN_FIELDS: usize = FIRST_BLOCK + SELECTOR_BITS + NUMBER_BITS;
-
-const PRECISION: usize = OWN_FIELDS + 6 + 32 + 32;
-
-const PRECISION_BITS: usize = 2;
 
 // The code that was taken at bit `at`: its refusal, or 5 or 6 as its row says.
 pub fn judged(row: Row, at: u64, taken: Taken) -> CodeStep
@@ -129,67 +112,6 @@ pub fn take_mark(
     }
 }
 
-// The code of a field: `take_code` of its row. The row is asked for twice, for its bits and to judge the code, so that the
-// compiler judges in the arm of the row and keeps no part of it while the code is taken.
-fn take_field(sizes: Sizes, image: &[u8], cursor: Cursor, layout: Layout, field: u64) -> CodeStep
-    requires { ⌜ Whole sizes (now image) × (1 ≤ field) × (field ≤ lastField (layout .template)) ⌝ }
-    ensures { λ r. ⌜ codeSaid (cursor .at) r ≡ keeping coded (parse (streamIn sizes (now (image .entry))) (fieldOf (rowOf layout field)) (cursor .at)) ⌝ }
-{
-    match cursor.take(sizes, image, fields::row_of(layout, field).width as usize) {
-        Taken::Refused(r) => CodeStep::Refused(r),
-        Taken::Field(code, next) => match coding::judge(
-            fields::row_of(layout, field),
-            cursor.at as u64,
-            code,
-        ) {
-            Judged::Refused(r) => CodeStep::Refused(r),
-            Judged::Stands => CodeStep::Code(code, next),
-        },
-    }
-}
-
-// The latest choice behind a field.
-fn chosen(sets: bool, code: u64, latest: u64) -> u64
-    ensures { λ r. ⌜ r ≡ chose sets code latest ⌝ }
-{
-    if sets { code } else { latest }
-}
-
-// The fields from number `first` to number `last` of a template: the latest choice behind them.
-fn take_fields(
-    sizes: Sizes,
-    image: &[u8],
-    start: Cursor,
-    template: Template,
-    first: u64,
-    last: u64,
-) -> ChoiceStep
-    requires { ⌜ Whole sizes (now image) × (1 ≤ first) × (last ≤ lastField template) ⌝ }
-    ensures { λ r. let lines = linesFrom template first last in
-        ⌜ choiceSaid r ≡ keeping (choiceOn lines 0) (parse (streamIn sizes (now (image .entry))) (fieldsOf lines 0) (start .at)) ⌝ }
-{
-    let mut cursor = start;
-    let mut precision: u64 = 0;
-    let mut field = first;
-    while field <= last {
-        let layout = Layout {
-            template,
-            precision,
-        };
-        match take_field(sizes, image, cursor, layout, field) {
-            CodeStep::Refused(r) => {
-                return ChoiceStep::Refused(r);
-            }
-            CodeStep::Code(code, next) => {
-                precision = chosen(fields::is_choice(template, field), code, precision);
-                cursor = next;
-            }
-        }
-        field += 1;
-    }
-    ChoiceStep::Chosen(precision, cursor)
-}
-
 // ---- fields that lie in the stream
 
 // Whether the code of a row may stand in its field: 5 or 6.
@@ -225,13 +147,15 @@ pub fn judge_basic(sizes: Sizes, image: &[u8]) -> Judged
     Judged::Stands
 }
 
-// The fields of template 33 at a precision, up to the last that can turn a code down.
+// The fields of template 33 at a precision, all but the last, up to the last that can turn a code down.
 fn judge_bridge(sizes: Sizes, image: &[u8], precision: u64) -> Judged
-    requires { ⌜ Lies sizes (now image) (layoutAt Template.Bridge precision) ⌝ }
-    ensures { λ r. ⌜ stoodTo precision (behindFields (layoutAt Template.Bridge precision)) r ≡ ownChoice (streamIn sizes (now (image .entry))) Template.Bridge ⌝ }
+    requires { ⌜ Roomy sizes (now image) ⌝ }
+    ensures { λ r. ⌜ judgedSaid r ≡ ownJudged (streamIn sizes (now (image .entry))) (layoutAt Template.Bridge precision) ⌝ }
 {
     let last = fields::last_closed(Template::Bridge);
-    let mut cursor = Cursor { at: OWN_FIELDS };
+    let mut cursor = Cursor {
+        at: layout::OWN_FIELDS,
+    };
     let mut field = fields::basic_fields() + 1;
     while field <= last {
         let row = fields::bridge_row(precision, field);
@@ -247,11 +171,13 @@ fn judge_bridge(sizes: Sizes, image: &[u8], precision: u64) -> Judged
 
 // The same of template 32.
 fn judge_resistance(sizes: Sizes, image: &[u8], precision: u64) -> Judged
-    requires { ⌜ Lies sizes (now image) (layoutAt Template.Resistance precision) ⌝ }
-    ensures { λ r. ⌜ stoodTo precision (behindFields (layoutAt Template.Resistance precision)) r ≡ ownChoice (streamIn sizes (now (image .entry))) Template.Resistance ⌝ }
+    requires { ⌜ Roomy sizes (now image) ⌝ }
+    ensures { λ r. ⌜ judgedSaid r ≡ ownJudged (streamIn sizes (now (image .entry))) (layoutAt Template.Resistance precision) ⌝ }
 {
     let last = fields::last_closed(Template::Resistance);
-    let mut cursor = Cursor { at: OWN_FIELDS };
+    let mut cursor = Cursor {
+        at: layout::OWN_FIELDS,
+    };
     let mut field = fields::basic_fields() + 1;
     while field <= last {
         let row = fields::resistance_row(precision, field);
@@ -266,8 +192,8 @@ fn judge_resistance(sizes: Sizes, image: &[u8], precision: u64) -> Judged
 }
 
 fn judge_own(sizes: Sizes, image: &[u8], layout: Layout) -> Judged
-    requires { ⌜ Lies sizes (now image) layout ⌝ }
-    ensures { λ r. ⌜ stoodTo (layout .precision) (behindFields layout) r ≡ ownChoice (streamIn sizes (now (image .entry))) (layout .template) ⌝ }
+    requires { ⌜ Roomy sizes (now image) ⌝ }
+    ensures { λ r. ⌜ judgedSaid r ≡ ownJudged (streamIn sizes (now (image .entry))) layout ⌝ }
 {
     let template = layout.template;
     match template {
@@ -282,42 +208,42 @@ pub fn take_template(sizes: Sizes, image: &[u8]) -> TemplateStep
     requires { ⌜ Whole sizes (now image) ⌝ }
     ensures { λ r. ⌜ templateStepSaid r ≡ parse (streamIn sizes (now (image .entry))) firstBlock firstSelector ⌝ }
 {
-    let first = Field { at: FIRST_BLOCK };
-    let block = first.code(sizes, image, SELECTOR_BITS + NUMBER_BITS);
+    let first = Field {
+        at: layout::FIRST_SELECTOR,
+    };
+    let block = first.code(sizes, image, layout::BLOCK_BITS);
     if block & 3 != 0 {
-        return TemplateStep::Refused(refusal::wrong_block(FIRST_BLOCK as u64));
+        return TemplateStep::Refused(refusal::wrong_block(layout::FIRST_SELECTOR as u64));
     }
-    match fields::template_of(block >> SELECTOR_BITS) {
+    match fields::template_of(block >> layout::SELECTOR_BITS) {
         TemplateAnswer::Is(template) => TemplateStep::Named(template),
-        TemplateAnswer::Unknown => TemplateStep::Refused(refusal::wrong_block(FIRST_BLOCK as u64)),
+        TemplateAnswer::Unknown => TemplateStep::Refused(refusal::wrong_block(
+            layout::FIRST_SELECTOR as u64,
+        )),
     }
 }
 
-// A template's own fields. Where they all lie in the stream at the precision that stands there, they are judged at their
-// places, else walked over.
+// A template's own fields, at the precision that stands there. All but the last lie in every stream, and the last takes every
+// code: so 3 comes behind 5 and 6, and only at the last.
 pub fn take_own(sizes: Sizes, image: &[u8], template: Template) -> ChoiceStep
-    requires { ⌜ Whole sizes (now image) ⌝ }
-    ensures { λ r. ⌜ choiceSaid r ≡ ownChoice (streamIn sizes (now (image .entry))) template ⌝ }
+    requires { ⌜ Roomy sizes (now image) ⌝ }
+    ensures { λ r. ⌜ (choiceSaid r ≡ ownChoice (streamIn sizes (now (image .entry))) template) × EndsBehind template r ⌝ }
 {
-    let choice = Field { at: PRECISION };
-    let precision = choice.code(sizes, image, PRECISION_BITS);
+    let choice = Field {
+        at: layout::PRECISION,
+    };
+    let precision = choice.code(sizes, image, layout::PRECISION_BITS);
     let layout = Layout {
         template,
         precision,
     };
-    let end = places::fields_end(layout);
+    if let Judged::Refused(r) = judge_own(sizes, image, layout) {
+        return ChoiceStep::Refused(r);
+    }
+    let end = layout::fields_end(layout);
     if 8 * (image.len() - sizes.pages) < end {
-        return take_fields(
-            sizes,
-            image,
-            Cursor { at: OWN_FIELDS },
-            template,
-            fields::basic_fields() + 1,
-            fields::last_field(template),
-        );
+        let last = layout::locate(layout, fields::last_field(template));
+        return ChoiceStep::Refused(refusal::past_end(last as u64));
     }
-    match judge_own(sizes, image, layout) {
-        Judged::Refused(r) => ChoiceStep::Refused(r),
-        Judged::Stands => ChoiceStep::Chosen(precision, Cursor { at: end }),
-    }
+    ChoiceStep::Chosen(precision, Cursor { at: end })
 }

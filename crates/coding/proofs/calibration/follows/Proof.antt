@@ -11,7 +11,8 @@ follows-spec =
     (tie.spec
     (λ c. search needs)
     (λ c. search needs)
-    (λ c. rw (c .before .before .before .before .before2 .given .1, le-leb _ _ (c .if1 .taken)))
+    (λ c κs. search needs)
+    (λ c. rw (c .before .before .before .before .before .before2 .given .1, le-leb _ _ (c .before .if1 .taken), c .not-rising .ensures))
     (λ c κs. search needs)
     (λ c. search needs)
     (λ c. let p = c .before in rw (p .before .before .before .before .before2 .given .1, lt-leb _ _ (p .if1 .left)) (c .climbs .ensures)))

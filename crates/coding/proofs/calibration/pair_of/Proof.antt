@@ -4,6 +4,7 @@ use mathlib.Core.Path.{_≡_, sym, ap, ap₂, _∙_}
 use Prim.Native.Nat.{ℕ, _+_, _*_, _/_, _%_, _^_, _<_}
 use native.Mathlib.Nat.{zero-add}
 use native.Mathlib.Omega.{arith}
+use lib.Bits.{and-mask}
 use lib.IntN.{ℤ, pos, negsuc, _+ℤ_}
 use mir.Syntax.{w64}
 use mir.Val.{SFits, toZ}
@@ -26,11 +27,20 @@ add-t8 c = deviation-fits (R * (c .args .code / 2 ^ 16)) (omega (arith, c .pre))
 
 returns : tie.Need-returns
 returns c =
-    let p : D * (c .args .code % 2 ^ 16) < 2 ^ 63 = omega arith in
-    let d : R * (c .args .code / 2 ^ 16) < 2 ^ 63 = omega (arith, c .pre) in
+    let code : ℕ = c .args .code in
+    let p : D * (code % 2 ^ 16) < 2 ^ 63 = omega arith in
+    let d : R * (code / 2 ^ 16) < 2 ^ 63 = omega (arith, c .pre) in
     ap₂ (λ (y z : ℤ). record { point = y; deviation = z })
-    (toZ-pos w64 p ∙ ap pos (sym (zero-add _)))
+    (ap (λ (n : ℕ). toZ w64 (D * n)) (and-mask code 16) ∙ toZ-pos w64 p ∙ ap pos (sym (zero-add _)))
     (toZ-ofZ (deviation-fits _ d) ∙ ap (λ (z : ℤ). leastDeviation +ℤ z) (toZ-pos w64 d))
 
 pub pair-of-spec : {M : Type 1} → statement M
-pair-of-spec = tie.close (tie.spec (λ c. search needs) (λ c. search needs) (λ c. search needs) (λ c. search needs) add-t8 returns)
+pair-of-spec =
+    tie.close
+    (tie.spec
+    (λ c. omega (arith, and-mask (c .args .code) 16))
+    (λ c. omega (arith, and-mask (c .args .code) 16))
+    (λ c. search needs)
+    (λ c. search needs)
+    add-t8
+    returns)

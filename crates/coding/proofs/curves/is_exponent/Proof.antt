@@ -1,4 +1,3 @@
-use borrow.Author.Needs.{needs}
 use mathlib.Core.Path.{sym}
 use Rattle.fields.proofs.CurveLaws.{low-code, high-code, inner-code}
 use Rattle.coding.proofs.curves.is_exponent.Statement.{statement}

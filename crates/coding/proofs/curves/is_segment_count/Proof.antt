@@ -1,4 +1,3 @@
-use borrow.Author.Needs.{needs}
 use borrow.Author.Tests.{le-leb, lt-leb}
 use Rattle.coding.proofs.curves.is_segment_count.Statement.{statement}
 use Rattle.coding.proofs.curves.is_segment_count.Tie as tie

@@ -1,6 +1,7 @@
 use borrow.Author.Needs.{needs}
 use borrow.Author.Tests.{eq-eqb, ne-eqb}
 use native.Mathlib.Omega.{arith}
+use lib.Bits.{and-mask}
 use Rattle.fields.proofs.FloatLaws.{finite-bits, not-finite-bits}
 use Rattle.coding.proofs.judging.finite_bits.Statement.{statement}
 use Rattle.coding.proofs.judging.finite_bits.Tie as tie
@@ -9,8 +10,8 @@ pub finite-bits-spec : {M : Type 1} → statement M
 finite-bits-spec =
     tie.close
     (tie.spec
-    (λ c. let code = c .before .args .code in rw (ne-eqb code 0xffff_ffff (λ e. omega (arith, c .if1 .taken)), finite-bits code (c .if1 .taken)))
+    (λ c. let code = c .before .args .code in let small = rw (and-mask code 31) at (c .if1 .taken) in rw (ne-eqb code 0xffff_ffff (λ e. omega arith), finite-bits code small))
     (λ c κs. search needs)
     (λ c. rw (eq-eqb (c .before .before .before .args .code) 0xffff_ffff (c .before .if2 .taken)) (c .outside-table .ensures))
     (λ c κs. search needs)
-    (λ c. let code = c .before .before .before .args .code in rw (ne-eqb code 0xffff_ffff (c .before .if2 .left), not-finite-bits code (c .before .before .if1 .left)) (c .not-finite .ensures)))
+    (λ c. let code = c .before .before .before .args .code in rw (ne-eqb code 0xffff_ffff (c .before .if2 .left), not-finite-bits code (rw (and-mask code 31) at (c .before .before .if1 .left))) (c .not-finite .ensures)))

@@ -5,6 +5,7 @@ use native.Mathlib.Omega.{arith}
 use Rattle.refusal.specs.Outcome.{refused}
 use Rattle.refusal.proofs.WrittenLaws.{written-refused, written-done}
 use Rattle.sheet.proofs.OpenLaws.{opens, not-opened}
+use Rattle.sheet.proofs.HeldLaws.{behind-is}
 use Rattle.index.proofs.IndexLaws.{index-unread, opened-few, opened-made, opened-short}
 use Rattle.index.proofs.making.make_index.Statement.{statement}
 use Rattle.index.proofs.making.make_index.Tie as tie
@@ -44,7 +45,7 @@ write-entries-requires c κs =
     let a = s .before .before .before .before .before .args in
     let (x, h) = opens (a .kind) (a .image .now) _ (s .before .before .«open» .ensures) (s .opened .given .1) in
     let e = c .before .before .before .last-field .ensures in
-    (omega arith, omega (arith, opened-few h e), omega (arith, e))
+    (behind-is h, omega arith, omega (arith, opened-few h e), omega (arith, e))
 
 returns-2 : tie.Need-returns-2
 returns-2 c =

@@ -8,7 +8,7 @@ use Rattle.fields.specs.declared.Template.the-variants.{Bridge}
 use Rattle.fields.specs.declared.Layout.{Layout}
 use Rattle.fields.specs.Lines.{basic, linesOf, bitsBefore}
 use Rattle.sheet.specs.Walk.{layoutAt}
-use Rattle.sheet.proofs.PlaceSteps.{place-few}
+use Rattle.layout.proofs.PlaceSteps.{place-few}
 use Rattle.sheet.proofs.WalkSteps.{basic-most}
 use Rattle.fields.proofs.TemplateFacts.{last-most}
 use Rattle.index.specs.Index.{entryBytes}
@@ -19,47 +19,50 @@ use Rattle.index.proofs.making.write_basic.Statement.{statement}
 use Rattle.index.proofs.making.write_basic.Tie as tie
 
 abbrev Inv-loop : tie.InvT-loop
-Inv-loop buffer₀ last at₀ i₀ buffer at i =
+Inv-loop buffer₀ last cursor₀ i₀ buffer cursor i =
     (i ≤ length basic) × (length buffer ≡ length buffer₀) ×
-    ((layout : Layout) → (at ≡ bitsBefore (linesOf (layout .template)) (layout .precision) i) × (buffer ≡ laid buffer₀ 0 (entryBytes (firstEntries layout i))))
+    ((layout : Layout) → (cursor .at ≡ bitsBefore (linesOf (layout .template)) (layout .precision) i) × (buffer ≡ laid buffer₀ 0 (entryBytes (firstEntries layout i))))
 
 abbrev μ-loop : tie.MeasureT-loop
-μ-loop buffer₀ last at₀ i₀ buffer at i = last - i
+μ-loop buffer₀ last cursor₀ i₀ buffer cursor i = last - i
 
 loop-holds : tie.Need-loop-holds Inv-loop μ-loop
-loop-holds c = (omega arith, refl, λ layout. (none-before layout, refl))
+loop-holds c = (omega arith, refl, λ layout. (c .start .ensures ∙ none-before layout, refl))
 
 basic-row-requires : tie.Need-basic-row-requires Inv-loop μ-loop
-basic-row-requires c κs = omega (arith, c .before .before .basic-fields .ensures)
+basic-row-requires c κs = omega (arith, c .before .before .before .basic-fields .ensures)
 
-put-entry-requires : tie.Need-put-entry-requires Inv-loop μ-loop
-put-entry-requires c κs = omega (arith, c .before .before .before .before .basic-fields .ensures)
-
-add-at : tie.Need-add-at Inv-loop μ-loop
-add-at c =
-    let l = c .before .before .before .before .before .before .before in
+over-requires : tie.Need-over-requires Inv-loop μ-loop
+over-requires c κs =
+    let l = c .before .before in
     let layout = layoutAt Bridge 0 in
     let i = l .loop .i in
-    let h : i < length basic = omega (arith, l .before .basic-fields .ensures) in
+    let h : i < length basic = omega (arith, l .before .before .basic-fields .ensures) in
     omega (
       arith,
       l .loop .inv .2 layout .0,
-      field-next layout i (omega (arith, basic-most Bridge)) (c .before .before .before .before .before .basic-row .ensures layout),
+      field-next layout i (omega (arith, basic-most Bridge)) (c .basic-row .ensures layout),
       place-few layout (i + 1),
     )
 
+put-entry-requires : tie.Need-put-entry-requires Inv-loop μ-loop
+put-entry-requires c κs = omega (arith, c .before .before .before .before .before .before .basic-fields .ensures)
+
 loop-again : tie.Need-loop-again Inv-loop μ-loop
 loop-again c =
-    let row = c .before .before .before .before .before .basic-row in
-    let l = c .before .before .before .before .before .before .before in
-    let a = l .before .before .before .args in
+    let o = c .before .before .before .before .before in
+    let row = o .before .basic-row in
+    let l = o .before .before .before in
+    let a = l .before .before .before .before .args in
     let i = l .loop .i in
-    let h : i < length basic = omega (arith, l .before .basic-fields .ensures) in (
+    let here = ap (λ p. p .field .at) (o .over .ensures) in
+    let next = ap (λ p. p .next .at) (o .over .ensures) in
+    let h : i < length basic = omega (arith, l .before .before .basic-fields .ensures) in (
       omega arith,
       search needs,
       λ layout. (
-        ap (λ (n : ℕ). n + row .result .width) (l .loop .inv .2 layout .0) ∙ field-next layout i (omega (arith, basic-most (layout .template))) (row .ensures layout),
-        first-more layout (a .buffer .now) i (omega arith) (l .loop .inv .2 layout .1) (basic-entry layout i h (row .ensures layout) (l .loop .inv .2 layout .0))
+        next ∙ ap (λ (n : ℕ). n + row .result .width) (l .loop .inv .2 layout .0) ∙ field-next layout i (omega (arith, basic-most (layout .template))) (row .ensures layout),
+        first-more layout (a .buffer .now) i (omega arith) (l .loop .inv .2 layout .1) (basic-entry layout i h (row .ensures layout) (here ∙ l .loop .inv .2 layout .0))
             (c .before .before .before .put-entry .ensures),
       ),
     )
@@ -67,8 +70,8 @@ loop-again c =
 returns : tie.Need-returns Inv-loop μ-loop
 returns c layout =
     let l = c .before in
-    let n : l .loop .i ≡ length basic = omega (arith, l .before .basic-fields .ensures) in
-    l .loop .inv .2 layout .1 ∙ ap (λ (k : ℕ). laid (l .before .before .before .args .buffer .now) 0 (entryBytes (firstEntries layout k))) n
+    let n : l .loop .i ≡ length basic = omega (arith, l .before .before .basic-fields .ensures) in
+    l .loop .inv .2 layout .1 ∙ ap (λ (k : ℕ). laid (l .before .before .before .before .args .buffer .now) 0 (entryBytes (firstEntries layout k))) n
 
 pub write-basic-spec : {M : Type 1} → statement M
 write-basic-spec =
@@ -77,12 +80,13 @@ write-basic-spec =
     Inv-loop
     μ-loop
     (λ c κs. search needs)
+    (λ c κs. search needs)
     loop-holds
-    (λ c. omega (arith, c .before .before .basic-fields .ensures, basic-most Bridge, last-most Bridge))
+    (λ c. omega (arith, c .before .before .before .basic-fields .ensures, basic-most Bridge, last-most Bridge))
     basic-row-requires
+    over-requires
     (λ c. search needs)
     put-entry-requires
-    add-at
     (λ c. search needs)
     (λ c. search needs)
     loop-again

@@ -6,9 +6,8 @@ use native.Mathlib.Omega.{arith}
 use lib.ListN.{length}
 use Rattle.fields.specs.declared.Layout.{Layout}
 use Rattle.fields.specs.Lines.{lastField}
-use Rattle.fields.proofs.TemplateFacts.{last-most}
 use Rattle.layout.specs.Places.{pairPlace}
-use Rattle.sheet.proofs.PlaceSteps.{end-few}
+use Rattle.layout.proofs.PlaceSteps.{end-few}
 use Rattle.index.specs.Index.{entryBytes}
 use Rattle.index.specs.Laid.{laid, firstEntries}
 use Rattle.index.proofs.Laying.{first-more}
@@ -17,13 +16,13 @@ use Rattle.index.proofs.making.write_points.Statement.{statement}
 use Rattle.index.proofs.making.write_points.Tie as tie
 
 abbrev Inv-loop : tie.InvT-loop
-Inv-loop buffer₀ count at₀ i₀ buffer at i =
-    (i₀ ≤ i) × (i ≤ count) × (length buffer ≡ length buffer₀) × (at ≡ at₀ + 37 * (i - i₀)) ×
-    ((layout : Layout) → i₀ ≡ lastField (layout .template) → at₀ ≡ pairPlace layout 0 → buffer₀ ≡ laid buffer₀ 0 (entryBytes (firstEntries layout (lastField (layout .template)))) →
+Inv-loop buffer₀ count cursor₀ i₀ buffer cursor i =
+    (i₀ ≤ i) × (i ≤ count) × (length buffer ≡ length buffer₀) × (cursor .at ≡ cursor₀ .at + 37 * (i - i₀)) ×
+    ((layout : Layout) → i₀ ≡ lastField (layout .template) → cursor₀ .at ≡ pairPlace layout 0 → buffer₀ ≡ laid buffer₀ 0 (entryBytes (firstEntries layout (lastField (layout .template)))) →
     buffer ≡ laid buffer₀ 0 (entryBytes (firstEntries layout i)))
 
 abbrev μ-loop : tie.MeasureT-loop
-μ-loop buffer₀ count at₀ i₀ buffer at i = count - i
+μ-loop buffer₀ count cursor₀ i₀ buffer cursor i = count - i
 
 loop-holds : tie.Need-loop-holds Inv-loop μ-loop
 loop-holds c = (
@@ -34,27 +33,30 @@ loop-holds c = (
   λ layout e place begun. begun ∙ ap (λ (k : ℕ). laid (c .before .before .before .args .buffer .now) 0 (entryBytes (firstEntries layout k))) (sym e),
 )
 
-put-entry-requires : tie.Need-put-entry-requires Inv-loop μ-loop
-put-entry-requires c κs = search needs
+locate-pair-requires : tie.Need-locate-pair-requires Inv-loop μ-loop
+locate-pair-requires c κs = let b = c .before in (omega (arith, b .pre .0 .0, end-few (b .args .layout)), omega arith)
 
-add-at : tie.Need-add-at Inv-loop μ-loop
-add-at c =
-    let l = c .before .before .before .before .before in
-    omega (arith, l .before .before .locate-pair .ensures, end-few (l .before .before .before .before .args .layout))
+over-requires : tie.Need-over-requires Inv-loop μ-loop
+over-requires c κs =
+    let l = c .before in
+    let b = l .before .before .before .before in
+    omega (arith, l .before .before .locate-pair .ensures, b .pre .0 .0, end-few (b .args .layout))
 
 loop-again : tie.Need-loop-again Inv-loop μ-loop
 loop-again c =
-    let l = c .before .before .before .before .before in
-    let b = l .before .before .before .before in
-    let a = b .args in
+    let o = c .before .before .before .before .before in
+    let l = o .before .before in
+    let a = l .before .before .before .before .args in
     let (lo, hi, long, at, is) = l .loop .inv in
+    let here = ap (λ p. p .field .at) (o .over .ensures) in
+    let behind = ap (λ p. p .next .at) (o .over .ensures) in
     let i = l .loop .i in (
       omega arith,
       omega arith,
       search needs,
-      omega arith,
+      omega (arith, behind, at),
       λ layout e place begun.
-          first-more layout (a .buffer .now) i (omega arith) (is layout e place begun) (pair-entry layout i _ e lo (omega (arith, place))) (c .before .before .put-entry .ensures),
+          first-more layout (a .buffer .now) i (omega arith) (is layout e place begun) (pair-entry layout i _ e lo (omega (arith, here, at, place))) (c .before .before .before .put-entry .ensures),
     )
 
 returns : tie.Need-returns Inv-loop μ-loop
@@ -63,7 +65,7 @@ returns c =
     let b = l .before .before .before .before in
     let a = b .args in
     let n : l .loop .i ≡ a .count = omega arith in
-    l .loop .inv .4 (a .layout) (l .before .last-field .ensures) (l .before .before .locate-pair .ensures) (b .pre .1)
+    l .loop .inv .4 (a .layout) (l .before .last-field .ensures) (omega (arith, l .before .before .locate-pair .ensures, b .pre .0 .0)) (b .pre .1)
     ∙ ap (λ (k : ℕ). laid (a .buffer .now) 0 (entryBytes (firstEntries (a .layout) k))) n
 
 pub write-points-spec : {M : Type 1} → statement M
@@ -72,12 +74,12 @@ write-points-spec =
     (tie.spec
     Inv-loop
     μ-loop
-    (λ c κs. search needs)
+    locate-pair-requires
     (λ c κs. search needs)
     loop-holds
+    over-requires
     (λ c. search needs)
-    put-entry-requires
-    add-at
+    (λ c κs. search needs)
     (λ c. search needs)
     (λ c. search needs)
     loop-again

@@ -8,7 +8,7 @@ use Rattle.fields.specs.declared.Template.the-variants.{Resistance}
 use Rattle.fields.specs.Lines.{basic, linesOf, lastField, bitsBefore}
 use Rattle.fields.proofs.TemplateFacts.{last-most}
 use Rattle.sheet.specs.Walk.{layoutAt}
-use Rattle.sheet.proofs.PlaceSteps.{place-few}
+use Rattle.layout.proofs.PlaceSteps.{place-few}
 use Rattle.sheet.proofs.WalkSteps.{basic-most}
 use Rattle.index.specs.Index.{entryBytes}
 use Rattle.index.specs.Laid.{laid, firstEntries}
@@ -18,12 +18,12 @@ use Rattle.index.proofs.making.write_resistance.Statement.{statement}
 use Rattle.index.proofs.making.write_resistance.Tie as tie
 
 abbrev Inv-loop : tie.InvT-loop
-Inv-loop buffer₀ precision last at₀ i₀ buffer at i =
-    (length basic ≤ i) × (i ≤ lastField Resistance) × (length buffer ≡ length buffer₀) × (at ≡ bitsBefore (linesOf Resistance) precision i + 10) ×
+Inv-loop buffer₀ precision last cursor₀ i₀ buffer cursor i =
+    (length basic ≤ i) × (i ≤ lastField Resistance) × (length buffer ≡ length buffer₀) × (cursor .at ≡ bitsBefore (linesOf Resistance) precision i + 10) ×
     (buffer ≡ laid buffer₀ 0 (entryBytes (firstEntries (layoutAt Resistance precision) i)))
 
 abbrev μ-loop : tie.MeasureT-loop
-μ-loop buffer₀ precision last at₀ i₀ buffer at i = last - i
+μ-loop buffer₀ precision last cursor₀ i₀ buffer cursor i = last - i
 
 loop-holds : tie.Need-loop-holds Inv-loop μ-loop
 loop-holds c =
@@ -40,28 +40,31 @@ loop-holds c =
 resistance-row-requires : tie.Need-resistance-row-requires Inv-loop μ-loop
 resistance-row-requires c κs = omega (arith, c .before .before .before .last-field .ensures)
 
-put-entry-requires : tie.Need-put-entry-requires Inv-loop μ-loop
-put-entry-requires c κs = omega (arith, c .before .before .before .before .before .last-field .ensures)
-
-add-at : tie.Need-add-at Inv-loop μ-loop
-add-at c =
-    let l = c .before .before .before .before .before .before .before in
+over-requires : tie.Need-over-requires Inv-loop μ-loop
+over-requires c κs =
+    let l = c .before .before in
     let layout = layoutAt Resistance (l .before .before .before .before .args .precision) in
     let i = l .loop .i in
     let h : i < lastField Resistance = omega (arith, l .before .before .last-field .ensures) in
-    omega (arith, field-next layout i h (c .before .before .before .before .before .resistance-row .ensures), place-few layout (i + 1))
+    omega (arith, field-next layout i h (c .resistance-row .ensures), place-few layout (i + 1))
+
+put-entry-requires : tie.Need-put-entry-requires Inv-loop μ-loop
+put-entry-requires c κs = omega (arith, c .before .before .before .before .before .before .last-field .ensures)
 
 loop-again : tie.Need-loop-again Inv-loop μ-loop
 loop-again c =
-    let row = c .before .before .before .before .before .resistance-row in
-    let l = c .before .before .before .before .before .before .before in
+    let o = c .before .before .before .before .before in
+    let row = o .before .resistance-row in
+    let l = o .before .before .before in
     let a = l .before .before .before .before .args in
     let layout = layoutAt Resistance (a .precision) in
     let (lo, hi, long, place, is) = l .loop .inv in
     let i = l .loop .i in
+    let here = ap (λ p. p .field .at) (o .over .ensures) in
+    let behind = ap (λ p. p .next .at) (o .over .ensures) in
     let h : i < lastField Resistance = omega (arith, l .before .before .last-field .ensures) in
-    let next = first-more layout (a .buffer .now) i (omega arith) is (own-entry layout i lo h (row .ensures) place) (c .before .before .before .put-entry .ensures) in
-    (omega arith, omega arith, search needs, omega (arith, field-next layout i h (row .ensures)), next)
+    let next = first-more layout (a .buffer .now) i (omega arith) is (own-entry layout i lo h (row .ensures) (here ∙ place)) (c .before .before .before .put-entry .ensures) in
+    (omega arith, omega arith, search needs, omega (arith, behind, place, field-next layout i h (row .ensures)), next)
 
 returns : tie.Need-returns Inv-loop μ-loop
 returns c =
@@ -81,9 +84,9 @@ write-resistance-spec =
     loop-holds
     (λ c. omega (arith, c .before .before .before .last-field .ensures, last-most Resistance))
     resistance-row-requires
+    over-requires
     (λ c. search needs)
     put-entry-requires
-    add-at
     (λ c. search needs)
     (λ c. search needs)
     loop-again

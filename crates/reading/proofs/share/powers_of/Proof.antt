@@ -19,7 +19,7 @@ use Rattle.reading.proofs.share.powers_of.Tie as tie
 abbrev Inv-loop : tie.InvT-loop
 Inv-loop sizes image run powers₀ index₀ powers index =
     (index ≤ run .terms) × (powers .count ≤ 6)
-    × (taken powers (ownTerms (streamIn sizes image) (run .at + 39 * index) (run .terms - index)) ≡ taken noPowers (ownTerms (streamIn sizes image) (run .at) (run .terms)))
+    × (taken powers (ownTerms (streamIn sizes image) (run .cursor .at + 39 * index) (run .terms - index)) ≡ taken noPowers (ownTerms (streamIn sizes image) (run .cursor .at) (run .terms)))
 
 abbrev μ-loop : tie.MeasureT-loop
 μ-loop sizes image run powers₀ index₀ powers index = run .terms - index
@@ -49,7 +49,7 @@ loop-again c =
       omega (arith, taken-lt),
       rw (one-more c) (few-powers (t .term-at .result ∷ []) (l .loop .powers) (i .1)),
       rw (one-more c)
-          (one-taken (streamIn (s .args .sizes) (s .args .image .now)) (s .args .run .at) (s .args .run .terms) (l .loop .index) (l .loop .powers) taken-lt (t .term-at .result) (t .term-at .ensures) (e .segment-end .ensures) ∙ i .2),
+          (one-taken (streamIn (s .args .sizes) (s .args .image .now)) (s .args .run .cursor .at) (s .args .run .terms) (l .loop .index) (l .loop .powers) taken-lt (t .term-at .result) (t .term-at .ensures) (e .segment-end .ensures) ∙ i .2),
     )
 
 returns : tie.Need-returns Inv-loop μ-loop
@@ -57,7 +57,7 @@ returns c =
     let l = c .before .before in
     let s = l .before .before .before in
     let i = l .loop .inv in
-    (i .1, none-left (streamIn (s .args .sizes) (s .args .image .now)) (s .args .run .at) (s .args .run .terms) (l .loop .index) (l .loop .powers) (c .if1 .left) ∙ i .2)
+    (i .1, none-left (streamIn (s .args .sizes) (s .args .image .now)) (s .args .run .cursor .at) (s .args .run .terms) (l .loop .index) (l .loop .powers) (c .if1 .left) ∙ i .2)
 
 pub powers-of-spec : {M : Type 1} → statement M
 powers-of-spec =
@@ -66,7 +66,7 @@ powers-of-spec =
     Inv-loop
     μ-loop
     (λ c κs. tt)
-    (λ c. (omega arith, rw (c .none .ensures) (omega arith), rw (c .none .ensures) (all-left _ (c .before .before .args .run .at) (c .before .before .args .run .terms) noPowers)))
+    (λ c. (omega arith, rw (c .none .ensures) (omega arith), rw (c .none .ensures) (all-left _ (c .before .before .args .run .cursor .at) (c .before .before .args .run .terms) noPowers)))
     (λ c κs. let s = c .before .before .before .before .before in (omega (arith, s .pre .1), omega (arith, c .if1 .taken, s .pre .2)))
     (λ c κs. let s = c .before .before .before .before .before .before in (s .pre .0, omega (arith, c .segment-end .ensures, c .before .if1 .taken, s .pre .1, s .pre .2)))
     cast-with

@@ -14,8 +14,7 @@ use Rattle.layout.proofs.CurvePlaces.{CurveStands}
 use Rattle.sheet.specs.declared.opening.Opened.{Opened}
 use Rattle.sheet.specs.Opened.{Opens}
 use Rattle.sheet.specs.Walk.{segmentAt}
-use Rattle.sheet.proofs.PlaceSteps.{end-few}
-use Rattle.sheet.proofs.HeldLaws.{segments-are, segments-few, held-whole, held-curve}
+use Rattle.sheet.proofs.HeldLaws.{behind-few, segments-are, segments-few, held-whole, held-curve}
 use Rattle.sheet.proofs.CurvePlaces.{terms-lt}
 use Rattle.reading.proofs.Serving.{Walked, walked-first, walked-on, served-here, served-last}
 use Rattle.reading.proofs.share.serving.Statement.{statement}
@@ -23,33 +22,33 @@ use Rattle.reading.proofs.share.serving.Tie as tie
 
 -- A segment takes 4,973 bits at most.
 abbrev Inv-loop : tie.InvT-loop
-Inv-loop image p sizes at₀ terms₀ left₀ at terms left =
-    (at + 4_973 * left ≤ at₀ + 4_973 * left₀) × (terms < 2 ^ 7)
-    × ((segments : List FoundSegment) → CurveStands (streamIn sizes image) at₀ segments → left₀ ≡ length segments → Walked (toZ w64 p) (streamIn sizes image) segments at terms left)
+Inv-loop image p sizes cursor₀ terms₀ left₀ cursor terms left =
+    (cursor .at + 4_973 * left ≤ cursor₀ .at + 4_973 * left₀) × (terms < 2 ^ 7)
+    × ((segments : List FoundSegment) → CurveStands (streamIn sizes image) (cursor₀ .at) segments → left₀ ≡ length segments → Walked (toZ w64 p) (streamIn sizes image) segments (cursor .at) terms left)
 
 abbrev μ-loop : tie.MeasureT-loop
-μ-loop image p sizes at₀ terms₀ left₀ at terms left = left
+μ-loop image p sizes cursor₀ terms₀ left₀ cursor terms left = left
 
 -- The curve of the sheet, where its first segment stands.
-curve-is : (c : tie.After-curve-place Inv-loop μ-loop) →
-    let a = c .before .before .before .before .before .args in
-    (kind : ℕ) (x : Contents) → Opens kind (a .image .now) (a .sheet) x → CurveStands (streamIn (a .sheet .sizes) (a .image .now)) (c .curve-place .result) (segmentsIn (x .calibration))
+curve-is : (c : tie.After-curve-in Inv-loop μ-loop) →
+    let a = c .before .before .before .before .args in
+    (kind : ℕ) (x : Contents) → Opens kind (a .image .now) (a .sheet) x → CurveStands (streamIn (a .sheet .sizes) (a .image .now)) (c .curve-in .result .at) (segmentsIn (x .calibration))
 curve-is c kind x h =
-    let a = c .before .before .before .before .before .args in
-    subst (λ (n : ℕ). CurveStands (streamIn (a .sheet .sizes) (a .image .now)) n (segmentsIn (x .calibration))) (sym (c .curve-place .ensures)) (held-curve h)
+    let a = c .before .before .before .before .args in
+    subst (λ (n : ℕ). CurveStands (streamIn (a .sheet .sizes) (a .image .now)) n (segmentsIn (x .calibration))) (sym (c .curve-in .ensures)) (held-curve h)
 
 counted : {kind : ℕ} {image : List ℕ} {o : Opened} {x : Contents} → Opens kind image o x → o .summary .segments ≡ length (segmentsIn (x .calibration))
 counted {x = x} h = segments-are h ∙ length-map (segmentsIn (x .calibration)) segmentIn
 
 -- It ends before bit 2 ^ 32.
-few : (c : tie.After-curve-place Inv-loop μ-loop) → c .curve-place .result + 4_973 * c .before .before .before .before .before .args .sheet .summary .segments < 2 ^ 32
+few : (c : tie.After-curve-in Inv-loop μ-loop) → c .curve-in .result .at + 4_973 * c .before .before .before .before .args .sheet .summary .segments < 2 ^ 32
 few c =
-    let s = c .before .before .before .before .before in
-    omega (arith, c .curve-place .ensures, end-few (s .args .sheet .layout), segments-few (s .pre .0 .opens))
+    let s = c .before .before .before .before in
+    omega (arith, c .curve-in .ensures, behind-few (s .pre .0 .opens), segments-few (s .pre .0 .opens))
 
 loop-holds : tie.Need-loop-holds Inv-loop μ-loop
 loop-holds c =
-    let s = c .before .before .before .before .before .before in
+    let s = c .before .before .before .before .before in
     let stream = streamIn (s .args .sheet .sizes) (s .args .image .now) in (
       omega arith,
       rw (c .segment-at .ensures) (terms-lt stream _),
@@ -62,7 +61,7 @@ returns c =
     let e = g .before in
     let l = e .before .before in
     let k = l .before .before in
-    let s = k .before .before .before .before .before in
+    let s = k .before .before .before .before in
     let stream = streamIn (s .args .sheet .sizes) (s .args .image .now) in
     let start = toZ-ofZ {w = w64} {z = g .segment-at2 .result .start} (search needs) in (
       omega (arith, l .loop .inv .0, few k),
@@ -77,7 +76,7 @@ loop-again c =
     let g = c .before .before .before in
     let e = g .before in
     let l = e .before .before in
-    let s = l .before .before .before .before .before .before .before in
+    let s = l .before .before .before .before .before .before in
     let stream = streamIn (s .args .sheet .sizes) (s .args .image .now) in
     let start = toZ-ofZ {w = w64} {z = g .segment-at2 .result .start} (search needs) in (
       omega (arith, l .loop .inv .0, l .loop .inv .1, e .segment-end .ensures, e .before .loop-test .taken),
@@ -92,7 +91,7 @@ returns-2 : tie.Need-returns-2 Inv-loop μ-loop
 returns-2 c =
     let l = c .before in
     let k = l .before .before in
-    let s = k .before .before .before .before .before in (
+    let s = k .before .before .before .before in (
       omega (arith, l .loop .inv .0, few k),
       l .loop .inv .1,
       λ kind x h. rw (toZ-ofZ (s .fits .p)) at (served-last _ _ (segmentsIn (x .calibration)) (l .loop .inv .2 _ (curve-is k kind x h) (counted h)) (c .loop-test .left)),
@@ -104,14 +103,14 @@ serving-spec =
     (tie.spec
     Inv-loop
     μ-loop
-    (λ c κs. search needs)
-    (λ c κs. (held-whole (c .before .before .before .before .before .pre .0 .opens), omega (arith, few c)))
+    (λ c κs. omega (arith, behind-few (c .before .before .before .pre .0 .opens)))
+    (λ c κs. (held-whole (c .before .before .before .before .pre .0 .opens), omega (arith, few c)))
     loop-holds
     (λ c κs. let l = c .before in (omega (arith, l .loop .inv .0, few (l .before .before)), omega (arith, l .loop .inv .1)))
     (λ c κs.
     let l = c .before .before in
     let k = l .before .before in
-    (held-whole (k .before .before .before .before .before .pre .0 .opens), omega (arith, c .segment-end .ensures, l .loop .inv .0, l .loop .inv .1, few k)))
+    (held-whole (k .before .before .before .before .pre .0 .opens), omega (arith, c .segment-end .ensures, l .loop .inv .0, l .loop .inv .1, few k)))
     returns
     (λ c. omega (arith, c .before .before .before .before .before .loop-test .taken))
     (λ c. omega (arith, c .before .before .before .before .before .loop-test .taken))

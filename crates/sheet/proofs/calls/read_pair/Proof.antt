@@ -1,39 +1,35 @@
 use borrow.Author.Needs.{needs}
 use mathlib.Core.Path.{sym, ap, _∙_}
+use mathlib.Core.Logic.{⊎-elim}
 use native.Mathlib.Omega.{arith}
 use Rattle.refusal.specs.Outcome.{good, refused}
-use Rattle.sheet.proofs.OpenLaws.{opens, held, not-opened}
+use Rattle.sheet.specs.declared.opening.Item.the-variants.{Pair}
+use Rattle.sheet.proofs.OpenLaws.{item-opens, item-held, item-none}
 use Rattle.sheet.proofs.HeldLaws.{points-are}
 use Rattle.sheet.proofs.ReadLaws.{accepted-reads, refused-reads}
 use Rattle.sheet.proofs.calls.read_pair.Statement.{statement}
 use Rattle.sheet.proofs.calls.read_pair.Tie as tie
 
-returns : tie.Need-returns
-returns c =
-    let o = c .before .before .before .before .before .before .before in
-    let a = o .before .before .args in
-    let (x, p) = opens (a .kind) (a .image .now) _ (o .«open» .ensures) (c .before .before .before .before .before .sheet .given .1) in
-    ap refused (c .no-such .ensures) ∙ sym (accepted-reads (a .kind) (a .image .now) x (p .accepted) .no-pair (a .index) (omega (arith, points-are p)))
-
 pair-in-requires : tie.Need-pair-in-requires
 pair-in-requires c κs =
-    let o = c .before .before .before .before .before .before in
+    let o = c .before .before .before in
     let a = o .before .before .args in
-    (held (a .kind) (a .image .now) _ (o .«open» .ensures) (c .before .before .before .before .sheet .given .1), c .if1 .left)
+    item-held (a .kind) (a .image .now) Pair (a .index) _ (o .open-at .ensures) (c .before .sheet .given .1)
+
+returns : tie.Need-returns
+returns c =
+    let o = c .before .before .before in
+    let a = o .before .before .args in
+    ⊎-elim (λ e. sym (refused-reads (a .kind) (a .image .now) _ e .pair (a .index)))
+    (λ w. ap refused (w .3) ∙ sym (accepted-reads (a .kind) (a .image .now) (w .0) (w .1) .no-pair (a .index) (w .2)))
+    (item-none (a .kind) (a .image .now) Pair (a .index) _ (o .open-at .ensures) (c .before .r .given .1))
 
 returns-2 : tie.Need-returns-2
 returns-2 c =
-    let o = c .before .before .before in
+    let o = c .before .before .before .before in
     let a = o .before .before .args in
-    sym (refused-reads (a .kind) (a .image .now) _ (not-opened (a .kind) (a .image .now) _ (o .«open» .ensures) (c .before .r .given .1)) .pair (a .index))
-
-returns-3 : tie.Need-returns-3
-returns-3 c =
-    let o = c .before .before .before .before .before .before .before in
-    let a = o .before .before .args in
-    let (x, p) = opens (a .kind) (a .image .now) _ (o .«open» .ensures) (c .before .before .before .before .before .sheet .given .1) in
+    let (x, p, l) = item-opens (a .kind) (a .image .now) Pair (a .index) _ (o .open-at .ensures) (c .before .before .sheet .given .1) in
     ap good (c .pair-in .ensures (a .kind) x p) ∙ sym (accepted-reads (a .kind) (a .image .now) x (p .accepted) .pairs (a .index) (omega (arith, points-are p)))
 
 pub read-pair-spec : {M : Type 1} → statement M
-read-pair-spec =
-    tie.close (tie.spec (λ c κs. search needs) (λ c. search needs) (λ c. search needs) (λ c κs. search needs) returns pair-in-requires returns-2 returns-3)
+read-pair-spec = tie.close (tie.spec (λ c κs. search needs) (λ c. search needs) (λ c. search needs) pair-in-requires returns returns-2)

@@ -1,30 +1,31 @@
 -- `held::pair_in` meets its contract.
 use borrow.Author.Needs.{needs}
 use mathlib.Core.Path.{ap, _∙_}
+use native.Mathlib.Omega.{arith}
 use Rattle.refusal.proofs.Outcomes.{good-same, no-value}
 use Rattle.layout.specs.Image.{streamIn, pairIn}
 use Rattle.layout.proofs.Rising.{pairFrom}
 use Rattle.sheet.proofs.Steps.{got, past, bits-lt}
-use Rattle.sheet.proofs.HeldLaws.{held-whole, index-few, held-pair}
+use Rattle.sheet.proofs.HeldLaws.{held-whole, behind-few, index-few, held-pair}
 use Rattle.sheet.proofs.held.pair_in.Statement.{statement}
 use Rattle.sheet.proofs.held.pair_in.Tie as tie
 
 locate-pair-requires : tie.Need-locate-pair-requires
-locate-pair-requires c κs = let b = c .before .before .before in index-few (b .pre .0 .opens) (b .args .index) (b .pre .1)
+locate-pair-requires c κs = let b = c .before .before in (omega (arith, behind-few (b .pre .0 .opens)), index-few (b .pre .0 .opens) (b .args .index) (b .pre .1))
 
 take-requires : tie.Need-take-requires
-take-requires c κs = (held-whole (c .before .before .before .before .pre .0 .opens), search needs, search needs)
+take-requires c κs = (held-whole (c .before .before .before .pre .0 .opens), search needs, search needs)
 
 pair-of-requires : tie.Need-pair-of-requires
 pair-of-requires c κs =
     let t = c .before .before .before in
-    let a = t .before .before .before .before .before .args in
+    let a = t .before .before .before .before .args in
     bits-lt (streamIn (a .sheet .sizes) (a .image .now)) _ 37 (got (a .sheet .sizes) (a .image .now) _ 37 _ (t .take .ensures) (c .before .code .given .1))
 
 returns : tie.Need-returns
 returns c =
     let t = c .before .before in
-    let b = t .before .before .before .before .before in
+    let b = t .before .before .before .before in
     let a = b .args in
     λ kind x h.
     no-value
@@ -33,7 +34,7 @@ returns c =
 returns-2 : tie.Need-returns-2
 returns-2 c =
     let t = c .before .before .before .before in
-    let b = t .before .before .before .before .before in
+    let b = t .before .before .before .before in
     let a = b .args in
     λ kind x h.
     let (stands, is) = held-pair h (a .index) (b .pre .1) (t .before .locate-pair .ensures) in

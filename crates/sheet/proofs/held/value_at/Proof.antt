@@ -9,27 +9,27 @@ decode-requires : tie.Need-decode-requires
 decode-requires c κs =
     let t = c .before .before .before in
     let a = t .before .before .args in
-    (t .before .before .pre .1, field-lies (a .sizes) (a .image .now) (a .at) (a .row) _ (t .take .ensures) (c .before .code .given .1))
+    (t .before .before .pre .1, field-lies (a .sizes) (a .image .now) (a .cursor .at) (a .row) _ (t .take .ensures) (c .before .code .given .1))
 
 returns : tie.Need-returns
 returns c =
     let t = c .before .before in
     let a = t .before .before .args in
-    ap valueIn (field-missed (a .sizes) (a .image .now) (a .at) (a .row) _ (t .take .ensures) (c .enum-told .given .1))
+    ap valueIn (field-missed (a .sizes) (a .image .now) (a .cursor .at) (a .row) _ (t .take .ensures) (c .enum-told .given .1))
 
 returns-2 : tie.Need-returns-2
 returns-2 c =
     let d = c .before .before in
     let t = d .before .before .before .before in
     let a = t .before .before .args in
-    value-refused (a .sizes) (a .image .now) (a .at) (a .row) _ (t .take .ensures) (d .before .before .code .given .1) _ (d .decode .ensures) (c .enum-told2 .given .1)
+    value-refused (a .sizes) (a .image .now) (a .cursor .at) (a .row) _ (t .take .ensures) (d .before .before .code .given .1) _ (d .decode .ensures) (c .enum-told2 .given .1)
 
 returns-3 : tie.Need-returns-3
 returns-3 c =
     let d = c .before .before .before in
     let t = d .before .before .before .before in
     let a = t .before .before .args in
-    value-means (a .sizes) (a .image .now) (a .at) (a .row) _ (t .take .ensures) (d .before .before .code .given .1) _ (d .decode .ensures) (c .before .value .given .1)
+    value-means (a .sizes) (a .image .now) (a .cursor .at) (a .row) _ (t .take .ensures) (d .before .before .code .given .1) _ (d .decode .ensures) (c .before .value .given .1)
 
 pub value-at-spec : {M : Type 1} → statement M
 value-at-spec =

@@ -1,7 +1,7 @@
 use borrow.Author.Needs.{needs}
 use mathlib.Core.Path.{ap, _∙_}
 use Rattle.refusal.specs.Outcome.{refused}
-use Rattle.sheet.proofs.OpenLaws.{sizes-refused, sized, sums-blank, sums-wrong, sums-right}
+use Rattle.sheet.proofs.OpenLaws.{sizes-refused, sized, roomy, sums-blank, sums-wrong, sums-right}
 use Rattle.sheet.proofs.opening.open.Statement.{statement}
 use Rattle.sheet.proofs.opening.open.Tie as tie
 
@@ -15,7 +15,7 @@ walk-sheet-requires : tie.Need-walk-sheet-requires
 walk-sheet-requires c κs =
     let z = c .before .before .before .before .before .before in
     let a = z .before .before .args in
-    sized (a .kind) (a .image .now) _ (z .image-sizes .ensures) (c .before .before .before .before .sizes .given .1)
+    roomy (a .kind) (a .image .now) _ (z .image-sizes .ensures) (c .before .before .before .before .sizes .given .1)
 
 returns : tie.Need-returns
 returns c =

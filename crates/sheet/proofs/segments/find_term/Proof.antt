@@ -9,11 +9,11 @@ use Rattle.sheet.proofs.segments.find_term.Statement.{statement}
 use Rattle.sheet.proofs.segments.find_term.Tie as tie
 
 abbrev Inv-loop : tie.InvT-loop
-Inv-loop sizes image first segments index at₀ left₀ ahead₀ at left ahead =
-    (at + 4_973 * left ≤ first + 4_973 * segments) × (termPlace (streamIn sizes image) at left ahead ≡ termPlace (streamIn sizes image) first segments index)
+Inv-loop sizes image segments index cursor₀ left₀ ahead₀ cursor left ahead =
+    (cursor .at + 4_973 * left ≤ cursor₀ .at + 4_973 * segments) × (termPlace (streamIn sizes image) (cursor .at) left ahead ≡ termPlace (streamIn sizes image) (cursor₀ .at) segments index)
 
 abbrev μ-loop : tie.MeasureT-loop
-μ-loop sizes image first segments index at₀ left₀ ahead₀ at left ahead = left
+μ-loop sizes image segments index cursor₀ left₀ ahead₀ cursor left ahead = left
 
 returns : tie.Need-returns Inv-loop μ-loop
 returns c =
@@ -22,7 +22,7 @@ returns c =
     let b = l .before .before in
     let a = b .args in (
       c .segment-end .ensures
-          ∙ sym (term-in-it (streamIn (a .sizes) (a .image .now)) (l .loop .at) (l .loop .left) (n .terms-at .result) (l .loop .ahead) (n .terms-at .ensures .0) (n .before .loop-test .taken) (c .before .if1 .taken)) ∙ l .loop .inv .1,
+          ∙ sym (term-in-it (streamIn (a .sizes) (a .image .now)) (l .loop .cursor .at) (l .loop .left) (n .terms-at .result) (l .loop .ahead) (n .terms-at .ensures .0) (n .before .loop-test .taken) (c .before .if1 .taken)) ∙ l .loop .inv .1,
       omega (arith, l .loop .inv .0, c .segment-end .ensures, n .terms-at .ensures .1, c .before .if1 .taken, b .pre .1, b .pre .2),
     )
 
@@ -33,7 +33,7 @@ loop-again c =
     let a = l .before .before .args in (
       omega (arith, l .loop .inv .0, n .before .loop-test .taken, c .segment-end2 .ensures, n .terms-at .ensures .1),
       ap (λ (k : ℕ). termPlace (streamIn (a .sizes) (a .image .now)) k (l .loop .left - 1) (l .loop .ahead - n .terms-at .result)) (c .segment-end2 .ensures)
-          ∙ sym (term-behind-it (streamIn (a .sizes) (a .image .now)) (l .loop .at) (l .loop .left) (n .terms-at .result) (l .loop .ahead) (n .terms-at .ensures .0) (n .before .loop-test .taken) (c .before .if1 .left)) ∙ l .loop .inv .1,
+          ∙ sym (term-behind-it (streamIn (a .sizes) (a .image .now)) (l .loop .cursor .at) (l .loop .left) (n .terms-at .result) (l .loop .ahead) (n .terms-at .ensures .0) (n .before .loop-test .taken) (c .before .if1 .left)) ∙ l .loop .inv .1,
     )
 
 returns-2 : tie.Need-returns-2 Inv-loop μ-loop
@@ -42,7 +42,7 @@ returns-2 c =
     let b = l .before .before in
     let a = b .args in
     let none : l .loop .left ≡ 0 = omega (arith, c .loop-test .left) in
-    (ap (λ (k : ℕ). termPlace (streamIn (a .sizes) (a .image .now)) (l .loop .at) k (l .loop .ahead)) (sym none) ∙ l .loop .inv .1, omega (arith, l .loop .inv .0, b .pre .1, b .pre .2))
+    (ap (λ (k : ℕ). termPlace (streamIn (a .sizes) (a .image .now)) (l .loop .cursor .at) k (l .loop .ahead)) (sym none) ∙ l .loop .inv .1, omega (arith, l .loop .inv .0, b .pre .1, b .pre .2))
 
 pub find-term-spec : {M : Type 1} → statement M
 find-term-spec =

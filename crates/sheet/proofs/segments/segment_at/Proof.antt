@@ -18,7 +18,7 @@ returns c =
     let a = v .before .before .before .args in
     ap₂ (λ (z : ℤ) (n : ℕ). record { start = z; terms = n })
     (toZ-ofZ (record { sfits = c .before .figure .ok }) ∙ c .before .figure .ensures ∙ ap figure (v .unscaled-at .ensures)
-    ∙ ap (λ (r : Row). figure (valueIn (parse (streamIn (a .sizes) (a .image .now)) (fieldOf r) (a .at)))) (v .before .segment-start .ensures))
+    ∙ ap (λ (r : Row). figure (valueIn (parse (streamIn (a .sizes) (a .image .now)) (fieldOf r) (a .cursor .at)))) (v .before .segment-start .ensures))
     (c .terms-at .ensures .0)
 
 pub segment-at-spec : {M : Type 1} → statement M

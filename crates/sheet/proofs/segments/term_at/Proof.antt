@@ -1,7 +1,6 @@
 use borrow.Author.Needs.{needs}
 use mathlib.Core.Path.{ap, ap₂, _∙_}
-use Prim.Native.Nat.{ℕ, _+_, _/_}
-use native.Mathlib.Omega.{arith}
+use Prim.Native.Nat.{ℕ, _/_}
 use lib.IntN.{ℤ, pos, natAbs}
 use lib.Ieee.{Float}
 use mir.Facts.{toZ-ofZ}
@@ -14,22 +13,19 @@ use Rattle.sheet.specs.Walk.{valueIn}
 use Rattle.sheet.proofs.segments.term_at.Statement.{statement}
 use Rattle.sheet.proofs.segments.term_at.Tie as tie
 
-add-unscaled-at : tie.Need-add-unscaled-at
-add-unscaled-at c =
-    omega (arith, c .before .before .before .pre .1, ap (λ (r : Row). r .width) (c .before .term-exponent .ensures))
-
 returns : tie.Need-returns
 returns c =
-    let v = c .before .before .before .before .before in
+    let k = c .before .before .before .before in
+    let v = k .before .before in
     let a = v .before .before .before .args in
     ap₂ (λ (z : ℤ) (x : Float). record { exponent = z; coefficient = x })
     (toZ-ofZ (record { sfits = c .before .exponent-of .ok }) ∙ c .before .exponent-of .ensures
     ∙ ap (λ (z : ℤ). pos (natAbs z / 10))
     (toZ-ofZ (record { sfits = c .before .before .figure .ok }) ∙ c .before .before .figure .ensures ∙ ap figure (v .unscaled-at .ensures)
-    ∙ ap (λ (r : Row). figure (valueIn (parse (streamIn (a .sizes) (a .image .now)) (fieldOf r) (a .at)))) (v .before .term-exponent .ensures)))
+    ∙ ap (λ (r : Row). figure (valueIn (parse (streamIn (a .sizes) (a .image .now)) (fieldOf r) (a .cursor .at)))) (v .before .term-exponent .ensures)))
     (c .float .ensures ∙ ap float (c .before .before .before .unscaled-at2 .ensures)
-    ∙ ap₂ (λ (r : Row) (n : ℕ). float (valueIn (parse (streamIn (a .sizes) (a .image .now)) (fieldOf r) n))) (c .before .before .before .before .term-coefficient .ensures)
-    (ap (λ (r : Row). a .at + r .width) (v .before .term-exponent .ensures)))
+    ∙ ap₂ (λ (r : Row) (n : ℕ). float (valueIn (parse (streamIn (a .sizes) (a .image .now)) (fieldOf r) n))) (k .term-coefficient .ensures)
+    (ap (λ p. p .next .at) (k .before .over .ensures)))
 
 pub term-at-spec : {M : Type 1} → statement M
 term-at-spec =
@@ -37,9 +33,9 @@ term-at-spec =
     (tie.spec
     (λ c κs. search needs)
     (λ c κs. (c .before .before .pre .0, rw (c .term-exponent .ensures) exponent-sound, rw (c .term-exponent .ensures) tt))
-    add-unscaled-at
     (λ c κs. search needs)
-    (λ c κs. (c .before .before .before .before .pre .0, rw (c .term-coefficient .ensures) coefficient-sound, rw (c .term-coefficient .ensures) tt))
+    (λ c κs. search needs)
+    (λ c κs. (c .before .before .before .before .before .pre .0, rw (c .term-coefficient .ensures) coefficient-sound, rw (c .term-coefficient .ensures) tt))
     (λ c κs. search needs)
     (λ c κs. search needs)
     (λ c κs. search needs)

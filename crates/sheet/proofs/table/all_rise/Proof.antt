@@ -31,11 +31,11 @@ read-requires c κs =
     let h = l .before .before .pre in
     record { whole = h .0; inside = omega (arith, h .1, l .loop .inv .1, c .loop-test .taken); some = omega arith; most = omega arith }
 
-cast-t17 : tie.Need-cast-t17 Inv-loop μ-loop
-cast-t17 c = record { fits = mask-lt (c .before .before .before .before .before .read .result .code) 16 }
+cast-t16 : tie.Need-cast-t16 Inv-loop μ-loop
+cast-t16 c = record { fits = mask-lt (c .before .before .before .before .before .read .result .code) 16 }
 
-cast-t18 : tie.Need-cast-t18 Inv-loop μ-loop
-cast-t18 c = record { fits = omega (arith, c .before .before .before .before .before .read .ensures .0) }
+cast-t17 : tie.Need-cast-t17 Inv-loop μ-loop
+cast-t17 c = record { fits = omega (arith, c .before .before .before .before .before .read .ensures .0) }
 
 add-floor : tie.Need-add-floor Inv-loop μ-loop
 add-floor c =
@@ -83,13 +83,12 @@ all-rise-spec =
     μ-loop
     loop-holds
     read-requires
-    (λ c. search needs)
     (λ c. no)
     (λ c. no)
     (λ c. no)
     (λ c. search needs)
+    cast-t16
     cast-t17
-    cast-t18
     (λ c κs. search needs)
     (λ c. no)
     add-floor

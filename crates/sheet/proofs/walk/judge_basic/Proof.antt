@@ -2,11 +2,15 @@
 use borrow.Author.Needs.{needs}
 use Prim.Native.Nat.{suc, _-_, _+_}
 use native.Mathlib.Omega.{arith}
+use lib.ListN.{length}
 use Rattle.fields.specs.declared.Template.the-variants.{Bridge}
+use Rattle.fields.specs.declared.Judged.the-variants.{Stands, Refused as Turned}
+use Rattle.fields.specs.Lines.{basic}
 use Rattle.fields.proofs.TemplateFacts.{last-most}
 use Rattle.layout.specs.Image.{streamIn}
-use Rattle.sheet.specs.Walk.{basicChoice, layoutAt}
-use Rattle.sheet.proofs.WalkSteps.{basic-most, BasicCome, basic-start, basic-turn, judged-all, Turn}
+use Rattle.layout.specs.Judgement.{judged}
+use Rattle.sheet.specs.Walk.{layoutAt}
+use Rattle.sheet.proofs.WalkSteps.{basic-most, BasicCome, basic-start, basic-turn, judged-all, Turn, basic-stood}
 use Rattle.sheet.proofs.walk.judge_basic.Statement.{statement}
 use Rattle.sheet.proofs.walk.judge_basic.Tie as tie
 
@@ -17,10 +21,10 @@ abbrev μ-loop : tie.MeasureT-loop
 μ-loop sizes image last cursor₀ field₀ cursor field = suc last - field
 
 loop-holds : tie.Need-loop-holds Inv-loop μ-loop
-loop-holds c = rw (c .start .ensures) (basic-start Bridge (c .before .before .before .pre))
+loop-holds c = let a = c .before .before .before .args in rw (c .start .ensures) (basic-start Bridge (a .sizes) (a .image .now))
 
 turn : (c : tie.After-basic-row Inv-loop μ-loop) → let l = c .before .before in let a = l .before .before .before .before .args in
-    Turn (a .sizes) (a .image .now) (c .basic-row .result) (l .loop .cursor .at) (basicChoice (streamIn (a .sizes) (a .image .now)))
+    Turn (a .sizes) (a .image .now) (c .basic-row .result) (l .loop .cursor .at) (judged (streamIn (a .sizes) (a .image .now)) basic 0 0)
     (BasicCome Bridge (a .sizes) (a .image .now) (l .loop .field + 1))
 turn c =
     let l = c .before .before in
@@ -31,13 +35,20 @@ returns : tie.Need-returns Inv-loop μ-loop
 returns c =
     let j = c .before .before .before in
     let o = j .before in
-    turn (o .before) .halt _ (rw (o .over .ensures) at (j .judge-at .ensures)) (c .before .r .given .1)
+    let w = o .before .before .before .before .before .before .before .pre in
+    basic-stood w (Turned _) (turn (o .before) .halt _ (rw (o .over .ensures) at (j .judge-at .ensures)) (c .before .r .given .1))
 
 loop-again : tie.Need-loop-again Inv-loop μ-loop
 loop-again c =
     let j = c .before .before .before in
     let o = j .before in
     rw (o .over .ensures) (turn (o .before) .next _ (rw (o .over .ensures) at (j .judge-at .ensures)) (c .before .enum-told .given .1))
+
+returns-2 : tie.Need-returns-2 Inv-loop μ-loop
+returns-2 c =
+    let l = c .before in
+    let b = l .before .before in
+    basic-stood (b .before .before .pre) Stands (judged-all Bridge _ (length basic) _ (l .loop .inv .1) (b .basic-closed .ensures .1 Bridge) (omega arith) (c .loop-test .left))
 
 pub judge-basic-spec : {M : Type 1} → statement M
 judge-basic-spec =
@@ -57,4 +68,4 @@ judge-basic-spec =
     (λ c. omega (arith, c .before .before .before .before .before .before .before .before .before .basic-closed .ensures .0, basic-most Bridge, last-most Bridge))
     (λ c. omega arith)
     loop-again
-    (λ c. let l = c .before in judged-all Bridge _ _ _ (l .loop .inv .1) (l .before .before .basic-closed .ensures .1 Bridge) (c .loop-test .left)))
+    returns-2)

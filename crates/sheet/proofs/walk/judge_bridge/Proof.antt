@@ -3,9 +3,10 @@ use borrow.Author.Needs.{needs}
 use Prim.Native.Nat.{suc, _-_, _+_}
 use native.Mathlib.Omega.{arith}
 use Rattle.fields.specs.declared.Template.the-variants.{Bridge}
+use Rattle.fields.specs.Lines.{lastField}
 use Rattle.fields.proofs.TemplateFacts.{last-most}
 use Rattle.layout.specs.Image.{streamIn}
-use Rattle.sheet.specs.Walk.{ownChoice, layoutAt}
+use Rattle.sheet.specs.Walk.{ownJudged, layoutAt}
 use Rattle.sheet.proofs.WalkSteps.{basic-most, OwnCome, own-start, own-turn, judged-all, Turn}
 use Rattle.sheet.proofs.walk.judge_bridge.Statement.{statement}
 use Rattle.sheet.proofs.walk.judge_bridge.Tie as tie
@@ -17,12 +18,12 @@ abbrev μ-loop : tie.MeasureT-loop
 μ-loop sizes image precision last cursor₀ field₀ cursor field = suc last - field
 
 turn : (c : tie.After-bridge-row Inv-loop μ-loop) → let l = c .before .before in let a = l .before .before .before .before .args in
-    Turn (a .sizes) (a .image .now) (c .bridge-row .result) (l .loop .cursor .at) (ownChoice (streamIn (a .sizes) (a .image .now)) Bridge)
+    Turn (a .sizes) (a .image .now) (c .bridge-row .result) (l .loop .cursor .at) (ownJudged (streamIn (a .sizes) (a .image .now)) (layoutAt Bridge (a .precision)))
     (OwnCome (a .sizes) (a .image .now) (layoutAt Bridge (a .precision)) (l .loop .field + 1))
 turn c =
     let l = c .before .before in
     let b = l .before .before in
-    own-turn (b .before .before .pre) _ _ (l .loop .inv) (c .before .loop-test .taken) (b .last-closed .ensures .0) (c .bridge-row .ensures)
+    own-turn (layoutAt Bridge (b .before .before .args .precision)) (b .before .before .pre) _ _ (l .loop .inv) (c .before .loop-test .taken) (b .last-closed .ensures .0) (c .bridge-row .ensures)
 
 returns : tie.Need-returns Inv-loop μ-loop
 returns c =
@@ -45,7 +46,7 @@ judge-bridge-spec =
     (λ c κs. search needs)
     (λ c κs. search needs)
     (λ c. omega (arith, c .basic-fields .ensures, basic-most Bridge, last-most Bridge))
-    (λ c. own-start (c .before .before .before .pre) (c .basic-fields .ensures))
+    (λ c. let a = c .before .before .before .args in own-start (layoutAt Bridge (a .precision)) (a .sizes) (a .image .now) (c .basic-fields .ensures))
     (λ c κs. (c .before .loop .inv .0, omega (arith, c .before .before .before .last-closed .ensures .0)))
     (λ c κs. let (w, s, fits) = turn c .fits in omega (arith, w .small))
     (λ c κs. rw (c .over .ensures) (turn (c .before) .fits))
@@ -55,4 +56,4 @@ judge-bridge-spec =
     (λ c. omega (arith, c .before .before .before .before .before .before .before .before .before .last-closed .ensures .0, last-most Bridge))
     (λ c. omega arith)
     loop-again
-    (λ c. let l = c .before in judged-all Bridge _ _ _ (l .loop .inv .1) (l .before .before .last-closed .ensures .1) (c .loop-test .left)))
+    (λ c. let l = c .before in judged-all Bridge _ (lastField Bridge - 1) _ (l .loop .inv .1) (l .before .before .last-closed .ensures .1) (omega arith) (c .loop-test .left)))

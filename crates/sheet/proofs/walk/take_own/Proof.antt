@@ -1,69 +1,61 @@
+-- `walk::take_own` meets its contract: behind the fields that were judged only the last may pass the end.
 use borrow.Author.Needs.{needs}
-use mathlib.Core.Path.{sym, ap, _∙_}
+use mathlib.Core.Path.{_≡_, sym, ap, _∙_}
 use Prim.Native.Nat.{ℕ}
 use native.Mathlib.Omega.{arith}
-use Rattle.refusal.specs.Outcome.{good}
-use Rattle.refusal.proofs.Outcomes.{told}
+use Rattle.refusal.specs.Outcome.{refused}
 use Rattle.memory.specs.Bits.{fieldAt}
 use Rattle.memory.specs.Image.{streamNumber}
-use Rattle.fields.proofs.TemplateFacts.{last-most}
-use Rattle.layout.specs.Format.{parse}
-use Rattle.layout.specs.Contents.{fieldsOf}
-use Rattle.layout.specs.Image.{streamIn}
-use Rattle.layout.specs.Places.{behindFields}
-use Rattle.layout.proofs.Formats.{parsed}
+use Rattle.fields.proofs.TemplateFacts.{span-listed}
+use Rattle.layout.specs.Places.{fieldPlace}
 use Rattle.layout.proofs.Judging.{choice-place}
-use Rattle.sheet.specs.Walk.{keeping, choiceOn, ownStart, layoutAt, stoodTo}
-use Rattle.sheet.proofs.WalkSteps.{own-lines, basic-most, stream-holds}
+use Rattle.sheet.specs.Walk.{layoutAt}
+use Rattle.sheet.proofs.WalkSteps.{stream-holds, own-turned, own-past, own-stands}
 use Rattle.sheet.proofs.walk.take_own.Statement.{statement}
 use Rattle.sheet.proofs.walk.take_own.Tie as tie
 
 code-requires : tie.Need-code-requires
-code-requires c κs =
-    record { whole = c .before .pre; inside = stream-holds (c .before .pre) (omega arith); some = search needs; most = search needs }
+code-requires c κs = let w = c .before .pre .whole in record { whole = w; inside = stream-holds w (omega arith); some = search needs; most = search needs }
 
-add-take-fields : tie.Need-add-take-fields
-add-take-fields c =
-    let t = c .before .before .before .before .before .before .args .template in
-    omega (arith, c .basic-fields .ensures, basic-most t, last-most t)
-
-take-fields-requires : tie.Need-take-fields-requires
-take-fields-requires c κs = (c .before .before .before .before .before .before .before .pre, omega arith, omega (arith, c .last-field .ensures))
+precise : (c : tie.After-code) → let a = c .before .before .args in
+    c .code .result ≡ fieldAt (streamNumber (a .sizes) (a .image .now)) (fieldPlace (layoutAt (a .template) (c .code .result)) 9) 2
+precise c =
+    let a = c .before .before .args in
+    c .code .ensures ∙ ap (λ (n : ℕ). fieldAt (streamNumber (a .sizes) (a .image .now)) n 2) (sym (choice-place (a .template) (c .code .result)))
 
 returns : tie.Need-returns
 returns c =
-    let a = c .before .before .before .before .before .before .before .before .args in
-    c .take-fields .ensures
-    ∙ ap (λ ls. keeping (choiceOn ls 0) (parse (streamIn (a .sizes) (a .image .now)) (fieldsOf ls 0) ownStart))
-    (own-lines (a .template) (c .before .before .basic-fields .ensures) (c .before .last-field .ensures))
+    let j = c .before .before .before in
+    let b = j .before .before .before in
+    (own-turned (b .pre) (layoutAt (b .args .template) (j .before .code .result)) (precise (j .before)) _ (j .judge-own .ensures) (c .before .r .given .1), tt)
 
-judge-own-requires : tie.Need-judge-own-requires
-judge-own-requires c κs =
-    let e = c .before .before in
-    let b = e .before .before .before in
-    let precision = e .before .code .result in
-    record {
-      whole = b .pre;
-      precise =
-          e .before .code .ensures
-          ∙ ap (λ (n : ℕ). fieldAt (streamNumber (b .args .sizes) (b .args .image .now)) n 2) (sym (choice-place (b .args .template) precision));
-      inside = omega (arith, e .fields-end .ensures, c .if1 .left, b .pre .long);
-    }
+locate-requires : tie.Need-locate-requires
+locate-requires c κs =
+    let t = c .before .before .before .before .before .before .before .before .before .args .template in
+    (omega (arith, c .last-field .ensures, span-listed t {f = 1} (omega arith)), omega (arith, c .last-field .ensures))
 
 returns-2 : tie.Need-returns-2
 returns-2 c =
-    let j = c .before .before .before in
-    let e = j .before .before .before in
-    let layout = layoutAt (e .before .before .before .args .template) (e .before .code .result) in
-    told (stoodTo (layout .precision) (behindFields layout)) (c .before .r .given .1) (j .judge-own .ensures)
+    let f = c .before .before in
+    let e = f .before .before .before in
+    let j = e .before .before .before in
+    let b = j .before .before .before in
+    let layout = layoutAt (b .args .template) (j .before .code .result) in (
+      ap refused (c .past-end .ensures)
+          ∙ own-past (b .pre) layout (precise (j .before)) _ (j .judge-own .ensures) (e .before .enum-told .given .1)
+          (c .before .locate .ensures ∙ ap (fieldPlace layout) (f .last-field .ensures)) (omega (arith, e .fields-end .ensures, f .before .if1 .taken, b .pre .whole .long)),
+      tt,
+    )
 
 returns-3 : tie.Need-returns-3
 returns-3 c =
-    let j = c .before .before in
-    let e = j .before .before .before in
-    let layout = layoutAt (e .before .before .before .args .template) (e .before .code .result) in
-    ap (λ (n : ℕ). good (parsed (layout .precision) n)) (e .fields-end .ensures)
-    ∙ told (stoodTo (layout .precision) (behindFields layout)) (c .enum-told .given .1) (j .judge-own .ensures)
+    let e = c .before .before in
+    let j = e .before .before .before in
+    let b = j .before .before .before in (
+      own-stands (b .pre) (layoutAt (b .args .template) (j .before .code .result)) (precise (j .before)) _ (j .judge-own .ensures) (e .before .enum-told .given .1)
+          (e .fields-end .ensures) (omega (arith, c .if1 .left, b .pre .whole .long)),
+      e .fields-end .ensures,
+    )
 
 pub take-own-spec : {M : Type 1} → statement M
 take-own-spec =
@@ -72,14 +64,13 @@ take-own-spec =
     code-requires
     (λ c κs. search needs)
     (λ c. search needs)
-    (λ c. search needs)
-    (λ c κs. search needs)
-    add-take-fields
-    (λ c κs. search needs)
-    take-fields-requires
     returns
-    judge-own-requires
+    (λ c. search needs)
+    (λ c κs. search needs)
     (λ c. search needs)
     (λ c. search needs)
+    (λ c κs. search needs)
+    locate-requires
+    (λ c κs. search needs)
     returns-2
     returns-3)

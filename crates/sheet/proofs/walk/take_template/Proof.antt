@@ -42,7 +42,6 @@ pub take-template-spec : {M : Type 1} → statement M
 take-template-spec =
     tie.close
     (tie.spec
-    (λ c. search needs)
     code-requires
     (λ c κs. search needs)
     returns
