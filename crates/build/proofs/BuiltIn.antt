@@ -31,7 +31,7 @@ use Rattle.build.specs.declared.Options.{Options}
 use Rattle.build.specs.declared.list.Listed.{Listed}
 use Rattle.build.specs.declared.list.Planned.{Planned}
 use Rattle.build.specs.declared.list.Planned.the-variants.{Are, Refused}
-use Rattle.build.specs.Build.{lent, linePieces, fieldPieces, endingTested, endingPieces, Table, listed, listTested, behindPieces, plan, fitted, builtIn, buildWith}
+use Rattle.build.specs.Build.{lent, linePieces, endingTested, endingPieces, Table, listed, listTested, behindPieces, plan, fitted, builtIn, buildWith}
 use Rattle.build.specs.Lent.{sheetLent, fieldsLent}
 use Rattle.build.specs.Listed.{Holds, Added, Adds, Ready, finished}
 use Rattle.build.specs.Planning.{frontCodes, sheetCodes}

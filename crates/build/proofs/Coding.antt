@@ -2,7 +2,7 @@
 use mathlib.Core.Bool.{Bool, true, false}
 use mathlib.Core.Path.{_≡_, refl, sym, ap, _∙_, subst}
 use mathlib.Core.List.{List, [], _∷_, _++_, append-assoc, append-nil}
-use Prim.Native.Nat.{ℕ, zero, suc, _+_, _-_, _*_, _^_, _≤_, _<_}
+use Prim.Native.Nat.{ℕ, zero, suc, _+_, _-_, _^_, _≤_, _<_}
 use native.Mathlib.Numerals.{add-one}
 use native.Mathlib.Omega.{arith}
 use lib.IntN.{ℤ}
@@ -25,11 +25,11 @@ use Rattle.fields.specs.declared.Encoded.the-variants.{Code, Refused as NoCode}
 use Rattle.fields.specs.declared.Template.{Template}
 use Rattle.fields.specs.declared.Layout.{Layout}
 use Rattle.fields.specs.Rules.{encode}
-use Rattle.fields.specs.Lines.{Line, chose, basic, templateLines, linesOf, lastField, lineOf, rowOf, rowsOf, noLine, bitsBefore}
-use Rattle.fields.specs.Stored.{Sound, AllSound, Real}
+use Rattle.fields.specs.Lines.{Line, chose, basic, templateLines, linesOf, lastField, lineOf, rowOf, noLine, bitsBefore}
+use Rattle.fields.specs.Stored.{Sound, Real}
 use Rattle.fields.specs.Answers.{encodedSaid}
 use Rattle.fields.proofs.StoredLaws.{reads-back}
-use Rattle.fields.proofs.RowLaws.{row-sound, rows-sound}
+use Rattle.fields.proofs.RowLaws.{row-sound}
 use Rattle.fields.proofs.TemplateFacts.{last-most}
 use Rattle.coding.specs.Swift.{Told}
 use Rattle.layout.proofs.Choices.{Steady, lines-steady}
@@ -119,15 +119,6 @@ module _ (sheet : Sheet) where
 bits-none : (lines : List Line) (latest : ℕ) → bitsBefore lines latest 0 ≡ 0
 bits-none [] latest = refl
 bits-none (l ∷ lines) latest = refl
-
--- A row has 32 at most.
-bits-most : (lines : List Line) (latest i : ℕ) → AllSound (rowsOf lines latest) → bitsBefore lines latest i ≤ 32 * i
-bits-most [] latest i s = omega arith
-bits-most (l ∷ lines) latest zero s = omega arith
-bits-most (l ∷ lines) latest (suc i) s = omega (arith, s .0 .most, bits-most lines latest i (s .1))
-
-pub bits-small : (t : Template) (p : ℕ) → bitsBefore (linesOf t) p (lastField t) ≤ 32 * 21
-bits-small t p = omega (arith, last-most t, bits-most (linesOf t) p (lastField t) (rows-sound t p .0))
 
 -- No line sets widths behind the one that does.
 settled : (lines : List Line) → Steady true lines → (i code latest : ℕ) → i < length lines → chose (getD lines i noLine .sets) code latest ≡ latest

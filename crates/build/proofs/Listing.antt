@@ -10,7 +10,7 @@ use Rattle.refusal.specs.Outcome.{Outcome, good, refused, _>>=_}
 use Rattle.refusal.proofs.Outcomes.{good-same, no-value, good-bind, bind-good, bind-refused}
 use Rattle.memory.specs.Pieces.{Piece, needed}
 use Rattle.memory.proofs.PieceLaws.{needed-append}
-use Rattle.packing.specs.Packed.{Fitting, pieceIn, piecesIn, Fit}
+use Rattle.packing.specs.Packed.{Fitting, pieceIn, piecesIn}
 use Rattle.packing.proofs.CodeLists.{codes-more, fit-more}
 use Rattle.build.specs.declared.list.Listed.{Listed}
 use Rattle.build.specs.declared.list.Planned.{Planned}

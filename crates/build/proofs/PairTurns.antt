@@ -1,5 +1,5 @@
 -- The points lent, one pair after the other.
-use mathlib.Core.Path.{_≡_, refl, sym, ap, ap₂, _∙_}
+use mathlib.Core.Path.{_≡_, refl, sym, ap, ap₂, subst, _∙_}
 use mathlib.Core.List.{List, [], _∷_, _++_}
 use mathlib.Core.Option.{Option, none, some}
 use Prim.Native.Nat.{ℕ, suc, _+_, _*_, _/_, _^_, _≤_, _<_}
@@ -186,3 +186,7 @@ pub table-alike : (domain : Domain) (pairs : List Pair) → Alike (tablePieces d
 unfolding tablePieces tableWords
 table-alike domain [] = record { bits = refl; packs = refl }
 table-alike domain (p ∷ pairs) = behind-alike (blockPieces 40 ++ (piece 1 (domainCode domain) ∷ piece 7 (length (p ∷ pairs)) ∷ [])) (pairPieces domain none 0 (p ∷ pairs)) (pairWords domain none 0 (p ∷ pairs)) (pairs-alike domain none 0 (p ∷ pairs))
+
+-- Without points.
+pub none-alike : (domain : Domain) (points : List ℤ) → length points / 2 ≡ 0 → Alike (tablePieces domain (pairsLent points)) (good [])
+none-alike domain points h = subst (Alike (tablePieces domain (pairsLent points))) (table-none domain points h) (table-alike domain (pairsLent points))

@@ -17,9 +17,11 @@ use memory::Sizes;
 use memory::SizesAnswer;
 use refusal::Written;
 ghost use mathlib.Core.Path.{_≡_};
+ghost use mathlib.Core.List.{[]};
 ghost use Prim.Native.Nat.{min, _+_, _*_, _/_, _^_, _≤_, _<_};
 ghost use lib.Dec.{ltb};
 ghost use lib.ListN.{length};
+ghost use Rattle.refusal.specs.Outcome.{good};
 ghost use Rattle.refusal.specs.Written.{writtenSaid, afterwards};
 ghost use Rattle.memory.specs.Image.{imageBytes, streamBits};
 ghost use Rattle.memory.specs.Answers.{Whole};
@@ -32,9 +34,9 @@ ghost use Rattle.build.specs.Lent.{Long, Spread, sheetLent};
 ghost use Rattle.build.specs.Listed.{Adds, Ready, finished};
 ghost use Rattle.build.specs.Planning.{tableWords, sheetCodes};
 
-// The codes that a list has room for: 21 fields, the start of a block, and the ending, with 127 points or the 100 codes of a
-// curve between them.
-const PLAIN: usize = 27;
+// The codes that a list has room for: 21 fields and the ending; between them the start of a block, and 127 points or the 100
+// codes of a curve.
+const PLAIN: usize = 23;
 
 const TABLE: usize = 154;
 
@@ -128,6 +130,27 @@ fn code_sheet(
     }
 }
 
+// The same without points. Each of these three has one caller, into which the compiler takes it.
+fn code_plain_sheet(
+    options: Options,
+    sorts: &[u8],
+    wholes: &[i64],
+    singles: &[f32],
+    text: &[u8],
+    codes: &mut [u64],
+) -> Planned
+    requires { ⌜ Long (now sorts) (now wholes) (now singles) ⌝ }
+    requires { ⌜ Fit (now codes) × (23 ≤ length (now codes)) × (length (now codes) ≤ 256) ⌝ }
+    ensures { λ r. ⌜ Adds (now (codes .entry)) 0 (sheetCodes options (now (sorts .entry)) (now (wholes .entry)) (now (singles .entry)) (now (text .entry)) (good [])) (now (codes .exit)) r ⌝ }
+{
+    let template = options.template;
+    let end_bit = options.end_bit;
+    match code_front(template, end_bit, sorts, wholes, singles, text, codes) {
+        Planned::Refused(r) => Planned::Refused(r),
+        Planned::Are(front) => Planned::Are(code_ending(end_bit, codes, front)),
+    }
+}
+
 // The same with a curve.
 fn code_curve_sheet(
     options: Options,
@@ -176,7 +199,7 @@ fn build_in(
     }
     if n == 0 {
         let mut codes = [packing::BLANK; PLAIN];
-        let planned = code_sheet(options, sorts, wholes, singles, text, points, &mut codes);
+        let planned = code_plain_sheet(options, sorts, wholes, singles, text, &mut codes);
         return finish(sizes, image, template, &codes, planned, text);
     }
     let mut codes = [packing::BLANK; TABLE];

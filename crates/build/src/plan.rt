@@ -272,7 +272,7 @@ fn check_characters(field: u64, text: &[u8]) -> Judged
 }
 
 // The ending: 9 for text with end bit 0, then 10 for a character.
-pub fn check_ending(template: Template, end_bit: bool, text: &[u8]) -> Judged
+fn check_ending(template: Template, end_bit: bool, text: &[u8]) -> Judged
     ensures { λ r. ⌜ judgedSaid r ≡ endingTested (ending template) «end_bit» (now (text .entry)) ⌝ }
 {
     let field = fields::last_field(template) + 1;

@@ -1,9 +1,11 @@
 -- `building::build_in` meets its contract.
 use mathlib.Core.Path.{sym, ap, _∙_}
+use mathlib.Core.List.{[]}
 use Prim.Native.Nat.{ℕ, _^_}
 use borrow.Author.Needs.{needs}
 use native.Mathlib.Omega.{arith}
 use lib.ListN.{length-replicate}
+use Rattle.refusal.specs.Outcome.{good}
 use Rattle.refusal.specs.declared.Written.the-variants.{Refused}
 use Rattle.refusal.proofs.WrittenLaws.{written-refused}
 use Rattle.fields.specs.declared.Level.the-variants.{Owner}
@@ -11,7 +13,7 @@ use Rattle.packing.proofs.CodeLists.{fit-none}
 use Rattle.build.specs.Build.{pairsLent, listed}
 use Rattle.build.specs.Planning.{tableWords}
 use Rattle.build.proofs.BuiltIn.{list-wrong, list-right, few-points, built-list, built, ready}
-use Rattle.build.proofs.PairTurns.{table-alike}
+use Rattle.build.proofs.PairTurns.{table-alike, none-alike}
 use Rattle.build.proofs.building.build_in.Statement.{statement}
 use Rattle.build.proofs.building.build_in.Tie as tie
 
@@ -22,15 +24,11 @@ returns c level =
     written-refused _ (ap Refused (c .wrong-list .ensures)) (built-list (a .sizes) _ (a .text .now) (listed (a .options .domain) (a .points .now)) wrong)
 
 -- The list has room: without points, and with them.
+code-plain-sheet-requires : tie.Need-code-plain-sheet-requires
+code-plain-sheet-requires c κs = let blank : ℕ = 2 ^ 56 in (c .before .before .before .before .before .before .before .before .pre .2, (fit-none 23, omega (arith, length-replicate 23 blank), omega (arith, length-replicate 23 blank)))
+
 code-sheet-requires : tie.Need-code-sheet-requires
 code-sheet-requires c κs =
-    let s = c .before .before .before .before .before .before .before .before in
-    let blank : ℕ = 2 ^ 56 in
-    let few = few-points (s .args .points .now) (sym (c .before .before .before .is-wrong-list .ensures) ∙ c .before .before .if1 .left) in
-    ((s .pre .2, few), (fit-none 27, omega (arith, length-replicate 27 blank, c .before .if2 .taken), omega (arith, length-replicate 27 blank)))
-
-code-sheet-requires-2 : tie.Need-code-sheet-requires-2
-code-sheet-requires-2 c κs =
     let s = c .before .before .before .before .before .before .before .before in
     let blank : ℕ = 2 ^ 56 in
     let few = few-points (s .args .points .now) (sym (c .before .before .before .is-wrong-list .ensures) ∙ c .before .before .if1 .left) in
@@ -43,7 +41,7 @@ finish-requires c κs =
     let d = a .options .domain in
     let p = a .points .now in
     let right = list-right d p (sym (c .before .before .before .before .before .before .before .is-wrong-list .ensures) ∙ c .before .before .before .before .before .before .if1 .left) in
-    (s .pre .0, s .pre .1, ready (a .options) Owner (a .sorts .now) (a .wholes .now) (a .singles .now) (a .text .now) (listed d p) (tableWords d (pairsLent p)) right (table-alike d (pairsLent p)) _ (c .before .before .before .code-sheet .ensures))
+    (s .pre .0, s .pre .1, ready (a .options) Owner (a .sorts .now) (a .wholes .now) (a .singles .now) (a .text .now) (listed d p) (good []) right (none-alike d p (omega (arith, c .before .before .before .before .before .if2 .taken))) _ (c .before .before .before .code-plain-sheet .ensures))
 
 finish-requires-2 : tie.Need-finish-requires-2
 finish-requires-2 c κs =
@@ -52,7 +50,7 @@ finish-requires-2 c κs =
     let d = a .options .domain in
     let p = a .points .now in
     let right = list-right d p (sym (c .before .before .before .before .before .before .before .is-wrong-list .ensures) ∙ c .before .before .before .before .before .before .if1 .left) in
-    (s .pre .0, s .pre .1, ready (a .options) Owner (a .sorts .now) (a .wholes .now) (a .singles .now) (a .text .now) (listed d p) (tableWords d (pairsLent p)) right (table-alike d (pairsLent p)) _ (c .before .before .before .code-sheet2 .ensures))
+    (s .pre .0, s .pre .1, ready (a .options) Owner (a .sorts .now) (a .wholes .now) (a .singles .now) (a .text .now) (listed d p) (tableWords d (pairsLent p)) right (table-alike d (pairsLent p)) _ (c .before .before .before .code-sheet .ensures))
 
 returns-2 : tie.Need-returns-2
 returns-2 c level =
@@ -61,7 +59,7 @@ returns-2 c level =
     let d = a .options .domain in
     let p = a .points .now in
     let right = list-right d p (sym (c .before .before .before .before .before .before .before .before .before .before .is-wrong-list .ensures) ∙ c .before .before .before .before .before .before .before .before .before .if1 .left) in
-    rw (built (a .options) level (a .sorts .now) (a .wholes .now) (a .singles .now) (a .text .now) (listed d p) (tableWords d (pairsLent p)) right (table-alike d (pairsLent p)) (a .sizes) _ (c .before .before .before .before .before .before .code-sheet .ensures)) at (c .before .before .finish .ensures)
+    rw (built (a .options) level (a .sorts .now) (a .wholes .now) (a .singles .now) (a .text .now) (listed d p) (good []) right (none-alike d p (omega (arith, c .before .before .before .before .before .before .before .before .if2 .taken))) (a .sizes) _ (c .before .before .before .before .before .before .code-plain-sheet .ensures)) at (c .before .before .finish .ensures)
 
 returns-3 : tie.Need-returns-3
 returns-3 c level =
@@ -70,7 +68,7 @@ returns-3 c level =
     let d = a .options .domain in
     let p = a .points .now in
     let right = list-right d p (sym (c .before .before .before .before .before .before .before .before .before .before .is-wrong-list .ensures) ∙ c .before .before .before .before .before .before .before .before .before .if1 .left) in
-    rw (built (a .options) level (a .sorts .now) (a .wholes .now) (a .singles .now) (a .text .now) (listed d p) (tableWords d (pairsLent p)) right (table-alike d (pairsLent p)) (a .sizes) _ (c .before .before .before .before .before .before .code-sheet2 .ensures)) at (c .before .before .finish2 .ensures)
+    rw (built (a .options) level (a .sorts .now) (a .wholes .now) (a .singles .now) (a .text .now) (listed d p) (tableWords d (pairsLent p)) right (table-alike d (pairsLent p)) (a .sizes) _ (c .before .before .before .before .before .before .code-sheet .ensures)) at (c .before .before .finish2 .ensures)
 
 pub build-in-spec : {M : Type 1} → statement M
 build-in-spec =
@@ -80,13 +78,13 @@ build-in-spec =
     (λ c κs. search needs)
     returns
     (λ c. search needs)
-    code-sheet-requires
+    code-plain-sheet-requires
     (λ c. search needs)
     finish-requires
     (λ c. omega (arith, c .before .before .finish .kept))
     returns-2
     (λ c. search needs)
-    code-sheet-requires-2
+    code-sheet-requires
     (λ c. search needs)
     finish-requires-2
     (λ c. omega (arith, c .before .before .finish2 .kept))

@@ -1,6 +1,5 @@
 -- `curve_plan::code_terms` meets its contract.
 use mathlib.Core.Path.{_≡_, refl, sym}
-use mathlib.Core.List.{[], _∷_}
 use mathlib.Core.Option.{none}
 use Prim.Native.Nat.{_+_, _-_, _*_, _≤_}
 use borrow.Author.Needs.{needs}

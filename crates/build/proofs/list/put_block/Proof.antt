@@ -1,5 +1,4 @@
 -- `list::put_block` meets its contract.
-use borrow.Author.Needs.{needs}
 use native.Mathlib.Omega.{arith}
 use Rattle.build.proofs.Listing.{added-count, added-more}
 use Rattle.build.proofs.list.put_block.Statement.{statement}
