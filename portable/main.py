@@ -49,7 +49,7 @@ def library(file, prelude, kit, listed):
 
 def program(name, file, main, prelude, kit, listed):
     prelude, types, tables, heads, code = file.lines(prelude)
-    first = head(f'The program {name}.', kit, listed) + '#define DARTELM_PROGRAM\n#include "dartelm.c"\n#include <unistd.h>'
+    first = head(f'The program {name}.', kit, listed) + '#define DARTELM_COMPILE_FAST\n#include "dartelm.c"\n#include <unistd.h>'
     last = ['int main(void)', '{', f'    {ident(main)}();', '    return 0;', '}']
     return joined([first], *([x] for x in prelude), types, tables, heads, code, last)
 

@@ -24,9 +24,9 @@
 #define DM_JOIN(a, b) a##b
 #define DM_SIZE(type, bytes) typedef char DM_JOIN(dm_size_of_, type)[sizeof(type) == (bytes) ? 1 : -1]
 
-/* Small functions go where they are called, and loops whose turns are known are unrolled, on processors with large caches; elsewhere the
- * compiler weighs flash against time, and in the programs the time to compile them. */
-#if defined(__GNUC__) && defined(__OPTIMIZE__) && !defined(__OPTIMIZE_SIZE__) && !defined(DARTELM_PROGRAM) && \
+/* Small functions go where they are called, and loops whose turns are known are unrolled, on processors with large caches; elsewhere
+ * the compiler weighs flash against time, and in the programs the time to compile them counts. */
+#if defined(__GNUC__) && defined(__OPTIMIZE__) && !defined(__OPTIMIZE_SIZE__) && !defined(DARTELM_COMPILE_FAST) && \
     (defined(__x86_64__) || defined(__aarch64__))
 #define DM_SMALL static inline __attribute__((always_inline))
 #define DM_UNROLLED _Pragma("GCC unroll 32")
@@ -69,8 +69,8 @@ static inline uint64_t dm_double_bits(double x)
  * Sums of doubles. An Arm core without double hardware adds by integers: libgcc's __aeabi_dsub misrounds some differences of numbers
  * whose exponents are 33 apart (gcc-arm-none-eabi 12.2, Cortex-M3 and M4). With DARTELM_SOFT_SUMS any core does. */
 #if defined(DARTELM_SOFT_SUMS) || (defined(__arm__) && !(defined(__ARM_FP) && (__ARM_FP & 8)))
-/* The sum of two doubles by their bits, rounded to nearest, ties to even. The larger magnitude is a, with 3 bits more behind its last:
- * the lowest of them says whether anything was shifted out. */
+/* The sum of two doubles by their bits, rounded to nearest, ties to even. The larger magnitude is a, with 3 bits more behind its
+ * last: the lowest of them says whether anything was shifted out. */
 static uint64_t dm_sum_of_bits(uint64_t a, uint64_t b)
 {
     const uint64_t sign_bit = (uint64_t)1 << 63, infinite = (uint64_t)0x7ff << 52, one = (uint64_t)1 << 52;

@@ -2,7 +2,7 @@
  * C99, and C++ from C++11 on. It is compiled with include/ among the folders of headers, and with any optimization.
  * Toolchain: rattle-kit-5b-plain logic 097e4c862dff5811
  * Sources: 46ad517a064f40d5bb255e99fdf1b0d57d37272746bd42f21a2800920a60cb5e (of sources.sha256, which has the sum of each) */
-#define DARTELM_PROGRAM
+#define DARTELM_COMPILE_FAST
 #include "dartelm.c"
 #include <unistd.h>
 
