@@ -32,6 +32,7 @@ pub use curves::is_segment_count;
 pub use curves::is_term_count;
 pub use curves::obeys;
 pub use curves::segment_start;
+pub use curves::segment_count;
 pub use curves::start_follows;
 pub use curves::term_coefficient;
 pub use curves::term_count;
