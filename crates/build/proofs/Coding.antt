@@ -1,17 +1,18 @@
 -- The codes of fields, one after the other.
 use mathlib.Core.Bool.{Bool, true, false}
-use mathlib.Core.Path.{_≡_, refl, sym, ap, _∙_, subst}
-use mathlib.Core.List.{List, [], _∷_, _++_, append-assoc, append-nil}
-use Prim.Native.Nat.{ℕ, zero, suc, _+_, _-_, _^_, _≤_, _<_}
+use mathlib.Core.Path.{_≡_, refl, sym, ap, ap₂, _∙_, subst}
+use mathlib.Core.List.{List, [], _∷_, _++_, map, append-assoc, append-nil}
+use Prim.Native.Nat.{ℕ, zero, suc, _+_, _-_, _*_, _/_, _%_, _^_, _≤_, _<_}
 use native.Mathlib.Numerals.{add-one}
 use native.Mathlib.Omega.{arith}
+use native.Mathlib.Decide.{ℕ-discrete}
 use lib.IntN.{ℤ}
 use mir.Syntax.{w64}
 use mir.Val.{SFits, toZ, ofZ}
 use mir.Facts.{toZ-ofZ}
 use lib.Ieee.{Float}
-use lib.ListN.{length, take, drop, getD, set, length-append, length-set, drop-of-length-le}
-use lib.Seq.{drop-cons}
+use lib.ListN.{length, take, drop, getD, set, replicate, length-replicate, getD-replicate, length-append, length-set, length-map, List·getD-map, drop-of-length-le}
+use lib.Seq.{slice, slice-cons, slice-empty, drop-cons, getD-set-same, getD-set-other, take-take}
 use Rattle.refusal.specs.declared.Refusal.{Refusal}
 use Rattle.refusal.specs.Outcome.{Outcome, good, refused, _>>=_}
 use Rattle.refusal.proofs.Outcomes.{bind-good, bind-refused, bind-assoc, bind-same}
@@ -25,27 +26,25 @@ use Rattle.fields.specs.declared.Encoded.the-variants.{Code, Refused as NoCode}
 use Rattle.fields.specs.declared.Template.{Template}
 use Rattle.fields.specs.declared.Layout.{Layout}
 use Rattle.fields.specs.Rules.{encode}
-use Rattle.fields.specs.Lines.{Line, chose, basic, templateLines, linesOf, lastField, lineOf, rowOf, noLine, bitsBefore}
-use Rattle.fields.specs.Stored.{Sound, Real}
+use Rattle.fields.specs.Lines.{Line, chose, basic, templateLines, linesOf, numberOf, lastField, lineOf, rowOf, rowsOf, noLine, bitsBefore}
+use Rattle.fields.specs.Stored.{Sound, AllSound, Real}
 use Rattle.fields.specs.Answers.{encodedSaid}
 use Rattle.fields.proofs.StoredLaws.{reads-back}
-use Rattle.fields.proofs.RowLaws.{row-sound}
-use Rattle.fields.proofs.TemplateFacts.{last-most}
+use Rattle.fields.proofs.RowLaws.{row-sound, rows-sound}
 use Rattle.coding.specs.Swift.{Told}
+use Rattle.layout.specs.Pieces.{blockPieces}
 use Rattle.layout.proofs.Choices.{Steady, lines-steady}
-use Rattle.packing.specs.Packed.{Fitting, pieceIn, piecesIn, Fit}
-use Rattle.packing.proofs.CodeLists.{codes-more, fit-more}
 use Rattle.build.specs.declared.Sheet.{Sheet}
 use Rattle.build.specs.declared.plan.CodedField.{CodedField}
 use Rattle.build.specs.declared.plan.Coded.{Coded}
 use Rattle.build.specs.declared.plan.Coded.the-variants.{Next, Refused as NotCoded}
-use Rattle.build.specs.declared.list.Planned.the-variants.{Are}
-use Rattle.build.specs.Build.{slot, lent, templateIn, linePieces}
-use Rattle.build.specs.Lent.{valueLent, slotsLent, Long, fieldsLent}
-use Rattle.build.specs.Listed.{Adds}
-use Rattle.build.specs.Planning.{Encodes, Quick, codedFrom, FieldsCoded, CodedTo}
+use Rattle.build.specs.declared.plan.Planned.{Planned}
+use Rattle.build.specs.declared.plan.Planned.the-variants.{Bits, Refused as NotPlanned}
+use Rattle.build.specs.Build.{slot, lent, templateIn, linePieces, fieldPieces}
+use Rattle.build.specs.Tested.{Encodes, Fitting, Fit, blank, fieldPiece, unpack, unpacked, codedFields, valueLent, slotsLent, Long, fieldsLent, Quick, codedFrom, FieldsCoded, CodedTo, FieldsPlanned}
+use Rattle.fields.proofs.TemplateFacts.{last-most}
+use Rattle.build.proofs.FieldPlans.{withBlock, block-needed, fields-listed}
 use Rattle.build.proofs.Lent.{long-slot}
-use Rattle.build.proofs.Listing.{adds-are}
 
 -- ---- one value
 
@@ -57,8 +56,8 @@ encodes row place v e s real said = record { said = said; fits = λ code h. read
 pub quick-encodes : (row : Row) (place : ℕ) (v : Value) (code : ℕ) → Told row v code → code < 2 ^ 32 → Encodes row place v (Code code)
 quick-encodes row place v code told h = record { said = sym (told h .0 place); fits = λ n e. let same : code ≡ n = cc in subst (λ m. m < 2 ^ row .width) same (told h .1) }
 
-pub coded-fits : {row : Row} {place : ℕ} {v : Value} {e : Encoded} {code : ℕ} → Sound row → Encodes row place v e → e ≡ Code code → Fitting (piece (row .width) code)
-coded-fits s c a = record { some = s .some; most = omega (arith, s .most); fits = c .fits _ a }
+pub coded-fits : {row : Row} {place : ℕ} {v : Value} {e : Encoded} {code : ℕ} → Sound row → Encodes row place v e → e ≡ Code code → Fitting (row .width) code
+coded-fits s c a = record { some = s .some; most = s .most; fits = c .fits _ a }
 
 -- A figure that is handed to a callee.
 pub seen : (row : Row) (place : ℕ) {figure : ℤ} → SFits w64 figure → encode row place (Whole (toZ w64 (ofZ w64 figure))) ≡ encode row place (Whole figure)
@@ -70,6 +69,62 @@ pub basic-fewer : (template : Template) → length basic ≤ lastField template
 unfolding linesOf
 basic-fewer template = omega (arith, length-append basic (templateLines template))
 
+-- One more.
+pub taken : (fields : List CodedField) (i : ℕ) (x : CodedField) → i < length fields →
+    take (suc i) (map fieldPiece (set fields i x)) ≡ take i (map fieldPiece fields) ++ (fieldPiece x ∷ [])
+taken [] i x h = absurd (omega arith)
+taken (y ∷ fields) zero x h = refl
+taken (y ∷ fields) (suc i) x h = ap (λ l. fieldPiece y ∷ l) (taken fields i x (omega arith))
+
+pub fit-none : (n : ℕ) → Fit n (replicate n blank)
+fit-none n = record { long = length-replicate n blank; each = λ i none h. rw (getD-replicate n i blank none h) (record { some = omega arith; most = omega arith; fits = omega arith }) }
+
+pub fit-more : {n : ℕ} (fields : List CodedField) (i : ℕ) (x : CodedField) → Fit n fields → Fitting (x .width) (x .code) → Fit n (set fields i x)
+fit-more {n} fields i x fit f = record { long = length-set fields i x ∙ fit .long; each = λ k none h. go k none h (ℕ-discrete k i) }
+  where
+    go : (k : ℕ) (none : CodedField) → k < n → Dec (k ≡ i) → Fitting (getD (set fields i x) k none .width) (getD (set fields i x) k none .code)
+    go k none h (yes e) = rw (e, getD-set-same fields i x none (omega (arith, fit .long))) f
+    go k none h (no e) = rw (getD-set-other fields i k x none e) (fit .each k none h)
+
+-- The fields from index i up to `end`.
+module _ (fields : List CodedField) (i end : ℕ) where
+  pub fields-left : (none : CodedField) → i < end → end ≤ length fields → slice i end (map fieldPiece fields) ≡ fieldPiece (getD fields i none) ∷ slice (i + 1) end (map fieldPiece fields)
+  fields-left none h k =
+      rw (add-one i) (slice-cons i end (map fieldPiece fields) (fieldPiece none) h (omega (arith, length-map fields fieldPiece))
+      ∙ ap (λ p. p ∷ slice (suc i) end (map fieldPiece fields)) (List·getD-map fieldPiece fields i none))
+
+  pub fields-end : i ≤ end → end ≤ i → slice i end (map fieldPiece fields) ≡ []
+  fields-end h k = let e : i ≡ end = omega arith in ap (λ (n : ℕ). slice n end (map fieldPiece fields)) e ∙ slice-empty end (map fieldPiece fields)
+
+-- The same of fields as numbers.
+pub packed-set : (codes : List ℕ) (i p : ℕ) {width code : ℕ} → p / 2 ^ 32 ≡ width → p % 2 ^ 32 ≡ code → unpacked (set codes i p) ≡ set (unpacked codes) i (record { width = width; code = code })
+packed-set [] i p w c = refl
+packed-set (y ∷ codes) zero p w c = ap₂ (λ (n m : ℕ). record { width = n; code = m } ∷ unpacked codes) w c
+packed-set (y ∷ codes) (suc i) p w c = ap (λ l. unpack y ∷ l) (packed-set codes i p w c)
+
+module _ (codes : List ℕ) (i none : ℕ) where
+  packed-at : getD (unpacked codes) i (unpack none) ≡ unpack (getD codes i none)
+  packed-at = List·getD-map unpack codes i none
+
+  pub packed-left : (end : ℕ) → i < end → end ≤ length codes →
+      slice i end (map fieldPiece (unpacked codes)) ≡ fieldPiece (unpack (getD codes i none)) ∷ slice (i + 1) end (map fieldPiece (unpacked codes))
+  packed-left end h k =
+      fields-left (unpacked codes) i end (unpack none) h (omega (arith, length-map codes unpack)) ∙ ap (λ x. fieldPiece x ∷ slice (i + 1) end (map fieldPiece (unpacked codes))) packed-at
+
+  pub packed-fits : {n : ℕ} → Fit n (unpacked codes) → i < n → Fitting (getD codes i none / 2 ^ 32) (getD codes i none % 2 ^ 32)
+  packed-fits fit h = subst (λ x. Fitting (x .width) (x .code)) packed-at (fit .each i (unpack none) h)
+
+pub packed-long : {n : ℕ} (codes : List ℕ) → Fit n (unpacked codes) → length codes ≡ n
+packed-long codes fit = sym (length-map codes unpack) ∙ fit .long
+
+-- Room for n fields.
+pub packed-none : (n : ℕ) → Fit n (unpacked (replicate n (2 ^ 32)))
+packed-none n = subst (Fit n) (sym (go n)) (fit-none n)
+  where
+    go : (n : ℕ) → unpacked (replicate n (2 ^ 32)) ≡ replicate n blank
+    go zero = refl
+    go (suc n) = ap (λ l. blank ∷ l) (go n)
+
 -- ---- one line after the other
 
 module _ (sheet : Sheet) where
@@ -79,20 +134,20 @@ module _ (sheet : Sheet) where
   abbrev lines : List Line
   lines = linesOf t
 
-  from-start : (codes : List ℕ) → codedFrom sheet codes 0 0 ≡ linePieces sheet lines 0 1
-  from-start codes = go (linePieces sheet lines 0 1)
+  from-start : (fields : List CodedField) → codedFrom sheet fields 0 0 ≡ linePieces sheet lines 0 1
+  from-start fields = go (linePieces sheet lines 0 1)
     where
       go : (o : Outcome (List Piece)) → (o >>= good) ≡ o
       go (good ps) = refl
       go (refused r) = refl
 
-  pub from-end : (codes : List ℕ) (latest i : ℕ) → lastField t ≤ i → codedFrom sheet codes latest i ≡ good (take i (piecesIn codes))
+  pub from-end : (fields : List CodedField) (latest i : ℕ) → lastField t ≤ i → codedFrom sheet fields latest i ≡ good (take i (map fieldPiece fields))
   unfolding linePieces
-  from-end codes latest i h =
-      ap (λ l. linePieces sheet l latest (suc i) >>= λ rest. good (take i (piecesIn codes) ++ rest)) (drop-of-length-le lines h)
-      ∙ ap good (append-nil (take i (piecesIn codes)))
+  from-end fields latest i h =
+      ap (λ l. linePieces sheet l latest (suc i) >>= λ rest. good (take i (map fieldPiece fields) ++ rest)) (drop-of-length-le lines h)
+      ∙ ap good (append-nil (take i (map fieldPiece fields)))
 
-  module _ (codes : List ℕ) (latest i : ℕ) (h : i < lastField t) where
+  module _ (fields : List CodedField) (latest i : ℕ) (h : i < lastField t) where
     abbrev here : Line
     here = getD lines i noLine
 
@@ -101,24 +156,32 @@ module _ (sheet : Sheet) where
     unfolding linePieces
     step = ap (λ l. linePieces sheet l latest (suc i)) (drop-cons lines i noLine h)
 
-    pub field-refused : {r : Refusal} → encode (here .rowAt latest) (suc i) (lent sheet (suc i)) ≡ refused r → codedFrom sheet codes latest i ≡ refused r
-    field-refused e = ap (λ o. o >>= λ rest. good (take i (piecesIn codes) ++ rest)) (step ∙ bind-refused _ e)
+    pub field-refused : {r : Refusal} → encode (here .rowAt latest) (suc i) (lent sheet (suc i)) ≡ refused r → codedFrom sheet fields latest i ≡ refused r
+    field-refused e = ap (λ o. o >>= λ rest. good (take i (map fieldPiece fields) ++ rest)) (step ∙ bind-refused _ e)
 
-    pub field-coded : (p : ℕ) {code : ℕ} → i < length codes → encode (here .rowAt latest) (suc i) (lent sheet (suc i)) ≡ good code → pieceIn p ≡ piece (here .rowAt latest .width) code →
-        codedFrom sheet codes latest i ≡ codedFrom sheet (set codes i p) (chose (here .sets) code latest) (suc i)
-    field-coded p {code} k e is =
-        let x : Piece = piece (here .rowAt latest .width) code in
+    pub field-coded : {code : ℕ} → i < length fields → encode (here .rowAt latest) (suc i) (lent sheet (suc i)) ≡ good code →
+        codedFrom sheet fields latest i ≡ codedFrom sheet (set fields i (record { width = here .rowAt latest .width; code = code })) (chose (here .sets) code latest) (suc i)
+    field-coded {code} k e =
+        let x : CodedField = record { width = here .rowAt latest .width; code = code } in
         let others = linePieces sheet (drop (suc i) lines) (chose (here .sets) code latest) (suc (suc i)) in
-        let put : take (suc i) (piecesIn (set codes i p)) ≡ take i (piecesIn codes) ++ (x ∷ []) = codes-more codes i p k ∙ ap (λ z. take i (piecesIn codes) ++ (z ∷ [])) is in
-        ap (λ o. o >>= λ rest. good (take i (piecesIn codes) ++ rest)) (step ∙ bind-good _ e)
-        ∙ bind-assoc others (λ rest. good (x ∷ rest)) (λ rest. good (take i (piecesIn codes) ++ rest))
-        ∙ bind-same others (λ rest. ap good (sym (ap (λ l. l ++ rest) put ∙ append-assoc (take i (piecesIn codes)) (x ∷ []) rest)))
+        ap (λ o. o >>= λ rest. good (take i (map fieldPiece fields) ++ rest)) (step ∙ bind-good _ e)
+        ∙ bind-assoc others (λ rest. good (fieldPiece x ∷ rest)) (λ rest. good (take i (map fieldPiece fields) ++ rest))
+        ∙ bind-same others (λ rest. ap good (sym (ap (λ l. l ++ rest) (taken fields i x k) ∙ append-assoc (take i (map fieldPiece fields)) (fieldPiece x ∷ []) rest)))
 
 -- ---- the bits of the fields that are coded
 
 bits-none : (lines : List Line) (latest : ℕ) → bitsBefore lines latest 0 ≡ 0
 bits-none [] latest = refl
 bits-none (l ∷ lines) latest = refl
+
+-- A row has 32 at most.
+bits-most : (lines : List Line) (latest i : ℕ) → AllSound (rowsOf lines latest) → bitsBefore lines latest i ≤ 32 * i
+bits-most [] latest i s = omega arith
+bits-most (l ∷ lines) latest zero s = omega arith
+bits-most (l ∷ lines) latest (suc i) s = omega (arith, s .0 .most, bits-most lines latest i (s .1))
+
+pub bits-small : (t : Template) (p : ℕ) → bitsBefore (linesOf t) p (lastField t) ≤ 32 * 21
+bits-small t p = omega (arith, last-most t, bits-most (linesOf t) p (lastField t) (rows-sound t p .0))
 
 -- No line sets widths behind the one that does.
 settled : (lines : List Line) → Steady true lines → (i code latest : ℕ) → i < length lines → chose (getD lines i noLine .sets) code latest ≡ latest
@@ -159,13 +222,12 @@ row-known layout f e r = r ∙ ap (λ t. lineOf t f .rowAt (layout .precision)) 
 -- ---- one field after the other
 
 module _ {t : Template} {sorts : List ℕ} {wholes : List ℤ} {singles : List Float} where
-  pub coded-none : {codes : List ℕ} → Long sorts wholes singles → Fit codes → 21 ≤ length codes → FieldsCoded t sorts wholes singles codes 0 0
-  coded-none {codes} long fit room = record {
+  pub coded-none : {codes : List ℕ} → Long sorts wholes singles → Fit 21 (unpacked codes) → FieldsCoded t sorts wholes singles codes 0 0
+  coded-none {codes} long fit = record {
     long = long;
     inside = omega arith;
-    room = room;
     fit = fit;
-    rest = from-start (fieldsLent t sorts wholes singles) codes;
+    rest = from-start (fieldsLent t sorts wholes singles) (unpacked codes);
     count = sym (bits-none (linesOf t) 0);
   }
 
@@ -173,20 +235,26 @@ module _ {t : Template} {sorts : List ℕ} {wholes : List ℤ} {singles : List F
   coded-next {n} {latest} {codes} d = record {
     done = λ other e. let same : latest ≡ other = cc in subst (λ (k : ℕ). FieldsCoded t sorts wholes singles codes k n) same d;
     stop = λ r e. absurd (let z : _≡_ {A = ℕ} 0 1 = cc in omega arith);
+    fit = d .fit;
   }
 
-  coded-stop : {n : ℕ} {codes : List ℕ} {r : Refusal} → linePieces (fieldsLent t sorts wholes singles) (linesOf t) 0 1 ≡ refused r → CodedTo n t sorts wholes singles codes (NotCoded r)
-  coded-stop {n} {codes} {r} e = record {
+  coded-stop : {n : ℕ} {codes : List ℕ} {r : Refusal} → fieldPieces (fieldsLent t sorts wholes singles) ≡ refused r → Fit 21 (unpacked codes) → CodedTo n t sorts wholes singles codes (NotCoded r)
+  coded-stop {n} {codes} {r} e fit = record {
     done = λ latest a. absurd (let z : _≡_ {A = ℕ} 0 1 = cc in omega arith);
     stop = λ other a. let same : r ≡ other = cc in e ∙ ap refused same;
+    fit = fit;
   }
 
   pub coded-up : {n latest i : ℕ} {codes : List ℕ} → FieldsCoded t sorts wholes singles codes latest i → n ≤ i → i ≤ n → CodedTo n t sorts wholes singles codes (Next latest)
   coded-up {n} {latest} {i} {codes} d a b = let e : i ≡ n = omega arith in coded-next (subst (λ (k : ℕ). FieldsCoded t sorts wholes singles codes latest k) e d)
 
   -- Where one is refused, so are more.
-  pub stopped : {n m : ℕ} {codes codes' : List ℕ} {answer : Coded} {r : Refusal} → CodedTo n t sorts wholes singles codes answer → answer ≡ NotCoded r → CodedTo m t sorts wholes singles codes' (NotCoded r)
-  stopped c e = coded-stop (c .stop _ e)
+  pub stopped : {n m : ℕ} {codes : List ℕ} {answer : Coded} {r : Refusal} → CodedTo n t sorts wholes singles codes answer → answer ≡ NotCoded r → CodedTo m t sorts wholes singles codes (NotCoded r)
+  stopped c e = coded-stop (c .stop _ e) (c .fit)
+
+  -- A list of codes keeps its length.
+  pub coded-same : {n latest i : ℕ} {codes codes₀ : List ℕ} {answer : Coded} → CodedTo n t sorts wholes singles codes answer → FieldsCoded t sorts wholes singles codes₀ latest i → length codes ≡ length codes₀
+  coded-same {codes = codes} {codes₀ = codes₀} c d = packed-long codes (c .fit) ∙ sym (packed-long codes₀ (d .fit))
 
   -- A turn: field i + 1 by its row.
   module _ {codes : List ℕ} {latest i : ℕ} (d : FieldsCoded t sorts wholes singles codes latest i) (h : i < lastField t) where
@@ -197,7 +265,7 @@ module _ {t : Template} {sorts : List ℕ} {wholes : List ℤ} {singles : List F
     lineHere = getD (linesOf t) i noLine
 
     pub turn-room : i < length codes
-    turn-room = omega (arith, last-most t, d .room)
+    turn-room = omega (arith, last-most t, packed-long codes (d .fit))
 
     pub turn-sound : Sound rowHere
     turn-sound = row-sound (record { template = t; precision = latest }) (i + 1) (omega arith) (omega arith)
@@ -214,30 +282,41 @@ module _ {t : Template} {sorts : List ℕ} {wholes : List ℤ} {singles : List F
           ∙ ap (λ l. encode (l .rowAt latest) (suc i) (valueLent sorts wholes singles i)) is-here
           ∙ ap (encode (lineHere .rowAt latest) (suc i)) (sym (ap (λ (n : ℕ). getD (slotsLent sorts wholes singles) n (slot Missing) .value) k ∙ long-slot (d .long) i (omega (arith, last-most t))))
 
-      pub turn-refused : {codes' : List ℕ} {r : Refusal} → e ≡ NoCode r → CodedTo (i + 1) t sorts wholes singles codes' (NotCoded r)
-      turn-refused a = coded-stop (sym (d .rest) ∙ field-refused (fieldsLent t sorts wholes singles) codes latest i h (sym heard ∙ ap encodedSaid a))
+      pub turn-refused : {r : Refusal} → e ≡ NoCode r → CodedTo (i + 1) t sorts wholes singles codes (NotCoded r)
+      turn-refused a = coded-stop (fields-listed (fieldsLent t sorts wholes singles) ∙ bind-refused _ (sym (d .rest) ∙ field-refused (fieldsLent t sorts wholes singles) (unpacked codes) latest i h (sym heard ∙ ap encodedSaid a))) (d .fit)
 
-      pub turn-coded : (p : ℕ) {code next : ℕ} → e ≡ Code code → pieceIn p ≡ piece (rowHere .width) code → next ≡ chose (lineOf t (i + 1) .sets) code latest →
+      pub turn-coded : (p : ℕ) {code next : ℕ} → e ≡ Code code → (p / 2 ^ 32 ≡ rowHere .width) × (p % 2 ^ 32 ≡ code) → next ≡ chose (lineOf t (i + 1) .sets) code latest →
           CodedTo (i + 1) t sorts wholes singles (set codes i p) (Next next)
-      turn-coded p {code} {next} a is n =
-          let x : Piece = piece (rowHere .width) code in
-          let put : take (suc i) (piecesIn (set codes i p)) ≡ take i (piecesIn codes) ++ (x ∷ []) = codes-more codes i p turn-room ∙ ap (λ z. take i (piecesIn codes) ++ (z ∷ [])) is in
-          let added : needed (take (suc i) (piecesIn (set codes i p))) ≡ rowHere .width + needed (take i (piecesIn codes)) =
-          omega (arith, ap needed put, needed-append (take i (piecesIn codes)) (x ∷ [])) in
+      turn-coded p {code} {next} a are n =
+          let x : CodedField = record { width = rowHere .width; code = code } in
+          let k : i < length (unpacked codes) = omega (arith, d .fit .long, last-most t) in
+          let added : needed (take (suc i) (map fieldPiece (set (unpacked codes) i x))) ≡ rowHere .width + needed (take i (map fieldPiece (unpacked codes))) =
+          omega (arith, ap needed (taken (unpacked codes) i x k), needed-append (take i (map fieldPiece (unpacked codes))) (fieldPiece x ∷ [])) in
           coded-next (rw (add-one i, n, is-here) (record {
             long = d .long;
             inside = omega arith;
-            room = omega (arith, d .room, length-set codes i p);
-            fit = fit-more codes i p (d .fit) (rw is (coded-fits turn-sound c a));
-            rest = sym (field-coded (fieldsLent t sorts wholes singles) codes latest i h p turn-room (sym heard ∙ ap encodedSaid a) (is ∙ ap (λ l. piece (l .rowAt latest .width) code) is-here)) ∙ d .rest;
-            count = added ∙ omega (arith, d .count, ap (λ l. l .rowAt latest .width) is-here, bits-more false (linesOf t) (lines-steady t) latest code i h);
+            fit = rw (packed-set codes i p (are .0) (are .1)) (fit-more (unpacked codes) i x (d .fit) (coded-fits turn-sound c a));
+            rest = rw (packed-set codes i p (are .0) (are .1), is-here) (sym (field-coded (fieldsLent t sorts wholes singles) (unpacked codes) latest i h k (sym heard ∙ ap encodedSaid a)) ∙ d .rest);
+            count = rw (packed-set codes i p (are .0) (are .1)) (added ∙ omega (arith, d .count, ap (λ l. l .rowAt latest .width) is-here, bits-more false (linesOf t) (lines-steady t) latest code i h));
           }))
 
   -- All of them.
-  pub coded-all : {codes codes₀ : List ℕ} {latest n bits : ℕ} → FieldsCoded t sorts wholes singles codes latest (lastField t) → length codes ≤ 256 → n ≡ lastField t →
-      bits ≡ bitsBefore (linesOf t) latest (lastField t) → Adds codes₀ 0 (linePieces (fieldsLent t sorts wholes singles) (linesOf t) 0 1) codes (Are (record { count = n; bits = bits }))
-  coded-all {codes} {codes₀} {latest} {n} {bits} d few e b =
-      adds-are {a = codes₀} {n = 0} (sym (d .rest) ∙ from-end (fieldsLent t sorts wholes singles) codes latest (lastField t) (omega arith)) (record {
-        holds = record { fit = d .fit; inside = omega (arith, e, last-most t, d .room); few = few; bits = b ∙ sym (d .count) ∙ sym (ap (λ (m : ℕ). needed (take m (piecesIn codes))) e) };
-        are = ap (λ (m : ℕ). take m (piecesIn codes)) e;
-      })
+  pub coded-all : {codes : List ℕ} {latest bits : ℕ} → FieldsCoded t sorts wholes singles codes latest (lastField t) →
+      (bits ≡ bitsBefore (linesOf t) latest (lastField t) + 10) × (bits < 2 ^ 16) → FieldsPlanned (fieldsLent t sorts wholes singles) (unpacked codes) (Bits bits)
+  coded-all {codes} {latest} {bits} d b =
+      let all : List Piece = take (lastField t) (map fieldPiece (unpacked codes)) in
+      let planned : linePieces (fieldsLent t sorts wholes singles) (linesOf t) 0 1 ≡ good all = sym (d .rest) ∙ from-end (fieldsLent t sorts wholes singles) (unpacked codes) latest (lastField t) (omega arith) in
+      let are : withBlock t all ≡ codedFields t (unpacked codes) =
+      ap (λ q. q ++ (blockPieces (numberOf t) ++ drop (length basic) all)) (take-take (length basic) (lastField t) (map fieldPiece (unpacked codes)) (basic-fewer t)) in
+      record {
+        said = sym (fields-listed (fieldsLent t sorts wholes singles) ∙ bind-good _ planned ∙ ap good are);
+        fit = d .fit;
+        count = λ n a. let same : bits ≡ n = cc in (omega (arith, same, b .0, d .count, block-needed t all, ap needed are), omega (arith, same, b .1));
+      }
+
+  pub all-refused : {n : ℕ} {codes : List ℕ} {answer : Coded} {r : Refusal} → CodedTo n t sorts wholes singles codes answer → answer ≡ NotCoded r → FieldsPlanned (fieldsLent t sorts wholes singles) (unpacked codes) (NotPlanned r)
+  all-refused c e = record {
+    said = sym (c .stop _ e);
+    fit = c .fit;
+    count = λ b s. absurd (let z : _≡_ {A = ℕ} 0 1 = cc in omega arith);
+  }

@@ -1,7 +1,7 @@
 -- A curve, one segment and one term after the other.
-use mathlib.Core.Path.{_≡_, refl, sym, ap, subst, _∙_}
+use mathlib.Core.Path.{_≡_, refl, sym, ap, ap₂, subst, _∙_}
 use mathlib.Core.Bool.{Bool, true, false, not}
-use mathlib.Core.List.{List, [], _∷_, _++_}
+use mathlib.Core.List.{List, [], _∷_, _++_, map, append-assoc, append-nil}
 use mathlib.Core.Option.{Option, none, some}
 use Prim.Native.Nat.{ℕ, suc, _+_, _-_, _*_, _≤_, _<_}
 use native.Mathlib.Numerals.{add-one}
@@ -10,32 +10,68 @@ use borrow.Author.Tests.{leb-true, not-false}
 use lib.Dec.{leb}
 use lib.IntN.{ℤ, pos, _*ℤ_}
 use lib.Signed.{ltZ}
-use lib.ListN.{length, take, drop, getD, drop-of-length-le, length-take, length-append}
+use lib.ListN.{length, take, drop, getD, set, length-set, drop-of-length-le}
 use lib.Seq.{drop-cons, drop-drop, getD-take, length-take-le}
 use Rattle.refusal.specs.declared.Refusal.{Refusal}
-use Rattle.refusal.specs.Outcome.{Outcome, good, refused, _>>=_}
+use Rattle.refusal.specs.Outcome.{Outcome, good, refused, _>>=_, _>>_}
 use Rattle.refusal.specs.Rows.{wrongCurve}
 use Rattle.refusal.proofs.Outcomes.{good-bind, good-same, no-value, passed, both, bind-good, bind-refused}
-use Rattle.memory.specs.Pieces.{Piece, piece}
+use Rattle.memory.specs.Pieces.{Piece, piece, needed}
+use Rattle.memory.proofs.PieceLaws.{needed-append}
 use Rattle.fields.specs.declared.Value.the-variants.{Whole, Single}
+use Rattle.fields.specs.declared.Judged.the-variants.{Stands, Refused}
 use Rattle.fields.specs.declared.Segment.{Segment}
 use Rattle.fields.specs.declared.Term.{Term}
 use Rattle.fields.specs.declared.Curve.{Curve}
 use Rattle.fields.specs.Rules.{encode}
-use Rattle.fields.specs.Curves.{segmentCount, segmentStart, termCount, exponent, coefficient, isSegmentCount, isExponent, exponentFollows, exponentCode, tenthsOf}
+use Rattle.fields.specs.Curves.{segmentStart, termCount, exponent, coefficient, isSegmentCount, isExponent, exponentFollows, exponentCode, tenthsOf}
 use Rattle.fields.proofs.CurveLaws.{below-zero, above-five, between, exponent-coded}
-use Rattle.layout.specs.Pieces.{blockPieces}
-use Rattle.build.specs.declared.list.Listed.{Listed}
-use Rattle.build.specs.declared.list.Planned.{Planned}
-use Rattle.build.specs.declared.list.Planned.the-variants.{Are, Refused}
+use Rattle.fields.specs.Answers.{judgedSaid}
+use Rattle.build.specs.declared.plan.CodedField.{CodedField}
+use Rattle.build.specs.declared.drawing.CurvePlan.{CurvePlan}
 use Rattle.build.specs.Build.{startCode, termPieces, segmentPieces, curvePieces}
-use Rattle.build.specs.Listed.{Added, Adds}
-use Rattle.build.specs.Planning.{termTwo}
-use Rattle.build.proofs.CurvePlans.{terms-planned, no-term, segments-planned, no-segment, block-planned}
+use Rattle.build.specs.Tested.{Fitting, Fit, fieldPiece, coded, segmentTwo, termTwo, firstFour, codedCurve, noCurve, CurvePlanned}
+use Rattle.build.proofs.Coding.{taken, fit-none, fit-more}
 use Rattle.build.proofs.SegmentPlans.{start-planned}
-use Rattle.build.proofs.Listing.{added-count, adds-put, Listing, listing-more, listing-adds, listing-refused}
+
+-- ---- outcomes
+
+-- Two pieces more, before the rest of a segment and before the rest of a term.
+join : (A B : Outcome (List Piece)) (T : List Piece) (p q : Piece) →
+    ((A >>= λ own. B >>= λ rest. good (p ∷ q ∷ (own ++ rest))) >>= λ rest. good (T ++ rest)) ≡ ((A >>= λ own. B >>= λ rest. good (own ++ rest)) >>= λ rest. good ((T ++ (p ∷ q ∷ [])) ++ rest))
+join (good own) (good rest) T p q = ap good (sym (append-assoc T (p ∷ q ∷ []) (own ++ rest)))
+join (good own) (refused r) T p q = refl
+join (refused r) B T p q = refl
+
+join-term : (A B : Outcome (List Piece)) (T : List Piece) (p q : Piece) →
+    (((A >>= λ rest. good (p ∷ q ∷ rest)) >>= λ own. B >>= λ rest. good (own ++ rest)) >>= λ rest. good (T ++ rest)) ≡ ((A >>= λ own. B >>= λ rest. good (own ++ rest)) >>= λ rest. good ((T ++ (p ∷ q ∷ [])) ++ rest))
+join-term (good own) (good rest) T p q = ap good (sym (append-assoc T (p ∷ q ∷ []) (own ++ rest)))
+join-term (good own) (refused r) T p q = refl
+join-term (refused r) B T p q = refl
+
+kept : (o : Outcome (List Piece)) (T : List Piece) → ((o >>= λ rest. good rest) >>= λ rest. good (T ++ rest)) ≡ (o >>= λ rest. good (T ++ rest))
+kept (good rest) T = refl
+kept (refused r) T = refl
+
+-- What turns two down, turns all down.
+made-down : {A B : Type 0} (o : Outcome A) (make : A → B) {r : Refusal} → (o >>= λ a. good (make a)) ≡ refused r → o ≡ refused r
+made-down (good a) make e = no-value (sym e)
+made-down (refused s) make {r} e = let same : s ≡ r = cc in ap refused same
+
+both-down : {X Y : Type 0} (P Q : Outcome ℕ) (make : ℕ → ℕ → X) (next : ℕ → ℕ → Outcome Y) {r : Refusal} → (P >>= λ p. Q >>= λ q. good (make p q)) ≡ refused r → (P >>= λ p. Q >>= λ q. next p q) ≡ refused r
+both-down (good p) (good q) make next e = no-value (sym e)
+both-down (good p) (refused s) make next {r} e = let same : s ≡ r = cc in ap refused same
+both-down (refused s) Q make next {r} e = let same : s ≡ r = cc in ap refused same
 
 -- ---- codes
+
+-- Two more.
+two-taken : (codes : List CodedField) (m : ℕ) (x y : CodedField) → m + 1 < length codes →
+    take (m + 2) (map fieldPiece (set (set codes m x) (m + 1) y)) ≡ take m (map fieldPiece codes) ++ (fieldPiece x ∷ fieldPiece y ∷ [])
+two-taken codes m x y h =
+    let two : m + 2 ≡ suc (suc m) = omega arith in
+    rw (two, add-one m)
+    (taken (set codes m x) (suc m) y (omega (arith, length-set codes m x)) ∙ ap (λ l. l ++ (fieldPiece y ∷ [])) (taken codes m x (omega arith)) ∙ append-assoc (take m (map fieldPiece codes)) (fieldPiece x ∷ []) (fieldPiece y ∷ []))
 
 -- The code of an exponent stands for it.
 pub exponent-back : (before : Option ℤ) (i : ℕ) (e : ℤ) (code : ℕ) → exponentCode before i (pos 10 *ℤ e) ≡ good code → tenthsOf code ≡ pos 10 *ℤ e
@@ -65,163 +101,235 @@ exponent-back before i e code h = by (ltZ e (pos 0)) (ltZ (pos 5) e) refl refl
 pub few-segments : (n : ℕ) → isSegmentCount n ≡ true → (1 ≤ n) × (n ≤ 20)
 few-segments n e = let (a, b) = both (leb 1 n) (leb n 20) e in (leb-true 1 n a, leb-true n 20 b)
 
--- ---- a term
+-- ---- the way through a curve
 
-module _ (terms : List Term) (last : Option ℤ) (k : ℕ) where
-  -- Those from index k up to `end`.
-  abbrev pub termsFrom : ℕ → Outcome (List Piece)
-  termsFrom end = termPieces last k (take (end - k) (drop k terms))
+module _ (count : ℕ) (segments : List Segment) (terms : List Term) where
+  abbrev curve : Curve
+  curve = record { count = count; segments = segments; terms = terms }
 
-  pub terms-end : {end : ℕ} → end ≤ k → termsFrom end ≡ good []
+  abbrev segs : List Segment
+  segs = take count segments
+
+  -- What is left with i segments begun, k terms done, and so many of the last one's own to come.
+  abbrev left : Option ℕ → Option ℤ → ℕ → ℕ → ℕ → Outcome (List Piece)
+  left before last i k own = termPieces last k (take own (drop k terms)) >>= λ ps. segmentPieces before i (k + own) (drop i segs) (drop (k + own) terms) >>= λ rest. good (ps ++ rest)
+
+  -- The pieces that have their codes.
+  abbrev done : List CodedField → ℕ → ℕ → List Piece
+  done codes i k = take (4 + 2 * (i + k)) (map fieldPiece codes)
+
+  pub record CurveDone (codes : List CodedField) (before : Option ℕ) (last : Option ℤ) (i k own : ℕ) : Type 0 where
+    pub inside : i ≤ count
+    pub most : k + own ≤ 30
+    pub fit : Fit 104 codes
+    pub said : (left before last i k own >>= λ rest. good (done codes i k ++ rest)) ≡ curvePieces curve
+    pub bits : needed (done codes i k) ≡ 19 + 20 * i + 39 * k
+
+  pub done-none : isSegmentCount count ≡ true → CurveDone (firstFour count) none none 0 0 0
+  unfolding firstFour curvePieces termPieces
+  done-none e = record {
+    inside = omega arith;
+    most = omega arith;
+    fit = fit-more _ 3 _ (fit-more _ 1 _ (fit-more _ 0 _ (fit-none 104) (record { some = omega arith; most = omega arith; fits = omega arith })) (record { some = omega arith; most = omega arith; fits = omega arith })) (record { some = omega arith; most = omega arith; fits = omega (arith, few-segments count e .1) });
+    said = rw e (kept (segmentPieces none 0 0 segs terms) (done (firstFour count) 0 0));
+    bits = refl;
+  }
+
+  -- The exponent before the first is none's.
+  pub done-own : {codes : List CodedField} {before : Option ℕ} {last : Option ℤ} {i k : ℕ} → CurveDone codes before last i k 0 → CurveDone codes before none i k 0
   unfolding termPieces
-  terms-end {end} h = let e : end - k ≡ 0 = omega arith in rw e
+  done-own d = record { inside = d .inside; most = d .most; fit = d .fit; said = d .said; bits = d .bits }
 
-  module _ {end : ℕ} (h : k < end) (long : end ≤ length terms) (dflt : Term) where
-    abbrev t : Term
-    t = getD terms k dflt
+  -- The terms of a segment's own: up to their end.
+  module _ {codes : List CodedField} {before : Option ℕ} {last : Option ℤ} {i k : ℕ} where
+    pub own-begun : {n : ℕ} → CurveDone codes before last i k n → CurveDone codes before last i k (k + n - k)
+    own-begun {n} d = let e : k + n - k ≡ n = omega arith in rw e d
 
-    abbrev others : Option ℤ → Outcome (List Piece)
-    others before = termPieces before (suc k) (take (end - suc k) (drop (suc k) terms))
+    pub own-open : {end : ℕ} → k < end → CurveDone codes before last i k (end - k) → CurveDone codes before last i k (suc (end - (k + 1)))
+    own-open {end} h d = let e : end - k ≡ suc (end - (k + 1)) = omega arith in rw e at d
 
-    term-step : termsFrom end ≡ (exponentCode last k (pos 10 *ℤ t .exponent) >>= λ power. encode coefficient k (Single (t .coefficient)) >>= λ factor.
-        others (some (pos 10 *ℤ t .exponent)) >>= λ rest. good (piece (exponent .width) power ∷ piece (coefficient .width) factor ∷ rest))
-    unfolding termPieces
-    term-step =
-        let e : end - k ≡ suc (end - suc k) = omega arith in
-        rw (e, drop-cons terms k dflt (omega arith))
+    pub own-closed : {end : ℕ} → end ≤ k → CurveDone codes before last i k (end - k) → CurveDone codes before last i k 0
+    own-closed {end} h d = let e : end - k ≡ 0 = omega arith in rw e at d
 
-    pub term-refused : {r : Refusal} → termTwo last k t ≡ refused r → termsFrom end ≡ refused r
-    unfolding termTwo
-    term-refused {r} e = term-step ∙ go (exponentCode last k (pos 10 *ℤ t .exponent)) (encode coefficient k (Single (t .coefficient))) _ e
-      where
-        go : (P Q : Outcome ℕ) (next : ℕ → ℕ → Outcome (List Piece)) → (P >>= λ p. Q >>= λ q. good (piece (exponent .width) p ∷ piece (coefficient .width) q ∷ [])) ≡ refused r →
-            (P >>= λ p. Q >>= λ q. next p q) ≡ refused r
-        go (good p) (good q) next h = no-value (sym h)
-        go (good p) (refused s) next h = let same : s ≡ r = cc in ap refused same
-        go (refused s) Q next h = let same : s ≡ r = cc in ap refused same
+  module _ {codes : List CodedField} {before : Option ℕ} {last : Option ℤ} {i k own : ℕ} (d : CurveDone codes before last i k own) where
+    -- Turned down.
+    pub done-down : {r : Refusal} → left before last i k own ≡ refused r → CurvePlanned curve (noCurve r codes)
+    done-down e = record {
+      said = sym (bind-refused _ e) ∙ d .said;
+      fit = λ a. absurd (let z : _≡_ {A = ℕ} 0 1 = cc in omega arith);
+      most = omega arith;
+      count = λ a. absurd (let z : _≡_ {A = ℕ} 0 1 = cc in omega arith);
+      small = omega arith;
+    }
 
-    pub term-next : {power factor : ℕ} → termTwo last k t ≡ good (piece (exponent .width) power ∷ piece (coefficient .width) factor ∷ []) →
-        termsFrom end ≡ (termPieces (some (tenthsOf power)) (k + 1) (take (end - (k + 1)) (drop (k + 1) terms)) >>= λ rest. good ((piece (exponent .width) power ∷ piece (coefficient .width) factor ∷ []) ++ rest))
-    unfolding termTwo
-    term-next {power} {factor} two =
-        let (p, e, rest) = good-bind (exponentCode last k (pos 10 *ℤ t .exponent)) _ (piece (exponent .width) power ∷ piece (coefficient .width) factor ∷ []) two in
-        let (f, e', same) = good-bind (encode coefficient k (Single (t .coefficient))) _ (piece (exponent .width) power ∷ piece (coefficient .width) factor ∷ []) rest in
-        let p-same : piece (exponent .width) p ≡ piece (exponent .width) power = cc in
-        let f-same : piece (coefficient .width) f ≡ piece (coefficient .width) factor = cc in
-        let p-is : p ≡ power = ap (λ x. x .code) p-same in
-        let f-is : f ≡ factor = ap (λ x. x .code) f-same in
-        rw (add-one k, exponent-back last k (t .exponent) power (e ∙ ap good p-is)) (term-step ∙ bind-good _ (e ∙ ap good p-is) ∙ bind-good _ (e' ∙ ap good f-is))
+    -- Two codes more.
+    module _ (x y : CodedField) (few : i + k < 50) (i' k' : ℕ) (next : i' + k' ≡ i + k + 1) where
+      abbrev at : ℕ
+      at = 4 + 2 * (i + k)
 
--- Two codes each.
-terms-length : (before : Option ℤ) (i : ℕ) (terms : List Term) (ps : List Piece) → termPieces before i terms ≡ good ps → length ps ≡ 2 * length terms
-terms-length before i [] ps e = ap length (sym (no-term before i ps e))
-terms-length before i (t ∷ terms) ps e =
-    let d = terms-planned before i t terms ps e in
-    omega (arith, terms-length (some (pos 10 *ℤ t .exponent)) (suc i) terms (d .rest) (d .others), ap length (d .joined))
+      more : done (set (set codes at x) (at + 1) y) i' k' ≡ done codes i k ++ (fieldPiece x ∷ fieldPiece y ∷ [])
+      more =
+          let e : 4 + 2 * (i' + k') ≡ at + 2 = omega arith in
+          rw e (two-taken codes at x y (omega (arith, d .fit .long)))
 
-own-length : (terms : List Term) (total n : ℕ) (ps : List Piece) → termPieces none total (take n (drop total terms)) ≡ good ps → length ps ≤ 2 * n
-own-length terms total n ps e = omega (arith, terms-length none total (take n (drop total terms)) ps e, length-take n (drop total terms))
+      fit-two : Fitting (x .width) (x .code) → Fitting (y .width) (y .code) → Fit 104 (set (set codes at x) (at + 1) y)
+      fit-two f g = fit-more (set codes at x) (at + 1) y (fit-more codes at x (d .fit) f) g
 
--- ---- a segment
+      bits-two : needed (done (set (set codes at x) (at + 1) y) i' k') ≡ 19 + 20 * i + 39 * k + x .width + y .width
+      bits-two = omega (arith, ap needed more, needed-append (done codes i k) (fieldPiece x ∷ fieldPiece y ∷ []), d .bits)
 
--- Those from index i on, with the terms before them.
-abbrev pub segmentsFrom : List Segment → List Term → ℕ → Option ℕ → ℕ → ℕ → Outcome (List Piece)
-segmentsFrom segments terms count before i total = segmentPieces before i total (drop i (take count segments)) (drop total terms)
+  -- ---- a segment
 
-segments-length : (before : Option ℕ) (i total : ℕ) (segments : List Segment) (terms : List Term) (ps : List Piece) → total ≤ 30 → segmentPieces before i total segments terms ≡ good ps →
-    length ps ≤ 2 * length segments + 2 * (30 - total)
-segments-length before i total [] terms ps h e = omega (arith, ap length (no-segment before i total terms ps e))
-segments-length before i total (s ∷ segments) terms ps h e =
-    let d = segments-planned before i total s segments terms ps e in
-    let few : total + s .terms ≤ 30 = start-planned before i total s (d .start) (d .startCoded) .few in
-    omega (
-      arith,
-      segments-length (some (d .start)) (suc i) (total + s .terms) segments (drop (s .terms) terms) (d .rest) few (d .others),
-      terms-length none total (take (s .terms) terms) (d .own) (d .ownPlanned),
-      length-take (s .terms) terms,
-      length-append (d .own) (d .rest),
-      ap length (d .joined),
-    )
-
-pub curve-length : (curve : Curve) (ps : List Piece) → curvePieces curve ≡ good ps → length ps ≤ 104
-curve-length curve ps e =
-    let d = block-planned curve ps e in
-    omega (
-      arith,
-      segments-length none 0 0 (take (curve .count) (curve .segments)) (curve .terms) (d .pieces) (omega arith) (d .plans),
-      length-take (curve .count) (curve .segments),
-      few-segments (curve .count) (d .counted) .1,
-      ap length (d .joined),
-    )
-
-module _ (segments : List Segment) (terms : List Term) (count : ℕ) (long : count ≤ length segments) (before : Option ℕ) (i total : ℕ) where
-  abbrev fromHere : Outcome (List Piece)
-  fromHere = segmentsFrom segments terms count before i total
-
-  pub segments-end : count ≤ i → fromHere ≡ good []
-  unfolding segmentPieces
-  segments-end h = rw (drop-of-length-le (take count segments) {i = i} (omega (arith, length-take-le count segments long)))
-
-  module _ (h : i < count) (dflt : Segment) where
+  module _ (long : length segments ≡ 20) (all : count ≤ 20) {codes : List CodedField} {before : Option ℕ} {last : Option ℤ} {i k : ℕ} (d : CurveDone codes before last i k 0) (h : i < count) (dflt : Segment) where
     abbrev s : Segment
     s = getD segments i dflt
 
-    cut : drop i (take count segments) ≡ s ∷ drop (suc i) (take count segments)
+    cut : drop i segs ≡ s ∷ drop (suc i) segs
     cut =
-        drop-cons (take count segments) i dflt (omega (arith, length-take-le count segments long))
-        ∙ ap (λ x. x ∷ drop (suc i) (take count segments)) (getD-take count segments i dflt h)
+        drop-cons segs i dflt (omega (arith, length-take-le count segments (omega arith)))
+        ∙ ap (λ x. x ∷ drop (suc i) segs) (getD-take count segments i dflt h)
 
     -- The segment's own two, then its terms and the segments behind it.
-    step : fromHere ≡ (startCode before i total s >>= λ start. termPieces none total (take (s .terms) (drop total terms)) >>= λ own.
-        segmentPieces (some start) (suc i) (total + s .terms) (drop (suc i) (take count segments)) (drop (total + s .terms) terms) >>= λ rest.
-        good (piece (segmentStart .width) start ∷ piece (termCount .width) (s .terms) ∷ (own ++ rest)))
-    unfolding segmentPieces
-    step = rw (cut, drop-drop (s .terms) total terms)
+    step : left before last i k 0 ≡ ((startCode before i k s >>= λ start. termPieces none k (take (s .terms) (drop k terms)) >>= λ own.
+        segmentPieces (some start) (suc i) (k + s .terms) (drop (suc i) segs) (drop (k + s .terms) terms) >>= λ rest.
+        good (piece (segmentStart .width) start ∷ piece (termCount .width) (s .terms) ∷ (own ++ rest))) >>= λ rest. good rest)
+    unfolding termPieces segmentPieces
+    step =
+        let e : k + 0 ≡ k = omega arith in
+        rw (e, cut, drop-drop (s .terms) k terms)
 
-    pub segment-refused : {r : Refusal} → startCode before i total s ≡ refused r → fromHere ≡ refused r
-    segment-refused e = step ∙ bind-refused _ e
+    pub segment-down : {r : Refusal} → segmentTwo before i k s ≡ refused r → CurvePlanned curve (noCurve r codes)
+    unfolding segmentTwo
+    segment-down {r} e =
+        let down : startCode before i k s ≡ refused r = made-down (startCode before i k s) _ e in
+        done-down d (step ∙ rw down)
 
-    pub segment-next : {start : ℕ} → startCode before i total s ≡ good start →
-        fromHere ≡ ((termPieces none total (take (total + s .terms - total) (drop total terms)) >>= λ own.
-        segmentPieces (some start) (i + 1) (total + s .terms) (drop (i + 1) (take count segments)) (drop (total + s .terms) terms) >>= λ rest. good (own ++ rest)) >>= λ rest.
-        good ((piece (segmentStart .width) start ∷ piece (termCount .width) (s .terms) ∷ []) ++ rest))
-    segment-next {start} e =
-        let n : total + s .terms - total ≡ s .terms = omega arith in
-        rw (add-one i, n) (step ∙ bind-good _ e ∙ go (termPieces none total (take (s .terms) (drop total terms)))
-        (segmentPieces (some start) (suc i) (total + s .terms) (drop (suc i) (take count segments)) (drop (total + s .terms) terms)))
-      where
-        go : (A B : Outcome (List Piece)) → (A >>= λ own. B >>= λ rest. good (piece (segmentStart .width) start ∷ piece (termCount .width) (s .terms) ∷ (own ++ rest))) ≡
-            ((A >>= λ own. B >>= λ rest. good (own ++ rest)) >>= λ rest. good (piece (segmentStart .width) start ∷ piece (termCount .width) (s .terms) ∷ rest))
-        go (good own) (good rest) = refl
-        go (good own) (refused r) = refl
-        go (refused r) B = refl
+    -- With the codes of the two.
+    segment-next : (start : ℕ) → startCode before i k s ≡ good start → Fitting (segmentStart .width) start → Fitting (termCount .width) (s .terms) →
+        CurveDone (set (set codes (4 + 2 * (i + k)) (coded segmentStart start)) (4 + 2 * (i + k) + 1) (coded termCount (s .terms))) (some start) none (suc i) k (s .terms)
+    segment-next start e f g =
+        let x : CodedField = coded segmentStart start in
+        let y : CodedField = coded termCount (s .terms) in
+        let few : i + k < 50 = omega (arith, d .most) in
+        let next : suc i + k ≡ i + k + 1 = omega arith in
+        let A : Outcome (List Piece) = termPieces none k (take (s .terms) (drop k terms)) in
+        let B : Outcome (List Piece) = segmentPieces (some start) (suc i) (k + s .terms) (drop (suc i) segs) (drop (k + s .terms) terms) in
+        let X : Outcome (List Piece) = A >>= λ own. B >>= λ rest. good (fieldPiece x ∷ fieldPiece y ∷ (own ++ rest)) in
+        let T : List Piece = done codes i k in
+        let here : left before last i k 0 ≡ (X >>= λ rest. good rest) = step ∙ ap (λ o. o >>= λ rest. good rest) (bind-good _ e) in
+        record {
+          inside = omega arith;
+          most = start-planned before i k s start e .few;
+          fit = fit-two d x y few (suc i) k next f g;
+          said =
+              ap (λ l. left (some start) none (suc i) k (s .terms) >>= λ rest. good (l ++ rest)) (more d x y few (suc i) k next)
+              ∙ sym (join A B T (fieldPiece x) (fieldPiece y)) ∙ sym (kept X T) ∙ sym (ap (λ o. o >>= λ rest. good (T ++ rest)) here) ∙ d .said;
+          bits = omega (arith, bits-two d x y few (suc i) k next);
+        }
 
-    -- With its own two on a list, and then its terms.
-    module _ {start : ℕ} (e : startCode before i total s ≡ good start) {a b c d : List ℕ} {n : ℕ} {all : Outcome (List Piece)} {l m : Listed} {r : Planned} (f : Listing a n all b l fromHere)
-        (g : Added b (l .count) (piece (segmentStart .width) start ∷ piece (termCount .width) (s .terms) ∷ []) c m) (k : Adds c (m .count) (termPieces none total (take (total + s .terms - total) (drop total terms))) d r) where
-      own : Listing a n all c m (termPieces none total (take (total + s .terms - total) (drop total terms)) >>= λ own.
-          segmentsFrom segments terms count (some start) (i + 1) (total + s .terms) >>= λ rest. good (own ++ rest))
-      own = listing-more f (segment-next e) g
+    pub segment-turn : (first second : CodedField) → segmentTwo before i k s ≡ good (first ∷ second ∷ []) → Fitting (first .width) (first .code) → Fitting (second .width) (second .code) →
+        CurveDone (set (set codes (4 + 2 * (i + k)) first) (4 + 2 * (i + k) + 1) second) (some (first .code)) none (i + 1) k (s .terms)
+    unfolding segmentTwo
+    segment-turn first second two f g =
+        let (start, e, same) = good-bind (startCode before i k s) _ (first ∷ second ∷ []) two in
+        let p : coded segmentStart start ≡ first = cc in
+        let q : coded termCount (s .terms) ≡ second = cc in
+        let f' = subst (λ (z : CodedField). Fitting (z .width) (z .code)) (sym p) f in
+        let g' = subst (λ (z : CodedField). Fitting (z .width) (z .code)) (sym q) g in
+        rw (add-one i)
+        (subst (λ (z : CodedField). CurveDone (set (set codes (4 + 2 * (i + k)) first) (4 + 2 * (i + k) + 1) z) (some (first .code)) none (suc i) k (s .terms)) q
+        (subst (λ (z : CodedField). CurveDone (set (set codes (4 + 2 * (i + k)) z) (4 + 2 * (i + k) + 1) (coded termCount (s .terms))) (some (z .code)) none (suc i) k (s .terms)) p
+        (segment-next start e f' g')))
 
-      pub terms-refused : {x : Refusal} → r ≡ Refused x → Adds a n all d (Refused x)
-      terms-refused h = listing-refused own (termPieces none total (take (total + s .terms - total) (drop total terms))) (segmentsFrom segments terms count (some start) (i + 1) (total + s .terms)) refl k h
+  -- ---- a term
 
-      pub terms-listed : {q : Listed} → r ≡ Are q → Listing a n all d q (segmentsFrom segments terms count (some start) (i + 1) (total + s .terms))
-      terms-listed h = listing-adds own (termPieces none total (take (total + s .terms - total) (drop total terms))) (segmentsFrom segments terms count (some start) (i + 1) (total + s .terms)) refl k h
+  module _ (long : length terms ≡ 30) (all : count ≤ 20) {codes : List CodedField} {before : Option ℕ} {last : Option ℤ} {i k own : ℕ} (d : CurveDone codes before last i k (suc own)) (dflt : Term) where
+    abbrev t : Term
+    t = getD terms k dflt
 
-      pub terms-count : {q : Listed} → r ≡ Are q → q .count ≤ m .count + 2 * s .terms
-      terms-count h =
-          let p = adds-put k h in
-          omega (arith, added-count (g .holds .inside) (p .added), own-length terms total (total + s .terms - total) (p .pieces) (p .good))
+    abbrev others : Outcome (List Piece)
+    others = segmentPieces before i (suc k + own) (drop i segs) (drop (suc k + own) terms)
 
--- ---- the block
+    term-step : left before last i k (suc own) ≡ ((exponentCode last k (pos 10 *ℤ t .exponent) >>= λ power. encode coefficient k (Single (t .coefficient)) >>= λ factor.
+        termPieces (some (pos 10 *ℤ t .exponent)) (suc k) (take own (drop (suc k) terms)) >>= λ rest.
+        good (piece (exponent .width) power ∷ piece (coefficient .width) factor ∷ rest)) >>= λ ps. others >>= λ rest. good (ps ++ rest))
+    unfolding termPieces
+    term-step =
+        let e : k + suc own ≡ suc k + own = omega arith in
+        rw (e, drop-cons terms k dflt (omega (arith, d .most)))
 
-module _ (curve : Curve) where
-  pub curve-wrong : isSegmentCount (curve .count) ≡ false → curvePieces curve ≡ refused (wrongCurve (curve .count))
-  unfolding curvePieces
-  curve-wrong e = rw e
+    pub term-down : {r : Refusal} → termTwo last k t ≡ refused r → CurvePlanned curve (noCurve r codes)
+    unfolding termTwo
+    term-down e = done-down d (term-step ∙ bind-refused _ (both-down (exponentCode last k (pos 10 *ℤ t .exponent)) (encode coefficient k (Single (t .coefficient))) _ _ e))
 
-  pub curve-begun : isSegmentCount (curve .count) ≡ true → curvePieces curve ≡ (segmentPieces none 0 0 (take (curve .count) (curve .segments)) (curve .terms) >>= λ rest.
-      good ((blockPieces 41 ++ (piece 1 0 ∷ piece (segmentCount .width) (curve .count) ∷ [])) ++ rest))
-  unfolding curvePieces
-  curve-begun e = rw e
+    term-next : (power factor : ℕ) → exponentCode last k (pos 10 *ℤ t .exponent) ≡ good power → encode coefficient k (Single (t .coefficient)) ≡ good factor →
+        Fitting (exponent .width) power → Fitting (coefficient .width) factor →
+        CurveDone (set (set codes (4 + 2 * (i + k)) (coded exponent power)) (4 + 2 * (i + k) + 1) (coded coefficient factor)) before (some (tenthsOf power)) i (suc k) own
+    term-next power factor e e' f g =
+        let x : CodedField = coded exponent power in
+        let y : CodedField = coded coefficient factor in
+        let few : i + k < 50 = omega (arith, d .most, d .inside) in
+        let next : i + suc k ≡ i + k + 1 = omega arith in
+        let A : Outcome (List Piece) = termPieces (some (pos 10 *ℤ t .exponent)) (suc k) (take own (drop (suc k) terms)) in
+        let T : List Piece = done codes i k in
+        let here : left before last i k (suc own) ≡ ((A >>= λ rest. good (fieldPiece x ∷ fieldPiece y ∷ rest)) >>= λ ps. others >>= λ rest. good (ps ++ rest)) =
+        term-step ∙ ap (λ o. o >>= λ ps. others >>= λ rest. good (ps ++ rest)) (bind-good _ e ∙ bind-good _ e') in
+        record {
+          inside = d .inside;
+          most = omega (arith, d .most);
+          fit = fit-two d x y few i (suc k) next f g;
+          said =
+              ap₂ (λ l (z : ℤ). left before (some z) i (suc k) own >>= λ rest. good (l ++ rest)) (more d x y few i (suc k) next) (exponent-back last k (t .exponent) power e)
+              ∙ sym (join-term A others T (fieldPiece x) (fieldPiece y)) ∙ sym (ap (λ o. o >>= λ rest. good (T ++ rest)) here) ∙ d .said;
+          bits = omega (arith, bits-two d x y few i (suc k) next);
+        }
+
+    pub term-turn : (first second : CodedField) → termTwo last k t ≡ good (first ∷ second ∷ []) → Fitting (first .width) (first .code) → Fitting (second .width) (second .code) →
+        CurveDone (set (set codes (4 + 2 * (i + k)) first) (4 + 2 * (i + k) + 1) second) before (some (tenthsOf (first .code))) i (k + 1) own
+    unfolding termTwo
+    term-turn first second two f g =
+        let (power, e, rest) = good-bind (exponentCode last k (pos 10 *ℤ t .exponent)) _ (first ∷ second ∷ []) two in
+        let (factor, e', same) = good-bind (encode coefficient k (Single (t .coefficient))) _ (first ∷ second ∷ []) rest in
+        let p : coded exponent power ≡ first = cc in
+        let q : coded coefficient factor ≡ second = cc in
+        let f' = subst (λ (z : CodedField). Fitting (z .width) (z .code)) (sym p) f in
+        let g' = subst (λ (z : CodedField). Fitting (z .width) (z .code)) (sym q) g in
+        rw (add-one k)
+        (subst (λ (z : CodedField). CurveDone (set (set codes (4 + 2 * (i + k)) first) (4 + 2 * (i + k) + 1) z) before (some (tenthsOf (first .code))) i (suc k) own) q
+        (subst (λ (z : CodedField). CurveDone (set (set codes (4 + 2 * (i + k)) z) (4 + 2 * (i + k) + 1) (coded coefficient factor)) before (some (tenthsOf (z .code))) i (suc k) own) p
+        (term-next power factor e e' f' g')))
+
+  -- ---- all of them
+
+  pub done-all : count ≤ 20 → {codes : List CodedField} {before : Option ℕ} {last : Option ℤ} {i k : ℕ} → CurveDone codes before last i k 0 → length segments ≡ 20 → count ≤ i →
+      CurvePlanned curve (record { answer = Stands; codes = codes; count = 4 + 2 * (count + k); bits = 19 + 20 * count + 39 * k })
+  unfolding termPieces segmentPieces
+  done-all few {codes} {before} {last} {i} {k} d long h =
+      let same : i ≡ count = omega (arith, d .inside) in
+      let none-left : drop i segs ≡ [] = drop-of-length-le segs {i = i} (omega (arith, length-take-le count segments (omega arith))) in
+      record {
+        said = sym (sym (d .said) ∙ rw none-left (ap good (append-nil (done codes i k))) ∙ ap (λ (n : ℕ). good (done codes n k)) same);
+        fit = λ a. d .fit;
+        most = omega (arith, d .most);
+        count = λ a. sym (rw same at (d .bits));
+        small = omega (arith, d .most);
+      }
+
+-- ---- a plan
+
+module _ {curve : Curve} {p : CurvePlan} (planned : CurvePlanned curve p) where
+  pub curve-down : {r : Refusal} → p .answer ≡ Refused r → curvePieces curve ≡ refused r
+  curve-down e = sym (planned .said) ∙ ap (λ j. judgedSaid j >> good (codedCurve p)) e
+
+  pub curve-good : p .answer ≡ Stands → curvePieces curve ≡ good (codedCurve p)
+  curve-good e = sym (planned .said) ∙ ap (λ j. judgedSaid j >> good (codedCurve p)) e
+
+pub curve-wrong : (curve : Curve) (codes : List CodedField) → isSegmentCount (curve .count) ≡ false → CurvePlanned curve (noCurve (wrongCurve (curve .count)) codes)
+unfolding curvePieces
+curve-wrong curve codes e = record {
+  said = rw e;
+  fit = λ a. absurd (let z : _≡_ {A = ℕ} 0 1 = cc in omega arith);
+  most = omega arith;
+  count = λ a. absurd (let z : _≡_ {A = ℕ} 0 1 = cc in omega arith);
+  small = omega arith;
+}

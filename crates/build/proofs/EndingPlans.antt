@@ -9,14 +9,15 @@ use lib.ListN.{length, getD}
 use borrow.Author.Tests.{ltb-false, eqb-false}
 use Rattle.refusal.specs.Outcome.{good}
 use Rattle.refusal.specs.Rows.{wrongSort, outOfRange}
-use Rattle.refusal.proofs.Outcomes.{passed, neither}
+use Rattle.refusal.proofs.Outcomes.{good-same, passed, neither}
+use Rattle.memory.specs.Pieces.{Piece}
 use Rattle.layout.proofs.Endings.{Characters}
-use Rattle.build.specs.Build.{unfit, endingTested}
-use Rattle.build.proofs.Tests.{stands}
+use Rattle.build.specs.Build.{unfit, endingPieces}
+use Rattle.build.specs.Filled.{codedEnding}
 
 -- ---- the characters
 
-pub fit-characters : (text : List ℕ) → unfit text ≡ false → Characters text
+fit-characters : (text : List ℕ) → unfit text ≡ false → Characters text
 fit-characters [] e = tt
 fit-characters (c ∷ text) e =
     let (a, e1) = neither (eqb c 0 || ltb 127 c) (unfit text) e in
@@ -32,14 +33,17 @@ character-lt (c ∷ text) h (suc i) = character-lt text (h .2) i
 abbrev pub strayText : Bool → List ℕ → Bool
 strayText endBit text = not endBit && ltb 0 (length text)
 
--- ---- tested
+-- ---- planned
 
-pub record EndingPlanned (endBit : Bool) (text : List ℕ) : Type 0 where
+pub record EndingPlanned (endBit : Bool) (text : List ℕ) (ps : List Piece) : Type 0 where
   pub stray : strayText endBit text ≡ false
   pub characters : Characters text
+  pub are : codedEnding endBit text ≡ ps
 
-pub ending-planned : (f : ℕ) (endBit : Bool) (text : List ℕ) → endingTested f endBit text ≡ good tt → EndingPlanned endBit text
-unfolding endingTested
-ending-planned f endBit text e =
-    let (a, e1) = passed (wrongSort f) (strayText endBit text) _ tt e in
-    record { stray = a; characters = fit-characters text (stands (outOfRange f) (unfit text) e1) }
+module _ (f : ℕ) (endBit : Bool) (text : List ℕ) (ps : List Piece) where
+  pub ending-planned : endingPieces f endBit text ≡ good ps → EndingPlanned endBit text ps
+  unfolding endingPieces
+  ending-planned e =
+      let (a, e1) = passed (wrongSort f) (strayText endBit text) _ ps e in
+      let (b, e2) = passed (outOfRange f) (unfit text) _ ps e1 in
+      record { stray = a; characters = fit-characters text b; are = good-same e2 }

@@ -1,10 +1,12 @@
 -- The fields of a sheet: Basic, the first block and the template's own, as the lines of one list with the block between them.
 use mathlib.Core.Path.{_≡_, refl, ap, _∙_}
 use mathlib.Core.List.{List, [], _∷_, _++_}
-use Prim.Native.Nat.{ℕ, suc}
-use lib.ListN.{length, take, drop}
+use Prim.Native.Nat.{ℕ, suc, _+_}
+use native.Mathlib.Omega.{arith}
+use lib.ListN.{length, take, drop, take-append-drop}
 use Rattle.refusal.specs.Outcome.{Outcome, good, refused, _>>=_}
-use Rattle.memory.specs.Pieces.{Piece, piece}
+use Rattle.memory.specs.Pieces.{Piece, piece, needed}
+use Rattle.memory.proofs.PieceLaws.{needed-append}
 use Rattle.fields.specs.declared.Template.{Template}
 use Rattle.fields.specs.Rules.{encode}
 use Rattle.fields.specs.Lines.{Line, basic, templateLines, linesOf, numberOf}
@@ -19,6 +21,17 @@ behind n block ps = take n ps ++ (block ++ drop n ps)
 -- The block stands behind Basic.
 abbrev pub withBlock : Template → List Piece → List Piece
 withBlock template ps = behind (length basic) (blockPieces (numberOf template)) ps
+
+pub block-needed : (template : Template) (ps : List Piece) → needed (withBlock template ps) ≡ needed ps + 10
+block-needed template ps =
+    let front : List Piece = take (length basic) ps in
+    let back : List Piece = drop (length basic) ps in
+    omega (
+      arith,
+      needed-append front (blockPieces (numberOf template) ++ back),
+      needed-append front back,
+      ap needed (take-append-drop (length basic) ps),
+    )
 
 -- A line whose row goes by no choice: its bits, and its code or the refusal.
 record Part : Type 0 where

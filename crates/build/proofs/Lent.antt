@@ -1,6 +1,7 @@
 -- The values of a sheet, lent by sorts, whole numbers and Singles.
-use mathlib.Core.Path.{_≡_, refl, ap}
-use mathlib.Core.List.{List, [], _∷_}
+use mathlib.Core.Path.{_≡_, refl, ap, ap₂, _∙_}
+use mathlib.Core.Bool.{Bool}
+use mathlib.Core.List.{List, [], _∷_, _++_}
 use mathlib.Core.Logic.{_≢_}
 use Prim.Native.Nat.{ℕ, zero, suc, _<_}
 use native.Mathlib.Omega.{arith}
@@ -11,13 +12,16 @@ use Rattle.refusal.specs.Outcome.{good, _>>=_}
 use Rattle.refusal.proofs.Outcomes.{bind-same}
 use Rattle.memory.specs.Pieces.{piece}
 use Rattle.fields.specs.declared.Value.the-variants.{Missing}
+use Rattle.fields.specs.declared.Template.{Template}
 use Rattle.fields.specs.declared.Level.{Level}
 use Rattle.fields.specs.Rules.{encode}
-use Rattle.fields.specs.Lines.{Line, chose}
+use Rattle.fields.specs.Lines.{Line, chose, basic, templateLines, numberOf}
+use Rattle.layout.specs.Pieces.{blockPieces}
 use Rattle.build.specs.declared.Sheet.{Sheet}
-use Rattle.build.specs.declared.Options.{Options}
-use Rattle.build.specs.Build.{slot, lent, linePieces}
-use Rattle.build.specs.Lent.{bySort, valueLent, slotsLent, Long, sheetLent, fieldsLent}
+use Rattle.build.specs.declared.plan.CodedField.{CodedField}
+use Rattle.build.specs.declared.plan.Planned.{Planned}
+use Rattle.build.specs.Build.{slot, lent, linePieces, fieldPieces}
+use Rattle.build.specs.Tested.{bySort, valueLent, slotsLent, Long, sheetLent, fieldsLent, FieldsPlanned}
 
 -- ---- one value
 
@@ -53,15 +57,23 @@ module _ {sorts : List ℕ} {wholes : List ℤ} {singles : List Float} (long : L
   long-slot i h = slot-at sorts wholes singles i (omega (arith, long .sorted)) (omega (arith, long .whole)) (omega (arith, long .single))
 
 -- What its fields come to, whatever the rest of it.
-module _ (o : Options) (level : Level) (sorts : List ℕ) (wholes : List ℤ) (singles : List Float) where
+module _ (template : Template) (endBit : Bool) (level : Level) (sorts : List ℕ) (wholes : List ℤ) (singles : List Float) where
   abbrev bare : Sheet
-  bare = fieldsLent (o .template) sorts wholes singles
+  bare = fieldsLent template sorts wholes singles
 
   abbrev whole : Sheet
-  whole = sheetLent o level sorts wholes singles
+  whole = sheetLent template endBit level sorts wholes singles
 
-  pub lines-alike : (lines : List Line) (latest f : ℕ) → linePieces bare lines latest f ≡ linePieces whole lines latest f
+  lines-alike : (lines : List Line) (latest f : ℕ) → linePieces bare lines latest f ≡ linePieces whole lines latest f
   unfolding linePieces
   lines-alike [] latest f = refl
   lines-alike (l ∷ lines) latest f = bind-same (encode (l .rowAt latest) f (lent whole f)) (λ code.
       ap (λ o. o >>= λ rest. good (piece (l .rowAt latest .width) code ∷ rest)) (lines-alike lines (chose (l .sets) code latest) (suc f)))
+
+  fields-alike : fieldPieces bare ≡ fieldPieces whole
+  unfolding fieldPieces
+  fields-alike = ap₂ (λ o p. o >>= λ basics. p >>= λ own. good (basics ++ (blockPieces (numberOf template) ++ own)))
+      (lines-alike basic 0 1) (lines-alike (templateLines template) 0 (suc (length basic)))
+
+  pub planned-alike : {fields : List CodedField} {r : Planned} → FieldsPlanned bare fields r → FieldsPlanned whole fields r
+  planned-alike p = record { said = p .said ∙ fields-alike; fit = p .fit; count = p .count }

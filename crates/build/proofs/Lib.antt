@@ -1,10 +1,9 @@
 pub mod Tests
-pub mod Alikes
 pub mod FieldPlans
 pub mod Lent
-pub mod Listing
 pub mod PairPlans
 pub mod EndingPlans
+pub mod Filling
 pub mod TextTurns
 pub mod Coding
 pub mod PairTurns

@@ -1,20 +1,21 @@
--- Calibration pairs: the parts of a plan.
-use mathlib.Core.Path.{_≡_, refl, subst}
+-- Calibration pairs: the parts of a plan, and the bits that they need.
+use mathlib.Core.Path.{_≡_, refl, sym, ap, subst}
 use mathlib.Core.List.{List, [], _∷_, _++_}
 use mathlib.Core.Option.{Option, none, some}
-use Prim.Native.Nat.{ℕ, suc, _/_}
+use Prim.Native.Nat.{ℕ, suc, _+_, _*_, _/_}
 use native.Mathlib.Omega.{arith}
 use lib.IntN.{ℤ}
 use lib.ListN.{length}
 use Rattle.refusal.specs.Outcome.{good}
 use Rattle.refusal.proofs.Outcomes.{good-same, good-bind, good-then}
-use Rattle.memory.specs.Pieces.{Piece, piece}
+use Rattle.memory.specs.Pieces.{Piece, piece, needed}
 use Rattle.fields.specs.declared.Value.the-variants.{Whole}
 use Rattle.fields.specs.declared.Pair.{Pair}
 use Rattle.fields.specs.declared.Codes.{Codes}
 use Rattle.fields.specs.declared.Domain.{Domain}
 use Rattle.fields.specs.Rules.{encode}
 use Rattle.fields.specs.Calibration.{domainCode, calPoint, calDeviation, follows}
+use Rattle.layout.specs.Places.{tableBits}
 use Rattle.layout.specs.Pieces.{blockPieces}
 use Rattle.build.specs.Build.{pairsLent, codesFor, pairCodes, pairPieces, tablePieces}
 
@@ -73,6 +74,12 @@ no-pair domain before i ps e = good-same e
 
 -- ---- the table
 
+pub pairs-needed : (domain : Domain) (before : Option Codes) (i : ℕ) (pairs : List Pair) (ps : List Piece) → pairPieces domain before i pairs ≡ good ps → needed ps ≡ 37 * length pairs
+pairs-needed domain before i [] ps e = ap needed (sym (no-pair domain before i ps e))
+pairs-needed domain before i (p ∷ pairs) ps e =
+    let d = pairs-planned domain before i p pairs ps e in
+    omega (arith, pairs-needed domain (some (d .codes)) (suc i) pairs (d .rest) (d .others), ap needed (d .joined))
+
 -- The pieces of a table that is not empty.
 pub record TablePlanned (domain : Domain) (pairs : List Pair) (ts : List Piece) : Type 0 where
   pub pieces : List Piece
@@ -88,3 +95,9 @@ table-planned domain p pairs ts e =
 pub no-table : (domain : Domain) (ts : List Piece) → tablePieces domain [] ≡ good ts → [] ≡ ts
 unfolding tablePieces
 no-table domain ts e = good-same e
+
+pub table-needed : (domain : Domain) (pairs : List Pair) (ts : List Piece) → tablePieces domain pairs ≡ good ts → needed ts ≡ tableBits (length pairs)
+table-needed domain [] ts e = ap needed (sym (no-table domain ts e))
+table-needed domain (p ∷ pairs) ts e =
+    let d = table-planned domain p pairs ts e in
+    omega (arith, ap needed (d .joined), pairs-needed domain none 0 (p ∷ pairs) (d .pieces) (d .plans))

@@ -1,21 +1,20 @@
 -- A segment's own fields and a term's: what is tested, and the codes that are left.
-use mathlib.Core.Path.{_≡_, sym, ap, subst}
-use mathlib.Core.Bool.{true, false, not}
-use mathlib.Core.List.{List}
+use mathlib.Core.Path.{_≡_, refl, sym, ap, subst}
+use mathlib.Core.Bool.{Bool, true, false, not}
+use mathlib.Core.List.{List, [], _∷_}
 use mathlib.Core.Option.{Option}
 use Prim.Native.Nat.{ℕ, _+_, _≤_}
 use native.Mathlib.Omega.{arith}
-use borrow.Author.Tests.{ltb-false, not-false}
-use lib.Dec.{ltb}
+use borrow.Author.Tests.{ltb-false, leb-true, not-false}
+use lib.Dec.{ltb, leb}
 use lib.IntN.{ℤ, pos, _*ℤ_}
 use mir.Syntax.{w64}
 use mir.Val.{SFits, toZ, ofZ}
 use mir.Facts.{toZ-ofZ}
 use Rattle.refusal.specs.declared.Refusal.{Refusal}
-use Rattle.refusal.specs.Outcome.{Outcome, good, refused}
+use Rattle.refusal.specs.Outcome.{Outcome, good, refused, refuse_if_}
 use Rattle.refusal.specs.Rows.{wrongCurve, tooManyTerms}
-use Rattle.refusal.proofs.Outcomes.{good-bind, good-then, good-same, passed, bind-refused}
-use Rattle.memory.specs.Pieces.{Piece, piece}
+use Rattle.refusal.proofs.Outcomes.{good-bind, good-then, good-same, no-value, passed, both, bind-refused}
 use Rattle.fields.specs.declared.Value.{Value}
 use Rattle.fields.specs.declared.Value.the-variants.{Whole, Single}
 use Rattle.fields.specs.declared.Row.{Row}
@@ -24,19 +23,29 @@ use Rattle.fields.specs.declared.Term.{Term}
 use Rattle.fields.specs.Rules.{encode}
 use Rattle.fields.specs.Curves.{segmentStart, termCount, exponent, coefficient, isTermCount, mostTerms, startFollows, exponentFollows, exponentCode}
 use Rattle.fields.specs.Stored.{Sound, Real}
-use Rattle.fields.proofs.CurveLaws.{terms-most}
 use Rattle.fields.proofs.RowLaws.{start-sound, exponent-sound, coefficient-sound}
 use Rattle.fields.proofs.StoredLaws.{reads-back}
-use Rattle.packing.specs.Packed.{Fitting}
-use Rattle.build.specs.declared.curve_plan.TermAnswer.the-variants.{Are, Refused}
+use Rattle.build.specs.declared.plan.CodedField.{CodedField}
+use Rattle.build.specs.declared.drawing.TwoAnswer.{TwoAnswer}
+use Rattle.build.specs.declared.drawing.TwoAnswer.the-variants.{Are, Refused}
 use Rattle.build.specs.Build.{countTested, startCode}
-use Rattle.build.specs.Planning.{TermCoded, termTwo}
-use Rattle.build.proofs.Tests.{stands}
+use Rattle.build.specs.Tested.{Fitting, coded, TwoCoded, segmentTwo, termTwo}
 
-fitting : (row : Row) (i : ℕ) (value : Value) (code : ℕ) → Sound row → Real value → encode row i value ≡ good code → Fitting (piece (row .width) code)
-fitting row i value code s real e = record { some = s .some; most = omega (arith, s .most); fits = reads-back row i 0 code value s real e .0 }
+-- ---- two pieces
+
+pub two-down : {two : Outcome (List CodedField)} {r : Refusal} → two ≡ refused r → TwoCoded two (Refused r)
+two-down e = record { said = sym e; fits = λ first second h. absurd (let z : _≡_ {A = ℕ} 0 1 = cc in omega arith) }
+
+pub two-good : {two : Outcome (List CodedField)} {a b : CodedField} → two ≡ good (a ∷ b ∷ []) → Fitting (a .width) (a .code) → Fitting (b .width) (b .code) → TwoCoded two (Are a b)
+two-good {a = a} {b = b} e f g = record { said = sym e; fits = λ first second h. let p : a ≡ first = cc in let q : b ≡ second = cc in (rw p at f, rw q at g) }
+
+fitting : (row : Row) (i : ℕ) (value : Value) (code : ℕ) → Sound row → Real value → encode row i value ≡ good code → Fitting (row .width) code
+fitting row i value code s real e = record { some = s .some; most = s .most; fits = reads-back row i 0 code value s real e .0 }
 
 -- ---- a term count
+
+pub few-terms : (n : ℕ) → isTermCount n ≡ true → n ≤ 6
+few-terms n e = leb-true n 6 (both (leb 1 n) (leb n 6) e .1)
 
 module _ (i total n : ℕ) where
   pub count-wrong : isTermCount n ≡ false → countTested i total n ≡ refused (wrongCurve i)
@@ -50,6 +59,10 @@ module _ (i total n : ℕ) where
   pub count-right : isTermCount n ≡ true → ltb mostTerms (total + n) ≡ false → countTested i total n ≡ good tt
   unfolding countTested
   count-right e f = rw (e, f)
+
+stands : (r : Refusal) (t : Bool) → (refuse r if t) ≡ good tt → t ≡ false
+stands r true e = no-value e
+stands r false e = refl
 
 -- ---- a start
 
@@ -93,11 +106,19 @@ module _ (before : Option ℕ) (i total : ℕ) (s : Segment) where
         few = ltb-false 30 (total + s .terms) m;
       })
 
-  -- Its two codes fit.
-  pub start-fits : {start : ℕ} → startCode before i total s ≡ good start → Fitting (piece (segmentStart .width) start) × Fitting (piece (termCount .width) (s .terms))
-  start-fits {start} e =
+  pub segment-refused : {r : Refusal} → startCode before i total s ≡ refused r → segmentTwo before i total s ≡ refused r
+  unfolding segmentTwo
+  segment-refused e = bind-refused _ e
+
+  pub segment-few : {two : List CodedField} → segmentTwo before i total s ≡ good two → total + s .terms ≤ 30
+  unfolding segmentTwo
+  segment-few {two} e = let (start, own, same) = good-bind (startCode before i total s) _ two e in start-planned start own .few
+
+  pub segment-coded : {start : ℕ} → startCode before i total s ≡ good start → TwoCoded (segmentTwo before i total s) (Are (coded segmentStart start) (coded termCount (s .terms)))
+  unfolding segmentTwo
+  segment-coded {start} e =
       let p = start-planned start e in
-      (fitting segmentStart i (Whole (s .start)) start start-sound tt (p .coded), record { some = omega arith; most = omega arith; fits = omega (arith, terms-most (s .terms) (p .own)) })
+      two-good (rw e) (fitting segmentStart i (Whole (s .start)) start start-sound tt (p .coded)) (record { some = omega arith; most = omega arith; fits = omega (arith, few-terms (s .terms) (p .own)) })
 
 -- ---- a term
 
@@ -105,26 +126,19 @@ module _ (before : Option ℕ) (i total : ℕ) (s : Segment) where
 pub seen-exponent : (before : Option ℤ) (i : ℕ) {e : ℤ} → SFits w64 e → exponentCode before i (pos 10 *ℤ toZ w64 (ofZ w64 e)) ≡ exponentCode before i (pos 10 *ℤ e)
 seen-exponent before i f = ap (λ (z : ℤ). exponentCode before i (pos 10 *ℤ z)) (toZ-ofZ f)
 
-term-down : {two : Outcome (List Piece)} {r : Refusal} → two ≡ refused r → TermCoded two (Refused r)
-term-down e = record { said = sym e; fits = λ power factor h. absurd (let z : _≡_ {A = ℕ} 0 1 = cc in omega arith) }
-
 module _ (before : Option ℤ) (i : ℕ) (t : Term) where
-  pub exponent-refused : {r : Refusal} → exponentCode before i (pos 10 *ℤ t .exponent) ≡ refused r → TermCoded (termTwo before i t) (Refused r)
+  pub exponent-refused : {r : Refusal} → exponentCode before i (pos 10 *ℤ t .exponent) ≡ refused r → termTwo before i t ≡ refused r
   unfolding termTwo
-  exponent-refused e = term-down (bind-refused _ e)
+  exponent-refused e = bind-refused _ e
 
   module _ {power : ℕ} (e : exponentCode before i (pos 10 *ℤ t .exponent) ≡ good power) where
-    pub coefficient-refused : {r : Refusal} → encode coefficient i (Single (t .coefficient)) ≡ refused r → TermCoded (termTwo before i t) (Refused r)
+    pub coefficient-refused : {r : Refusal} → encode coefficient i (Single (t .coefficient)) ≡ refused r → termTwo before i t ≡ refused r
     unfolding termTwo
-    coefficient-refused f = term-down (rw (e, f))
+    coefficient-refused f = rw (e, f)
 
-    pub term-coded : {factor : ℕ} → Real (Single (t .coefficient)) → encode coefficient i (Single (t .coefficient)) ≡ good factor → TermCoded (termTwo before i t) (Are power factor)
+    pub term-coded : {factor : ℕ} → Real (Single (t .coefficient)) → encode coefficient i (Single (t .coefficient)) ≡ good factor →
+        TwoCoded (termTwo before i t) (Are (coded exponent power) (coded coefficient factor))
     unfolding termTwo
     term-coded {factor} real f =
         let (w, own) = passed (wrongCurve i) (not (exponentFollows before (pos 10 *ℤ t .exponent))) (encode exponent i (Whole (pos 10 *ℤ t .exponent))) power e in
-        let first = fitting exponent i (Whole (pos 10 *ℤ t .exponent)) power exponent-sound tt own in
-        let second = fitting coefficient i (Single (t .coefficient)) factor coefficient-sound real f in
-        record {
-          said = rw (e, f);
-          fits = λ a b h. let p : power ≡ a = cc in let q : factor ≡ b = cc in (rw p at first, rw q at second);
-        }
+        two-good (rw (e, f)) (fitting exponent i (Whole (pos 10 *ℤ t .exponent)) power exponent-sound tt own) (fitting coefficient i (Single (t .coefficient)) factor coefficient-sound real f)

@@ -10,11 +10,10 @@ use lib.ListN.{length, getD, set, length-set}
 use lib.Seq.{getD-set-same, getD-set-other}
 use Rattle.fields.specs.declared.Value.{Value}
 use Rattle.fields.specs.declared.Value.the-variants.{Whole, Single, Missing}
-use Rattle.fields.specs.declared.Domain.{Domain}
 use Rattle.build.specs.declared.Slot.{Slot}
 use Rattle.build.specs.declared.Sheet.{Sheet}
 use Rattle.build.specs.Build.{slot}
-use Rattle.build.specs.Lent.{valueLent, slotsLent, Long, Spread, sheetLent}
+use Rattle.build.specs.Tested.{valueLent, slotsLent, Long, Spread, sheetLent}
 
 -- The first n of them, with `none` for a slot behind the last.
 pub record SpreadTo (none : Slot) (slots : List Slot) (sorts : List ℕ) (wholes : List ℤ) (singles : List Float) (n : ℕ) : Type 0 where
@@ -78,6 +77,6 @@ spread-all {none} {slots} {sorts} {wholes} {singles} s h e = record {
 }
 
 -- The sheet whose slots were spread is the one that is so lent.
-pub spread-sheet : (sheet : Sheet) (domain : Domain) {sorts : List ℕ} {wholes : List ℤ} {singles : List Float} → Spread (sheet .fields) sorts wholes singles →
-    sheetLent (record { template = sheet .template; «end_bit» = sheet .«end_bit»; domain = domain }) (sheet .level) sorts wholes singles ≡ sheet
-spread-sheet sheet domain s = ap (λ (l : List Slot). record { template = sheet .template; fields = l; «end_bit» = sheet .«end_bit»; level = sheet .level }) (s .each)
+pub spread-sheet : (sheet : Sheet) {sorts : List ℕ} {wholes : List ℤ} {singles : List Float} → Spread (sheet .fields) sorts wholes singles →
+    sheetLent (sheet .template) (sheet .«end_bit») (sheet .level) sorts wholes singles ≡ sheet
+spread-sheet sheet s = ap (λ (l : List Slot). record { template = sheet .template; fields = l; «end_bit» = sheet .«end_bit»; level = sheet .level }) (s .each)

@@ -64,15 +64,11 @@ abbrev pub unfit : List ℕ → Bool
 unfit [] = false
 unfit (c ∷ text) = eqb c 0 || ltb 127 c || unfit text
 
--- Text with end bit 0 is 9, a character that may not be is 10.
-unfoldable pub endingTested : ℕ → Bool → List ℕ → Outcome (Unit {0})
-endingTested f endBit text = do
+unfoldable pub endingPieces : ℕ → Bool → List ℕ → Outcome (List Piece)
+endingPieces f endBit text = do
   refuse wrongSort f if not endBit && ltb 0 (length text)
   refuse outOfRange f if unfit text
-
--- Selector 3, the end bit and the text.
-abbrev pub endingPieces : Bool → List ℕ → List Piece
-endingPieces endBit text = piece 2 3 ∷ piece 1 (endCode endBit) ∷ map (piece 7) text
+  good (piece 2 3 ∷ piece 1 (endCode endBit) ∷ map (piece 7) text)
 
 -- ---- block 40
 
@@ -174,22 +170,16 @@ unfoldable pub plan : Sheet → List ℕ → Table → Outcome (List Piece)
 plan sheet text table = do
   listTested table
   fields ← fieldPieces sheet
-  endingTested (ending (templateIn sheet)) (sheet .«end_bit») text
+  end ← endingPieces (ending (templateIn sheet)) (sheet .«end_bit») text
   behind ← behindPieces table
-  good (fields ++ (behind ++ endingPieces (sheet .«end_bit») text))
+  good (fields ++ (behind ++ end))
 
--- The image of pieces, where the stream has the bits that they need. Bits after the end are zero, and with them the zero character
--- that ends a text.
-unfoldable pub fitted : Sizes → List Piece → Outcome (List ℕ)
-fitted z pieces = do
-  refuse tooLong (needed pieces) if ltb (streamBits z) (needed pieces)
-  good (imageOf z (pack pieces))
-
--- In an image of these sizes.
+-- In an image of these sizes. Bits after the end are zero, and with them the zero character that ends a text.
 unfoldable pub builtIn : Sizes → Sheet → List ℕ → Table → Outcome (List ℕ)
 builtIn z sheet text table = do
   pieces ← plan sheet text table
-  fitted z pieces
+  refuse tooLong (needed pieces) if ltb (streamBits z) (needed pieces)
+  good (imageOf z (pack pieces))
 
 -- The image that a build makes in a buffer of a kind.
 unfoldable pub buildWith : ℕ → List ℕ → Sheet → List ℕ → Table → Outcome (List ℕ)

@@ -1,4 +1,3 @@
 pub mod Build
-pub mod Lent
-pub mod Listed
-pub mod Planning
+pub mod Tested
+pub mod Filled

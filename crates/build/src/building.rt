@@ -1,57 +1,59 @@
 // Build an image in the caller's buffer.
-use crate::Options;
 use crate::Sheet;
 use crate::Slot;
-use crate::curve_plan::code_curve;
-use crate::list::Listed;
-use crate::list::Planned;
-use crate::plan::code_ending;
-use crate::plan::code_front;
-use crate::points::code_table;
-use crate::points::is_wrong_list;
+use crate::drawing::CurvePlan;
+use crate::drawing::plan_curve;
+use crate::plan::NO_CODE;
+use crate::plan::Planned;
+use crate::plan::check_ending;
+use crate::plan::check_points;
+use crate::plan::is_wrong_list;
+use crate::plan::plan_fields;
+use crate::write::write_curve;
+use crate::write::write_table;
 use fields::Curve;
 use fields::Domain;
+use fields::Judged;
 use fields::Template;
 use fields::Value;
 use memory::Sizes;
 use memory::SizesAnswer;
 use refusal::Written;
 ghost use mathlib.Core.Path.{_≡_};
-ghost use mathlib.Core.List.{[]};
-ghost use Prim.Native.Nat.{min, _+_, _*_, _/_, _^_, _≤_, _<_};
+ghost use Prim.Native.Nat.{min, _+_, _*_, _^_, _≤_, _<_};
 ghost use lib.Dec.{ltb};
 ghost use lib.ListN.{length};
-ghost use Rattle.refusal.specs.Outcome.{good};
 ghost use Rattle.refusal.specs.Written.{writtenSaid, afterwards};
 ghost use Rattle.memory.specs.Image.{imageBytes, streamBits};
 ghost use Rattle.memory.specs.Answers.{Whole};
+ghost use Rattle.memory.specs.Pieces.{needed};
 ghost use Rattle.fields.specs.declared.Level.{Level};
-ghost use Rattle.fields.specs.Lines.{basic, numberOf};
-ghost use Rattle.packing.specs.Packed.{Fit, imagePieces};
-ghost use Rattle.build.specs.declared.list.Planned.the-variants.{Are};
-ghost use Rattle.build.specs.Build.{pairsLent, curvePieces, listed, drawn, fitted, builtIn, build as buildOf, buildCurve};
-ghost use Rattle.build.specs.Lent.{Long, Spread, sheetLent};
-ghost use Rattle.build.specs.Listed.{Adds, Ready, finished};
-ghost use Rattle.build.specs.Planning.{tableWords, sheetCodes};
+ghost use Rattle.layout.specs.Places.{tableBits};
+ghost use Rattle.build.specs.Build.{pairsLent, tablePieces, listed, drawn, builtIn, build as buildOf, buildCurve};
+ghost use Rattle.build.specs.Tested.{piecesOf, Accepted, Fit, unpacked, codedFields, codedCurve, Tested, Long, Spread, sheetLent};
+ghost use Rattle.build.specs.Filled.{codedSheet, fitted};
 
-// The codes that a list has room for: 21 fields and the ending; between them the start of a block, and 127 points or the 100
-// codes of a curve.
-const PLAIN: usize = 23;
+// The bits of a table of n pairs: none without one.
+fn table_bits(n: u64) -> u64
+    requires { ⌜ n ≤ 127 ⌝ }
+    ensures { λ r. ⌜ r ≡ tableBits n ⌝ }
+{
+    if n == 0 {
+        return 0;
+    }
+    18 + 37 * n
+}
 
-const TABLE: usize = 154;
-
-const CURVE: usize = 127;
-
-// The bits that codes, the first block's start and characters need. Where the characters are more than the 65,535 that row 11
+// The bits that fields, the block behind them and characters need. Where the characters are more than the 65,535 that row 11
 // names at most, so are the bits, and no more is said of them.
-fn bits_needed(codes: u64, characters: u64) -> u64
-    requires { ⌜ codes < 2 ^ 16 ⌝ }
-    ensures { λ r. ⌜ min r 65_535 ≡ min (codes + 10 + 7 * characters) 65_535 ⌝ }
+fn bits_needed(fields: u64, behind: u64, characters: u64) -> u64
+    requires { ⌜ (fields < 2 ^ 16) × (behind < 2 ^ 16) ⌝ }
+    ensures { λ r. ⌜ min r 65_535 ≡ min (fields + behind + 3 + 7 * characters) 65_535 ⌝ }
 {
     if 65_535 < characters {
         return characters;
     }
-    codes + 10 + 7 * characters
+    fields + behind + 3 + 7 * characters
 }
 
 // Whether the stream has fewer bits.
@@ -63,155 +65,118 @@ fn is_too_long(sizes: Sizes, bits: u64) -> bool
 }
 
 // What passed its tests: 11 where the stream has fewer bits than are needed, else it is written.
-fn write_listed(
+fn finish_table(
     sizes: Sizes,
     image: &mut [u8],
     template: Template,
-    codes: &[u64],
-    listed: Listed,
+    fields: &[u64],
+    field_bits: u64,
+    end_bit: bool,
     text: &[u8],
+    domain: Domain,
+    points: &[i64],
 ) -> Written
-    requires { ⌜ Whole sizes (now image) × (imageBytes sizes ≤ 512) × Ready (now codes) listed (now text) ⌝ }
-    ensures { λ r. ⌜ (let outcome = fitted sizes (imagePieces (numberOf template) (now (codes .entry)) (length basic) (listed .count) (now (text .entry))) in
+    requires { ⌜ Whole sizes (now image) × (imageBytes sizes ≤ 512) ⌝ }
+    requires { ⌜ Tested (unpacked (now fields)) (now text) × («field_bits» ≡ needed (codedFields template (unpacked (now fields)))) × («field_bits» < 2 ^ 16) ⌝ }
+    requires { ⌜ Accepted (tablePieces domain (pairsLent (now points))) × (length (now points) ≤ 254) ⌝ }
+    ensures { λ r. ⌜ (let outcome = fitted sizes (codedSheet template (unpacked (now (fields .entry))) «end_bit» (now (text .entry)) (piecesOf (tablePieces domain (pairsLent (now (points .entry)))))) in
         (writtenSaid r (now (image .exit)) ≡ outcome) × (now (image .exit) ≡ afterwards (now (image .entry)) outcome)) ⌝ }
 {
-    let bits = bits_needed(listed.bits, text.len() as u64);
+    let behind = table_bits(points.len() as u64 / 2);
+    let bits = bits_needed(field_bits, behind, text.len() as u64);
     if is_too_long(sizes, bits) {
         return Written::Refused(refusal::too_long(bits));
     }
-    let number = fields::template_number(template);
-    let first = fields::basic_fields() as usize;
-    packing::write_image(sizes, image, number, codes, first, listed.count, text);
+    write_table(
+        sizes,
+        image,
+        template,
+        fields,
+        end_bit,
+        text,
+        domain,
+        points,
+    );
     Written::Done
 }
 
-// What the tests leave: their refusal, or the list.
-fn finish(
+// The same with a curve.
+fn finish_curve(
     sizes: Sizes,
     image: &mut [u8],
     template: Template,
-    codes: &[u64],
-    planned: Planned,
+    fields: &[u64],
+    field_bits: u64,
+    end_bit: bool,
     text: &[u8],
+    curve: CurvePlan,
 ) -> Written
-    requires { ⌜ Whole sizes (now image) × (imageBytes sizes ≤ 512) × ((l : Listed) → planned ≡ Are l → Ready (now codes) l (now text)) ⌝ }
-    ensures { λ r. ⌜ (let outcome = finished sizes template (now (codes .entry)) (now (text .entry)) planned in
+    requires { ⌜ Whole sizes (now image) × (imageBytes sizes ≤ 512) ⌝ }
+    requires { ⌜ Tested (unpacked (now fields)) (now text) × («field_bits» ≡ needed (codedFields template (unpacked (now fields)))) × («field_bits» < 2 ^ 16) ⌝ }
+    requires { ⌜ Fit 104 (curve .codes) × (curve .count ≤ 104) × (curve .bits ≡ needed (codedCurve curve)) × (curve .bits < 2 ^ 16) ⌝ }
+    ensures { λ r. ⌜ (let outcome = fitted sizes (codedSheet template (unpacked (now (fields .entry))) «end_bit» (now (text .entry)) (codedCurve curve)) in
         (writtenSaid r (now (image .exit)) ≡ outcome) × (now (image .exit) ≡ afterwards (now (image .entry)) outcome)) ⌝ }
 {
-    match planned {
-        Planned::Refused(r) => Written::Refused(r),
-        Planned::Are(listed) => write_listed(sizes, image, template, codes, listed, text),
+    let bits = bits_needed(field_bits, curve.bits, text.len() as u64);
+    if is_too_long(sizes, bits) {
+        return Written::Refused(refusal::too_long(bits));
     }
+    write_curve(sizes, image, template, fields, end_bit, text, curve);
+    Written::Done
 }
 
-// All tests but the last, in document 01's order; what passes them goes onto the list.
-fn code_sheet(
-    options: Options,
-    sorts: &[u8],
-    wholes: &[i64],
-    singles: &[f32],
-    text: &[u8],
-    points: &[i64],
-    codes: &mut [u64],
-) -> Planned
-    requires { ⌜ Long (now sorts) (now wholes) (now singles) × (length (now points) ≤ 254) ⌝ }
-    requires { ⌜ Fit (now codes) × (27 + length (now points) / 2 ≤ length (now codes)) × (length (now codes) ≤ 256) ⌝ }
-    ensures { λ r. ⌜ Adds (now (codes .entry)) 0 (sheetCodes options (now (sorts .entry)) (now (wholes .entry)) (now (singles .entry)) (now (text .entry)) (tableWords (options .domain) (pairsLent (now (points .entry))))) (now (codes .exit)) r ⌝ }
-{
-    let template = options.template;
-    let domain = options.domain;
-    let end_bit = options.end_bit;
-    match code_front(template, end_bit, sorts, wholes, singles, text, codes) {
-        Planned::Refused(r) => Planned::Refused(r),
-        Planned::Are(front) => match code_table(domain, points, codes, front) {
-            Planned::Refused(r) => Planned::Refused(r),
-            Planned::Are(block) => Planned::Are(code_ending(end_bit, codes, block)),
-        },
-    }
-}
-
-// The same without points. Each of these three has one caller, into which the compiler takes it.
-fn code_plain_sheet(
-    options: Options,
-    sorts: &[u8],
-    wholes: &[i64],
-    singles: &[f32],
-    text: &[u8],
-    codes: &mut [u64],
-) -> Planned
-    requires { ⌜ Long (now sorts) (now wholes) (now singles) ⌝ }
-    requires { ⌜ Fit (now codes) × (23 ≤ length (now codes)) × (length (now codes) ≤ 256) ⌝ }
-    ensures { λ r. ⌜ Adds (now (codes .entry)) 0 (sheetCodes options (now (sorts .entry)) (now (wholes .entry)) (now (singles .entry)) (now (text .entry)) (good [])) (now (codes .exit)) r ⌝ }
-{
-    let template = options.template;
-    let end_bit = options.end_bit;
-    match code_front(template, end_bit, sorts, wholes, singles, text, codes) {
-        Planned::Refused(r) => Planned::Refused(r),
-        Planned::Are(front) => Planned::Are(code_ending(end_bit, codes, front)),
-    }
-}
-
-// The same with a curve.
-fn code_curve_sheet(
-    options: Options,
-    sorts: &[u8],
-    wholes: &[i64],
-    singles: &[f32],
-    text: &[u8],
-    curve: Curve,
-    codes: &mut [u64],
-) -> Planned
-    requires { ⌜ Long (now sorts) (now wholes) (now singles) ⌝ }
-    requires { ⌜ Fit (now codes) × (127 ≤ length (now codes)) × (length (now codes) ≤ 256) ⌝ }
-    ensures { λ r. ⌜ Adds (now (codes .entry)) 0 (sheetCodes options (now (sorts .entry)) (now (wholes .entry)) (now (singles .entry)) (now (text .entry)) (curvePieces curve)) (now (codes .exit)) r ⌝ }
-{
-    let template = options.template;
-    let end_bit = options.end_bit;
-    match code_front(template, end_bit, sorts, wholes, singles, text, codes) {
-        Planned::Refused(r) => Planned::Refused(r),
-        Planned::Are(front) => match code_curve(curve, codes, front) {
-            Planned::Refused(r) => Planned::Refused(r),
-            Planned::Are(block) => Planned::Are(code_ending(end_bit, codes, block)),
-        },
-    }
-}
-
-// All tests, in document 01's order; then what they leave. The level makes no difference. Without points the list is a short
-// one, which is faster to clear.
+// All tests, in document 01's order; then what they leave. The level makes no difference.
 fn build_in(
     sizes: Sizes,
     image: &mut [u8],
-    options: Options,
+    template: Template,
+    end_bit: bool,
     sorts: &[u8],
     wholes: &[i64],
     singles: &[f32],
     text: &[u8],
+    domain: Domain,
     points: &[i64],
 ) -> Written
     requires { ⌜ Whole sizes (now image) × (imageBytes sizes ≤ 512) × Long (now sorts) (now wholes) (now singles) ⌝ }
-    ensures { λ r. ⌜ ((level : Level) → (let outcome = builtIn sizes (sheetLent options level (now (sorts .entry)) (now (wholes .entry)) (now (singles .entry))) (now (text .entry)) (listed (options .domain) (now (points .entry))) in
+    ensures { λ r. ⌜ ((level : Level) → (let outcome = builtIn sizes (sheetLent template «end_bit» level (now (sorts .entry)) (now (wholes .entry)) (now (singles .entry))) (now (text .entry)) (listed domain (now (points .entry))) in
         (writtenSaid r (now (image .exit)) ≡ outcome) × (now (image .exit) ≡ afterwards (now (image .entry)) outcome))) ⌝ }
 {
     let n = points.len();
-    let template = options.template;
     if is_wrong_list(n) {
         return Written::Refused(refusal::wrong_list(n as u64));
     }
-    if n == 0 {
-        let mut codes = [packing::BLANK; PLAIN];
-        let planned = code_plain_sheet(options, sorts, wholes, singles, text, &mut codes);
-        return finish(sizes, image, template, &codes, planned, text);
+    let mut fields = [NO_CODE; 21];
+    match plan_fields(template, sorts, wholes, singles, &mut fields) {
+        Planned::Refused(r) => Written::Refused(r),
+        Planned::Bits(bits) => {
+            if let Judged::Refused(r) = check_ending(template, end_bit, text) {
+                return Written::Refused(r);
+            }
+            if let Judged::Refused(r) = check_points(domain, points) {
+                return Written::Refused(r);
+            }
+            finish_table(
+                sizes,
+                image,
+                template,
+                &fields,
+                bits,
+                end_bit,
+                text,
+                domain,
+                points,
+            )
+        }
     }
-    let mut codes = [packing::BLANK; TABLE];
-    let planned = code_sheet(options, sorts, wholes, singles, text, points, &mut codes);
-    finish(sizes, image, template, &codes, planned, text)
 }
 
-// The same with a curve, which has no list of points.
+// The same with a curve, which has no list.
 fn build_curve_in(
     sizes: Sizes,
     image: &mut [u8],
-    options: Options,
+    template: Template,
+    end_bit: bool,
     sorts: &[u8],
     wholes: &[i64],
     singles: &[f32],
@@ -219,13 +184,24 @@ fn build_curve_in(
     curve: Curve,
 ) -> Written
     requires { ⌜ Whole sizes (now image) × (imageBytes sizes ≤ 512) × Long (now sorts) (now wholes) (now singles) ⌝ }
-    ensures { λ r. ⌜ ((level : Level) → (let outcome = builtIn sizes (sheetLent options level (now (sorts .entry)) (now (wholes .entry)) (now (singles .entry))) (now (text .entry)) (drawn curve) in
+    ensures { λ r. ⌜ ((level : Level) → (let outcome = builtIn sizes (sheetLent template «end_bit» level (now (sorts .entry)) (now (wholes .entry)) (now (singles .entry))) (now (text .entry)) (drawn curve) in
         (writtenSaid r (now (image .exit)) ≡ outcome) × (now (image .exit) ≡ afterwards (now (image .entry)) outcome))) ⌝ }
 {
-    let template = options.template;
-    let mut codes = [packing::BLANK; CURVE];
-    let planned = code_curve_sheet(options, sorts, wholes, singles, text, curve, &mut codes);
-    finish(sizes, image, template, &codes, planned, text)
+    let mut fields = [NO_CODE; 21];
+    match plan_fields(template, sorts, wholes, singles, &mut fields) {
+        Planned::Refused(r) => Written::Refused(r),
+        Planned::Bits(bits) => {
+            if let Judged::Refused(r) = check_ending(template, end_bit, text) {
+                return Written::Refused(r);
+            }
+            let block = plan_curve(curve);
+            let drawn = block.answer;
+            if let Judged::Refused(r) = drawn {
+                return Written::Refused(r);
+            }
+            finish_curve(sizes, image, template, &fields, bits, end_bit, text, block)
+        }
+    }
 }
 
 // The values of slots, by sorts, whole numbers and Singles.
@@ -259,22 +235,33 @@ fn spread(slots: [Slot; 21], sorts: &mut [u8], wholes: &mut [i64], singles: &mut
 pub fn build_lent(
     kind: u8,
     image: &mut [u8],
-    options: Options,
+    template: Template,
+    end_bit: bool,
     sorts: &[u8],
     wholes: &[i64],
     singles: &[f32],
     text: &[u8],
+    domain: Domain,
     points: &[i64],
 ) -> Written
     requires { ⌜ Long (now sorts) (now wholes) (now singles) ⌝ }
-    ensures { λ r. ⌜ ((level : Level) → (let outcome = buildOf kind (now (image .entry)) (sheetLent options level (now (sorts .entry)) (now (wholes .entry)) (now (singles .entry))) (now (text .entry)) (options .domain) (now (points .entry)) in
+    ensures { λ r. ⌜ ((level : Level) → (let outcome = buildOf kind (now (image .entry)) (sheetLent template «end_bit» level (now (sorts .entry)) (now (wholes .entry)) (now (singles .entry))) (now (text .entry)) domain (now (points .entry)) in
         (writtenSaid r (now (image .exit)) ≡ outcome) × (now (image .exit) ≡ afterwards (now (image .entry)) outcome))) ⌝ }
 {
     match memory::image_sizes(kind, image.len()) {
         SizesAnswer::Refused(r) => Written::Refused(r),
-        SizesAnswer::Are(sizes) => {
-            build_in(sizes, image, options, sorts, wholes, singles, text, points)
-        }
+        SizesAnswer::Are(sizes) => build_in(
+            sizes,
+            image,
+            template,
+            end_bit,
+            sorts,
+            wholes,
+            singles,
+            text,
+            domain,
+            points,
+        ),
     }
 }
 
@@ -282,7 +269,8 @@ pub fn build_lent(
 pub fn build_curve_lent(
     kind: u8,
     image: &mut [u8],
-    options: Options,
+    template: Template,
+    end_bit: bool,
     sorts: &[u8],
     wholes: &[i64],
     singles: &[f32],
@@ -290,14 +278,22 @@ pub fn build_curve_lent(
     curve: Curve,
 ) -> Written
     requires { ⌜ Long (now sorts) (now wholes) (now singles) ⌝ }
-    ensures { λ r. ⌜ ((level : Level) → (let outcome = buildCurve kind (now (image .entry)) (sheetLent options level (now (sorts .entry)) (now (wholes .entry)) (now (singles .entry))) (now (text .entry)) curve in
+    ensures { λ r. ⌜ ((level : Level) → (let outcome = buildCurve kind (now (image .entry)) (sheetLent template «end_bit» level (now (sorts .entry)) (now (wholes .entry)) (now (singles .entry))) (now (text .entry)) curve in
         (writtenSaid r (now (image .exit)) ≡ outcome) × (now (image .exit) ≡ afterwards (now (image .entry)) outcome))) ⌝ }
 {
     match memory::image_sizes(kind, image.len()) {
         SizesAnswer::Refused(r) => Written::Refused(r),
-        SizesAnswer::Are(sizes) => {
-            build_curve_in(sizes, image, options, sorts, wholes, singles, text, curve)
-        }
+        SizesAnswer::Are(sizes) => build_curve_in(
+            sizes,
+            image,
+            template,
+            end_bit,
+            sorts,
+            wholes,
+            singles,
+            text,
+            curve,
+        ),
     }
 }
 
@@ -323,19 +319,16 @@ pub fn build(
     let slots = sheet.fields;
     spread(slots, &mut sorts, &mut wholes, &mut singles);
     let template = sheet.template;
-    let options = Options {
-        template,
-        end_bit: sheet.end_bit,
-        domain,
-    };
     build_lent(
         kind,
         image,
-        options,
+        template,
+        sheet.end_bit,
         &sorts,
         &wholes,
         &singles,
         text,
+        domain,
         points,
     )
 }
@@ -355,10 +348,15 @@ pub fn build_curve(kind: u8, image: &mut [u8], sheet: Sheet, text: &[u8], curve:
     let slots = sheet.fields;
     spread(slots, &mut sorts, &mut wholes, &mut singles);
     let template = sheet.template;
-    let options = Options {
+    build_curve_lent(
+        kind,
+        image,
         template,
-        end_bit: sheet.end_bit,
-        domain: Domain::Electrical,
-    };
-    build_curve_lent(kind, image, options, &sorts, &wholes, &singles, text, curve)
+        sheet.end_bit,
+        &sorts,
+        &wholes,
+        &singles,
+        text,
+        curve,
+    )
 }

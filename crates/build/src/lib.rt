@@ -2,21 +2,19 @@
 // their caller, and a refusal writes to no buffer. `build_lent` and `build_curve_lent`, for the layer of firmware, ask for 21
 // values in each of their three lists.
 mod building; // building.rt: an image from a sheet
-mod curve_plan; // curve_plan.rt: the codes of a curve
-mod list; // list.rt: the list of codes
-mod plan; // plan.rt: the codes of the fields and of the ending
-mod points; // points.rt: the codes of calibration points
+mod drawing; // drawing.rt: what a build tests of a curve
+mod plan; // plan.rt: what a build tests before it writes
+mod write; // write.rt: what a build writes
 
 pub use building::build;
 pub use building::build_curve;
 pub use building::build_curve_lent;
 pub use building::build_lent;
-use fields::Domain;
 use fields::Level;
 use fields::Template;
 use fields::Value;
-pub use points::check_points;
-pub use points::is_wrong_list;
+pub use plan::check_points;
+pub use plan::is_wrong_list;
 
 // A field's value in the sheet record: a struct's array holds no enum, but it holds structs that do.
 pub struct Slot {
@@ -31,12 +29,4 @@ pub struct Sheet {
     pub fields: [Slot; 21],
     pub end_bit: bool,
     pub level: Level,
-}
-
-// What a build takes beside values that are lent: the template of the first block, the end bit, and the domain of the points. An
-// empty list and a curve have none, and the one handed in is not looked at.
-pub struct Options {
-    pub template: Template,
-    pub end_bit: bool,
-    pub domain: Domain,
 }

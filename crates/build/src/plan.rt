@@ -1,41 +1,57 @@
-// The codes of the fields and of the ending, and what they are refused with.
-use crate::list::Listed;
-use crate::list::Planned;
-use crate::list::put_code;
+// What a build tests before it writes: the fields, the ending, and the points.
+use fields::Codes;
+use fields::Domain;
 use fields::Encoded;
 use fields::Judged;
 use fields::Layout;
+use fields::Previous;
 use fields::Row;
 use fields::Template;
 use fields::Value;
 use refusal::Refusal;
 ghost use mathlib.Core.Path.{_≡_};
-ghost use mathlib.Core.List.{[], _∷_};
-ghost use Prim.Native.Nat.{_+_, _<_, _≤_};
+ghost use mathlib.Core.Bool.{_||_};
+ghost use Prim.Native.Nat.{_*_, _+_, _-_, _^_, _/_, _%_, _<_, _≤_};
+ghost use lib.Dec.{eqb, ltb};
 ghost use lib.ListN.{length};
 ghost use Rattle.refusal.specs.Outcome.{refuse_if_};
 ghost use Rattle.refusal.specs.Rows.{outOfRange};
-ghost use Rattle.memory.specs.Pieces.{piece};
 ghost use Rattle.fields.specs.Lines.{chose, basic, lineOf, linesOf, rowOf, lastField, ending, bitsBefore};
 ghost use Rattle.fields.specs.Stored.{Sound};
-ghost use Rattle.fields.specs.Answers.{judgedSaid};
+ghost use Rattle.fields.specs.Answers.{judgedSaid, previousSaid};
 ghost use Rattle.coding.specs.Swift.{Told};
-ghost use Rattle.layout.specs.Pieces.{endCode};
-ghost use Rattle.packing.specs.Packed.{Fit};
-ghost use Rattle.build.specs.Build.{linePieces, unfit, endingTested};
-ghost use Rattle.build.specs.Lent.{valueLent, Long, fieldsLent};
-ghost use Rattle.build.specs.Listed.{Holds, Added, Adds};
-ghost use Rattle.build.specs.Planning.{Encodes, Quick, FieldsCoded, CodedTo, frontCodes};
+ghost use Rattle.build.specs.Build.{unfit, endingPieces, pairsLent, codesFor, pairCodes, tablePieces};
+ghost use Rattle.build.specs.Tested.{tested, pairAt, codesSaid, Encodes, Fitting, Fit, unpacked, valueLent, Long, fieldsLent, Quick, FieldsCoded, CodedTo, FieldsPlanned};
 
-// The bits of a field, and its code.
+// A field that is to be written: its bits and its code.
 pub struct CodedField {
     pub width: u64,
     pub code: u64,
 }
 
+// The bits that the fields of a sheet need with their block, or 9 or 10.
+pub enum Planned {
+    Bits(u64),
+    Refused(Refusal),
+}
+
 // The precision that the field behind those that are coded goes by, or 9 or 10.
 pub enum Coded {
     Next(u64),
+    Refused(Refusal),
+}
+
+// A field that is to be written, as a number that can be lent: its bits times this, and its code.
+pub const CODE_BITS: u64 = 32;
+
+pub const CODES: u64 = 0xffff_ffff;
+
+// The code 0 in one bit.
+pub const NO_CODE: u64 = 0x1_0000_0000;
+
+// The codes of a pair, or 10, 7 or 22.
+pub enum PairAnswer {
+    Are(Codes),
     Refused(Refusal),
 }
 
@@ -132,6 +148,14 @@ fn precision_behind(layout: Layout, field: u64, code: u64) -> u64
     layout.precision
 }
 
+// The number of a field.
+fn packed(width: u64, code: u64) -> u64
+    requires { ⌜ Fitting width code ⌝ }
+    ensures { λ r. ⌜ (r / 2 ^ 32 ≡ width) × (r % 2 ^ 32 ≡ code) ⌝ }
+{
+    (width << CODE_BITS) | code
+}
+
 // Field i + 1, behind i that are coded: its bits and its code go into `codes`.
 fn code_field(
     layout: Layout,
@@ -149,7 +173,7 @@ fn code_field(
     match code_at(layout, quick.code, sorts, wholes, singles, i) {
         Encoded::Refused(r) => Coded::Refused(r),
         Encoded::Code(code) => {
-            codes[i] = packing::packed(quick.width, code);
+            codes[i] = packed(quick.width, code);
             Coded::Next(precision_behind(layout, i as u64 + 1, code))
         }
     }
@@ -219,36 +243,33 @@ fn code_own(
     Coded::Next(precision)
 }
 
-// The bits of the fields of a layout.
+// The bits of the fields of a layout, with their block.
 fn field_bits(layout: Layout) -> u64
-    ensures { λ r. ⌜ r ≡ bitsBefore (linesOf (layout .template)) (layout .precision) (lastField (layout .template)) ⌝ }
+    ensures { λ r. ⌜ (r ≡ bitsBefore (linesOf (layout .template)) (layout .precision) (lastField (layout .template)) + 10) × (r < 2 ^ 16) ⌝ }
 {
     let template = layout.template;
-    fields::bits_before(layout, fields::last_field(template) + 1)
+    fields::bits_before(layout, fields::last_field(template) + 1) + 10
 }
 
-// 9 or 10, field by field, each by the precision before it; the fields are the first codes of the list.
-fn code_fields(
+// 9 or 10, field by field, each by the precision before it; the fields go into `codes`.
+pub fn plan_fields(
     template: Template,
     sorts: &[u8],
     wholes: &[i64],
     singles: &[f32],
     codes: &mut [u64],
 ) -> Planned
-    requires { ⌜ Long (now sorts) (now wholes) (now singles) × Fit (now codes) × (21 ≤ length (now codes)) × (length (now codes) ≤ 256) ⌝ }
-    ensures { λ r. ⌜ Adds (now (codes .entry)) 0 (linePieces (fieldsLent template (now (sorts .entry)) (now (wholes .entry)) (now (singles .entry))) (linesOf template) 0 1) (now (codes .exit)) r ⌝ }
+    requires { ⌜ Long (now sorts) (now wholes) (now singles) × Fit 21 (unpacked (now codes)) ⌝ }
+    ensures { λ r. ⌜ FieldsPlanned (fieldsLent template (now (sorts .entry)) (now (wholes .entry)) (now (singles .entry))) (unpacked (now (codes .exit))) r ⌝ }
 {
     match code_basic(template, sorts, wholes, singles, codes) {
         Coded::Refused(r) => Planned::Refused(r),
         Coded::Next(behind) => match code_own(template, behind, sorts, wholes, singles, codes) {
             Coded::Refused(r) => Planned::Refused(r),
-            Coded::Next(precision) => Planned::Are(Listed {
-                count: fields::last_field(template) as usize,
-                bits: field_bits(Layout {
-                    template,
-                    precision,
-                }),
-            }),
+            Coded::Next(precision) => Planned::Bits(field_bits(Layout {
+                template,
+                precision,
+            })),
         },
     }
 }
@@ -272,8 +293,8 @@ fn check_characters(field: u64, text: &[u8]) -> Judged
 }
 
 // The ending: 9 for text with end bit 0, then 10 for a character.
-fn check_ending(template: Template, end_bit: bool, text: &[u8]) -> Judged
-    ensures { λ r. ⌜ judgedSaid r ≡ endingTested (ending template) «end_bit» (now (text .entry)) ⌝ }
+pub fn check_ending(template: Template, end_bit: bool, text: &[u8]) -> Judged
+    ensures { λ r. ⌜ judgedSaid r ≡ tested (endingPieces (ending template) «end_bit» (now (text .entry))) ⌝ }
 {
     let field = fields::last_field(template) + 1;
     if end_bit {
@@ -285,33 +306,66 @@ fn check_ending(template: Template, end_bit: bool, text: &[u8]) -> Judged
     Judged::Stands
 }
 
-// The fields, then the tests of the ending.
-pub fn code_front(
-    template: Template,
-    end_bit: bool,
-    sorts: &[u8],
-    wholes: &[i64],
-    singles: &[f32],
-    text: &[u8],
-    codes: &mut [u64],
-) -> Planned
-    requires { ⌜ Long (now sorts) (now wholes) (now singles) × Fit (now codes) × (21 ≤ length (now codes)) × (length (now codes) ≤ 256) ⌝ }
-    ensures { λ r. ⌜ Adds (now (codes .entry)) 0 (frontCodes (fieldsLent template (now (sorts .entry)) (now (wholes .entry)) (now (singles .entry))) «end_bit» (now (text .entry))) (now (codes .exit)) r ⌝ }
+// The codes of pair i: 10 for the point, 10 for its deviation.
+pub fn code_pair(points: &[i64], i: usize) -> PairAnswer
+    requires { ⌜ 2 * i + 1 < length (now points) ⌝ }
+    ensures { λ r. ⌜ codesSaid r ≡ codesFor i (pairAt (now (points .entry)) i) ⌝ }
 {
-    match code_fields(template, sorts, wholes, singles, codes) {
-        Planned::Refused(r) => Planned::Refused(r),
-        Planned::Are(listed) => match check_ending(template, end_bit, text) {
-            Judged::Refused(r) => Planned::Refused(r),
-            Judged::Stands => Planned::Are(listed),
+    let at = 2 * i;
+    let place = i as u64;
+    match coding::encode_point(place, points[at]) {
+        Encoded::Refused(r) => PairAnswer::Refused(r),
+        Encoded::Code(point) => match coding::encode_deviation(place, points[at + 1]) {
+            Encoded::Refused(r) => PairAnswer::Refused(r),
+            Encoded::Code(deviation) => PairAnswer::Are(Codes {
+                point: point as u16,
+                deviation: deviation as u32,
+            }),
         },
     }
 }
 
-// Selector 3 and the end bit.
-pub fn code_ending(end_bit: bool, codes: &mut [u64], from: Listed) -> Listed
-    requires { ⌜ Holds (now codes) from × (from .count + 1 < length (now codes)) ⌝ }
-    ensures { λ r. ⌜ Added (now (codes .entry)) (from .count) (piece 2 3 ∷ piece 1 (endCode «end_bit») ∷ []) (now (codes .exit)) r ⌝ }
+// The same, then 7 where its point does not rise behind the pair before it, and 22 in domain 1 where its sum does not.
+fn check_pair(domain: Domain, before: Previous, points: &[i64], i: usize) -> PairAnswer
+    requires { ⌜ 2 * i + 1 < length (now points) ⌝ }
+    ensures { λ r. ⌜ codesSaid r ≡ pairCodes domain (previousSaid before) i (pairAt (now (points .entry)) i) ⌝ }
 {
-    let selector = put_code(codes, from, 2, 3);
-    put_code(codes, selector, 1, end_bit as u64)
+    match code_pair(points, i) {
+        PairAnswer::Refused(r) => PairAnswer::Refused(r),
+        PairAnswer::Are(codes) => match coding::follows(domain, before, i as u64, codes) {
+            Judged::Refused(r) => PairAnswer::Refused(r),
+            Judged::Stands => PairAnswer::Are(codes),
+        },
+    }
+}
+
+// 10, 7 and 22, pair by pair.
+pub fn check_points(domain: Domain, points: &[i64]) -> Judged
+    ensures { λ r. ⌜ judgedSaid r ≡ tested (tablePieces domain (pairsLent (now (points .entry)))) ⌝ }
+{
+    let n = points.len() / 2;
+    let mut before = Previous::Nothing;
+    let mut i: usize = 0;
+    while i < n {
+        match check_pair(domain, before, points, i) {
+            PairAnswer::Refused(r) => {
+                return Judged::Refused(r);
+            }
+            PairAnswer::Are(codes) => {
+                before = Previous::Pair(codes);
+            }
+        }
+        i += 1;
+    }
+    Judged::Stands
+}
+
+// Whether a points list is odd or over 254 long.
+pub fn is_wrong_list(n: usize) -> bool
+    ensures { λ r. ⌜ r ≡ (eqb (n % 2) 1 || ltb 254 n) ⌝ }
+{
+    if n % 2 == 1 {
+        return true;
+    }
+    254 < n
 }

@@ -19,9 +19,8 @@ use Rattle.fields.specs.declared.Value.the-variants.{Whole, Single, Missing}
 use Rattle.fields.specs.declared.Template.{Template}
 use Rattle.fields.specs.declared.Template.the-variants.{Bridge, Resistance}
 use Rattle.fields.specs.Lines.{numberOf}
-use Rattle.fields.specs.declared.Domain.the-variants.{Electrical}
 use Rattle.build.specs.Build.{slot}
-use Rattle.build.specs.Lent.{Spread, sheetLent}
+use Rattle.build.specs.Tested.{Spread, sheetLent}
 use Rattle.build.proofs.Spreading.{spread-sheet}
 use Rattle.layout.specs.Pieces.{endCode}
 use Rattle.dartelm.specs.declared.values.DartelmFields.{DartelmFields}
@@ -61,10 +60,9 @@ sheet-again s =
 
 -- The sheet record handed in is the one that its values are lent of.
 pub handed-sheet : (f : DartelmFields) {t : Template} {endBit : Bool} {sorts : List ℕ} {wholes : List ℤ} {singles : List Float} → t ≡ templateBy (f .«is_resistance») → endBit ≡ yes (f .«end_bit»)
-    → Spread (map slotOf (f .values)) sorts wholes singles →
-    sheetLent (record { template = t; «end_bit» = endBit; domain = Electrical }) (levelOf (f .level)) sorts wholes singles ≡ sheetOf f
+    → Spread (map slotOf (f .values)) sorts wholes singles → sheetLent t endBit (levelOf (f .level)) sorts wholes singles ≡ sheetOf f
 handed-sheet f {sorts = sorts} {wholes} {singles} e g s =
-    ap₂ (λ (x : Template) (b : Bool). sheetLent (record { template = x; «end_bit» = b; domain = Electrical }) (levelOf (f .level)) sorts wholes singles) e g ∙ spread-sheet (sheetOf f) Electrical s
+    ap₂ (λ (x : Template) (b : Bool). sheetLent x b (levelOf (f .level)) sorts wholes singles) e g ∙ spread-sheet (sheetOf f) s
 
 -- ---- kinds
 

@@ -57,11 +57,9 @@ use answers::DartelmSheetAnswer;
 use answers::DartelmTermAnswer;
 use answers::DartelmTextAnswer;
 use answers::DartelmWriteAnswer;
-use build::Options;
 use change::ProposalAnswer;
 use conformity::ConformityAnswer;
 use distance::DistanceAnswer;
-use fields::Domain;
 use reading::ReadingAnswer;
 use recordings::ComparedAnswer;
 use refusal::Written;
@@ -305,19 +303,16 @@ pub extern "C" fn dartelm_build(
     let mut wholes = [0i64; 21];
     let mut singles = [0.0f32; 21];
     values::spread(fields, &mut sorts, &mut wholes, &mut singles);
-    let options = Options {
-        template,
-        end_bit: values::is_yes(fields.end_bit),
-        domain: found,
-    };
     wrote(build::build_lent(
         kind,
         image,
-        options,
+        template,
+        values::is_yes(fields.end_bit),
         &sorts,
         &wholes,
         &singles,
         text,
+        found,
         points,
     ))
 }
@@ -340,12 +335,17 @@ pub extern "C" fn dartelm_build_curve(
     let mut wholes = [0i64; 21];
     let mut singles = [0.0f32; 21];
     values::spread(fields, &mut sorts, &mut wholes, &mut singles);
-    let options = Options {
+    wrote(build::build_curve_lent(
+        kind,
+        image,
         template,
-        end_bit: values::is_yes(fields.end_bit),
-        domain: Domain::Electrical,
-    };
-    wrote(build::build_curve_lent(kind, image, options, &sorts, &wholes, &singles, text, drawn))
+        values::is_yes(fields.end_bit),
+        &sorts,
+        &wholes,
+        &singles,
+        text,
+        drawn,
+    ))
 }
 
 // Changes one field, as a writer of a level.

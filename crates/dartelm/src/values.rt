@@ -2,7 +2,7 @@
 // not 0.
 ghost use mathlib.Core.Path.{_≡_};
 ghost use mathlib.Core.List.{map};
-ghost use Rattle.build.specs.Lent.{Long, Spread};
+ghost use Rattle.build.specs.Tested.{Long, Spread};
 ghost use Rattle.dartelm.specs.Values.{
   yes,
   levelOf,

@@ -7,7 +7,7 @@ use native.Mathlib.Omega.{arith}
 use lib.IntN.{ℤ, natAbs, _-ℤ_}
 use lib.ListN.{length, drop, length-drop}
 use Rattle.fields.specs.declared.Pair.{Pair}
-use Rattle.build.specs.Planning.{pairAt}
+use Rattle.build.specs.Tested.{pairAt}
 use Rattle.build.proofs.PairPlans.{pairs-length}
 use Rattle.build.proofs.PairTurns.{pairsFrom, pairs-left}
 use Rattle.line.specs.Certificate.{Neighbours, Slopes}

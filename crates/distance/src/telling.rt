@@ -10,7 +10,7 @@ ghost use Prim.Native.Nat.{max, _+_, _*_, _/_, _^_, _≤_, _<_};
 ghost use lib.IntN.{natAbs, _-ℤ_};
 ghost use lib.ListN.{length};
 ghost use Rattle.build.specs.Build.{pairsLent};
-ghost use Rattle.build.specs.Planning.{pairAt};
+ghost use Rattle.build.specs.Tested.{pairAt};
 ghost use Rattle.line.specs.Certificate.{Neighbours};
 ghost use Rattle.distance.specs.Distance.{ceiling, leastSlope, steepest as steepestOf, toldBy, distance as distanceOf, distanceSaid};
 ghost use Rattle.distance.specs.Steps.{Step};

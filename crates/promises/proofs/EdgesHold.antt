@@ -11,7 +11,7 @@ use Rattle.fields.specs.Figure.{floatFraction, physicalFigure}
 use Rattle.fields.specs.Singles.{outsideTwo, nanovolts}
 use Rattle.layout.specs.Contents.{fieldOf, fieldsOf, selectorOf, firstBlock, pairOf, pairsOf, tableOf, blockAt, calibrationOf, charactersOf, endingOf, sheetOf}
 use Rattle.layout.specs.Image.{contents}
-use Rattle.build.specs.Build.{codesFor, linePieces, fieldPieces, endingTested, pairCodes, pairPieces, tablePieces, plan, fitted, builtIn, buildWith}
+use Rattle.build.specs.Build.{codesFor, linePieces, fieldPieces, endingPieces, pairCodes, pairPieces, tablePieces, plan, builtIn, buildWith}
 use Rattle.change.specs.Change.{changeable, codeFor, rewritten, change, mayStand, mayCommit, commit}
 use Rattle.line.specs.Crossing.{crossing, crossingAfter, crossingBetween}
 use Rattle.line.specs.Line.{between, correctionAfter, correction, deviation, certificateLine}
@@ -27,7 +27,7 @@ unfolding encode decode nearest linePieces basic position deviation correction c
 edges = (refl, (refl, (refl, (refl, (refl, (date-789, (date-7306, (date-37314, (date-65534, (refl, (refl, (refl, (refl, (refl, tt))))))))))))))
 
 pub examples : Examples
-unfolding encode decode nearest geometricValue goesUp storedAt linePieces fieldPieces basic template33 template32 linesOf follows position deviation correction correctionAfter between crossing crossingAfter crossingBetween buildWith builtIn fitted plan endingTested pairCodes pairPieces codesFor tablePieces imageSizes imageOf changeable codeFor rewritten change mayStand mayCommit commit contents pageTest blankFrom sumsFrom streamOf fieldOf fieldsOf selectorOf firstBlock pairOf pairsOf tableOf blockAt calibrationOf charactersOf endingOf sheetOf outsideTwo nanovolts spanOf readingAt takeReading ofInt toBits ofBits nanBits ofFields round units odd span climb size neg
+unfolding encode decode nearest geometricValue goesUp storedAt linePieces fieldPieces basic template33 template32 linesOf follows position deviation correction correctionAfter between crossing crossingAfter crossingBetween buildWith builtIn plan endingPieces pairCodes pairPieces codesFor tablePieces imageSizes imageOf changeable codeFor rewritten change mayStand mayCommit commit contents pageTest blankFrom sumsFrom streamOf fieldOf fieldsOf selectorOf firstBlock pairOf pairsOf tableOf blockAt calibrationOf charactersOf endingOf sheetOf outsideTwo nanovolts spanOf readingAt takeReading ofInt toBits ofBits nanBits ofFields round units odd span climb size neg
 examples = (refl, (refl, (refl, (refl, (refl, (refl, (refl, (refl, (refl, (refl, (refl, (refl, (refl, (refl, (refl, (refl, (refl, (refl, (refl, (refl, (refl, (refl, tt))))))))))))))))))))))
 
 pub nearly-attained : NearlyAttained

@@ -8,9 +8,10 @@ use lib.Dec.{eqb, ltb, leb}
 use lib.IntN.{ℤ}
 use lib.ListN.{length, take, length-map}
 use borrow.Author.Tests.{ltb-false, le-ltb, lt-ltb, leb-true, leb-false, eqb-false, ne-eqb}
-use Rattle.refusal.specs.Outcome.{good}
-use Rattle.refusal.specs.Rows.{wrongList}
-use Rattle.refusal.proofs.Outcomes.{good-same, good-bind, good-then, neither, bind-good, then-good}
+use Rattle.refusal.specs.declared.Refusal.{Refusal}
+use Rattle.refusal.specs.Outcome.{good, refuse_if_}
+use Rattle.refusal.specs.Rows.{wrongSort, outOfRange, wrongList}
+use Rattle.refusal.proofs.Outcomes.{good-same, good-bind, good-then, passed, no-value, neither, bind-good}
 use Rattle.memory.specs.Pieces.{Piece, piece, needed}
 use Rattle.memory.proofs.PieceLaws.{needed-append}
 use Rattle.fields.specs.declared.Template.{Template}
@@ -27,9 +28,7 @@ use Rattle.layout.proofs.Endings.{Characters, zeroIf, text-needed, charactersFr
 use Rattle.layout.proofs.Sheets.{Formed, sheetPieces}
 use Rattle.sheet.specs.Check.{domainIn}
 use Rattle.build.specs.declared.Sheet.{Sheet}
-use Rattle.build.specs.Build.{lent, templateIn, linePieces, fieldPieces, unfit, endingTested, endingPieces, pairsLent, tablePieces, Table, listed, drawn, listTested, behindPieces, plan}
-use Rattle.build.proofs.EndingPlans.{strayText, ending-planned}
-use Rattle.build.proofs.Tests.{stands}
+use Rattle.build.specs.Build.{lent, templateIn, linePieces, fieldPieces, unfit, endingPieces, pairsLent, tablePieces, Table, listed, drawn, listTested, behindPieces, plan}
 use Rattle.promises.specs.Lent.{LendableTable}
 use Rattle.promises.specs.Again.{segmentsLent, keptPoints, keptDomain, keptSegments, keptTerms, InDomain}
 use Rattle.promises.proofs.PlannedFields.{KeptFrom, LentFrom, lines-stand, lines-again, kept-append, lent-split}
@@ -38,9 +37,20 @@ use Rattle.promises.proofs.PlannedCurve.{curve-stands, curve-again}
 
 -- ---- the ending
 
+fit-characters : (text : List ℕ) → unfit text ≡ false → Characters text
+fit-characters [] e = tt
+fit-characters (c ∷ text) e =
+    let (a, e1) = neither (eqb c 0 || ltb 127 c) (unfit text) e in
+    let (a0, a1) = neither (eqb c 0) (ltb 127 c) a in
+    (omega (arith, eqb-false c 0 a0), ltb-false 127 c a1, fit-characters text e1)
+
 characters-fit : (text : List ℕ) → Characters text → unfit text ≡ false
 characters-fit [] h = refl
 characters-fit (c ∷ text) h = rw (ne-eqb c 0 (λ e. omega arith), le-ltb 127 c (h .1)) (characters-fit text (h .2))
+
+-- Text with end bit 0: row 9.
+abbrev strayText : Bool → List ℕ → Bool
+strayText endBit text = not endBit && ltb 0 (length text)
 
 text-room : (S : ℕ) (endBit : Bool) (at : ℕ) (text : List ℕ) → strayText endBit text ≡ false → at + 7 * length text ≤ S →
     length text ≤ charactersFrom S endBit at
@@ -60,9 +70,12 @@ zero-room S true at n = go (leb (at + 7 * n + 7) S) refl
     go false e = le-ltb n ((S - at) / 7) (omega (arith, leb-false (at + 7 * n + 7) S e))
 zero-room S false at n = le-ltb n 0 (omega arith)
 
-tested-ending : (f : ℕ) (endBit : Bool) (text : List ℕ) → strayText endBit text ≡ false → Characters text → endingTested f endBit text ≡ good tt
-unfolding endingTested
-tested-ending f endBit text stray h = rw (stray, characters-fit text h)
+abbrev endLaid : Bool → List ℕ → List Piece
+endLaid endBit text = piece 2 3 ∷ piece 1 (endCode endBit) ∷ map (piece 7) text
+
+laid-ending : (f : ℕ) (endBit : Bool) (text : List ℕ) → strayText endBit text ≡ false → Characters text → endingPieces f endBit text ≡ good (endLaid endBit text)
+unfolding endingPieces
+laid-ending f endBit text stray h = rw (stray, characters-fit text h)
 
 -- ---- a plan in its parts
 
@@ -76,21 +89,22 @@ pub record PlanParts (sheet : Sheet) (text : List ℕ) (table : Table) (pieces :
   pub stray : strayText (sheet .«end_bit») text ≡ false
   pub characters : Characters text
   pub behindPlanned : behindPieces table ≡ good behind
-  pub joined : (basics ++ (blockPieces (numberOf (templateIn sheet)) ++ own)) ++ (behind ++ endingPieces (sheet .«end_bit») text) ≡ pieces
+  pub joined : (basics ++ (blockPieces (numberOf (templateIn sheet)) ++ own)) ++ (behind ++ endLaid (sheet .«end_bit») text) ≡ pieces
 
 pub plan-parts : (sheet : Sheet) (text : List ℕ) (table : Table) (pieces : List Piece) → plan sheet text table ≡ good pieces →
     PlanParts sheet text table pieces
-unfolding plan fieldPieces
+unfolding plan fieldPieces endingPieces
 plan-parts sheet text table pieces e =
     let f : ℕ = ending (templateIn sheet) in
     let b : Bool = sheet .«end_bit» in
     let (t, e0) = good-then (listTested table) _ pieces e in
     let (fs, e1, e2) = good-bind (fieldPieces sheet) _ pieces e0 in
-    let (e3, e4) = good-then (endingTested f b text) _ pieces e2 in
+    let (es, e3, e4) = good-bind (endingPieces f b text) _ pieces e2 in
     let (ts, e5, e6) = good-bind (behindPieces table) _ pieces e4 in
     let (bs, f1, f2) = good-bind (linePieces sheet basic 0 1) _ fs e1 in
     let (os, f3, f4) = good-bind (linePieces sheet (templateLines (templateIn sheet)) 0 (suc (length basic))) _ fs f2 in
-    let end = ending-planned f b text e3 in
+    let (s, g1) = passed (wrongSort f) (strayText b text) _ es e3 in
+    let (u, g2) = passed (outOfRange f) (unfit text) _ es g1 in
     record {
       basics = bs;
       own = os;
@@ -98,10 +112,10 @@ plan-parts sheet text table pieces e =
       tested = t;
       basicsPlanned = f1;
       ownPlanned = f3;
-      stray = end .stray;
-      characters = end .characters;
+      stray = s;
+      characters = fit-characters text u;
       behindPlanned = e5;
-      joined = ap (λ p. p ++ (ts ++ endingPieces b text)) (good-same f4) ∙ good-same e6;
+      joined = ap₂ (λ p q. p ++ (ts ++ q)) (good-same f4) (good-same g2) ∙ good-same e6;
     }
 
 pub half : (lentPoints : List ℤ) → 2 * length (pairsLent lentPoints) ≤ length lentPoints
@@ -110,6 +124,10 @@ half (a ∷ []) = omega arith
 half (a ∷ s ∷ lentPoints) = omega (arith, half lentPoints)
 
 -- ---- what stands behind the fields
+
+stands : (r : Refusal) (t : Bool) → (refuse r if t) ≡ good tt → t ≡ false
+stands r true e = no-value e
+stands r false e = refl
 
 few-lent : (domain : Domain) (lentPoints : List ℤ) → listTested (listed domain lentPoints) ≡ good tt → length lentPoints ≤ 254
 few-lent domain lentPoints e =
@@ -156,7 +174,7 @@ regroup bs block os ts cs zs n = simp append-assoc
 
 module _ (S number : ℕ) (endBit : Bool) (text : List ℕ) (bs os ts : List Piece) where
   abbrev laidDown : List Piece
-  laidDown = (bs ++ (blockPieces number ++ os)) ++ (ts ++ endingPieces endBit text)
+  laidDown = (bs ++ (blockPieces number ++ os)) ++ (ts ++ endLaid endBit text)
 
   abbrev endPlace : ℕ
   endPlace = needed bs + 10 + needed os + needed ts + 2
@@ -165,9 +183,9 @@ module _ (S number : ℕ) (endBit : Bool) (text : List ℕ) (bs os ts : List Pie
   laid-needed =
       omega (
         arith,
-        needed-append (bs ++ (blockPieces number ++ os)) (ts ++ endingPieces endBit text),
+        needed-append (bs ++ (blockPieces number ++ os)) (ts ++ endLaid endBit text),
         needed-append bs (blockPieces number ++ os),
-        needed-append ts (endingPieces endBit text),
+        needed-append ts (endLaid endBit text),
         text-needed text,
       )
 
@@ -208,8 +226,8 @@ plan-stands S sheet text table pieces real lendable e inside =
     let ts : List Piece = calibrationPieces (k .calibration) in
     let endAt : ℕ = behind + needed ts + 2 in
     let p : laidDown S (numberOf t) b text (map pieceOf (a .fields)) (map pieceOf (o .fields)) ts ≡ pieces =
-    ap₂ (λ q r. (q ++ (blockPieces (numberOf t) ++ map pieceOf (o .fields))) ++ (r ++ endingPieces b text)) (sym (a .pieces)) (sym (k .pieces))
-    ∙ ap (λ q. (d .basics ++ (blockPieces (numberOf t) ++ q)) ++ (d .behind ++ endingPieces b text)) (sym (o .pieces)) ∙ d .joined in
+    ap₂ (λ q r. (q ++ (blockPieces (numberOf t) ++ map pieceOf (o .fields))) ++ (r ++ endLaid b text)) (sym (a .pieces)) (sym (k .pieces))
+    ∙ ap (λ q. (d .basics ++ (blockPieces (numberOf t) ++ q)) ++ (d .behind ++ endLaid b text)) (sym (o .pieces)) ∙ d .joined in
     let n : endAt + 1 + 7 * length text ≡ needed pieces =
     laid-needed S (numberOf t) b text (map pieceOf (a .fields)) (map pieceOf (o .fields)) ts ∙ ap needed p in
     let first : suc (length basic) ≡ 1 + length (a .fields) = omega (arith, laid-length basic 0 0 (a .fields) (a .laid)) in
@@ -302,7 +320,7 @@ module _ {S : ℕ} {c : Contents} (h : Formed S c) (sheet : Sheet) (table : Tabl
   ts = calibrationPieces (c .calibration)
 
   abbrev pub again : List Piece
-  again = (bs ++ (blockPieces (numberOf (c .template)) ++ os)) ++ (ts ++ endingPieces (c .endBit) (c .text))
+  again = (bs ++ (blockPieces (numberOf (c .template)) ++ os)) ++ (ts ++ endLaid (c .endBit) (c .text))
 
   fields-again : fieldPieces sheet ≡ good (bs ++ (blockPieces (numberOf (c .template)) ++ os))
   unfolding fieldPieces
@@ -322,9 +340,8 @@ module _ {S : ℕ} {c : Contents} (h : Formed S c) (sheet : Sheet) (table : Tabl
       let stray = room-text S (c .endBit) (h .endAt + 1) (c .text) (h .ending .room) in
       rw (tested-again (h .behind) c (h .calibrated) table lentBehind)
       (bind-good _ fields-again
-      ∙ then-good _ (ap (λ b. endingTested (ending (templateIn sheet)) b (c .text)) sameEnd ∙ tested-ending (ending (templateIn sheet)) (c .endBit) (c .text) stray (h .ending .characters))
-      ∙ bind-good _ (behind-again (h .behind) c (h .calibrated) table lentBehind)
-      ∙ ap (λ b. good ((bs ++ (blockPieces (numberOf (c .template)) ++ os)) ++ (ts ++ endingPieces b (c .text)))) sameEnd)
+      ∙ bind-good _ (ap (λ b. endingPieces (ending (templateIn sheet)) b (c .text)) sameEnd ∙ laid-ending (ending (templateIn sheet)) (c .endBit) (c .text) stray (h .ending .characters))
+      ∙ bind-good _ (behind-again (h .behind) c (h .calibrated) table lentBehind))
 
   pub zero-behind : again ++ zeroIf (c .endBit && leb (needed again + 7) S) ≡ sheetPieces h
   zero-behind =

@@ -35,7 +35,7 @@ use Rattle.sheet.proofs.CurvePlaces.{curve-few}
 use Rattle.sheet.proofs.ReadLaws.{fields-are, accepted-reads}
 use Rattle.build.specs.declared.Slot.{Slot}
 use Rattle.build.specs.declared.Sheet.{Sheet}
-use Rattle.build.specs.Build.{slot, lent, templateIn, pairsLent, Table, listed, drawn, fitted, builtIn, buildWith}
+use Rattle.build.specs.Build.{slot, lent, templateIn, pairsLent, Table, listed, drawn, builtIn, buildWith}
 use Rattle.build.proofs.PairPlans.{pairs-length}
 use Rattle.promises.specs.Lent.{LendableTable}
 use Rattle.promises.specs.Again.{sheetRead, turns, tableOf, tableRead, segmentsLent, InDomain, TableReadOff, RebuiltSameBytes, RebuiltFromReads}
@@ -66,7 +66,7 @@ rebuilt : (kind : ℕ) (image buffer : List ℕ) (z : Sizes) (c : Contents) (she
     imageSizes kind (length image) ≡ good z → contents kind image ≡ good c → streamNumber z image < 2 ^ c .bits →
     LentFrom sheet 1 (c .fields) → templateIn sheet ≡ c .template → sheet .«end_bit» ≡ c .endBit → LentBehind table c →
     buildWith kind buffer sheet (c .text) table ≡ good image
-unfolding buildWith builtIn fitted
+unfolding buildWith builtIn
 rebuilt kind image buffer z c sheet table bytes long hz e zeros lents template end behind =
     let (summed, h) = accepted-at kind image c z e hz in
     let f = h .formed in

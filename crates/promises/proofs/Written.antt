@@ -27,7 +27,7 @@ use Rattle.layout.proofs.Places.{fields-count, fields-rows}
 use Rattle.layout.proofs.Accepted.{written-contents}
 use Rattle.build.specs.declared.Slot.{Slot}
 use Rattle.build.specs.declared.Sheet.{Sheet}
-use Rattle.build.specs.Build.{Table, plan, fitted, builtIn, buildWith}
+use Rattle.build.specs.Build.{Table, plan, builtIn, buildWith}
 use Rattle.promises.specs.Lent.{AllReal, Lendable, LendableTable}
 use Rattle.promises.specs.Again.{keptAll, SameSheet, WrittenAndReadAgain, ZeroEndsText}
 use Rattle.promises.proofs.PlannedFields.{KeptFrom, valueAt, Slots, slots-all, slot-first, slots-others}
@@ -45,7 +45,7 @@ zero-inside n S true h = go (leb (n + 7) S) refl
 
 -- ---- what was lent
 
-pub real-at : (slots : List Slot) → AllReal slots → (i : ℕ) → Real (valueAt slots i)
+real-at : (slots : List Slot) → AllReal slots → (i : ℕ) → Real (valueAt slots i)
 real-at [] h i = tt
 real-at (s ∷ slots) h zero = h .0
 real-at (s ∷ slots) h (suc i) = real-at slots (h .1) i
@@ -70,7 +70,7 @@ pub record Built (kind : ℕ) (buffer : List ℕ) (sheet : Sheet) (text : List �
 
 pub built : (kind : ℕ) (buffer : List ℕ) (sheet : Sheet) (text : List ℕ) (table : Table) (image : List ℕ) →
     buildWith kind buffer sheet text table ≡ good image → Built kind buffer sheet text table image
-unfolding buildWith builtIn fitted
+unfolding buildWith builtIn
 built kind buffer sheet text table image e =
     let (z, e1, e2) = good-bind (imageSizes kind (length buffer)) _ image e in
     let (pieces, e3, e4) = good-bind (plan sheet text table) _ image e2 in

@@ -18,7 +18,7 @@ returns c =
     let same = built .ensures (levelOf (a .fields .level)) in
     tells-written (a .image .now) _ (built .result) (c .wrote .ensures) (same .0) (same .1)
     (ap₂ (λ (s : Sheet) (d : Domain). build (a .kind) (a .image .now) s (a .text .now) d (a .points .now))
-    (handed-sheet (a .fields) (c .before .before .before .before .before .before .before .before .before .before .before .before .before .before .before .before .template-of .ensures) (c .before .before .before .before .before .before .before .before .is-yes .ensures) (c .before .before .before .before .before .before .before .before .before .before .before .before .spread .ensures))
+    (handed-sheet (a .fields) (c .before .before .before .before .before .before .before .before .before .before .before .before .before .before .before .before .template-of .ensures) (c .before .before .before .before .before .before .before .is-yes .ensures) (c .before .before .before .before .before .before .before .before .before .before .before .before .spread .ensures))
     (c .before .before .before .before .before .before .before .before .before .before .before .before .before .before .before .before .before .domain-of .ensures))
 
 pub dartelm-build-spec : {M : Type 1} → statement M

@@ -7,7 +7,7 @@ use Rattle.build.proofs.building.build.Tie as tie
 returns : tie.Need-returns
 returns c =
     let a = c .before .before .before .before .before .before .before .before .before .before .before .before .before .before .before .before .before .args in
-    rw (spread-sheet (a .sheet) (a .domain) (c .before .before .before .before .before .before .before .before .before .before .spread .ensures)) at (c .before .before .build-lent .ensures (a .sheet .level))
+    rw (spread-sheet (a .sheet) (c .before .before .before .before .before .before .before .before .before .before .spread .ensures)) at (c .before .before .build-lent .ensures (a .sheet .level))
 
 pub build-spec : {M : Type 1} → statement M
 build-spec =

@@ -1,6 +1,5 @@
 -- `building::build_curve` meets its contract.
 use borrow.Author.Needs.{needs}
-use Rattle.fields.specs.declared.Domain.the-variants.{Electrical}
 use Rattle.build.proofs.Spreading.{spread-sheet}
 use Rattle.build.proofs.building.build_curve.Statement.{statement}
 use Rattle.build.proofs.building.build_curve.Tie as tie
@@ -8,7 +7,7 @@ use Rattle.build.proofs.building.build_curve.Tie as tie
 returns : tie.Need-returns
 returns c =
     let a = c .before .before .before .before .before .before .before .before .before .before .before .before .before .before .before .before .before .args in
-    rw (spread-sheet (a .sheet) Electrical (c .before .before .before .before .before .before .before .before .before .before .spread .ensures)) at (c .before .before .build-curve-lent .ensures (a .sheet .level))
+    rw (spread-sheet (a .sheet) (c .before .before .before .before .before .before .before .before .before .before .spread .ensures)) at (c .before .before .build-curve-lent .ensures (a .sheet .level))
 
 pub build-curve-spec : {M : Type 1} → statement M
 build-curve-spec =

@@ -1,35 +1,74 @@
 -- `building::build_curve_in` meets its contract.
 use mathlib.Core.Path.{refl}
-use Prim.Native.Nat.{ℕ, _^_}
 use borrow.Author.Needs.{needs}
-use native.Mathlib.Omega.{arith}
-use lib.ListN.{length-replicate}
-use Rattle.fields.specs.declared.Level.the-variants.{Owner}
-use Rattle.packing.proofs.CodeLists.{fit-none}
-use Rattle.build.specs.Build.{curvePieces, drawn}
-use Rattle.build.proofs.Alikes.{alike}
-use Rattle.build.proofs.BuiltIn.{built, ready}
+use Rattle.refusal.proofs.WrittenLaws.{written-refused}
+use Rattle.build.specs.Build.{drawn}
+use Rattle.build.proofs.Tests.{turned-down, accepted}
+use Rattle.build.proofs.Coding.{packed-none}
+use Rattle.build.proofs.Lent.{planned-alike}
+use Rattle.build.proofs.CurveTurns.{curve-down, curve-good}
+use Rattle.build.proofs.BuiltIn.{fields-down, fields-good, text-fits, built-fields, built-ending, built-behind, built-fitted}
 use Rattle.build.proofs.building.build_curve_in.Statement.{statement}
 use Rattle.build.proofs.building.build_curve_in.Tie as tie
 
-finish-requires : tie.Need-finish-requires
-finish-requires c κs =
-    let s = c .before .before .before .before .before .before .before .before .before in
-    let a = s .args in
-    (s .pre .0, s .pre .1, ready (a .options) Owner (a .sorts .now) (a .wholes .now) (a .singles .now) (a .text .now) (drawn (a .curve)) (curvePieces (a .curve)) refl (alike (curvePieces (a .curve))) _ (c .before .before .before .code-curve-sheet .ensures))
-
 returns : tie.Need-returns
 returns c level =
-    let a = c .before .before .before .before .before .before .before .before .before .before .before .before .args in
-    rw (built (a .options) level (a .sorts .now) (a .wholes .now) (a .singles .now) (a .text .now) (drawn (a .curve)) (curvePieces (a .curve)) refl (alike (curvePieces (a .curve))) (a .sizes) _ (c .before .before .before .before .before .before .code-curve-sheet .ensures)) at (c .before .before .finish .ensures)
+    let a = c .before .before .before .before .before .before .before .before .before .before .before .before .before .before .args in
+    let planned = planned-alike (a .template) (a .end-bit) level (a .sorts .now) (a .wholes .now) (a .singles .now) (c .before .before .before .before .before .before .before .before .plan-fields .ensures) in
+    let fields = fields-good planned (c .before .before .before .before .before .bits .given .1) in
+    written-refused _ refl (built-ending (a .sizes) _ (a .text .now) (drawn (a .curve)) refl fields (turned-down _ (c .before .before .before .check-ending .ensures) (c .before .r2 .given .1)))
+
+returns-2 : tie.Need-returns-2
+returns-2 c level =
+    let a = c .before .before .before .before .before .before .before .before .before .before .before .before .before .before .before .before .before .args in
+    let planned = planned-alike (a .template) (a .end-bit) level (a .sorts .now) (a .wholes .now) (a .singles .now) (c .before .before .before .before .before .before .before .before .before .before .before .plan-fields .ensures) in
+    let fields = fields-good planned (c .before .before .before .before .before .before .before .before .bits .given .1) in
+    let ends = accepted _ (c .before .before .before .before .before .before .check-ending .ensures) (c .before .before .before .before .enum-told .given .1) in
+    written-refused _ refl (built-behind (a .sizes) _ (a .text .now) (drawn (a .curve)) refl fields ends (curve-down (c .before .before .before .plan-curve .ensures) (c .before .drawn .given .1)))
+
+finish-curve-requires : tie.Need-finish-curve-requires
+finish-curve-requires c κs =
+    let s = c .before .before .before .before .before .before .before .before .before .before .before .before .before .before .before .before .before .before in
+    let ends = accepted _ (c .before .before .before .before .before .before .before .check-ending .ensures) (c .before .before .before .before .before .enum-told .given .1) in
+    let curve = c .before .before .before .before .plan-curve .ensures in
+    let stands = c .before .before .enum-told2 .given .1 in
+    let plan = c .before .before .before .before .before .before .before .before .before .before .before .before .plan-fields .ensures in
+    let count = plan .count _ (c .before .before .before .before .before .before .before .before .before .bits .given .1) in
+    ((s .pre .0, s .pre .1), ((record { fit = plan .fit; characters = text-fits _ _ _ ends }, count .0, count .1), (curve .fit stands, curve .most, curve .count stands, curve .small)))
+
+returns-3 : tie.Need-returns-3
+returns-3 c level =
+    let a = c .before .before .before .before .before .before .before .before .before .before .args in
+    let planned = planned-alike (a .template) (a .end-bit) level (a .sorts .now) (a .wholes .now) (a .singles .now) (c .before .before .before .before .plan-fields .ensures) in
+    written-refused _ refl (built-fields (a .sizes) _ (a .text .now) (drawn (a .curve)) refl (fields-down planned (c .before .r .given .1)))
+
+returns-4 : tie.Need-returns-4
+returns-4 c level =
+    let a = c .before .before .before .before .before .before .before .before .before .before .before .before .before .before .before .before .before .before .before .before .before .args in
+    let planned = planned-alike (a .template) (a .end-bit) level (a .sorts .now) (a .wholes .now) (a .singles .now) (c .before .before .before .before .before .before .before .before .before .before .before .before .before .before .before .plan-fields .ensures) in
+    let fields = fields-good planned (c .before .before .before .before .before .before .before .before .before .before .before .before .bits .given .1) in
+    let ends = accepted _ (c .before .before .before .before .before .before .before .before .before .before .check-ending .ensures) (c .before .before .before .before .before .before .before .before .enum-told .given .1) in
+    let curve = curve-good (c .before .before .before .before .before .before .before .plan-curve .ensures) (c .before .before .before .before .before .enum-told2 .given .1) in
+    rw (built-fitted (a .sizes) _ (a .text .now) (drawn (a .curve)) refl fields ends curve) (c .before .before .finish-curve .ensures)
 
 pub build-curve-in-spec : {M : Type 1} → statement M
 build-curve-in-spec =
     tie.close
     (tie.spec
     (λ c. search needs)
-    (λ c κs. let blank : ℕ = 2 ^ 56 in (c .before .before .before .before .before .pre .2, (fit-none 127, omega (arith, length-replicate 127 blank), omega (arith, length-replicate 127 blank))))
+    (λ c κs. (c .before .before .before .before .before .pre .2, packed-none 21))
     (λ c. search needs)
-    finish-requires
-    (λ c. omega (arith, c .before .before .finish .kept))
-    returns)
+    (λ c. search needs)
+    (λ c κs. search needs)
+    (λ c. search needs)
+    returns
+    (λ c. search needs)
+    (λ c κs. search needs)
+    (λ c. search needs)
+    returns-2
+    (λ c. search needs)
+    (λ c. search needs)
+    finish-curve-requires
+    returns-3
+    (λ c. search needs)
+    returns-4)

@@ -1,74 +1,78 @@
 -- `building::build_in` meets its contract.
-use mathlib.Core.Path.{sym, ap, _∙_}
-use mathlib.Core.List.{[]}
-use Prim.Native.Nat.{ℕ, _^_}
+use mathlib.Core.Path.{refl, sym, ap, _∙_}
 use borrow.Author.Needs.{needs}
-use native.Mathlib.Omega.{arith}
-use lib.ListN.{length-replicate}
-use Rattle.refusal.specs.Outcome.{good}
 use Rattle.refusal.specs.declared.Written.the-variants.{Refused}
 use Rattle.refusal.proofs.WrittenLaws.{written-refused}
-use Rattle.fields.specs.declared.Level.the-variants.{Owner}
-use Rattle.packing.proofs.CodeLists.{fit-none}
-use Rattle.build.specs.Build.{pairsLent, listed}
-use Rattle.build.specs.Planning.{tableWords}
-use Rattle.build.proofs.BuiltIn.{list-wrong, list-right, few-points, built-list, built, ready}
-use Rattle.build.proofs.PairTurns.{table-alike, none-alike}
+use Rattle.build.specs.Build.{listed}
+use Rattle.build.proofs.Tests.{turned-down, accepted}
+use Rattle.build.proofs.Coding.{packed-none}
+use Rattle.build.proofs.Lent.{planned-alike}
+use Rattle.build.proofs.BuiltIn.{list-wrong, list-right, few-points, fields-down, fields-good, text-fits, built-list, built-fields, built-ending, built-behind, built-fitted}
 use Rattle.build.proofs.building.build_in.Statement.{statement}
 use Rattle.build.proofs.building.build_in.Tie as tie
 
 returns : tie.Need-returns
 returns c level =
     let a = c .before .before .before .before .before .before .before .args in
-    let wrong = list-wrong (a .options .domain) (a .points .now) (sym (c .before .before .is-wrong-list .ensures) ∙ c .before .if1 .taken) in
-    written-refused _ (ap Refused (c .wrong-list .ensures)) (built-list (a .sizes) _ (a .text .now) (listed (a .options .domain) (a .points .now)) wrong)
-
--- The list has room: without points, and with them.
-code-plain-sheet-requires : tie.Need-code-plain-sheet-requires
-code-plain-sheet-requires c κs = let blank : ℕ = 2 ^ 56 in (c .before .before .before .before .before .before .before .before .pre .2, (fit-none 23, omega (arith, length-replicate 23 blank), omega (arith, length-replicate 23 blank)))
-
-code-sheet-requires : tie.Need-code-sheet-requires
-code-sheet-requires c κs =
-    let s = c .before .before .before .before .before .before .before .before in
-    let blank : ℕ = 2 ^ 56 in
-    let few = few-points (s .args .points .now) (sym (c .before .before .before .is-wrong-list .ensures) ∙ c .before .before .if1 .left) in
-    ((s .pre .2, few), (fit-none 154, omega (arith, length-replicate 154 blank, few), omega (arith, length-replicate 154 blank)))
-
-finish-requires : tie.Need-finish-requires
-finish-requires c κs =
-    let s = c .before .before .before .before .before .before .before .before .before .before .before .before in
-    let a = s .args in
-    let d = a .options .domain in
-    let p = a .points .now in
-    let right = list-right d p (sym (c .before .before .before .before .before .before .before .is-wrong-list .ensures) ∙ c .before .before .before .before .before .before .if1 .left) in
-    (s .pre .0, s .pre .1, ready (a .options) Owner (a .sorts .now) (a .wholes .now) (a .singles .now) (a .text .now) (listed d p) (good []) right (none-alike d p (omega (arith, c .before .before .before .before .before .if2 .taken))) _ (c .before .before .before .code-plain-sheet .ensures))
-
-finish-requires-2 : tie.Need-finish-requires-2
-finish-requires-2 c κs =
-    let s = c .before .before .before .before .before .before .before .before .before .before .before .before in
-    let a = s .args in
-    let d = a .options .domain in
-    let p = a .points .now in
-    let right = list-right d p (sym (c .before .before .before .before .before .before .before .is-wrong-list .ensures) ∙ c .before .before .before .before .before .before .if1 .left) in
-    (s .pre .0, s .pre .1, ready (a .options) Owner (a .sorts .now) (a .wholes .now) (a .singles .now) (a .text .now) (listed d p) (tableWords d (pairsLent p)) right (table-alike d (pairsLent p)) _ (c .before .before .before .code-sheet .ensures))
+    let wrong = list-wrong (a .domain) (a .points .now) (sym (c .before .before .is-wrong-list .ensures) ∙ c .before .if1 .taken) in
+    written-refused _ (ap Refused (c .wrong-list .ensures)) (built-list (a .sizes) _ (a .text .now) (listed (a .domain) (a .points .now)) wrong)
 
 returns-2 : tie.Need-returns-2
 returns-2 c level =
-    let s = c .before .before .before .before .before .before .before .before .before .before .before .before .before .before .before in
+    let s = c .before .before .before .before .before .before .before .before .before .before .before .before .before .before .before .before in
     let a = s .args in
-    let d = a .options .domain in
-    let p = a .points .now in
-    let right = list-right d p (sym (c .before .before .before .before .before .before .before .before .before .before .is-wrong-list .ensures) ∙ c .before .before .before .before .before .before .before .before .before .if1 .left) in
-    rw (built (a .options) level (a .sorts .now) (a .wholes .now) (a .singles .now) (a .text .now) (listed d p) (good []) right (none-alike d p (omega (arith, c .before .before .before .before .before .before .before .before .if2 .taken))) (a .sizes) _ (c .before .before .before .before .before .before .code-plain-sheet .ensures)) at (c .before .before .finish .ensures)
+    let t = listed (a .domain) (a .points .now) in
+    let length = sym (c .before .before .before .before .before .before .before .before .before .before .before .is-wrong-list .ensures) ∙ c .before .before .before .before .before .before .before .before .before .before .if1 .left in
+    let right = list-right (a .domain) (a .points .now) length in
+    let planned = planned-alike (a .template) (a .end-bit) level (a .sorts .now) (a .wholes .now) (a .singles .now) (c .before .before .before .before .before .before .before .before .plan-fields .ensures) in
+    let fields = fields-good planned (c .before .before .before .before .before .bits .given .1) in
+    written-refused _ refl (built-ending (a .sizes) _ (a .text .now) t right fields (turned-down _ (c .before .before .before .check-ending .ensures) (c .before .r2 .given .1)))
 
 returns-3 : tie.Need-returns-3
 returns-3 c level =
-    let s = c .before .before .before .before .before .before .before .before .before .before .before .before .before .before .before in
+    let s = c .before .before .before .before .before .before .before .before .before .before .before .before .before .before .before .before .before .before .before in
     let a = s .args in
-    let d = a .options .domain in
-    let p = a .points .now in
-    let right = list-right d p (sym (c .before .before .before .before .before .before .before .before .before .before .is-wrong-list .ensures) ∙ c .before .before .before .before .before .before .before .before .before .if1 .left) in
-    rw (built (a .options) level (a .sorts .now) (a .wholes .now) (a .singles .now) (a .text .now) (listed d p) (tableWords d (pairsLent p)) right (table-alike d (pairsLent p)) (a .sizes) _ (c .before .before .before .before .before .before .code-sheet .ensures)) at (c .before .before .finish2 .ensures)
+    let t = listed (a .domain) (a .points .now) in
+    let length = sym (c .before .before .before .before .before .before .before .before .before .before .before .before .before .before .is-wrong-list .ensures) ∙ c .before .before .before .before .before .before .before .before .before .before .before .before .before .if1 .left in
+    let right = list-right (a .domain) (a .points .now) length in
+    let planned = planned-alike (a .template) (a .end-bit) level (a .sorts .now) (a .wholes .now) (a .singles .now) (c .before .before .before .before .before .before .before .before .before .before .before .plan-fields .ensures) in
+    let fields = fields-good planned (c .before .before .before .before .before .before .before .before .bits .given .1) in
+    let ends = accepted _ (c .before .before .before .before .before .before .check-ending .ensures) (c .before .before .before .before .enum-told .given .1) in
+    written-refused _ refl (built-behind (a .sizes) _ (a .text .now) t right fields ends (turned-down _ (c .before .before .before .check-points .ensures) (c .before .r3 .given .1)))
+
+finish-table-requires : tie.Need-finish-table-requires
+finish-table-requires c κs =
+    let s = c .before .before .before .before .before .before .before .before .before .before .before .before .before .before .before .before .before .before .before .before in
+    let a = s .args in
+    let length = sym (c .before .before .before .before .before .before .before .before .before .before .before .before .before .before .before .is-wrong-list .ensures) ∙ c .before .before .before .before .before .before .before .before .before .before .before .before .before .before .if1 .left in
+    let ends = accepted _ (c .before .before .before .before .before .before .before .check-ending .ensures) (c .before .before .before .before .before .enum-told .given .1) in
+    let table = accepted _ (c .before .before .before .before .check-points .ensures) (c .before .before .enum-told2 .given .1) in
+    let plan = c .before .before .before .before .before .before .before .before .before .before .before .before .plan-fields .ensures in
+    let count = plan .count _ (c .before .before .before .before .before .before .before .before .before .bits .given .1) in
+    ((s .pre .0, s .pre .1), ((record { fit = plan .fit; characters = text-fits _ _ _ ends }, count .0, count .1), (table, few-points (a .points .now) length)))
+
+returns-4 : tie.Need-returns-4
+returns-4 c level =
+    let s = c .before .before .before .before .before .before .before .before .before .before .before .before in
+    let a = s .args in
+    let t = listed (a .domain) (a .points .now) in
+    let length = sym (c .before .before .before .before .before .before .before .is-wrong-list .ensures) ∙ c .before .before .before .before .before .before .if1 .left in
+    let right = list-right (a .domain) (a .points .now) length in
+    let planned = planned-alike (a .template) (a .end-bit) level (a .sorts .now) (a .wholes .now) (a .singles .now) (c .before .before .before .before .plan-fields .ensures) in
+    written-refused _ refl (built-fields (a .sizes) _ (a .text .now) t right (fields-down planned (c .before .r .given .1)))
+
+returns-5 : tie.Need-returns-5
+returns-5 c level =
+    let s = c .before .before .before .before .before .before .before .before .before .before .before .before .before .before .before .before .before .before .before .before .before .before .before in
+    let a = s .args in
+    let t = listed (a .domain) (a .points .now) in
+    let length = sym (c .before .before .before .before .before .before .before .before .before .before .before .before .before .before .before .before .before .before .is-wrong-list .ensures) ∙ c .before .before .before .before .before .before .before .before .before .before .before .before .before .before .before .before .before .if1 .left in
+    let right = list-right (a .domain) (a .points .now) length in
+    let planned = planned-alike (a .template) (a .end-bit) level (a .sorts .now) (a .wholes .now) (a .singles .now) (c .before .before .before .before .before .before .before .before .before .before .before .before .before .before .before .plan-fields .ensures) in
+    let fields = fields-good planned (c .before .before .before .before .before .before .before .before .before .before .before .before .bits .given .1) in
+    let ends = accepted _ (c .before .before .before .before .before .before .before .before .before .before .check-ending .ensures) (c .before .before .before .before .before .before .before .before .enum-told .given .1) in
+    let table = accepted _ (c .before .before .before .before .before .before .before .check-points .ensures) (c .before .before .before .before .before .enum-told2 .given .1) in
+    rw (built-fitted (a .sizes) _ (a .text .now) t right fields ends table) (c .before .before .finish-table .ensures)
 
 pub build-in-spec : {M : Type 1} → statement M
 build-in-spec =
@@ -78,14 +82,19 @@ build-in-spec =
     (λ c κs. search needs)
     returns
     (λ c. search needs)
-    code-plain-sheet-requires
+    (λ c κs. (c .before .before .before .before .before .before .before .pre .2, packed-none 21))
     (λ c. search needs)
-    finish-requires
-    (λ c. omega (arith, c .before .before .finish .kept))
+    (λ c. search needs)
+    (λ c κs. search needs)
+    (λ c. search needs)
     returns-2
     (λ c. search needs)
-    code-sheet-requires
+    (λ c κs. search needs)
     (λ c. search needs)
-    finish-requires-2
-    (λ c. omega (arith, c .before .before .finish2 .kept))
-    returns-3)
+    returns-3
+    (λ c. search needs)
+    (λ c. search needs)
+    finish-table-requires
+    returns-4
+    (λ c. search needs)
+    returns-5)

@@ -5,7 +5,7 @@ use native.Mathlib.Omega.{arith}
 use borrow.Author.Needs.{needs}
 use Rattle.fields.specs.Lines.{rowOf}
 use Rattle.fields.proofs.TemplateFacts.{last-most}
-use Rattle.build.specs.Planning.{Encodes}
+use Rattle.build.specs.Tested.{Encodes}
 use Rattle.build.proofs.Coding.{quick-encodes}
 use Rattle.build.proofs.plan.code_at.Statement.{statement}
 use Rattle.build.proofs.plan.code_at.Tie as tie

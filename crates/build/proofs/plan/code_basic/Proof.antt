@@ -1,17 +1,16 @@
 -- `plan::code_basic` meets its contract.
-use mathlib.Core.Path.{_≡_, refl}
 use Prim.Native.Nat.{_≤_, _-_}
 use native.Mathlib.Omega.{arith}
 use borrow.Author.Needs.{needs}
 use lib.ListN.{length}
 use Rattle.fields.specs.Lines.{basic}
-use Rattle.build.specs.Planning.{FieldsCoded}
-use Rattle.build.proofs.Coding.{basic-fewer, quick-asked, quick-here, coded-up, stopped}
+use Rattle.build.specs.Tested.{FieldsCoded}
+use Rattle.build.proofs.Coding.{basic-fewer, quick-asked, quick-here, coded-next, coded-same, coded-up, stopped}
 use Rattle.build.proofs.plan.code_basic.Statement.{statement}
 use Rattle.build.proofs.plan.code_basic.Tie as tie
 
 abbrev Inv-loop : tie.InvT-loop
-Inv-loop template sorts wholes singles codes₀ end precision₀ i₀ codes precision i = (i ≤ length basic) × (length codes ≡ length codes₀) × FieldsCoded template sorts wholes singles codes precision i
+Inv-loop template sorts wholes singles codes₀ end precision₀ i₀ codes precision i = (i ≤ length basic) × FieldsCoded template sorts wholes singles codes precision i
 
 abbrev μ-loop : tie.MeasureT-loop
 μ-loop template sorts wholes singles codes₀ end precision₀ i₀ codes precision i = end - i
@@ -20,16 +19,16 @@ quick-code-requires : tie.Need-quick-code-requires Inv-loop μ-loop
 quick-code-requires c κs =
     let t = c .before .before .before .before .before .before .before .args .template in
     let l = c .before .before .loop in
-    quick-asked (record { template = t; precision = l .precision }) (c .basic-row .ensures _) (l .inv .2 .long) (omega (arith, c .before .loop-test .taken, c .before .before .before .basic-fields .ensures, basic-fewer t))
+    quick-asked (record { template = t; precision = l .precision }) (c .basic-row .ensures _) (l .inv .1 .long) (omega (arith, c .before .loop-test .taken, c .before .before .before .basic-fields .ensures, basic-fewer t))
 
 code-field-requires : tie.Need-code-field-requires Inv-loop μ-loop
 code-field-requires c κs =
     let t = c .before .before .before .before .before .before .before .before .before .args .template in
     let l = c .before .before .before .before .loop in
-    ((l .inv .2, omega (arith, c .before .before .before .loop-test .taken, c .before .before .before .before .before .basic-fields .ensures, basic-fewer t)), quick-here (record { template = t; precision = l .precision }) (c .before .before .basic-row .ensures _) (c .before .quick-code .ensures))
+    ((l .inv .1, omega (arith, c .before .before .before .loop-test .taken, c .before .before .before .before .before .basic-fields .ensures, basic-fewer t)), quick-here (record { template = t; precision = l .precision }) (c .before .before .basic-row .ensures _) (c .before .quick-code .ensures))
 
 loop-again : tie.Need-loop-again Inv-loop μ-loop
-loop-again c = (omega (arith, c .before .before .before .before .before .before .before .before .before .loop-test .taken, c .before .before .before .before .before .before .before .before .before .before .before .basic-fields .ensures), omega (arith, c .before .before .before .before .before .code-field .kept, c .before .before .before .before .before .before .before .before .before .before .loop .inv .1), c .before .before .before .before .before .code-field .ensures .done _ (c .before .next .given .1))
+loop-again c = (omega (arith, c .before .before .before .before .before .before .before .before .before .loop-test .taken, c .before .before .before .before .before .before .before .before .before .before .before .basic-fields .ensures), c .before .before .before .before .before .code-field .ensures .done _ (c .before .next .given .1))
 
 pub code-basic-spec : {M : Type 1} → statement M
 code-basic-spec =
@@ -38,17 +37,17 @@ code-basic-spec =
     Inv-loop
     μ-loop
     (λ c κs. search needs)
-    (λ c. (omega arith, refl, c .before .before .before .before .pre))
+    (λ c. (omega arith, c .before .before .before .before .pre))
     (λ c. omega arith)
     (λ c κs. (omega arith, omega (arith, c .loop-test .taken, c .before .before .basic-fields .ensures)))
     quick-code-requires
     code-field-requires
     (λ c. search needs)
-    (λ c. omega (arith, c .before .before .before .before .before .code-field .kept, c .before .before .before .before .before .before .before .before .before .before .loop .inv .1))
+    (λ c. coded-same (c .before .before .before .before .before .code-field .ensures) (c .before .before .before .before .before .before .before .before .before .before .before .before .before .before .before .pre))
     (λ c. stopped (c .before .before .before .before .before .code-field .ensures) (c .before .r .given .1))
     (λ c. search needs)
     (λ c. omega arith)
     (λ c. omega arith)
     loop-again
-    (λ c. c .before .loop .inv .1)
-    (λ c. let l = c .before .loop in coded-up (l .inv .2) (omega (arith, c .loop-test .left, c .before .before .basic-fields .ensures)) (l .inv .0)))
+    (λ c. coded-same (coded-next (c .before .loop .inv .1)) (c .before .before .before .before .before .before .pre))
+    (λ c. let l = c .before .loop in coded-up (l .inv .1) (omega (arith, c .loop-test .left, c .before .before .basic-fields .ensures)) (l .inv .0)))

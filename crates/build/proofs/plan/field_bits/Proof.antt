@@ -5,6 +5,7 @@ use native.Mathlib.Omega.{arith}
 use borrow.Author.Needs.{needs}
 use Rattle.fields.specs.Lines.{linesOf, lastField, bitsBefore}
 use Rattle.fields.proofs.TemplateFacts.{last-most}
+use Rattle.build.proofs.Coding.{bits-small}
 use Rattle.build.proofs.plan.field_bits.Statement.{statement}
 use Rattle.build.proofs.plan.field_bits.Tie as tie
 
@@ -12,7 +13,8 @@ returns : tie.Need-returns
 returns c =
     let l = c .before .before .args .layout in
     let last : c .before .last-field .result + 1 - 1 ≡ lastField (l .template) = omega (arith, c .before .last-field .ensures) in
-    c .bits-before .ensures ∙ ap (bitsBefore (linesOf (l .template)) (l .precision)) last
+    let all = c .bits-before .ensures ∙ ap (bitsBefore (linesOf (l .template)) (l .precision)) last in
+    (omega (arith, all), omega (arith, all, bits-small (l .template) (l .precision)))
 
 pub field-bits-spec : {M : Type 1} → statement M
 field-bits-spec =
@@ -21,4 +23,5 @@ field-bits-spec =
     (λ c κs. search needs)
     (λ c. omega (arith, c .last-field .ensures, last-most (c .before .args .layout .template)))
     (λ c κs. omega (arith, c .last-field .ensures))
+    (λ c. omega (arith, returns c .1))
     returns)

@@ -8,7 +8,7 @@ use lib.IntN.{ℤ, pos}
 use lib.Ieee.{nan}
 use lib.ListN.{getD}
 use Rattle.fields.specs.declared.Value.the-variants.{Whole}
-use Rattle.build.specs.Lent.{bySort}
+use Rattle.build.specs.Tested.{bySort}
 use Rattle.build.proofs.Lent.{by-other, sorted-at}
 use Rattle.build.proofs.plan.value_at.Statement.{statement}
 use Rattle.build.proofs.plan.value_at.Tie as tie

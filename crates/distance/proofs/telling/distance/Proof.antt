@@ -1,11 +1,10 @@
 -- `telling::distance` meets its contract.
 use mathlib.Core.Path.{_≡_, sym, _∙_}
-use mathlib.Core.List.{List}
 use borrow.Author.Needs.{needs}
 use Rattle.refusal.specs.Outcome.{good}
-use Rattle.memory.specs.Pieces.{Piece}
 use Rattle.fields.specs.declared.Domain.the-variants.{Electrical}
 use Rattle.build.specs.Build.{pairsLent, tablePieces}
+use Rattle.build.specs.Tested.{piecesOf}
 use Rattle.build.proofs.Tests.{turned-down, accepted}
 use Rattle.distance.proofs.Accepted.{table-steps, distance-list, distance-refused, distance-told}
 use Rattle.distance.proofs.telling.distance.Statement.{statement}
@@ -13,7 +12,8 @@ use Rattle.distance.proofs.telling.distance.Tie as tie
 
 -- The table of a list that stands.
 table : (c : tie.After-enum-told) →
-    (ps : List Piece) × (tablePieces Electrical (pairsLent (c .before .before .before .before .before .args .points .now)) ≡ good ps)
+    let t = tablePieces Electrical (pairsLent (c .before .before .before .before .before .args .points .now)) in
+    t ≡ good (piecesOf t)
 table c = accepted _ (c .before .before .check-points .ensures) (c .enum-told .given .1)
 
 returns : tie.Need-returns
@@ -32,7 +32,7 @@ returns-3 c =
     let s = c .before in
     let k = s .before .before .before in
     let w = k .before .before in
-    cc (c .told .ensures, s .steepest .ensures .0, distance-told (w .before .args .points .now) (sym (w .is-wrong-list .ensures) ∙ k .before .if1 .left) (table (s .before) .1))
+    cc (c .told .ensures, s .steepest .ensures .0, distance-told (w .before .args .points .now) (sym (w .is-wrong-list .ensures) ∙ k .before .if1 .left) (table (s .before)))
 
 pub distance-spec : {M : Type 1} → statement M
 distance-spec =
@@ -44,7 +44,7 @@ distance-spec =
     (λ c κs. search needs)
     (λ c. search needs)
     (λ c. search needs)
-    (λ c κs. table-steps Electrical (pairsLent (c .before .before .before .before .before .args .points .now)) _ (table c .1))
+    (λ c κs. table-steps Electrical (pairsLent (c .before .before .before .before .before .args .points .now)) _ (table c))
     (λ c κs. c .steepest .ensures .1)
     returns-2
     returns-3)

@@ -5,7 +5,7 @@ use borrow.Author.Needs.{needs}
 use native.Mathlib.Omega.{arith}
 use lib.IntN.{pos, natAbs, _-ℤ_}
 use lib.ListN.{getD}
-use Rattle.build.specs.Planning.{pairAt}
+use Rattle.build.specs.Tested.{pairAt}
 use Rattle.distance.proofs.Apart.{seen}
 use Rattle.distance.proofs.telling.slope_at.Statement.{statement}
 use Rattle.distance.proofs.telling.slope_at.Tie as tie

@@ -1,0 +1,14 @@
+-- `building::table_bits` meets its contract.
+use borrow.Author.Needs.{needs}
+use Rattle.build.proofs.BuiltIn.{table-more}
+use Rattle.build.proofs.building.table_bits.Statement.{statement}
+use Rattle.build.proofs.building.table_bits.Tie as tie
+
+pub table-bits-spec : {M : Type 1} → statement M
+table-bits-spec =
+    tie.close
+    (tie.spec
+    (λ c. search needs)
+    (λ c. search needs)
+    (λ c. search needs)
+    (λ c. table-more _ (c .if1 .left)))

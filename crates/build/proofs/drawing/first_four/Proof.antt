@@ -1,0 +1,13 @@
+-- `drawing::first_four` meets its contract.
+use mathlib.Core.Path.{refl}
+use borrow.Author.Needs.{needs}
+use Rattle.build.specs.Tested.{firstFour}
+use Rattle.build.proofs.drawing.first_four.Statement.{statement}
+use Rattle.build.proofs.drawing.first_four.Tie as tie
+
+returns : tie.Need-returns
+unfolding firstFour
+returns c = refl
+
+pub first-four-spec : {M : Type 1} → statement M
+first-four-spec = tie.close (tie.spec (λ c. search needs) (λ c. search needs) (λ c. search needs) returns)

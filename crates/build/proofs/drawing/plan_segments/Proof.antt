@@ -1,0 +1,142 @@
+-- `drawing::plan_segments` meets its contract.
+use mathlib.Core.Path.{_≡_, sym}
+use mathlib.Core.Option.{none}
+use Prim.Native.Nat.{_-_, _≤_}
+use borrow.Author.Needs.{needs}
+use native.Mathlib.Omega.{arith}
+use lib.ListN.{length, length-map}
+use Rattle.refusal.proofs.Outcomes.{told}
+use Rattle.fields.specs.Curves.{tenthsBefore}
+use Rattle.fields.specs.Answers.{earlierSaid}
+use Rattle.build.specs.Tested.{twoSaid}
+use Rattle.build.proofs.SegmentPlans.{segment-few}
+use Rattle.build.proofs.CurveTurns.{few-segments, CurveDone, done-none, done-own, own-begun, own-open, own-closed, segment-down, segment-turn, term-down, term-turn, done-all}
+use Rattle.build.proofs.drawing.plan_segments.Statement.{statement}
+use Rattle.build.proofs.drawing.plan_segments.Tie as tie
+
+abbrev Inv-loop2 : tie.InvT-loop2
+Inv-loop2 count segments terms codes₀ before total₀ i at end last₀ codes total last =
+    (count ≤ 20) × (length segments ≡ 20) × (length terms ≡ 30) × (total ≤ end) × CurveDone count segments terms codes (earlierSaid before) (tenthsBefore (earlierSaid last)) i total (end - total)
+
+abbrev μ-loop2 : tie.MeasureT-loop2
+μ-loop2 count segments terms codes₀ before total₀ i at end last₀ codes total last = end - total
+
+abbrev Inv-loop : tie.InvT-loop
+Inv-loop count segments terms codes₀ before₀ total₀ i₀ codes before total i =
+    (count ≤ 20) × (length segments ≡ 20) × (length terms ≡ 30) × CurveDone count segments terms codes (earlierSaid before) none i total 0
+
+abbrev μ-loop : tie.MeasureT-loop
+μ-loop count segments terms codes₀ before₀ total₀ i₀ codes before total i = count - i
+
+loop-holds : tie.Need-loop-holds Inv-loop2 μ-loop2 Inv-loop μ-loop
+loop-holds c =
+    let s = c .before .before .before in
+    let curve = s .args .curve in
+    (few-segments (curve .count) (s .pre) .1, simp length-map at (s .good .0 .1 .1 .1 .0 .1 .0 .1), simp length-map at (s .good .0 .1 .1 .1 .1 .0 .1 .0 .1), rw (c .first-four .ensures) (done-none (curve .count) (curve .segments) (curve .terms) (s .pre)))
+
+-- A segment turned down, and the next.
+returns : tie.Need-returns Inv-loop2 μ-loop2 Inv-loop μ-loop
+returns c =
+    let curve = c .before .before .before .before .before .before .before .before .before .before .before .args .curve in
+    let l = c .before .before .before .before .before .before .before .loop in
+    rw (c .no-curve .ensures)
+    (segment-down (curve .count) (curve .segments) (curve .terms) (l .inv .1) (l .inv .0) (l .inv .3) (c .before .before .before .before .before .before .loop-test .taken) _ (sym (told twoSaid (c .before .before .r .given .1) (c .before .before .before .before .code-segment .ensures .said))))
+
+add-end : tie.Need-add-end Inv-loop2 μ-loop2 Inv-loop μ-loop
+add-end c = omega (arith, segment-few _ _ _ _ (sym (told twoSaid (c .before .first .given .1) (c .before .before .before .code-segment .ensures .said))))
+
+loop2-holds : tie.Need-loop2-holds Inv-loop2 μ-loop2 Inv-loop μ-loop
+loop2-holds c =
+    let curve = c .before .before .before .before .before .before .before .before .before .before .args .curve in
+    let l = c .before .before .before .before .before .before .loop in
+    let e = c .before .first .given .1 in
+    let two = c .before .before .before .code-segment .ensures in
+    let fits = two .fits _ _ e in
+    (l .inv .0, l .inv .1, l .inv .2, omega arith, own-begun (curve .count) (curve .segments) (curve .terms) (segment-turn (curve .count) (curve .segments) (curve .terms) (l .inv .1) (l .inv .0) (l .inv .3) (c .before .before .before .before .before .loop-test .taken) _ _ _ (sym (told twoSaid e (two .said))) (fits .0) (fits .1)))
+
+loop-again : tie.Need-loop-again Inv-loop2 μ-loop2 Inv-loop μ-loop
+loop-again c =
+    let curve = c .before .before .before .before .before .before .before .before .before .before .before .before .args .curve in
+    let v = c .before .loop2 in
+    (v .inv .0, v .inv .1, v .inv .2, done-own (curve .count) (curve .segments) (curve .terms) (own-closed (curve .count) (curve .segments) (curve .terms) (c .loop2-test .left) (v .inv .4)))
+
+-- A term turned down, and the next.
+returns-2 : tie.Need-returns-2 Inv-loop2 μ-loop2 Inv-loop μ-loop
+returns-2 c =
+    let curve = c .before .before .before .before .before .before .before .before .before .before .before .before .before .before .before .before .before .before .args .curve in
+    let v = c .before .before .before .before .before .before .before .loop2 in
+    let d = own-open (curve .count) (curve .segments) (curve .terms) (c .before .before .before .before .before .before .loop2-test .taken) (v .inv .4) in
+    rw (c .no-curve2 .ensures) (term-down (curve .count) (curve .segments) (curve .terms) (v .inv .2) (v .inv .0) d _ (sym (told twoSaid (c .before .before .r2 .given .1) (c .before .before .before .before .code-term .ensures .said))))
+
+loop2-again : tie.Need-loop2-again Inv-loop2 μ-loop2 Inv-loop μ-loop
+loop2-again c =
+    let curve = c .before .before .before .before .before .before .before .before .before .before .before .before .before .before .before .before .before .args .curve in
+    let v = c .before .before .before .before .before .before .loop2 in
+    let e = c .before .first2 .given .1 in
+    let two = c .before .before .before .code-term .ensures in
+    let fits = two .fits _ _ e in
+    let d = own-open (curve .count) (curve .segments) (curve .terms) (c .before .before .before .before .before .loop2-test .taken) (v .inv .4) in
+    (v .inv .0, v .inv .1, v .inv .2, omega arith, term-turn (curve .count) (curve .segments) (curve .terms) (v .inv .2) (v .inv .0) d _ _ _ (sym (told twoSaid e (two .said))) (fits .0) (fits .1))
+
+returns-3 : tie.Need-returns-3 Inv-loop2 μ-loop2 Inv-loop μ-loop
+returns-3 c =
+    let curve = c .before .before .before .before .before .args .curve in
+    let l = c .before .loop in
+    done-all (curve .count) (curve .segments) (curve .terms) (l .inv .0) (l .inv .3) (l .inv .1) (c .loop-test .left)
+
+pub plan-segments-spec : {M : Type 1} → statement M
+plan-segments-spec =
+    tie.close
+    (tie.spec
+    Inv-loop2
+    μ-loop2
+    Inv-loop
+    μ-loop
+    (λ c κs. search needs)
+    loop-holds
+    (λ c. omega arith)
+    (λ c. omega arith)
+    (λ c. omega arith)
+    (λ c. omega arith)
+    (λ c. omega arith)
+    (λ c κs. omega arith)
+    (λ c. search needs)
+    (λ c κs. search needs)
+    returns
+    (λ c. search needs)
+    (λ c. omega arith)
+    (λ c. omega arith)
+    (λ c. omega arith)
+    (λ c. omega arith)
+    (λ c. omega arith)
+    (λ c. omega arith)
+    add-end
+    loop2-holds
+    (λ c. omega arith)
+    loop-again
+    (λ c. omega arith)
+    (λ c. omega arith)
+    (λ c. omega arith)
+    (λ c. omega arith)
+    (λ c. omega arith)
+    (λ c κs. search needs)
+    (λ c. search needs)
+    (λ c κs. search needs)
+    returns-2
+    (λ c. search needs)
+    (λ c. omega arith)
+    (λ c. omega arith)
+    (λ c. omega arith)
+    (λ c. omega arith)
+    (λ c. omega arith)
+    (λ c. omega arith)
+    (λ c. omega arith)
+    loop2-again
+    (λ c. omega arith)
+    (λ c. omega arith)
+    (λ c. omega arith)
+    (λ c. omega arith)
+    (λ c. omega arith)
+    (λ c. omega arith)
+    (λ c. omega arith)
+    returns-3)

@@ -1,0 +1,13 @@
+-- `write::lay_back` meets its contract.
+use mathlib.Core.Path.{ap, _∙_}
+use borrow.Author.Needs.{needs}
+use Rattle.memory.specs.Image.{imageOf}
+use Rattle.build.proofs.write.lay_back.Statement.{statement}
+use Rattle.build.proofs.write.lay_back.Tie as tie
+
+returns : tie.Need-returns
+returns c = c .before .before .seal-pages .ensures ∙ ap (imageOf (c .before .before .before .before .before .before .before .before .before .before .args .sizes)) (c .before .before .before .before .before .before .lay-ending .ensures .stream)
+
+pub lay-back-spec : {M : Type 1} → statement M
+lay-back-spec =
+    tie.close (tie.spec (λ c κs. c .before .before .before .pre) (λ c κs. c .before .before .before .lay-ending .ensures .free .whole) (λ c. search needs) returns)

@@ -1,0 +1,69 @@
+-- `write::lay_front` meets its contract.
+use mathlib.Core.Path.{_≡_, refl, sym}
+use mathlib.Core.List.{[], append-nil}
+use borrow.Author.Needs.{needs}
+use native.Mathlib.Omega.{arith}
+use lib.ListN.{length}
+use Rattle.fields.specs.Lines.{basic}
+use Rattle.fields.proofs.TemplateFacts.{number-lt, last-most, span-listed}
+use Rattle.build.specs.Tested.{unpacked, codedFields}
+use Rattle.build.proofs.Filling.{filling-none, room-first, filling-more, filled, cleared, cleared-room, begun}
+use Rattle.build.proofs.write.lay_front.Statement.{statement}
+use Rattle.build.proofs.write.lay_front.Tie as tie
+
+five : length basic ≡ 5
+unfolding basic
+five = refl
+
+lay-fields-requires : tie.Need-lay-fields-requires
+lay-fields-requires c κs =
+    let s = c .before .before .before .before .before .before .before .before .before .before in
+    let a = s .args in
+    let z = a .sizes in
+    let room = cleared-room z (s .pre .0 .0) (c .before .before .before .before .before .before .clear .ensures) (codedFields (a .template) (unpacked (a .fields .now))) (c .start .ensures) (s .pre .1) in
+    rw (c .before .before .before .basic-fields .ensures) (room-first z _ _ refl (filling-none z room), (omega (arith, five), omega (arith, five), s .pre .0 .1))
+
+lay-block-requires : tie.Need-lay-block-requires
+lay-block-requires c κs =
+    let s = c .before .before .before .before .before .before .before .before .before .before .before .before .before .before .before in
+    let a = s .args in
+    let z = a .sizes in
+    let room = cleared-room z (s .pre .0 .0) (c .before .before .before .before .before .before .before .before .before .before .before .clear .ensures) (codedFields (a .template) (unpacked (a .fields .now))) (c .before .before .before .before .before .start .ensures) (s .pre .1) in
+    let basics = filling-more z _ _ refl (filling-none z room) (rw (c .before .before .before .before .before .before .before .before .basic-fields .ensures) at (c .before .before .before .before .lay-fields .ensures)) in
+    rw (c .template-number .ensures) (room-first z _ _ refl basics, number-lt (a .template))
+
+lay-fields-requires-2 : tie.Need-lay-fields-requires-2
+lay-fields-requires-2 c κs =
+    let s = c .before .before .before .before .before .before .before .before .before .before .before .before .before .before .before .before .before .before .before in
+    let a = s .args in
+    let z = a .sizes in
+    let room = cleared-room z (s .pre .0 .0) (c .before .before .before .before .before .before .before .before .before .before .before .before .before .before .before .clear .ensures) (codedFields (a .template) (unpacked (a .fields .now))) (c .before .before .before .before .before .before .before .before .before .start .ensures) (s .pre .1) in
+    let basics = filling-more z _ _ refl (filling-none z room) (rw (c .before .before .before .before .before .before .before .before .before .before .before .before .basic-fields .ensures) at (c .before .before .before .before .before .before .before .before .lay-fields .ensures)) in
+    let block = filling-more z _ _ refl basics (rw (c .before .before .before .before .template-number .ensures) at (c .before .before .before .lay-block .ensures)) in
+    rw (c .before .before .before .before .before .before .before .before .before .before .before .before .basic-fields .ensures, c .before .before .before .before .before .before .before .before .before .before .before .last-field .ensures) (block .room, (omega (arith, five, span-listed (a .template) {f = 11} (omega arith)), last-most (a .template), s .pre .0 .1))
+
+returns : tie.Need-returns
+returns c =
+    let s = c .before .before .before .before .before .before .before .before .before .before .before .before .before .before .before .before .before .before .before .before .before .before in
+    let a = s .args in
+    let z = a .sizes in
+    let room = cleared-room z (s .pre .0 .0) (c .before .before .before .before .before .before .before .before .before .before .before .before .before .before .before .before .before .before .clear .ensures) (codedFields (a .template) (unpacked (a .fields .now))) (c .before .before .before .before .before .before .before .before .before .before .before .before .start .ensures) (s .pre .1) in
+    let basics = filling-more z _ _ refl (filling-none z room) (rw (c .before .before .before .before .before .before .before .before .before .before .before .before .before .before .before .basic-fields .ensures) at (c .before .before .before .before .before .before .before .before .before .before .before .lay-fields .ensures)) in
+    let block = filling-more z _ _ refl basics (rw (c .before .before .before .before .before .before .before .template-number .ensures) at (c .before .before .before .before .before .before .lay-block .ensures)) in
+    let own = filling-more z _ [] (sym (append-nil _)) block (rw (c .before .before .before .before .before .before .before .before .before .before .before .before .before .before .before .basic-fields .ensures, c .before .before .before .before .before .before .before .before .before .before .before .before .before .before .last-field .ensures) at (c .before .before .lay-fields2 .ensures)) in
+    begun (filled z own) (c .before .before .before .before .before .before .before .before .before .before .before .before .start .ensures) (cleared z (s .pre .0 .0) (c .before .before .before .before .before .before .before .before .before .before .before .before .before .before .before .before .before .before .clear .ensures))
+
+pub lay-front-spec : {M : Type 1} → statement M
+lay-front-spec =
+    tie.close
+    (tie.spec
+    (λ c κs. search needs)
+    (λ c κs. search needs)
+    (λ c κs. search needs)
+    (λ c κs. search needs)
+    lay-fields-requires
+    (λ c κs. search needs)
+    lay-block-requires
+    lay-fields-requires-2
+    (λ c. search needs)
+    returns)

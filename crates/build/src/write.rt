@@ -1,0 +1,280 @@
+// What a build writes, once nothing turns it down: pieces one behind the other into a cleared image, then every check byte.
+// A function that lays pieces takes the cursor to lay them at, and hands back the cursor behind them. Neighbours go in as one
+// field, the first in its lowest bits, which is faster.
+use crate::drawing::CurvePlan;
+use crate::plan::CODE_BITS;
+use crate::plan::CODES;
+use crate::plan::CodedField;
+use crate::plan::PairAnswer;
+use crate::plan::code_pair;
+use fields::Domain;
+use fields::Template;
+use memory::Sizes;
+use stream::Cursor;
+ghost use mathlib.Core.Path.{_≡_};
+ghost use mathlib.Core.List.{map};
+ghost use Prim.Native.Nat.{ℕ, min, _+_, _*_, _^_, _≤_, _<_};
+ghost use lib.ListN.{length, getD, take};
+ghost use lib.Seq.{slice};
+ghost use Rattle.memory.specs.Image.{streamBits, streamNumber, imageOf};
+ghost use Rattle.memory.specs.Answers.{Whole};
+ghost use Rattle.memory.specs.Pieces.{piece, pack, needed};
+ghost use Rattle.layout.specs.Pieces.{blockPieces};
+ghost use Rattle.build.specs.Build.{pairsLent, codesFor, tablePieces};
+ghost use Rattle.build.specs.Tested.{piecesOf, Accepted, fieldPiece, unpacked, Fit, pairAt, codedFields, codedCurve, Tested};
+ghost use Rattle.build.specs.Filled.{Room, Filled, Begun, codedPair, codedPairs, codedEnding, codedSheet};
+
+// The bits of a point, and of a pair.
+const POINT_BITS: u64 = 16;
+
+const PAIR_BITS: usize = 37;
+
+// The fields from index `first` up to `end`, as many at a time as 49 bits hold.
+fn lay_fields(
+    sizes: Sizes,
+    image: &mut [u8],
+    start: Cursor,
+    fields: &[u64],
+    first: usize,
+    end: usize,
+) -> Cursor
+    requires { ⌜ Room sizes (now image) start (slice first end (map fieldPiece (unpacked (now fields)))) ⌝ }
+    requires { ⌜ (first < end) × (end ≤ 21) × Fit 21 (unpacked (now fields)) ⌝ }
+    ensures { λ r. ⌜ Filled sizes (now (image .entry)) start (slice first end (map fieldPiece (unpacked (now (fields .entry))))) (now (image .exit)) r ⌝ }
+{
+    let mut cursor = start;
+    let mut code: u64 = 0;
+    let mut width: usize = 0;
+    let mut i = first;
+    while i < end {
+        let field = fields[i];
+        let more = (field >> CODE_BITS) as usize;
+        if width + more <= 49 {
+            code = code | ((field & CODES) << width);
+            width += more;
+            i += 1;
+        } else {
+            cursor = cursor.append(sizes, image, width, code);
+            code = field & CODES;
+            width = more;
+            i += 1;
+        }
+    }
+    cursor.append(sizes, image, width, code)
+}
+
+// A block's selector 0 and its template number.
+fn lay_block(sizes: Sizes, image: &mut [u8], cursor: Cursor, number: u64) -> Cursor
+    requires { ⌜ Room sizes (now image) cursor (blockPieces number) ⌝ }
+    requires { ⌜ number < 2 ^ 8 ⌝ }
+    ensures { λ r. ⌜ Filled sizes (now (image .entry)) cursor (blockPieces number) (now (image .exit)) r ⌝ }
+{
+    cursor.append(sizes, image, 10, number << 2)
+}
+
+// Pair i, which has its codes.
+fn lay_pair(sizes: Sizes, image: &mut [u8], cursor: Cursor, points: &[i64], i: usize) -> Cursor
+    requires { ⌜ Room sizes (now image) cursor (codedPair (codesFor i (pairAt (now points) i))) ⌝ }
+    requires { ⌜ 2 * i + 1 < length (now points) ⌝ }
+    ensures { λ r. ⌜ Filled sizes (now (image .entry)) cursor (codedPair (codesFor i (pairAt (now (points .entry)) i))) (now (image .exit)) r ⌝ }
+{
+    match code_pair(points, i) {
+        PairAnswer::Refused(_) => cursor,
+        PairAnswer::Are(codes) => {
+            let deviation = codes.deviation as u64;
+            let code = codes.point as u64 | (deviation << POINT_BITS);
+            cursor.append(sizes, image, PAIR_BITS, code)
+        }
+    }
+}
+
+// Every pair.
+fn lay_pairs(sizes: Sizes, image: &mut [u8], start: Cursor, points: &[i64]) -> Cursor
+    requires { ⌜ Room sizes (now image) start (codedPairs 0 (pairsLent (now points))) ⌝ }
+    ensures { λ r. ⌜ Filled sizes (now (image .entry)) start (codedPairs 0 (pairsLent (now (points .entry)))) (now (image .exit)) r ⌝ }
+{
+    let n = points.len() / 2;
+    let mut cursor = start;
+    let mut i: usize = 0;
+    while i < n {
+        cursor = lay_pair(sizes, image, cursor, points, i);
+        i += 1;
+    }
+    cursor
+}
+
+// Block 40: the domain, the count and the pairs; nothing without points.
+fn lay_table(
+    sizes: Sizes,
+    image: &mut [u8],
+    cursor: Cursor,
+    domain: Domain,
+    points: &[i64],
+) -> Cursor
+    requires { ⌜ Room sizes (now image) cursor (piecesOf (tablePieces domain (pairsLent (now points)))) ⌝ }
+    requires { ⌜ Accepted (tablePieces domain (pairsLent (now points))) × (length (now points) ≤ 254) ⌝ }
+    ensures { λ r. ⌜ Filled sizes (now (image .entry)) cursor (piecesOf (tablePieces domain (pairsLent (now (points .entry))))) (now (image .exit)) r ⌝ }
+{
+    let n = points.len() / 2;
+    if n == 0 {
+        return cursor;
+    }
+    let code = coding::domain_code(domain);
+    let block = lay_block(sizes, image, cursor, 40);
+    let pairs = block.append(sizes, image, 8, code | ((n as u64) << 1));
+    lay_pairs(sizes, image, pairs, points)
+}
+
+// Block 41, whose pieces have their codes, as many at a time as 49 bits hold.
+fn lay_curve(
+    sizes: Sizes,
+    image: &mut [u8],
+    start: Cursor,
+    codes: [CodedField; 104],
+    count: usize,
+) -> Cursor
+    requires { ⌜ Room sizes (now image) start (take count (map fieldPiece codes)) ⌝ }
+    requires { ⌜ (count ≤ 104) × Fit 104 codes ⌝ }
+    ensures { λ r. ⌜ Filled sizes (now (image .entry)) start (take count (map fieldPiece codes)) (now (image .exit)) r ⌝ }
+{
+    let mut cursor = start;
+    let mut code: u64 = 0;
+    let mut width: usize = 0;
+    let mut i: usize = 0;
+    while i < count {
+        let piece = codes[i];
+        let more = piece.width as usize;
+        if width + more <= 49 {
+            code = code | (piece.code << width);
+            width += more;
+            i += 1;
+        } else {
+            cursor = cursor.append(sizes, image, width, code);
+            code = piece.code;
+            width = more;
+            i += 1;
+        }
+    }
+    if width == 0 {
+        return cursor;
+    }
+    cursor.append(sizes, image, width, code)
+}
+
+// The characters from index i up to `end`, seven at most, as one code.
+fn gathered(text: &[u8], i: usize, end: usize) -> u64
+    requires { ⌜ (i ≤ end) × (end ≤ i + 7) × (end ≤ length (now text)) × ((j : ℕ) → getD (now text) j 0 < 128) ⌝ }
+    ensures { λ r. ⌜ r ≡ pack (slice i end (map (piece 7) (now (text .entry)))) ⌝ }
+{
+    let mut code: u64 = 0;
+    let mut j = end;
+    while i < j {
+        j -= 1;
+        code = (code << 7) | text[j] as u64;
+    }
+    code
+}
+
+// The end of seven characters from index i on, or of the text.
+fn seven_on(i: usize, n: usize) -> usize
+    requires { ⌜ i ≤ n ⌝ }
+    ensures { λ r. ⌜ r ≡ min (i + 7) n ⌝ }
+{
+    if 7 < n - i {
+        return i + 7;
+    }
+    n
+}
+
+// The text in 7-bit characters, seven at a time. The zero that ends it needs no writing.
+fn lay_text(sizes: Sizes, image: &mut [u8], start: Cursor, text: &[u8]) -> Cursor
+    requires { ⌜ Room sizes (now image) start (map (piece 7) (now text)) ⌝ }
+    requires { ⌜ ((i : ℕ) → getD (now text) i 0 < 128) ⌝ }
+    ensures { λ r. ⌜ Filled sizes (now (image .entry)) start (map (piece 7) (now (text .entry))) (now (image .exit)) r ⌝ }
+{
+    let mut cursor = start;
+    let mut i: usize = 0;
+    let n = text.len();
+    while i < n {
+        let end = seven_on(i, n);
+        cursor = cursor.append(sizes, image, 7 * (end - i), gathered(text, i, end));
+        i = end;
+    }
+    cursor
+}
+
+// Selector 3, the end bit and the text.
+fn lay_ending(sizes: Sizes, image: &mut [u8], cursor: Cursor, end_bit: bool, text: &[u8]) -> Cursor
+    requires { ⌜ Room sizes (now image) cursor (codedEnding «end_bit» (now text)) ⌝ }
+    requires { ⌜ ((i : ℕ) → getD (now text) i 0 < 128) ⌝ }
+    ensures { λ r. ⌜ Filled sizes (now (image .entry)) cursor (codedEnding «end_bit» (now (text .entry))) (now (image .exit)) r ⌝ }
+{
+    let characters = cursor.append(sizes, image, 3, 3 | ((end_bit as u64) << 2));
+    lay_text(sizes, image, characters, text)
+}
+
+// Basic, the first block and the template's own fields, into a cleared image. What stood there before is gone.
+fn lay_front(sizes: Sizes, image: &mut [u8], template: Template, fields: &[u64]) -> Cursor
+    requires { ⌜ Whole sizes (now image) × Fit 21 (unpacked (now fields)) ⌝ }
+    requires { ⌜ needed (codedFields template (unpacked (now fields))) ≤ streamBits sizes ⌝ }
+    ensures { λ r. ⌜ Begun sizes (codedFields template (unpacked (now (fields .entry)))) (now (image .exit)) r ⌝ }
+{
+    stream::clear(image);
+    let basic = fields::basic_fields() as usize;
+    let last = fields::last_field(template) as usize;
+    let block = lay_fields(sizes, image, Cursor::start(), fields, 0, basic);
+    let own = lay_block(sizes, image, block, fields::template_number(template));
+    lay_fields(sizes, image, own, fields, basic, last)
+}
+
+// The ending, then every check byte.
+fn lay_back(sizes: Sizes, image: &mut [u8], cursor: Cursor, end_bit: bool, text: &[u8])
+    requires { ⌜ Room sizes (now image) cursor (codedEnding «end_bit» (now text)) ⌝ }
+    requires { ⌜ ((i : ℕ) → getD (now text) i 0 < 128) ⌝ }
+    ensures { λ _. ⌜ now (image .exit) ≡ imageOf sizes (pack (codedEnding «end_bit» (now (text .entry))) * 2 ^ cursor .at + streamNumber sizes (now (image .entry))) ⌝ }
+{
+    lay_ending(sizes, image, cursor, end_bit, text);
+    stream::seal_pages(sizes, image);
+}
+
+// The whole image of a sheet with a table: its pieces, zeros behind them, and check bytes.
+pub fn write_table(
+    sizes: Sizes,
+    image: &mut [u8],
+    template: Template,
+    fields: &[u64],
+    end_bit: bool,
+    text: &[u8],
+    domain: Domain,
+    points: &[i64],
+)
+    requires { ⌜ Whole sizes (now image) × Tested (unpacked (now fields)) (now text) ⌝ }
+    requires { ⌜ Accepted (tablePieces domain (pairsLent (now points))) × (length (now points) ≤ 254) ⌝ }
+    requires { ⌜ needed (codedSheet template (unpacked (now fields)) «end_bit» (now text) (piecesOf (tablePieces domain (pairsLent (now points))))) ≤ streamBits sizes ⌝ }
+    ensures { λ _. ⌜ now (image .exit) ≡ imageOf sizes (pack (codedSheet template (unpacked (now (fields .entry))) «end_bit» (now (text .entry)) (piecesOf (tablePieces domain (pairsLent (now (points .entry))))))) ⌝ }
+{
+    let table = lay_front(sizes, image, template, fields);
+    let ending = lay_table(sizes, image, table, domain, points);
+    lay_back(sizes, image, ending, end_bit, text);
+}
+
+// The same with a curve.
+pub fn write_curve(
+    sizes: Sizes,
+    image: &mut [u8],
+    template: Template,
+    fields: &[u64],
+    end_bit: bool,
+    text: &[u8],
+    curve: CurvePlan,
+)
+    requires { ⌜ Whole sizes (now image) × Tested (unpacked (now fields)) (now text) ⌝ }
+    requires { ⌜ Fit 104 (curve .codes) × (curve .count ≤ 104) ⌝ }
+    requires { ⌜ needed (codedSheet template (unpacked (now fields)) «end_bit» (now text) (codedCurve curve)) ≤ streamBits sizes ⌝ }
+    ensures { λ _. ⌜ now (image .exit) ≡ imageOf sizes (pack (codedSheet template (unpacked (now (fields .entry))) «end_bit» (now (text .entry)) (codedCurve curve))) ⌝ }
+{
+    let codes = curve.codes;
+    let block = lay_front(sizes, image, template, fields);
+    let ending = lay_curve(sizes, image, block, codes, curve.count as usize);
+    lay_back(sizes, image, ending, end_bit, text);
+}

@@ -1,3 +1,0 @@
-pub mod CodeLists
-pub mod Filling
-pub mod Characters
