@@ -119,5 +119,24 @@ class DistanceAnswer:
     bound: int
 
 
+@dataclass(frozen=True)
+class ConformityAnswer:
+    """How far a reading of an image can be from a list of points: K, and B in 2000ths of a billionth of the span. Both are 0 where the
+    sheet has no straight table to compare, but a curve or a table of domain 1."""
+
+    slope: int
+    bound: int
+    is_straight: bool
+
+
+@dataclass(frozen=True)
+class RowAnswer:
+    """The next row of an image that is written to a chip: nothing more is to be written, or the row's offset and its bytes."""
+
+    is_done: bool
+    offset: int
+    bytes: bytes
+
+
 #: Calibration points with their deviations, or inputs with the fractions shown, in their order.
 Pairs = Sequence[Tuple[int, int]]

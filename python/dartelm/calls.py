@@ -11,6 +11,7 @@ from . import convert
 from .answers import (
     CheckAnswer,
     ComparedAnswer,
+    ConformityAnswer,
     Curve,
     DistanceAnswer,
     Fields,
@@ -18,6 +19,7 @@ from .answers import (
     Pairs,
     ProposalAnswer,
     ReadingAnswer,
+    RowAnswer,
     SegmentAnswer,
     SheetAnswer,
     TermAnswer,
@@ -190,6 +192,17 @@ def compare(image: Bytes, slow: Pairs, fast: Pairs, *, kind: Optional[int] = Non
 def distance(points: Pairs) -> DistanceAnswer:
     """Returns how far a reading can be from these calibration points, before a chip is written."""
     return convert.answer_of(DistanceAnswer, _accepted("distance", points=_by_turns(points))[0])
+
+
+def conformity(image: Bytes, points: Pairs, *, kind: Optional[int] = None) -> ConformityAnswer:
+    """Returns how far any reading of this image can be from the line through these points."""
+    return convert.answer_of(ConformityAnswer, _of("conformity", image, kind, points=_by_turns(points)))
+
+
+def next_row(present: Bytes, wanted: Bytes, *, kind: Optional[int] = None) -> RowAnswer:
+    """Returns the next row to write to a chip that holds `present`, so that it comes to hold `wanted`."""
+    answer = _accepted("next_row", kind=_kind(wanted, kind), present=present, wanted=wanted)[0]
+    return convert.answer_of(RowAnswer, answer)
 
 
 def text(field: int, code: int) -> str:

@@ -98,6 +98,9 @@ def plain(sort, struct):
 MEMBERS = {
     "end_bit": bool,
     "agrees": bool,
+    "is_straight": bool,
+    "is_done": bool,
+    "bytes": bytes,
     "template_id": Template,
     "domain": lambda value: None if value == NO_DOMAIN else Domain(value),
     "value": value_of,

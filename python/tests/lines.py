@@ -97,6 +97,16 @@ def compare(kind, image, slow, fast):
     return "agree" if found.agrees else f"tick {found.tick}"
 
 
+def conform(kind, image, points):
+    found = dartelm.conformity(data(image), pairs(points), kind=int(kind))
+    return f"{found.slope} {found.bound}" if found.is_straight else "none"
+
+
+def next_row(kind, present, wanted):
+    found = dartelm.next_row(data(present), data(wanted), kind=int(kind))
+    return "done" if found.is_done else f"{found.offset} {found.bytes.hex()}"
+
+
 def of_pair(found, first, second):
     return f"{getattr(found, first)} {getattr(found, second)}"
 
@@ -113,6 +123,8 @@ ANSWERS = {
     "propose": propose,
     "reading": reading,
     "compare": compare,
+    "conform": conform,
+    "next": next_row,
     "term": term,
     "page": lambda kind, image, page: shown(dartelm.page(data(image), int(page), kind=int(kind))),
     "field": lambda kind, image, field: shown_value(dartelm.field(data(image), int(field), kind=int(kind))),
