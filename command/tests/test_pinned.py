@@ -156,6 +156,10 @@ class Names(support.Case):
         self.assertEqual(units.figure_of("3nV/V", units.RATIO, ""), units.EXACT.create_decimal("0.000000003"))
         self.assertEqual(units.figure_of("3Mohm", units.OHM, ""), units.EXACT.create_decimal(3000000))
 
+    def test_factors(self):
+        for word, factor in (("N", 1), ("kN", 1000), ("MN", 1000000), ("mN", support.Fraction(1, 1000)), ("daN", 10), ("Pa", None)):
+            self.assertEqual(measurands.unit_of(4).factor(word), factor)
+
     def test_precisions_say_their_step(self):
         """The least change that a chip of this precision takes is the step that its name says."""
         for name, end, middle in (

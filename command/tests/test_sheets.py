@@ -97,6 +97,9 @@ class Make(support.Case):
         self.make(0, "\n".join(reversed(self.text.splitlines()[:23])), out="kind 1")
         self.make(0, self.text, "--kind", "2", out="kind 2 (512 bytes)")
         self.make(0, self.text.replace("kind = 1\n", ""), "--kind", "2")
+        self.make(0, self.text.replace("kind = 1\n", "kind = 2\n"), "--kind", "1", out="kind 1 (128 bytes)")
+        plain = "".join(line + "\n" for line in self.text.splitlines() if not line.startswith(("point", "domain", "text")))
+        self.make(0, plain, "--kind", "0", out="kind 0 (40 bytes)")
         self.make(0, self.edited('"rolling road 2, left drum"', '""'))
         self.make(0, self.edited('"rolling road 2, left drum"', '"a\\x0ab # = \\x22"'))
 
