@@ -49,6 +49,13 @@ class Bound:
             raise misused("--within: the sheet has no physical span; give per cent of the span")
         return self.physical() <= tolerance.figure(self.unit)
 
+    def allowed(self, tolerance):
+        """A tolerance in billionths of the span."""
+        if tolerance.unit_is_percent(self.unit):
+            return tolerance.figure(PERCENT) * 10**7
+        low, high = self.ends
+        return tolerance.figure(self.unit) / abs(high - low) * WHOLE_SPAN if high != low else Fraction(0)
+
 
 class Tolerance:
     """What `--within` says: 0.05% of the span, or 2N."""

@@ -1,4 +1,4 @@
-"""certificate: a chip against its certificate's points, by the proved distance."""
+"""certificate: a chip against its certificate's points, by the proved conformity."""
 import math
 from fractions import Fraction
 
@@ -11,12 +11,15 @@ from .units import PERCENT, RATIO, Unit, figure_of, float_text, in_unit, many, n
 FEW = 6
 LARGEST = 2
 OF_SPAN = Unit("%", also=(*PERCENT.spellings, tables.SPAN))
+# A tenth of a per cent: what points allow a chip that is built from them is no measure above it.
+MOST_ALLOWED = 1_000_000
+MEANING = "AGREES says that the chip holds these points; whether the sender itself is within tolerance, the certificate says"
 HEADS = ("point", "at", "input", "certificate", "chip", "difference", "of the span")
 
 
 def run(console, given):
     image, sheet = open_image(console, given.file)
-    beside = against(console, image, sheet, given.certificate, tables.asked_in(given))
+    beside = against(console, image, sheet, given.certificate, tables.asked_in(given), given.within)
     if given.json:
         objects.tell(objects.certificate(given.file, given.certificate, beside))
         return ACCEPTED if beside.agrees() else REFUSED
@@ -26,28 +29,33 @@ def run(console, given):
     for line in beside.lines():
         print(line)
     print(beside.verdict())
+    if beside.agrees():
+        print(beside.meaning())
     return ACCEPTED if beside.agrees() else REFUSED
 
 
-def against(console, image, sheet, path, asked=tables.Asked()):
+def against(console, image, sheet, path, asked=tables.Asked(), within=None):
     """The chip beside the certificate in a file."""
     refusal = readings.why_no_reading(console, sheet, image)
     if refusal:
         raise refused(readings.no_reading_text(sheet, refusal))
     table = tables.read_table(path, asked)
-    beside = beside_points(console, image, sheet, path, points_of(table, Scale(console, sheet)))
+    beside = beside_points(console, image, sheet, path, points_of(table, Scale(console, sheet)), within)
     beside.told = list(table.told())
     return beside
 
 
-def beside_points(console, image, sheet, path, points):
+def beside_points(console, image, sheet, path, points, within=None):
     try:
         if sheet.domain == 1:
-            return AgainstTwin(console, image, sheet, points)
-        bound = console.distance(points)[1]
+            return AgainstTwin(console, image, sheet, points, within)
+        told = bounds.Beforehand(console, sheet, console.distance(points)[1] * bounds.SHARE)
+        bound = console.conformity(image, points)
     except Refusal as refusal:
         raise refused(f"{path}: {bounds.list_rule(console, points, refusal)}") from None
-    return AgainstCurve(console, image, sheet, points) if sheet.curve() else AgainstTable(console, image, sheet, points, bound)
+    if bound is None:
+        return AgainstCurve(console, image, sheet, points, within)
+    return AgainstTable(console, image, sheet, points, within, bounds.Bound(console, sheet, bound * bounds.SHARE), told)
 
 
 def points_of(table, scale):
@@ -127,9 +135,10 @@ class At:
 
 
 class Against:
-    """A chip beside its certificate at the points of both, which is where they can differ most."""
+    """A chip beside its certificate at the points of both, for a person to look at."""
 
-    def __init__(self, console, image, sheet, points):
+    def __init__(self, console, image, sheet, points, within=None):
+        self.tolerance = None if within is None else bounds.Tolerance(within)
         self.console, self.image, self.sheet, self.points = console, image, sheet, points
         self.unit = fields.around(console, sheet).unit()
         self.prefix = readings.sheet_prefix(sheet, self.unit)
@@ -179,6 +188,17 @@ class Against:
         """The proved distance in whole billionths; None where there is none."""
         return None
 
+    def bound(self):
+        """How far any reading of this chip can be from the certificate, in whole billionths; None where that is not proved."""
+        return None
+
+    def meaning(self):
+        return MEANING
+
+    def no_tolerance(self):
+        if self.tolerance:
+            raise misused("--within is for a chip with a table against the electrical figure, or without one")
+
     def figure(self, place):
         found = self.ruler.figures([place])[0]
         return "" if found is None else readings.figure_text(found, self.unit, self.prefix)
@@ -190,7 +210,7 @@ class Against:
         return in_unit(float_text(figure if sign else abs(figure), 4), self.unit, self.prefix, sign)
 
     def lines(self):
-        yield self.heading()
+        yield from self.heading()
         rows = [HEADS, *self.rows()]
         widths = [max(len(row[n]) for row in rows) for n in range(len(HEADS))]
         for row in rows:
@@ -225,36 +245,62 @@ class Against:
 
 
 class AgainstTable(Against):
-    """No reading of a chip that was built from these points strays from their line by more than bound / 2000 billionths."""
+    """A chip that is read by a table against the electrical figure, or without one. How far any of its readings can be from the
+    certificate is proved for every input (conformity), and so is what these points allow a chip that is built from them
+    (distance)."""
 
-    def __init__(self, console, image, sheet, points, bound):
-        super().__init__(console, image, sheet, points)
-        self.bound = bound
+    def __init__(self, console, image, sheet, points, within, own, told):
+        super().__init__(console, image, sheet, points, within)
+        self.own_bound = own
+        self.told_bound = told
+
+    def allowed(self):
+        return self.told_bound.billionths if self.tolerance is None else self.told_bound.allowed(self.tolerance)
 
     def within(self, one):
-        return 2000 * abs(one.difference) <= self.bound
+        return abs(one.difference) <= self.allowed()
 
     def distance(self):
-        return -(-self.bound // 2000)
+        return math.ceil(self.told_bound.billionths)
+
+    def bound(self):
+        return math.ceil(self.own_bound.billionths)
+
+    def is_open(self):
+        """Where two points are a hair apart a chip built from them may be off by any size: that is no measure."""
+        return self.tolerance is None and self.told_bound.billionths > MOST_ALLOWED
+
+    def agrees(self):
+        if self.tolerance is not None:
+            return self.own_bound.is_within(self.tolerance)
+        return not self.is_open() and self.own_bound.billionths <= self.told_bound.billionths
 
     def heading(self):
-        return f"proved distance: {percent(self.distance())} of the span, {self.physical(self.distance(), False)}"
+        yield f"no reading of this chip, at any input, is further from the certificate than {self.own_bound.text()}"
+        yield f"a chip built from these points could be off by {self.told_bound.text()}"
 
     def verdict(self):
+        if self.is_open():
+            return (
+                f"NO VERDICT: a chip built from these points could be off by {self.told_bound.text()}, which is more than 0.1 %: "
+                "two of them are a hair apart; --within TOLERANCE says what is allowed"
+            )
+        more = "what storing at the nearest step explains" if self.tolerance is None else self.tolerance.text
         if self.agrees():
-            return f"AGREES: within the proved distance at every point; {self.worst()}"
-        return f"DIFFERS: beyond the proved distance at {self.beyond()}; {self.worst()}"
+            return f"AGREES: at every input within {more}; {self.worst()}"
+        return f"DIFFERS: by up to {self.own_bound.text()}, more than {more}; {self.worst()}"
 
 
 class AgainstTwin(Against):
     """A table against the physical figure has no proved distance: the chip is held against one that is made from the
     certificate. A point's figure is shown at point plus deviation."""
 
-    def __init__(self, console, image, sheet, points):
+    def __init__(self, console, image, sheet, points, within=None):
         twin = sheet.bare()
         twin.domain, twin.points = sheet.domain, points
         self.twin = build(console, twin, LARGEST)
-        super().__init__(console, image, sheet, points)
+        super().__init__(console, image, sheet, points, within)
+        self.no_tolerance()
 
     def places(self, points):
         return [point + deviation for point, deviation in points]
@@ -266,7 +312,7 @@ class AgainstTwin(Against):
         return one.difference == 0
 
     def heading(self):
-        return "a table against the physical figure has no proved distance: the chip is held against one made from these points"
+        yield "a table against the physical figure: nothing is proved of every input; the chip is held against one made from these points"
 
     def verdict(self):
         if self.agrees():
@@ -276,6 +322,10 @@ class AgainstTwin(Against):
 
 class AgainstCurve(Against):
     """With a curve the fraction is the position: the figure tells where the chip is, the place that has it without a curve."""
+
+    def __init__(self, *words):
+        super().__init__(*words)
+        self.no_tolerance()
 
     def fractions(self, inputs):
         found = super().fractions(inputs)
@@ -293,7 +343,7 @@ class AgainstCurve(Against):
         return False
 
     def heading(self):
-        return "a curve has no proved distance"
+        yield "a curve: nothing is proved of its distance from points; what it shows is laid beside them"
 
     def verdict(self):
-        return f"NO VERDICT: the proved distance is for tables of points, and the chip has a curve; {self.worst()}"
+        return f"NO VERDICT: conformity is proved for tables of points, and the chip has a curve; {self.worst()}"

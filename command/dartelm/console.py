@@ -108,6 +108,13 @@ class Console:
         return int(slope), int(bound)
 
 
+    def conformity(self, image, points):
+        """B: no accepted reading of this image is further from the line through these points than B / 2000 billionths; None for
+        a curve or a table against the physical figure."""
+        answer = self.ask("conform", image, listed(points))
+        return None if answer[0] == "none" else int(answer[1])
+
+
 def reading_of(answer):
     try:
         fraction, figure = parsed(answer)

@@ -80,6 +80,7 @@ def parser():
         "certificate", metavar="CERT.csv", help="columns like 'point (%%)' and 'deviation (%%)', or in the sender's unit"
     )
     add_columns(certificate)
+    add_within(certificate)
     add_json(certificate)
 
     export = command(commands, "export", "the sheet as lines 'name = value unit', which make takes")
@@ -128,6 +129,7 @@ def parser():
     report.add_argument("--customer", metavar="NAME", help="whose sender it is, for the page")
     report.add_argument("--job", metavar="NAME", help="which job it is, for the page")
     add_columns(report)
+    add_within(report)
     add_output(report)
     add_today(report)
     return top

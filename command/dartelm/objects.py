@@ -116,6 +116,7 @@ def certificate(path, name, beside):
         "verdict": beside.verdict().partition(":")[0],
         "text": beside.verdict(),
         "distance_billionths": beside.distance(),
+        "bound_billionths": beside.bound(),
         "unit": beside.unit.name,
         "points": [
             {

@@ -140,7 +140,7 @@ def compared(console, image, sheet, given):
     """The chip beside the certificate; None where there is none."""
     if not given.certificate:
         return None
-    return certificate.against(console, image, sheet, given.certificate, tables.asked_in(given))
+    return certificate.against(console, image, sheet, given.certificate, tables.asked_in(given), given.within)
 
 
 def sheet_body(console, given, image, sheet, against):
@@ -229,7 +229,7 @@ def certificate_figure(console, sheet, by, against):
     distance = against.distance()
     below = feet(console, sheet, by)
     yield figure(drawn("Chip minus certificate", line, dots, percent_label, below, distance), certificate_caption(against, distance))
-    for told in against.told:
+    for told in (*against.heading(), *against.told, *([against.meaning()] if against.agrees() else [])):
         yield f"<p>{text(told[:1].upper() + told[1:])}</p>"
     heads = "".join(f"<th>{html.escape(name)}</th>" for name in certificate.HEADS)
     yield f'<table><tr class="heads">{heads}</tr>'

@@ -26,7 +26,13 @@ class Certificate(support.Case):
                 0,
                 "load-cell.kind1",
                 text,
-                out=("proved distance: 0.0000517 % of the span, 0.002585 N", "2002.1 N   2002.09998 N", "-0.00002 N", "AGREES"),
+                out=(
+                    "no reading of this chip, at any input, is further from the certificate than 0.0000012 % of the span, 0.00006 N\n",
+                    "a chip built from these points could be off by 0.000052 % of the span, 0.0026 N\n",
+                    "2002.1 N   2002.09998 N",
+                    "-0.00002 N",
+                    "AGREES",
+                ),
             )
         self.gives(
             0,
@@ -35,8 +41,9 @@ class Certificate(support.Case):
             sample("load-cell.csv"),
             out=(
                 "6 points",
-                "AGREES: within the proved distance at every point; the worst is at 99.99927 %, a point of the chip's own: ",
+                "AGREES: at every input within what storing at the nearest step explains; the worst is at 99.99927 %, a point",
                 "own: -0.0000011 %, -0.000055 N",
+                "AGREES says that the chip holds these points; whether the sender itself is within tolerance, the certificate says",
             ),
         )
 
@@ -46,14 +53,14 @@ class Certificate(support.Case):
             "load-cell.kind1",
             NEWTON.replace("2,1", "2,3"),
             out=(
-                "DIFFERS: beyond the proved distance at 1 of the certificate's 6 points and at 1 of the chip's own 6 points",
+                "DIFFERS: by up to 0.0041 % of the span, 0.21 N, more than what storing at the nearest step explains",
                 "the worst is at 40 %: -0.0040004 %, -0.2 N",
             ),
         )
         self.assertEqual(said.count(" !"), 2)
         self.against(1, "load-cell.kind1", "point %,deviation %\n0,0\n100,0\n", out=("DIFFERS", "chip  40.00032 %", "+2.1 N"))
-        said, _ = self.against(1, "many-points.kind2", PERCENT, out="at 95 of the chip's own 96 points")
-        self.assertEqual(len(said.splitlines()), 17)
+        said, _ = self.against(1, "many-points.kind2", PERCENT, out="DIFFERS: by up to ")
+        self.assertEqual(len(said.splitlines()), 18)
         self.against(1, "oil-pressure.kind0", PERCENT, out=("DIFFERS", "-0.42 kPa"))
 
     def test_a_chip_that_is_made_from_the_certificate_agrees(self):
@@ -81,11 +88,45 @@ class Certificate(support.Case):
             except Refusal as refusal:
                 self.assertEqual(refusal.number, 7)
                 continue
-            beside = certificate.AgainstTable(support.console(), chip, read_sheet(support.console(), chip), sheet.points, bound)
-            self.assertTrue(beside.agrees(), beside.verdict())
+            beside = certificate.beside_points(support.console(), chip, read_sheet(support.console(), chip), "", sheet.points)
+            self.assertLessEqual(beside.bound(), -(-bound // 2000))
+            self.assertTrue(beside.agrees() or beside.is_open(), beside.verdict())
             self.assertLessEqual(max(abs(y) for _, y in beside.over(40)), beside.distance())
             done += 1
         self.assertGreater(done, 40)
+
+    def test_within(self):
+        """A tolerance in per cent or in the sender's unit, rounded by nobody: 0.21 N is 41,021 billionths and the float's part."""
+        wrong = self.file("wrong", NEWTON.replace("2,1", "2,3"))
+        cell = sample("load-cell.kind1")
+        for tolerance, status in (("0.3N", 0), ("0.0003kN", 0), ("0.1N", 1), ("0.005%", 0), ("0.004%", 1), ("0.05lbf", 0)):
+            said, _ = self.gives(status, "certificate", cell, wrong, "--within", tolerance)
+            self.assertIn(f"AGREES: at every input within {tolerance}; " if status == 0 else f", more than {tolerance}; ", said)
+        said, _ = self.gives(0, "certificate", cell, wrong, "--within", "0.3N")
+        self.assertEqual(said.count(" !"), 0)
+        self.gives(0, "report", cell, wrong, "--within", "0.3N", "-o", self.path("page"))
+        self.gives(1, "report", cell, wrong, "--within", "0.1N", "-o", self.path("other"))
+        for tolerance in ("2", "2Pa", "-1N"):
+            self.gives(2, "certificate", cell, wrong, "--within", tolerance, err="--within")
+        for name in ("torque.kind1", "exhaust-pressure.kind1"):
+            self.gives(2, "certificate", sample(name), sample("load-cell.csv"), "--within", "1%", err="--within is for")
+
+    def test_two_points_a_hair_apart(self):
+        """Their slope lets a chip that is built from them be off by any size: no verdict, unless it is said what is allowed."""
+        close = "point (%),deviation (%)\n0,0\n50,0\n50.002,1\n100,1\n"
+        sheet, _ = self.gives(0, "export", sample("load-cell.kind1"))
+        bare = "".join(line + "\n" for line in sheet.splitlines() if not line.startswith(("point", "domain")))
+        self.gives(0, "make", self.file("sheet", bare), "--certificate", self.file("cert", close), "-o", self.path("chip"))
+        said, _ = self.against(1, self.path("chip"), close, out=("NO VERDICT: a chip built from these points could be off by ", "--within"))
+        self.assertNotIn("AGREES", said)
+        self.gives(0, "certificate", self.path("chip"), self.path("cert"), "--within", "1%", out="AGREES: at every input within 1%")
+
+    def test_a_maker_who_cuts_off(self):
+        """Points one step below the nearest: seen, though each is within a step of its point."""
+        sheet, _ = self.gives(0, "export", sample("load-cell.kind1"))
+        cut = sheet.replace("+0.042 %", "+0.0418 %").replace("+0.038 %", "+0.0378 %").replace("+0.015 %", "+0.0148 %")
+        self.gives(0, "make", self.file("sheet", cut), "-o", self.path("cut"))
+        self.against(1, self.path("cut"), PERCENT, out="DIFFERS: by up to 0.00021 % of the span, 0.011 N, more than what storing")
 
     def test_a_span_that_falls(self):
         """A greater fraction is a smaller figure: differences have the figure's sign."""
@@ -101,7 +142,7 @@ class Certificate(support.Case):
         )
 
     def test_physical_domain(self):
-        self.against(0, "torque.kind1", TORQUE, out=("no proved distance", "AGREES"))
+        self.against(0, "torque.kind1", TORQUE, out=("nothing is proved of every input", "AGREES"))
         self.against(1, "torque.kind1", TORQUE.replace("0.065", "0.066"), out="DIFFERS: from a chip made from the certificate")
         self.against(1, "torque.kind1", TORQUE.replace("0.065%", "-90%"), err="point 3: refused: 22")
 
@@ -110,7 +151,7 @@ class Certificate(support.Case):
             1,
             "exhaust-pressure.kind1",
             PERCENT,
-            out=("a curve has no proved distance", "60.14400001 kPa  +0.099 kPa", "NO VERDICT", "at 20 %: +0.033 %"),
+            out=("a curve: nothing is proved of its distance from points", "60.14400001 kPa  +0.099 kPa", "NO VERDICT", "at 20 %: +0.033 %"),
         )
         self.against(1, "exhaust-pressure.kind1", "point %,deviation %\n0,0\n0.0001,0\n", err="point 2: refused: 7")
         sheet, _ = self.gives(0, "export", sample("exhaust-pressure.kind1"))

@@ -58,6 +58,7 @@ class Json(support.Case):
     def test_certificate(self):
         found = self.object(0, "certificate", CELL, sample("load-cell.csv"))
         self.assertEqual((found["verdict"], found["distance_billionths"], found["unit"]), ("AGREES", 517, "N"))
+        self.assertEqual(found["bound_billionths"], 12)
         self.assertEqual(len(found["points"]), 12)
         second = found["points"][1]
         self.assertEqual((second["at_billionths"], second["input_nV_per_V"]), (200000000, 400000))

@@ -292,7 +292,7 @@ class Verdicts(support.Case):
             1,
             chip,
             PERCENT,
-            "DIFFERS: beyond the proved distance at 0 of the certificate's 6 points and at 2 of the chip's own 9 points",
+            "DIFFERS: by up to 1.5 % of the span, 73 N, more than what storing at the nearest step explains; the worst is at ",
             "a point of the chip's own: +1.4599981 %, +73 N\n",
         )
         self.assertIn("chip 30.00024 %", support.squeezed(said))
