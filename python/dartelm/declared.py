@@ -95,7 +95,7 @@ REASONS = {
     Number.WRONG_SUM: "A page does not add up. Place: the page, from 0.",
     Number.PAST_END: "The stream ends before the sheet does. Place: the first bit of what is cut off.",
     Number.WRONG_BLOCK: "A block that is not known here; a reading from template 32. Place: its selector's bit.",
-    Number.OUTSIDE_TABLE: "A code that the table has not. Place: its first bit.",
+    Number.OUTSIDE_TABLE: "Code not in the field's table; in a fetch also an entry that the field cannot have. Place: its first bit.",
     Number.NOT_FINITE: "A Single that is infinite, or a NaN. Place: its first bit.",
     Number.NOT_RISING: "Calibration points that do not rise. Place: the later one's bit; in a build its index.",
     Number.NO_SUCH: "No such field, calibration point, segment, term or character. Place: the number given.",
@@ -118,10 +118,12 @@ REASONS = {
     Number.WRONG_TICKS: "Two recordings: a list of odd length, or fast ticks that are not six times the slow ones. Place: the whole ticks of the fast list.",
 }
 
-VERSION = 7
+VERSION = 8
 FAST_TICKS = 6
 NO_KIND = 255
 LONGEST_IMAGE = 512
+ROW_LENGTH = 8
+MOST_WRITES = 68
 LONGEST_INDEX = 480
 FIELDS = 21
 RESISTANCE_FIELDS = 19
@@ -143,7 +145,8 @@ STRUCTS = {
         ("values", "value", 21),
         ("end_bit", "uint8_t", 0),
         ("level", "uint8_t", 0),
-        ("template_id", "uint8_t", 0),
+        ("unused", "uint8_t", 0),
+        ("is_resistance", "uint8_t", 0),
     ),
     "check_answer": (
         ("number", "uint8_t", 0),
@@ -238,6 +241,20 @@ STRUCTS = {
         ("place", "uint64_t", 0),
         ("slope", "uint64_t", 0),
         ("bound", "uint64_t", 0),
+    ),
+    "conformity_answer": (
+        ("number", "uint8_t", 0),
+        ("place", "uint64_t", 0),
+        ("slope", "uint64_t", 0),
+        ("bound", "uint64_t", 0),
+        ("is_straight", "uint8_t", 0),
+    ),
+    "row_answer": (
+        ("number", "uint8_t", 0),
+        ("place", "uint64_t", 0),
+        ("is_done", "uint8_t", 0),
+        ("offset", "uint64_t", 0),
+        ("bytes", "uint8_t", 8),
     ),
     "text_answer": (
         ("number", "uint8_t", 0),
@@ -415,6 +432,22 @@ CALLS = {
         "distance_answer",
         (
             ("points", "const int64_t[]"),
+        ),
+    ),
+    "conformity": (
+        "conformity_answer",
+        (
+            ("kind", "uint8_t"),
+            ("image", "const uint8_t[]"),
+            ("points", "const int64_t[]"),
+        ),
+    ),
+    "next_row": (
+        "row_answer",
+        (
+            ("kind", "uint8_t"),
+            ("present", "const uint8_t[]"),
+            ("wanted", "const uint8_t[]"),
         ),
     ),
     "text": (
