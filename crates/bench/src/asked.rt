@@ -4,6 +4,7 @@ use words::Number;
 use words::word;
 ghost use mathlib.Core.Path.{_≡_};
 ghost use Rattle.bench.specs.Kinds.{kindOf};
+ghost use Rattle.bench.specs.Lines.{lent as lentIn, lentSaid};
 
 // Room for the bytes of any word.
 pub const ROOM: usize = 16_384;
@@ -30,7 +31,9 @@ pub enum Asked {
 }
 
 // The kind and the image, words 1 and 2 of a line.
-pub fn lent(line: &[u8], room: &mut [u8]) -> Asked {
+pub fn lent(line: &[u8], room: &mut [u8]) -> Asked
+    ensures { λ r. ⌜ lentSaid r (now (room .exit)) ≡ lentIn (now (line .entry)) (now (room .entry)) ⌝ }
+{
     let Number::Is(kind) = words::number_of(word(line, 1)) else {
         return Asked::Unknown;
     };

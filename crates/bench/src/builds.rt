@@ -16,7 +16,12 @@ use words::Worth;
 use words::Writer;
 use words::front_mut;
 use words::word;
-ghost use Prim.Native.Nat.{_≤_};
+ghost use mathlib.Core.Path.{_≡_};
+ghost use Prim.Native.Nat.{_-_, _≤_};
+ghost use Rattle.fields.specs.Answers.{templateSaid};
+ghost use Rattle.words.specs.Words.{wordAt};
+ghost use Rattle.words.specs.Values.{value};
+ghost use Rattle.bench.specs.Lines.{firstValue, endBitWord, hasCurve, isWhole, templateIn, areValues, slotBy, sheetIn};
 
 // The first word that is a value.
 const VALUES: u64 = 5;
@@ -24,7 +29,7 @@ const VALUES: u64 = 5;
 // The word of the end bit, behind the values of a template's fields; the text follows it, and then the domain and the points, or
 // `curve`, the segment count, the segments and the terms.
 fn end_bit_word(template: Template) -> u64
-    ensures { λ r. ⌜ r ≤ 26 ⌝ }
+    ensures { λ r. ⌜ (r ≡ endBitWord template) × (r ≤ 26) ⌝ }
 {
     VALUES + fields::last_field(template)
 }
@@ -32,6 +37,7 @@ fn end_bit_word(template: Template) -> u64
 // Whether a line hands in a curve.
 fn is_drawn(line: &[u8], end: u64) -> bool
     requires { ⌜ end ≤ 26 ⌝ }
+    ensures { λ r. ⌜ r ≡ hasCurve (now (line .entry)) end ⌝ }
 {
     equal(word(line, end + 2), b"curve")
 }
@@ -39,6 +45,7 @@ fn is_drawn(line: &[u8], end: u64) -> bool
 // Whether a line has as many words as a build from points or from a curve.
 fn is_whole(line: &[u8], end: u64) -> bool
     requires { ⌜ end ≤ 26 ⌝ }
+    ensures { λ r. ⌜ r ≡ isWhole (now (line .entry)) end ⌝ }
 {
     if is_drawn(line, end) {
         return words::word_count(line) == end + 6;
@@ -47,7 +54,9 @@ fn is_whole(line: &[u8], end: u64) -> bool
 }
 
 // The template that word 4 names, if the line has the words of a build from it.
-fn template_in(line: &[u8]) -> TemplateAnswer {
+fn template_in(line: &[u8]) -> TemplateAnswer
+    ensures { λ r. ⌜ templateSaid r ≡ templateIn (now (line .entry)) ⌝ }
+{
     let Number::Is(number) = words::number_of(word(line, 4)) else {
         return TemplateAnswer::Unknown;
     };
@@ -61,7 +70,9 @@ fn template_in(line: &[u8]) -> TemplateAnswer {
 }
 
 // The value of a field.
-fn slot(line: &[u8], index: u64) -> Slot {
+fn slot(line: &[u8], index: u64) -> Slot
+    ensures { λ r. ⌜ r ≡ slotBy (value (wordAt index (now (line .entry)))) ⌝ }
+{
     match words::value_of(word(line, index)) {
         Worth::Is(value) => Slot { value },
         Worth::Not => Slot {
@@ -71,7 +82,9 @@ fn slot(line: &[u8], index: u64) -> Slot {
 }
 
 // Whether the words of the fields, before that of the end bit, are values.
-fn are_values(line: &[u8], end: u64) -> bool {
+fn are_values(line: &[u8], end: u64) -> bool
+    ensures { λ r. ⌜ r ≡ areValues (now (line .entry)) (end - firstValue) firstValue ⌝ }
+{
     let mut index = VALUES;
     while index < end {
         match words::value_of(word(line, index)) {
@@ -84,7 +97,9 @@ fn are_values(line: &[u8], end: u64) -> bool {
 }
 
 // The sheet record of a line's values.
-fn sheet_of(line: &[u8], template: Template, end_bit: bool, level: Level) -> Sheet {
+fn sheet_of(line: &[u8], template: Template, end_bit: bool, level: Level) -> Sheet
+    ensures { λ r. ⌜ r ≡ sheetIn (now (line .entry)) template «end_bit» level ⌝ }
+{
     let last = fields::last_field(template);
     let mut fields = [Slot {
         value: Value::Missing,

@@ -3,14 +3,12 @@ use crate::asked;
 use crate::asked::Asked;
 use crate::asked::ROOM;
 use crate::builds;
-use crate::conformities;
 use crate::distances;
 use crate::edits;
 use crate::indexes;
 use crate::printing;
 use crate::readings;
 use crate::reads;
-use crate::rows;
 use crate::runs;
 use crate::turned;
 use shown::put;
@@ -19,7 +17,7 @@ use words::Number;
 use words::front;
 use words::word;
 
-const HELP: [u8; 1061] = *b"check KIND IMAGE\n\
+const HELP: [u8; 985] = *b"check KIND IMAGE\n\
     page KIND IMAGE PAGE\n\
     field KIND IMAGE FIELD\n\
     pair KIND IMAGE INDEX\n\
@@ -32,17 +30,15 @@ const HELP: [u8; 1061] = *b"check KIND IMAGE\n\
     build KIND LENGTH LEVEL TEMPLATE V1 .. Vn ENDBIT TEXT DOMAIN POINTS\n\
     build KIND LENGTH LEVEL TEMPLATE V1 .. Vn ENDBIT TEXT curve COUNT SEGMENTS TERMS\n\
     distance POINTS\n\
-    conform KIND IMAGE POINTS\n\
     change KIND IMAGE FIELD VALUE LEVEL\n\
     index KIND IMAGE BUFFER\n\
     fetch KIND IMAGE BUFFER FIELD\n\
     propose KIND IMAGE FIELD VALUE LEVEL\n\
     commit KIND IMAGE FIELD PRESENT NEW LEVEL\n\
-    next KIND PRESENT WANTED\n\
     text FIELD CODE\n\
     code FIELD TEXT\n\
     help\n\
-    KIND 0, 1 or 2; IMAGE, TEXT, BUFFER, WANTED and PRESENT of next in hexadecimal, - for none; VALUE w7, s3f800000 or m;\n\
+    KIND 0, 1 or 2; IMAGE, TEXT and BUFFER in hexadecimal, - for none; VALUE w7, s3f800000 or m;\n\
     LEVEL owner, calibration or maker; DASH large or small; TEMPLATE 33, of 21 values, or 32, of 19;\n\
     DOMAIN 0 or 1; POINTS point,deviation,.. or -; COUNT of segments; SEGMENTS start,terms,.. or -;\n\
     TERMS exponent,3f800000,.. or -; SLOW and FAST input,fraction,.. or -; a refusal is: no NUMBER PLACE\n";
@@ -103,16 +99,10 @@ fn of_image(name: &[u8], kind: u8, image: &[u8]) {
     printing::unknown();
 }
 
-// The commands of an image and a buffer, another image, points or a number.
+// The commands of an image and a buffer or a number.
 fn of_three(line: &[u8], name: &[u8]) {
     if equal(name, b"index") {
         return indexes::index(line);
-    }
-    if equal(name, b"next") {
-        return rows::next(line);
-    }
-    if equal(name, b"conform") {
-        return conformities::conform(line);
     }
     let mut room = [0u8; ROOM];
     let Asked::Of(chip) = asked::lent(line, &mut room) else {

@@ -15,6 +15,8 @@ use words::Writer;
 use words::front;
 use words::front_mut;
 use words::word;
+ghost use mathlib.Core.Path.{_≡_};
+ghost use Rattle.bench.specs.Lines.{edit, editSaid};
 
 // A value for a field, by a writer of a level.
 struct Edit {
@@ -29,7 +31,9 @@ enum Edited {
 }
 
 // The field, the value and the level, words 3 to 5 of a change or a proposal.
-fn edit_of(line: &[u8]) -> Edited {
+fn edit_of(line: &[u8]) -> Edited
+    ensures { λ r. ⌜ editSaid r ≡ edit (now (line .entry)) ⌝ }
+{
     let Number::Is(field) = words::number_of(word(line, 3)) else {
         return Edited::Unknown;
     };

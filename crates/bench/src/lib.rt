@@ -4,7 +4,6 @@
 mod asked; // asked.rt: the kind and the image of a line
 mod builds; // builds.rt: build
 mod commands; // commands.rt: a command, by its words
-mod conformities; // conformities.rt: conform
 mod curves; // curves.rt: the curve of a build
 mod distances; // distances.rt: distance
 mod edits; // edits.rt: change, propose and commit
@@ -12,7 +11,6 @@ mod indexes; // indexes.rt: index and fetch
 mod printing; // printing.rt: what an answer is made of
 mod readings; // readings.rt: reading
 mod reads; // reads.rt: the commands that leave the image alone
-mod rows; // rows.rt: next
 mod runs; // runs.rt: compare
 mod serving; // serving.rt: lines from standard input
 mod turned; // turned.rt: text and codes
