@@ -11,7 +11,7 @@ from .units import EXACT, PERCENT, figure_of, in_unit, split, uncounted
 # A bound B is of B / 2000 billionths of the span.
 SHARE = Fraction(1, 2000)
 WHOLE_SPAN = 10**9
-# The greatest fraction that a reading without a curve can have: 1.1 of the span, and the greatest deviation.
+# The greatest fraction of a reading without a table or in domain 0: 1.1 of the span, and the greatest deviation.
 FARTHEST = 1_100_000_000 + 1_097_150_000
 DIGITS = 2
 
