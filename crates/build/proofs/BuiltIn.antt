@@ -1,35 +1,9 @@
 -- A build in a buffer: its tests one after the other, and the bits.
-use mathlib.Core.Path.{_≡_, refl, sym, ap, _∙_}
-use mathlib.Core.Bool.{Bool, true, false, _||_}
-use mathlib.Core.List.{List, _++_}
-use Prim.Native.Nat.{ℕ, zero, suc, _+_, _*_, _%_, _≤_, _<_, min}
-use native.Mathlib.Omega.{arith}
-use borrow.Author.Tests.{lt-ltb, le-ltb, ltb-false}
-use lib.Dec.{eqb, ltb}
-use lib.IntN.{ℤ}
-use lib.ListN.{length, getD}
-use mir.Val.{boolByte}
-use Rattle.refusal.specs.declared.Refusal.{Refusal}
-use Rattle.refusal.specs.Outcome.{Outcome, good, refused, _>>_}
-use Rattle.refusal.specs.Rows.{returned, tooLong, wrongList}
-use Rattle.refusal.proofs.Outcomes.{neither, bind-refused}
-use Rattle.memory.specs.declared.Sizes.{Sizes}
-use Rattle.memory.specs.Image.{imageBytes, imageSizes, streamBits, imageOf}
-use Rattle.memory.specs.Pieces.{Piece, pack, needed}
-use Rattle.memory.proofs.PieceLaws.{needed-append}
-use Rattle.fields.specs.declared.Domain.{Domain}
-use Rattle.fields.specs.declared.Template.{Template}
-use Rattle.fields.specs.Lines.{ending}
-use Rattle.layout.specs.Pieces.{endCode}
-use Rattle.layout.specs.Places.{tableBits}
-use Rattle.layout.proofs.Endings.{text-needed}
-use Rattle.build.specs.declared.Sheet.{Sheet}
-use Rattle.build.specs.declared.plan.CodedField.{CodedField}
-use Rattle.build.specs.declared.plan.Planned.{Planned}
-use Rattle.build.specs.declared.plan.Planned.the-variants.{Bits, Refused}
-use Rattle.build.specs.Build.{templateIn, fieldPieces, endingPieces, Table, listed, listTested, behindPieces, plan, builtIn, buildWith}
-use Rattle.build.specs.Tested.{piecesOf, Accepted, codedFields, plannedSaid, FieldsPlanned}
-use Rattle.build.specs.Filled.{codedEnding, codedSheet, fitted}
+use Rattle.build.proofs.Names.{_≡_, refl, sym, ap, _∙_, Bool, true, false, _||_, List, _++_, ℕ, zero, suc, _+_, _*_, _%_, _≤_, _<_, min, arith, lt-ltb, le-ltb, ltb-false, eqb, ltb, ℤ, length, getD, boolByte}
+use Rattle.build.proofs.Names.{Refusal, Outcome, good, refused, _>>_, returned, tooLong, wrongList, neither, bind-refused, Sizes, imageBytes, imageSizes, streamBits, imageOf, Piece, pack, needed, needed-append}
+use Rattle.build.proofs.Names.{Domain, Template, ending, endCode, tableBits, text-needed, Sheet, CodedField, Planned, Bits, templateIn, fieldPieces, endingPieces, Table, listed, listTested, behindPieces, plan}
+use Rattle.build.proofs.Names.{builtIn, buildWith, piecesOf, Accepted, codedFields, plannedSaid, FieldsPlanned, codedEnding, codedSheet, fitted}
+use Rattle.build.specs.declared.plan.Planned.the-variants.{Refused}
 use Rattle.build.proofs.EndingPlans.{ending-planned, character-lt}
 
 -- ---- the bits

@@ -1,48 +1,11 @@
 -- The codes of fields, one after the other.
-use mathlib.Core.Bool.{Bool, true, false}
-use mathlib.Core.Path.{_≡_, refl, sym, ap, ap₂, _∙_, subst}
-use mathlib.Core.List.{List, [], _∷_, _++_, map, append-assoc, append-nil}
-use Prim.Native.Nat.{ℕ, zero, suc, _+_, _-_, _*_, _/_, _%_, _^_, _≤_, _<_}
-use native.Mathlib.Numerals.{add-one}
-use native.Mathlib.Omega.{arith}
-use native.Mathlib.Decide.{ℕ-discrete}
-use lib.IntN.{ℤ}
-use mir.Syntax.{w64}
-use mir.Val.{SFits, toZ, ofZ}
-use mir.Facts.{toZ-ofZ}
-use lib.Ieee.{Float}
-use lib.ListN.{length, take, drop, getD, set, replicate, length-replicate, getD-replicate, length-append, length-set, length-map, List·getD-map, drop-of-length-le}
-use lib.Seq.{slice, slice-cons, slice-empty, drop-cons, getD-set-same, getD-set-other, take-take}
-use Rattle.refusal.specs.declared.Refusal.{Refusal}
-use Rattle.refusal.specs.Outcome.{Outcome, good, refused, _>>=_}
-use Rattle.refusal.proofs.Outcomes.{bind-good, bind-refused, bind-assoc, bind-same}
-use Rattle.memory.specs.Pieces.{Piece, piece, needed}
-use Rattle.memory.proofs.PieceLaws.{needed-append}
-use Rattle.fields.specs.declared.Value.{Value}
-use Rattle.fields.specs.declared.Value.the-variants.{Whole, Missing}
-use Rattle.fields.specs.declared.Row.{Row}
-use Rattle.fields.specs.declared.Encoded.{Encoded}
-use Rattle.fields.specs.declared.Encoded.the-variants.{Code, Refused as NoCode}
-use Rattle.fields.specs.declared.Template.{Template}
-use Rattle.fields.specs.declared.Layout.{Layout}
-use Rattle.fields.specs.Rules.{encode}
-use Rattle.fields.specs.Lines.{Line, chose, basic, templateLines, linesOf, numberOf, lastField, lineOf, rowOf, rowsOf, noLine, bitsBefore}
-use Rattle.fields.specs.Stored.{Sound, AllSound, Real}
-use Rattle.fields.specs.Answers.{encodedSaid}
-use Rattle.fields.proofs.StoredLaws.{reads-back}
-use Rattle.fields.proofs.RowLaws.{row-sound, rows-sound}
-use Rattle.coding.specs.Swift.{Told}
-use Rattle.layout.specs.Pieces.{blockPieces}
-use Rattle.layout.proofs.Choices.{Steady, lines-steady}
-use Rattle.build.specs.declared.Sheet.{Sheet}
-use Rattle.build.specs.declared.plan.CodedField.{CodedField}
-use Rattle.build.specs.declared.plan.Coded.{Coded}
-use Rattle.build.specs.declared.plan.Coded.the-variants.{Next, Refused as NotCoded}
-use Rattle.build.specs.declared.plan.Planned.{Planned}
-use Rattle.build.specs.declared.plan.Planned.the-variants.{Bits, Refused as NotPlanned}
-use Rattle.build.specs.Build.{slot, lent, templateIn, linePieces, fieldPieces}
-use Rattle.build.specs.Tested.{Encodes, Fitting, Fit, blank, fieldPiece, unpack, unpacked, codedFields, valueLent, slotsLent, Long, fieldsLent, Quick, codedFrom, FieldsCoded, CodedTo, FieldsPlanned}
-use Rattle.fields.proofs.TemplateFacts.{last-most}
+use Rattle.build.proofs.Names.{Bool, true, false, _≡_, refl, sym, ap, ap₂, _∙_, subst, List, [], _∷_, _++_, map, append-assoc, append-nil, ℕ, zero, suc, _+_, _-_, _*_, _/_, _%_, _^_, _≤_, _<_, add-one, arith}
+use Rattle.build.proofs.Names.{ℕ-discrete, ℤ, w64, SFits, toZ, ofZ, toZ-ofZ, Float, length, take, drop, getD, set, replicate, length-replicate, getD-replicate, length-append, length-set, length-map, List·getD-map}
+use Rattle.build.proofs.Names.{drop-of-length-le, slice, slice-cons, slice-empty, drop-cons, getD-set-same, getD-set-other, take-take, Refusal, Outcome, good, refused, _>>=_, bind-good, bind-refused, bind-assoc}
+use Rattle.build.proofs.Names.{bind-same, Piece, piece, needed, needed-append, Value, Whole, Missing, Row, Encoded, Code, NoCode, Template, Layout, encode, Line, chose, basic, templateLines, linesOf, numberOf}
+use Rattle.build.proofs.Names.{lastField, lineOf, rowOf, rowsOf, noLine, bitsBefore, Sound, AllSound, Real, encodedSaid, reads-back, row-sound, rows-sound, Told, blockPieces, Steady, lines-steady, Sheet}
+use Rattle.build.proofs.Names.{CodedField, Coded, Next, NotCoded, Bits, NotPlanned, slot, lent, templateIn, linePieces, fieldPieces, Encodes, Fitting, Fit, blank, fieldPiece, unpack, unpacked, codedFields}
+use Rattle.build.proofs.Names.{valueLent, slotsLent, Long, fieldsLent, Quick, codedFrom, FieldsCoded, CodedTo, FieldsPlanned, last-most}
 use Rattle.build.proofs.FieldPlans.{withBlock, block-needed, fields-listed}
 use Rattle.build.proofs.Lent.{long-slot}
 

@@ -1,24 +1,7 @@
 -- A curve: the parts of a plan.
-use mathlib.Core.Path.{_≡_}
-use mathlib.Core.Bool.{true, not}
-use mathlib.Core.List.{List, [], _∷_, _++_}
-use mathlib.Core.Option.{Option, none, some}
-use Prim.Native.Nat.{ℕ, suc, _+_}
-use borrow.Author.Tests.{not-false}
-use lib.IntN.{ℤ, pos, _*ℤ_}
-use lib.ListN.{take, drop}
-use Rattle.refusal.specs.Outcome.{good}
-use Rattle.refusal.specs.Rows.{wrongCurve}
-use Rattle.refusal.proofs.Outcomes.{good-same, good-bind, passed}
-use Rattle.memory.specs.Pieces.{Piece, piece}
-use Rattle.fields.specs.declared.Value.the-variants.{Single}
-use Rattle.fields.specs.declared.Segment.{Segment}
-use Rattle.fields.specs.declared.Term.{Term}
-use Rattle.fields.specs.declared.Curve.{Curve}
-use Rattle.fields.specs.Rules.{encode}
-use Rattle.fields.specs.Curves.{segmentCount, segmentStart, termCount, exponent, coefficient, isSegmentCount, exponentCode}
-use Rattle.layout.specs.Pieces.{blockPieces}
-use Rattle.build.specs.Build.{startCode, termPieces, segmentPieces, curvePieces}
+use Rattle.build.proofs.Names.{_≡_, true, not, List, [], _∷_, _++_, Option, none, some, ℕ, suc, _+_, not-false, ℤ, pos, _*ℤ_, take, drop, good, wrongCurve, good-same, good-bind, passed, Piece, piece, Single}
+use Rattle.build.proofs.Names.{Segment, Term, Curve, encode, segmentCount, segmentStart, termCount, exponent, coefficient, isSegmentCount, exponentCode, blockPieces, startCode, termPieces, segmentPieces}
+use Rattle.build.proofs.Names.{curvePieces}
 
 -- ---- terms
 

@@ -1,36 +1,11 @@
 -- A curve, one segment and one term after the other.
-use mathlib.Core.Path.{_≡_, refl, sym, ap, ap₂, subst, _∙_}
-use mathlib.Core.Bool.{Bool, true, false, not}
-use mathlib.Core.List.{List, [], _∷_, _++_, map, append-assoc, append-nil}
-use mathlib.Core.Option.{Option, none, some}
-use Prim.Native.Nat.{ℕ, suc, _+_, _-_, _*_, _≤_, _<_}
-use native.Mathlib.Numerals.{add-one}
-use native.Mathlib.Omega.{arith}
-use borrow.Author.Tests.{leb-true, not-false}
-use lib.Dec.{leb}
-use lib.IntN.{ℤ, pos, _*ℤ_}
-use lib.Signed.{ltZ}
-use lib.ListN.{length, take, drop, getD, set, length-set, drop-of-length-le}
-use lib.Seq.{drop-cons, drop-drop, getD-take, length-take-le}
-use Rattle.refusal.specs.declared.Refusal.{Refusal}
-use Rattle.refusal.specs.Outcome.{Outcome, good, refused, _>>=_, _>>_}
-use Rattle.refusal.specs.Rows.{wrongCurve}
-use Rattle.refusal.proofs.Outcomes.{good-bind, good-same, no-value, passed, both, bind-good, bind-refused}
-use Rattle.memory.specs.Pieces.{Piece, piece, needed}
-use Rattle.memory.proofs.PieceLaws.{needed-append}
-use Rattle.fields.specs.declared.Value.the-variants.{Whole, Single}
-use Rattle.fields.specs.declared.Judged.the-variants.{Stands, Refused}
-use Rattle.fields.specs.declared.Segment.{Segment}
-use Rattle.fields.specs.declared.Term.{Term}
-use Rattle.fields.specs.declared.Curve.{Curve}
-use Rattle.fields.specs.Rules.{encode}
-use Rattle.fields.specs.Curves.{segmentStart, termCount, exponent, coefficient, isSegmentCount, isExponent, exponentFollows, exponentCode, tenthsOf}
-use Rattle.fields.proofs.CurveLaws.{below-zero, above-five, between, exponent-coded}
-use Rattle.fields.specs.Answers.{judgedSaid}
-use Rattle.build.specs.declared.plan.CodedField.{CodedField}
-use Rattle.build.specs.declared.drawing.CurvePlan.{CurvePlan}
-use Rattle.build.specs.Build.{startCode, termPieces, segmentPieces, curvePieces}
-use Rattle.build.specs.Tested.{Fitting, Fit, fieldPiece, coded, segmentTwo, termTwo, firstFour, codedCurve, noCurve, CurvePlanned}
+use Rattle.build.proofs.Names.{_≡_, refl, sym, ap, ap₂, subst, _∙_, Bool, true, false, not, List, [], _∷_, _++_, map, append-assoc, append-nil, Option, none, some, ℕ, suc, _+_, _-_, _*_, _≤_, _<_, add-one, arith}
+use Rattle.build.proofs.Names.{leb-true, not-false, leb, ℤ, pos, _*ℤ_, ltZ, length, take, drop, getD, set, length-set, drop-of-length-le, drop-cons, drop-drop, getD-take, length-take-le, Refusal, Outcome, good}
+use Rattle.build.proofs.Names.{refused, _>>=_, _>>_, wrongCurve, good-bind, good-same, no-value, passed, both, bind-good, bind-refused, Piece, piece, needed, needed-append, Whole, Single, Stands, Segment, Term}
+use Rattle.build.proofs.Names.{Curve, encode, segmentStart, termCount, exponent, coefficient, isSegmentCount, isExponent, exponentFollows, exponentCode, tenthsOf, below-zero, above-five, between, exponent-coded}
+use Rattle.build.proofs.Names.{judgedSaid, CodedField, CurvePlan, startCode, termPieces, segmentPieces, curvePieces, Fitting, Fit, fieldPiece, coded, segmentTwo, termTwo, firstFour, codedCurve, noCurve}
+use Rattle.build.proofs.Names.{CurvePlanned}
+use Rattle.fields.specs.declared.Judged.the-variants.{Refused}
 use Rattle.build.proofs.Coding.{taken, fit-none, fit-more}
 use Rattle.build.proofs.SegmentPlans.{start-planned}
 

@@ -1,19 +1,6 @@
 -- The ending: the end bit and the text.
-use mathlib.Core.Path.{_≡_}
-use mathlib.Core.Bool.{Bool, false, not, _&&_, _||_}
-use mathlib.Core.List.{List, [], _∷_}
-use Prim.Native.Nat.{ℕ, zero, suc, _-_, _<_}
-use native.Mathlib.Omega.{arith}
-use lib.Dec.{eqb, ltb}
-use lib.ListN.{length, getD}
-use borrow.Author.Tests.{ltb-false, eqb-false}
-use Rattle.refusal.specs.Outcome.{good}
-use Rattle.refusal.specs.Rows.{wrongSort, outOfRange}
-use Rattle.refusal.proofs.Outcomes.{good-same, passed, neither}
-use Rattle.memory.specs.Pieces.{Piece}
-use Rattle.layout.proofs.Endings.{Characters}
-use Rattle.build.specs.Build.{unfit, endingPieces}
-use Rattle.build.specs.Filled.{codedEnding}
+use Rattle.build.proofs.Names.{_≡_, Bool, false, not, _&&_, _||_, List, [], _∷_, ℕ, zero, suc, _-_, _<_, arith, eqb, ltb, length, getD, ltb-false, eqb-false, good, wrongSort, outOfRange, good-same, passed}
+use Rattle.build.proofs.Names.{neither, Piece, Characters, unfit, endingPieces, codedEnding}
 
 -- ---- the characters
 

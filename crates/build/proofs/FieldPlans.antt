@@ -1,18 +1,6 @@
 -- The fields of a sheet: Basic, the first block and the template's own, as the lines of one list with the block between them.
-use mathlib.Core.Path.{_≡_, refl, ap, _∙_}
-use mathlib.Core.List.{List, [], _∷_, _++_}
-use Prim.Native.Nat.{ℕ, suc, _+_}
-use native.Mathlib.Omega.{arith}
-use lib.ListN.{length, take, drop, take-append-drop}
-use Rattle.refusal.specs.Outcome.{Outcome, good, refused, _>>=_}
-use Rattle.memory.specs.Pieces.{Piece, piece, needed}
-use Rattle.memory.proofs.PieceLaws.{needed-append}
-use Rattle.fields.specs.declared.Template.{Template}
-use Rattle.fields.specs.Rules.{encode}
-use Rattle.fields.specs.Lines.{Line, basic, templateLines, linesOf, numberOf}
-use Rattle.layout.specs.Pieces.{blockPieces}
-use Rattle.build.specs.declared.Sheet.{Sheet}
-use Rattle.build.specs.Build.{lent, templateIn, linePieces, fieldPieces}
+use Rattle.build.proofs.Names.{_≡_, refl, ap, _∙_, List, [], _∷_, _++_, ℕ, suc, _+_, arith, length, take, drop, take-append-drop, Outcome, good, refused, _>>=_, Piece, piece, needed, needed-append, Template}
+use Rattle.build.proofs.Names.{encode, Line, basic, templateLines, linesOf, numberOf, blockPieces, Sheet, lent, templateIn, linePieces, fieldPieces}
 
 -- Pieces behind the first n of others.
 abbrev behind : ℕ → List Piece → List Piece → List Piece

@@ -1,24 +1,9 @@
 -- Pieces filled in one behind the other.
-use mathlib.Core.Path.{_≡_, refl, sym, ap, ap₂, _∙_}
-use mathlib.Core.List.{List, [], _∷_, _++_}
-use Prim.Native.Nat.{ℕ, zero, suc, _+_, _*_, _%_, _^_, _≤_, _<_}
-use native.Mathlib.Nat.{mod-eq-of-lt, div-eq-of-lt, lt-of-lt-of-le, add-comm, mul-assoc, zero-mul}
-use native.Mathlib.Omega.{arith}
-use lib.Arith.{digits-lt}
-use lib.ListN.{length, getD, replicate, length-replicate}
-use lib.Bits.{bitOr, or-shifted-r}
-use lib.Pow.{pow-add, pow-mono, shl-exact}
-use Rattle.memory.specs.declared.Sizes.{Sizes}
-use Rattle.stream.specs.declared.cursor.Cursor.{Cursor}
-use Rattle.memory.specs.Bits.{number, putAt}
-use Rattle.memory.specs.Image.{imageBytes, streamBits, streamOf, streamNumber, putIn}
-use Rattle.memory.specs.Answers.{Whole, streamIndex}
-use Rattle.stream.specs.Answers.{InStream}
-use Rattle.memory.specs.Pieces.{Piece, piece, pack, needed}
-use Rattle.memory.proofs.PieceLaws.{Fit, pack-lt, pack-append, needed-append}
-use Rattle.memory.proofs.Streams.{stream-at, stream-length}
-use Rattle.memory.proofs.Written.{put-whole, put-bytes, put-stream}
-use Rattle.build.specs.Filled.{Free, Room, Filled, Begun}
+use Rattle.build.proofs.Names.{_≡_, refl, sym, ap, ap₂, _∙_, List, [], _∷_, _++_, ℕ, zero, suc, _+_, _*_, _%_, _^_, _≤_, _<_, mod-eq-of-lt, div-eq-of-lt, lt-of-lt-of-le, add-comm, mul-assoc, zero-mul, arith}
+use Rattle.build.proofs.Names.{digits-lt, length, getD, replicate, length-replicate, bitOr, or-shifted-r, pow-add, pow-mono, shl-exact, Sizes, Cursor, number, putAt, imageBytes, streamBits, streamOf, streamNumber}
+use Rattle.build.proofs.Names.{putIn, streamIndex, InStream, Piece, piece, pack, needed, pack-lt, pack-append, needed-append, stream-at, stream-length, put-whole, put-bytes, put-stream, Free, Room, Filled, Begun}
+use Rattle.memory.specs.Answers.{Whole}
+use Rattle.memory.proofs.PieceLaws.{Fit}
 
 -- ---- numbers
 

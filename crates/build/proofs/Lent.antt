@@ -1,27 +1,7 @@
 -- The values of a sheet, lent by sorts, whole numbers and Singles.
-use mathlib.Core.Path.{_≡_, refl, ap, ap₂, _∙_}
-use mathlib.Core.Bool.{Bool}
-use mathlib.Core.List.{List, [], _∷_, _++_}
-use mathlib.Core.Logic.{_≢_}
-use Prim.Native.Nat.{ℕ, zero, suc, _<_}
-use native.Mathlib.Omega.{arith}
-use lib.IntN.{ℤ, pos}
-use lib.Ieee.{Float, nan}
-use lib.ListN.{length, getD}
-use Rattle.refusal.specs.Outcome.{good, _>>=_}
-use Rattle.refusal.proofs.Outcomes.{bind-same}
-use Rattle.memory.specs.Pieces.{piece}
-use Rattle.fields.specs.declared.Value.the-variants.{Missing}
-use Rattle.fields.specs.declared.Template.{Template}
-use Rattle.fields.specs.declared.Level.{Level}
-use Rattle.fields.specs.Rules.{encode}
-use Rattle.fields.specs.Lines.{Line, chose, basic, templateLines, numberOf}
-use Rattle.layout.specs.Pieces.{blockPieces}
-use Rattle.build.specs.declared.Sheet.{Sheet}
-use Rattle.build.specs.declared.plan.CodedField.{CodedField}
-use Rattle.build.specs.declared.plan.Planned.{Planned}
-use Rattle.build.specs.Build.{slot, lent, linePieces, fieldPieces}
-use Rattle.build.specs.Tested.{bySort, valueLent, slotsLent, Long, sheetLent, fieldsLent, FieldsPlanned}
+use Rattle.build.proofs.Names.{_≡_, refl, ap, ap₂, _∙_, Bool, List, [], _∷_, _++_, _≢_, ℕ, zero, suc, _<_, arith, ℤ, pos, Float, nan, length, getD, good, _>>=_, bind-same, piece, Missing, Template, Level, encode}
+use Rattle.build.proofs.Names.{Line, chose, basic, templateLines, numberOf, blockPieces, Sheet, CodedField, Planned, slot, lent, linePieces, fieldPieces, bySort, valueLent, slotsLent, Long, sheetLent, fieldsLent}
+use Rattle.build.proofs.Names.{FieldsPlanned}
 
 -- ---- one value
 

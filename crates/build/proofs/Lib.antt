@@ -1,3 +1,4 @@
+mod Names
 pub mod Tests
 pub mod FieldPlans
 pub mod Lent

@@ -1,23 +1,6 @@
 -- Calibration pairs: the parts of a plan, and the bits that they need.
-use mathlib.Core.Path.{_≡_, refl, sym, ap, subst}
-use mathlib.Core.List.{List, [], _∷_, _++_}
-use mathlib.Core.Option.{Option, none, some}
-use Prim.Native.Nat.{ℕ, suc, _+_, _*_, _/_}
-use native.Mathlib.Omega.{arith}
-use lib.IntN.{ℤ}
-use lib.ListN.{length}
-use Rattle.refusal.specs.Outcome.{good}
-use Rattle.refusal.proofs.Outcomes.{good-same, good-bind, good-then}
-use Rattle.memory.specs.Pieces.{Piece, piece, needed}
-use Rattle.fields.specs.declared.Value.the-variants.{Whole}
-use Rattle.fields.specs.declared.Pair.{Pair}
-use Rattle.fields.specs.declared.Codes.{Codes}
-use Rattle.fields.specs.declared.Domain.{Domain}
-use Rattle.fields.specs.Rules.{encode}
-use Rattle.fields.specs.Calibration.{domainCode, calPoint, calDeviation, follows}
-use Rattle.layout.specs.Places.{tableBits}
-use Rattle.layout.specs.Pieces.{blockPieces}
-use Rattle.build.specs.Build.{pairsLent, codesFor, pairCodes, pairPieces, tablePieces}
+use Rattle.build.proofs.Names.{_≡_, refl, sym, ap, subst, List, [], _∷_, _++_, Option, none, some, ℕ, suc, _+_, _*_, _/_, arith, ℤ, length, good, good-same, good-bind, good-then, Piece, piece, needed, Whole, Pair}
+use Rattle.build.proofs.Names.{Codes, Domain, encode, domainCode, calPoint, calDeviation, follows, tableBits, blockPieces, pairsLent, codesFor, pairCodes, pairPieces, tablePieces}
 
 -- ---- the points lent
 

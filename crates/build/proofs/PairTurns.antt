@@ -1,32 +1,8 @@
 -- The points lent, one pair after the other.
-use mathlib.Core.Path.{_≡_, refl, sym, ap, ap₂, _∙_}
-use mathlib.Core.List.{List, [], _∷_, _++_}
-use mathlib.Core.Option.{Option, none, some}
-use Prim.Native.Nat.{ℕ, suc, _+_, _*_, _/_, _≤_, _<_}
-use native.Mathlib.Numerals.{add-one}
-use native.Mathlib.Omega.{arith}
-use lib.IntN.{ℤ, pos}
-use lib.ListN.{length, drop, getD, length-drop}
-use lib.Seq.{drop-cons}
-use Rattle.refusal.specs.declared.Refusal.{Refusal}
-use Rattle.refusal.specs.Outcome.{Outcome, good, refused, _>>=_, _>>_}
-use Rattle.refusal.proofs.Outcomes.{bind-good, bind-refused}
-use Rattle.memory.specs.Pieces.{Piece, piece, needed}
-use Rattle.fields.specs.declared.Value.the-variants.{Whole}
-use Rattle.fields.specs.declared.Row.{Row}
-use Rattle.fields.specs.declared.Pair.{Pair}
-use Rattle.fields.specs.declared.Codes.{Codes}
-use Rattle.fields.specs.declared.Domain.{Domain}
-use Rattle.fields.specs.Rules.{encode}
-use Rattle.fields.specs.Calibration.{domainCode, calPoint, calDeviation, codesOf, follows}
-use Rattle.fields.specs.Stored.{Sound}
-use Rattle.fields.proofs.RowLaws.{point-sound, deviation-sound}
-use Rattle.fields.proofs.StoredLaws.{reads-back}
-use Rattle.layout.specs.Pieces.{blockPieces}
-use Rattle.layout.specs.Places.{tableBits}
-use Rattle.build.specs.Build.{pairsLent, codesFor, pairCodes, pairPieces, tablePieces}
-use Rattle.build.specs.Tested.{tested, piecesOf, Accepted, Fitting, pairAt}
-use Rattle.build.specs.Filled.{codedPair, codedPairs}
+use Rattle.build.proofs.Names.{_≡_, refl, sym, ap, ap₂, _∙_, List, [], _∷_, _++_, Option, none, some, ℕ, suc, _+_, _*_, _/_, _≤_, _<_, add-one, arith, ℤ, pos, length, drop, getD, length-drop, drop-cons, Refusal}
+use Rattle.build.proofs.Names.{Outcome, good, refused, _>>=_, _>>_, bind-good, bind-refused, Piece, piece, needed, Whole, Row, Pair, Codes, Domain, encode, domainCode, calPoint, calDeviation, codesOf, follows}
+use Rattle.build.proofs.Names.{Sound, point-sound, deviation-sound, reads-back, blockPieces, tableBits, pairsLent, codesFor, pairCodes, pairPieces, tablePieces, tested, piecesOf, Accepted, Fitting, pairAt}
+use Rattle.build.proofs.Names.{codedPair, codedPairs}
 use Rattle.build.proofs.Tests.{tested-made}
 use Rattle.build.proofs.PairPlans.{codes-planned, no-pair, pairs-planned, table-planned, table-needed, pairs-length}
 

@@ -1,35 +1,9 @@
 -- A segment's own fields and a term's: what is tested, and the codes that are left.
-use mathlib.Core.Path.{_≡_, refl, sym, ap, subst}
-use mathlib.Core.Bool.{Bool, true, false, not}
-use mathlib.Core.List.{List, [], _∷_}
-use mathlib.Core.Option.{Option}
-use Prim.Native.Nat.{ℕ, _+_, _≤_}
-use native.Mathlib.Omega.{arith}
-use borrow.Author.Tests.{ltb-false, leb-true, not-false}
-use lib.Dec.{ltb, leb}
-use lib.IntN.{ℤ, pos, _*ℤ_}
-use mir.Syntax.{w64}
-use mir.Val.{SFits, toZ, ofZ}
-use mir.Facts.{toZ-ofZ}
-use Rattle.refusal.specs.declared.Refusal.{Refusal}
-use Rattle.refusal.specs.Outcome.{Outcome, good, refused, refuse_if_}
-use Rattle.refusal.specs.Rows.{wrongCurve, tooManyTerms}
-use Rattle.refusal.proofs.Outcomes.{good-bind, good-then, good-same, no-value, passed, both, bind-refused}
-use Rattle.fields.specs.declared.Value.{Value}
-use Rattle.fields.specs.declared.Value.the-variants.{Whole, Single}
-use Rattle.fields.specs.declared.Row.{Row}
-use Rattle.fields.specs.declared.Segment.{Segment}
-use Rattle.fields.specs.declared.Term.{Term}
-use Rattle.fields.specs.Rules.{encode}
-use Rattle.fields.specs.Curves.{segmentStart, termCount, exponent, coefficient, isTermCount, mostTerms, startFollows, exponentFollows, exponentCode}
-use Rattle.fields.specs.Stored.{Sound, Real}
-use Rattle.fields.proofs.RowLaws.{start-sound, exponent-sound, coefficient-sound}
-use Rattle.fields.proofs.StoredLaws.{reads-back}
-use Rattle.build.specs.declared.plan.CodedField.{CodedField}
-use Rattle.build.specs.declared.drawing.TwoAnswer.{TwoAnswer}
-use Rattle.build.specs.declared.drawing.TwoAnswer.the-variants.{Are, Refused}
-use Rattle.build.specs.Build.{countTested, startCode}
-use Rattle.build.specs.Tested.{Fitting, coded, TwoCoded, segmentTwo, termTwo}
+use Rattle.build.proofs.Names.{_≡_, refl, sym, ap, subst, Bool, true, false, not, List, [], _∷_, Option, ℕ, _+_, _≤_, arith, ltb-false, leb-true, not-false, ltb, leb, ℤ, pos, _*ℤ_, w64, SFits, toZ, ofZ, toZ-ofZ}
+use Rattle.build.proofs.Names.{Refusal, Outcome, good, refused, refuse_if_, wrongCurve, tooManyTerms, good-bind, good-then, good-same, no-value, passed, both, bind-refused, Value, Whole, Single, Row, Segment}
+use Rattle.build.proofs.Names.{Term, encode, segmentStart, termCount, exponent, coefficient, isTermCount, mostTerms, startFollows, exponentFollows, exponentCode, Sound, Real, start-sound, exponent-sound}
+use Rattle.build.proofs.Names.{coefficient-sound, reads-back, CodedField, Are, countTested, startCode, Fitting, coded, TwoCoded, segmentTwo, termTwo}
+use Rattle.build.specs.declared.drawing.TwoAnswer.the-variants.{Refused}
 
 -- ---- two pieces
 

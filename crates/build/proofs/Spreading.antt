@@ -1,19 +1,6 @@
 -- Slots spread over sorts, whole numbers and Singles, one after the other.
-use mathlib.Core.Path.{_≡_, refl, ap, ap₂, _∙_}
-use mathlib.Core.List.{List, [], _∷_}
-use Prim.Native.Nat.{ℕ, suc, _+_, _≤_, _<_}
-use native.Mathlib.Decide.{ℕ-discrete}
-use native.Mathlib.Omega.{arith}
-use lib.IntN.{ℤ, pos}
-use lib.Ieee.{Float, nan}
-use lib.ListN.{length, getD, set, length-set}
-use lib.Seq.{getD-set-same, getD-set-other}
-use Rattle.fields.specs.declared.Value.{Value}
-use Rattle.fields.specs.declared.Value.the-variants.{Whole, Single, Missing}
-use Rattle.build.specs.declared.Slot.{Slot}
-use Rattle.build.specs.declared.Sheet.{Sheet}
-use Rattle.build.specs.Build.{slot}
-use Rattle.build.specs.Tested.{valueLent, slotsLent, Long, Spread, sheetLent}
+use Rattle.build.proofs.Names.{_≡_, refl, ap, ap₂, _∙_, List, [], _∷_, ℕ, suc, _+_, _≤_, _<_, ℕ-discrete, arith, ℤ, pos, Float, nan, length, getD, set, length-set, getD-set-same, getD-set-other, Value, Whole}
+use Rattle.build.proofs.Names.{Single, Missing, Slot, Sheet, slot, valueLent, slotsLent, Long, Spread, sheetLent}
 
 -- The first n of them, with `none` for a slot behind the last.
 pub record SpreadTo (none : Slot) (slots : List Slot) (sorts : List ℕ) (wholes : List ℤ) (singles : List Float) (n : ℕ) : Type 0 where

@@ -1,14 +1,6 @@
 -- Tests: what is left of an outcome where its value is not asked for.
-use mathlib.Core.Path.{_≡_, refl, sym, ap, _∙_}
-use mathlib.Core.List.{List}
-use Rattle.refusal.specs.declared.Refusal.{Refusal}
-use Rattle.refusal.specs.Outcome.{Outcome, good, refused, _>>=_}
-use Rattle.refusal.proofs.Outcomes.{no-value}
-use Rattle.memory.specs.Pieces.{Piece}
-use Rattle.fields.specs.declared.Judged.{Judged}
-use Rattle.fields.specs.declared.Judged.the-variants.{Stands, Refused}
-use Rattle.fields.specs.Answers.{judgedSaid}
-use Rattle.build.specs.Tested.{tested, Accepted}
+use Rattle.build.proofs.Names.{_≡_, refl, sym, ap, _∙_, List, Refusal, Outcome, good, refused, _>>=_, no-value, Piece, Judged, Stands, judgedSaid, tested, Accepted}
+use Rattle.fields.specs.declared.Judged.the-variants.{Refused}
 
 -- A step that makes something of the value tests nothing.
 pub tested-made : {A B : Type 0} (o : Outcome A) (make : A → B) → tested (o >>= λ a. good (make a)) ≡ tested o

@@ -1,23 +1,8 @@
 -- The text, one character after the other.
-use mathlib.Core.Path.{_≡_, refl, sym, ap, ap₂, _∙_}
-use mathlib.Core.Bool.{Bool, true, false, _||_}
-use mathlib.Core.List.{List, [], _∷_, _++_, map}
-use Prim.Native.Nat.{ℕ, zero, suc, _+_, _-_, _*_, _^_, _≤_, _<_}
-use native.Mathlib.Nat.{lt-of-lt-of-le}
-use native.Mathlib.Numerals.{add-one}
-use native.Mathlib.Omega.{arith}
-use borrow.Author.Tests.{lt-ltb, le-ltb, eq-eqb, ne-eqb}
-use lib.Dec.{eqb, ltb}
-use lib.ListN.{length, take, drop, getD, length-map, List·getD-map, take-append-drop, drop-of-length-le}
-use lib.Pow.{pow-mono}
-use lib.Seq.{slice, slice-cons, drop-cons, drop-append-le, length-take-le}
-use Rattle.refusal.specs.Outcome.{Outcome, good, refused, _>>_, refuse_if_}
-use Rattle.refusal.specs.Rows.{wrongSort, outOfRange}
-use Rattle.memory.specs.Pieces.{Piece, piece, pack, needed}
-use Rattle.memory.proofs.PieceLaws.{Fit, pack-lt}
-use Rattle.build.specs.Build.{unfit, endingPieces}
-use Rattle.build.specs.Tested.{tested}
-use Rattle.build.specs.Filled.{codedEnding}
+use Rattle.build.proofs.Names.{_≡_, refl, sym, ap, ap₂, _∙_, Bool, true, false, _||_, List, [], _∷_, _++_, map, ℕ, zero, suc, _+_, _-_, _*_, _^_, _≤_, _<_, lt-of-lt-of-le, add-one, arith, lt-ltb, le-ltb, eq-eqb}
+use Rattle.build.proofs.Names.{ne-eqb, eqb, ltb, length, take, drop, getD, length-map, List·getD-map, take-append-drop, drop-of-length-le, pow-mono, slice, slice-cons, drop-cons, drop-append-le, length-take-le}
+use Rattle.build.proofs.Names.{Outcome, good, refused, _>>_, refuse_if_, wrongSort, outOfRange, Piece, piece, pack, needed, pack-lt, unfit, endingPieces, tested, codedEnding}
+use Rattle.memory.proofs.PieceLaws.{Fit}
 
 module _ (text : List ℕ) (i : ℕ) (h : i < length text) where
   step : unfit (drop i text) ≡ (eqb (getD text i 0) 0 || ltb 127 (getD text i 0) || unfit (drop (i + 1) text))

@@ -1,45 +1,9 @@
 -- The parts of a proposal and of a commit as the code takes them are those of their definitions.
-use mathlib.Core.Path.{_≡_, refl, sym, ap, ap₂, _∙_, subst}
-use mathlib.Core.Bool.{Bool, true, false, not, _||_}
-use mathlib.Core.List.{List}
-use Prim.Native.Nat.{ℕ, _+_, _/_, _^_, _≤_, _<_}
-use native.Mathlib.Nat.{zero-add, div-lt-iff-lt-mul}
-use native.Mathlib.Omega.{arith}
-use native.Mathlib.Decide.{decLt}
-use lib.Dec.{eqb, ltb}
-use lib.ListN.{length}
-use lib.Pow.{pow-pos, shr-lt}
-use borrow.Author.Tests.{ltb-true, eqb-true, lt-ltb, le-ltb, eq-eqb, ne-eqb, not-false}
-use Rattle.refusal.specs.declared.Refusal.{Refusal}
-use Rattle.refusal.specs.Outcome.{Outcome, good, refused, _>>_, _>>=_, refuse_if_}
-use Rattle.refusal.specs.Rows.{noSuch, changedAlone, outOfRange, otherCode, levelTooLow}
-use Rattle.refusal.proofs.Outcomes.{good-bind, passed, both, bind-good, bind-refused, then-good, then-refused}
-use Rattle.memory.specs.declared.Sizes.{Sizes}
-use Rattle.memory.specs.Bits.{fieldAt, putAt}
-use Rattle.memory.specs.Image.{imageSizes, streamNumber, imageOf}
-use Rattle.stream.specs.Answers.{InStream}
-use Rattle.fields.specs.declared.Value.{Value}
-use Rattle.fields.specs.declared.Row.{Row}
-use Rattle.fields.specs.declared.Layout.{Layout}
-use Rattle.fields.specs.declared.Level.{Level}
-use Rattle.fields.specs.declared.Template.{Template}
-use Rattle.fields.specs.Rules.{decode}
-use Rattle.fields.specs.Judgement.{judge}
-use Rattle.fields.specs.Lines.{lastField, lineOf, rowOf}
-use Rattle.fields.specs.Levels.{mayWrite}
-use Rattle.fields.proofs.DecodeLaws.{tested}
-use Rattle.layout.specs.Contents.{Found, Contents}
-use Rattle.layout.specs.Format.{bits, parse}
-use Rattle.layout.specs.Image.{streamIn, contents, field}
-use Rattle.layout.specs.Places.{fieldPlace}
-use Rattle.layout.proofs.Fields.{row-is, at-is, width-is}
-use Rattle.layout.proofs.Formats.{parsed}
-use Rattle.layout.proofs.Places.{fields-count}
-use Rattle.sheet.specs.declared.opening.Opened.{Opened}
-use Rattle.sheet.specs.Opened.{Opens}
-use Rattle.sheet.proofs.HeldLaws.{layout-is, holding}
-use Rattle.change.specs.Change.{changeable, recodedIn, rewritten, taken, mayStand, propose, mayCommit, commit}
-use Rattle.change.specs.Parts.{allowedIn, codeIn, proposedAt, mayFollow}
+use Rattle.change.proofs.Names.{_≡_, refl, sym, ap, ap₂, _∙_, subst, Bool, true, false, not, _||_, List, ℕ, _+_, _/_, _^_, _≤_, _<_, zero-add, div-lt-iff-lt-mul, arith, decLt, eqb, ltb, length, pow-pos, shr-lt}
+use Rattle.change.proofs.Names.{ltb-true, eqb-true, lt-ltb, le-ltb, eq-eqb, ne-eqb, not-false, Refusal, Outcome, good, refused, _>>_, _>>=_, refuse_if_, noSuch, changedAlone, outOfRange, otherCode, levelTooLow}
+use Rattle.change.proofs.Names.{good-bind, passed, both, bind-good, bind-refused, then-good, then-refused, Sizes, fieldAt, putAt, imageSizes, streamNumber, imageOf, InStream, Value, Row, Layout, Level, Template}
+use Rattle.change.proofs.Names.{decode, judge, lastField, lineOf, rowOf, mayWrite, tested, Found, Contents, bits, parse, streamIn, contents, field, fieldPlace, row-is, at-is, width-is, parsed, fields-count}
+use Rattle.change.proofs.Names.{Opened, Opens, layout-is, holding, changeable, recodedIn, rewritten, taken, mayStand, propose, mayCommit, commit, allowedIn, codeIn, proposedAt, mayFollow}
 use Rattle.change.proofs.Recoding.{Changeable, changeable-is}
 use Rattle.change.proofs.PartLaws.{stands-here, in-stream, code-known, coded}
 

@@ -1,35 +1,9 @@
 -- Codes that may stand; a proposal and a commit by their parts, and what an accepted commit leaves.
-use mathlib.Core.Path.{_≡_, refl, sym, ap, _∙_, subst}
-use mathlib.Core.Bool.{Bool, true, false, not, _||_, _&&_, cond, true≢false}
-use mathlib.Core.List.{List}
-use Prim.Native.Nat.{ℕ, _-_, _^_, _<_}
-use lib.Dec.{eqb, ltb}
-use lib.ListN.{length}
-use lib.IntN.{pos}
-use lib.Ieee.{binary32, ofBits}
-use borrow.Author.Tests.{lt-ltb, eq-eqb, ne-eqb}
-use Rattle.refusal.specs.declared.Refusal.{Refusal}
-use Rattle.refusal.specs.Outcome.{Outcome, good, refused, _>>_, _>>=_, refuse_if_}
-use Rattle.refusal.specs.Rows.{outsideTable, notFinite, otherCode}
-use Rattle.refusal.proofs.Outcomes.{good-same, good-bind, good-then, both, no-value, bind-good, passed}
-use Rattle.memory.specs.declared.Sizes.{Sizes}
-use Rattle.memory.specs.Bits.{Bytes}
-use Rattle.memory.specs.Image.{imageSizes}
-use Rattle.memory.proofs.Chips.{sizes-chip}
-use Rattle.memory.proofs.Images.{image-length, image-bytes}
-use Rattle.fields.specs.declared.Value.{Value}
-use Rattle.fields.specs.declared.Value.the-variants.{Whole, Single, Missing}
-use Rattle.fields.specs.declared.Row.{Row}
-use Rattle.fields.specs.declared.Level.{Level}
-use Rattle.fields.specs.declared.Rule.{Rule}
-use Rattle.fields.specs.declared.Rule.the-variants.{Plain, Stepped, Geometric, Single as Ieee}
-use Rattle.fields.specs.Rules.{allOnes, topCode, steppedValue, progression, geometricValue, finite, meaning, decode}
-use Rattle.layout.specs.Contents.{Contents}
-use Rattle.layout.specs.Image.{contents, field}
-use Rattle.layout.proofs.Fields.{recoded}
-use Rattle.layout.proofs.Accepted.{contents-accepted}
-use Rattle.layout.proofs.Puts.{withField}
-use Rattle.change.specs.Change.{codeFor, recodedIn, taken, mayStand, proposedFor, propose, mayCommit, commit}
+use Rattle.change.proofs.Names.{_≡_, refl, sym, ap, _∙_, subst, Bool, true, false, not, _||_, _&&_, cond, true≢false, List, ℕ, _-_, _^_, _<_, eqb, ltb, length, pos, binary32, ofBits, lt-ltb, eq-eqb, ne-eqb}
+use Rattle.change.proofs.Names.{Refusal, Outcome, good, refused, _>>_, _>>=_, refuse_if_, outsideTable, notFinite, otherCode, good-same, good-bind, good-then, both, no-value, bind-good, passed, Sizes, Bytes}
+use Rattle.change.proofs.Names.{imageSizes, sizes-chip, image-length, image-bytes, Value, Whole, Single, Missing, Row, Level, Rule, Plain, Stepped, Geometric, Ieee, allOnes, topCode, steppedValue, progression}
+use Rattle.change.proofs.Names.{geometricValue, finite, meaning, decode, Contents, contents, field, recoded, contents-accepted, withField, codeFor, recodedIn, taken, mayStand, proposedFor, propose, mayCommit}
+use Rattle.change.proofs.Names.{commit}
 use Rattle.change.proofs.Recoding.{Changeable, changeable-good, recoded-contents}
 use Rattle.change.proofs.CommitLaws.{stands-fits, commit-is, Committed, committed}
 

@@ -1,3 +1,4 @@
+mod Names
 pub mod Recoding
 pub mod PartLaws
 pub mod CommitLaws

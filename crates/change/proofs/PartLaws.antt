@@ -1,46 +1,10 @@
 -- The parts of a change as the code takes them are those of its definition.
-use mathlib.Core.Path.{_≡_, refl, sym, ap, ap₂, _∙_, subst}
-use mathlib.Core.Bool.{Bool, true, false, not, _||_}
-use mathlib.Core.List.{List}
-use Prim.Native.Nat.{ℕ, _+_, _-_, _^_, _≤_, _<_}
-use native.Mathlib.Omega.{arith}
-use lib.Dec.{eqb, ltb}
-use lib.ListN.{length}
-use borrow.Author.Tests.{eqb-false, ltb-false, eq-eqb, ne-eqb, lt-ltb, le-ltb}
-use Rattle.refusal.specs.declared.Refusal.{Refusal}
-use Rattle.refusal.specs.Outcome.{Outcome, good, refused, _>>_, _>>=_, refuse_if_}
-use Rattle.refusal.specs.Rows.{noSuch, changedAlone, levelTooLow}
-use Rattle.refusal.proofs.Outcomes.{passed, neither, good-then, bind-good, bind-refused, then-good, then-refused}
-use Rattle.memory.specs.declared.Sizes.{Sizes}
-use Rattle.memory.specs.Bits.{putAt}
-use Rattle.memory.specs.Image.{SumsRight, streamNumber, imageOf}
-use Rattle.stream.specs.Answers.{InStream}
-use Rattle.memory.proofs.Chips.{sizes-chip}
-use Rattle.memory.proofs.SumLaws.{sums-right}
-use Rattle.fields.specs.declared.Value.{Value}
-use Rattle.fields.specs.declared.Template.{Template}
-use Rattle.fields.specs.declared.Layout.{Layout}
-use Rattle.fields.specs.declared.Row.{Row}
-use Rattle.fields.specs.declared.Level.{Level}
-use Rattle.fields.specs.Rules.{encode}
-use Rattle.fields.specs.Stored.{Real}
-use Rattle.fields.specs.Lines.{lastField, lineOf, rowOf}
-use Rattle.fields.specs.Levels.{mayWrite}
-use Rattle.fields.proofs.RowLaws.{row-sound}
-use Rattle.fields.proofs.StoredLaws.{reads-back}
+use Rattle.change.proofs.Names.{_≡_, refl, sym, ap, ap₂, _∙_, subst, Bool, true, false, not, _||_, List, ℕ, _-_, _^_, _≤_, _<_, arith, eqb, ltb, length, eqb-false, ltb-false, eq-eqb, ne-eqb, lt-ltb, le-ltb}
+use Rattle.change.proofs.Names.{Refusal, Outcome, good, refused, _>>_, _>>=_, refuse_if_, noSuch, changedAlone, levelTooLow, passed, neither, good-then, bind-good, bind-refused, then-good, then-refused, Sizes}
+use Rattle.change.proofs.Names.{putAt, SumsRight, streamNumber, imageOf, InStream, sizes-chip, sums-right, Value, Template, Layout, Row, Level, encode, Real, lastField, lineOf, rowOf, mayWrite, row-sound}
+use Rattle.change.proofs.Names.{reads-back, Contents, streamIn, field, layoutOf, fieldPlace, row-is, at-is, width-is, fields-count, field-at, accepted-at, Stands, field-stands, Opened, Opens, layout-is}
+use Rattle.change.proofs.Names.{held-whole, holding, changeable, codeFor, change, writableIn, allowedIn, codeIn}
 pub use Rattle.coding.proofs.Lent.{lent-real}
-use Rattle.layout.specs.Contents.{Contents}
-use Rattle.layout.specs.Image.{streamIn, field, layoutOf}
-use Rattle.layout.specs.Places.{fieldPlace}
-use Rattle.layout.proofs.Fields.{row-is, at-is, width-is}
-use Rattle.layout.proofs.Places.{fields-count, field-at}
-use Rattle.layout.proofs.Accepted.{accepted-at}
-use Rattle.layout.proofs.Standing.{Stands, field-stands}
-use Rattle.sheet.specs.declared.opening.Opened.{Opened}
-use Rattle.sheet.specs.Opened.{Opens}
-use Rattle.sheet.proofs.HeldLaws.{layout-is, held-whole, holding}
-use Rattle.change.specs.Change.{changeable, codeFor, change}
-use Rattle.change.specs.Parts.{writableIn, allowedIn, codeIn}
 use Rattle.change.proofs.Recoding.{change-is}
 
 -- ---- the tests

@@ -1,41 +1,9 @@
 -- A change by its parts, and what the changed image holds.
-use mathlib.Core.Path.{_≡_, sym, ap, ap₂, _∙_, subst}
-use mathlib.Core.Bool.{Bool, true, false, not, _||_}
-use mathlib.Core.List.{List}
-use Prim.Native.Nat.{ℕ, _+_, _-_, _^_, _≤_, _<_}
-use native.Mathlib.Omega.{arith}
-use lib.Dec.{eqb, ltb}
-use lib.ListN.{length}
-use borrow.Author.Tests.{eqb-false, ltb-false, ne-eqb, le-ltb, not-false}
-use Rattle.refusal.specs.declared.Refusal.{Refusal}
-use Rattle.refusal.specs.Outcome.{good, refused, _>>_, _>>=_, refuse_if_}
-use Rattle.refusal.specs.Rows.{noSuch, changedAlone, levelTooLow}
-use Rattle.refusal.proofs.Outcomes.{good-same, good-bind, passed, neither}
-use Rattle.memory.specs.declared.Sizes.{Sizes}
-use Rattle.memory.specs.Bits.{Bytes, fieldAt, putAt}
-use Rattle.memory.specs.Image.{imageBytes, streamBits, imageSizes, streamNumber, imageOf}
-use Rattle.memory.proofs.FieldLaws.{put-lt, put-same}
-use Rattle.memory.proofs.Chips.{sizes-chip}
-use Rattle.memory.proofs.Streams.{stream-lt}
-use Rattle.memory.proofs.SumLaws.{sums-right}
-use Rattle.memory.proofs.Images.{image-length, image-bytes, two-views}
-use Rattle.fields.specs.declared.Value.{Value}
-use Rattle.fields.specs.declared.Level.{Level}
-use Rattle.fields.specs.Rules.{decode, encode}
-use Rattle.fields.specs.Stored.{kept, Real, Sound}
-use Rattle.fields.specs.Lines.{chose, lineOf, rowOf}
-use Rattle.fields.specs.Levels.{mayWrite}
-use Rattle.fields.proofs.RowLaws.{row-sound}
-use Rattle.fields.proofs.StoredLaws.{reads-back, stored-again}
-use Rattle.layout.specs.Contents.{Found, Contents}
-use Rattle.layout.specs.Image.{streamIn, contents, field, layoutOf}
-use Rattle.layout.specs.Places.{fieldPlace}
-use Rattle.layout.proofs.Fields.{recoded, row-is, at-is, width-is, Keeps}
-use Rattle.layout.proofs.Places.{fields-count}
-use Rattle.layout.proofs.Accepted.{Holding, contents-accepted, accepted-at, written-contents}
-use Rattle.layout.proofs.Puts.{withField, holding-put}
-use Rattle.layout.proofs.Standing.{Stands, field-stands}
-use Rattle.change.specs.Change.{changeable, codeFor, recodedIn, rewritten, change}
+use Rattle.change.proofs.Names.{_≡_, sym, ap, ap₂, _∙_, subst, Bool, true, false, not, _||_, List, ℕ, _+_, _-_, _^_, _≤_, _<_, arith, eqb, ltb, length, eqb-false, ltb-false, ne-eqb, le-ltb, not-false, Refusal}
+use Rattle.change.proofs.Names.{good, refused, _>>_, _>>=_, refuse_if_, noSuch, changedAlone, levelTooLow, good-same, good-bind, passed, neither, Sizes, Bytes, fieldAt, putAt, imageBytes, streamBits, imageSizes}
+use Rattle.change.proofs.Names.{streamNumber, imageOf, put-lt, put-same, sizes-chip, stream-lt, sums-right, image-length, image-bytes, two-views, Value, Level, decode, encode, kept, Real, Sound, chose, lineOf}
+use Rattle.change.proofs.Names.{rowOf, mayWrite, row-sound, reads-back, stored-again, Found, Contents, streamIn, contents, field, layoutOf, fieldPlace, recoded, row-is, at-is, width-is, Keeps, fields-count}
+use Rattle.change.proofs.Names.{Holding, contents-accepted, accepted-at, written-contents, withField, holding-put, Stands, field-stands, changeable, codeFor, recodedIn, rewritten, change}
 
 -- ---- by its parts
 

@@ -1,14 +1,6 @@
 -- What owning a value tells: an f32 in it is one.
-use mathlib.Core.Path.{sym, subst}
-use lib.Dec.{T}
-use denote.Laws.{Is}
+use Rattle.coding.proofs.Names.{sym, subst, T, Is, vals, owed, Value, Whole, Single, Missing, Real, the-type, the-laws}
 use denote.Enum.Declared as enum
-use denote.Enum.Laws.{vals, owed}
-use Rattle.fields.specs.declared.Value.{Value}
-use Rattle.fields.specs.declared.Value.the-variants.{Whole, Single, Missing}
-use Rattle.fields.specs.Stored.{Real}
-use Rattle.fields.proofs.Value.{the-type}
-use Rattle.fields.proofs.Value.Laws.{the-laws}
 
 pub lent-real : (v : Value) → Is (enum.row the-type) v (vals the-type the-laws v) → Real v
 lent-real (Whole z) h = tt

@@ -1,2 +1,3 @@
+mod Names
 pub mod Lent
 pub mod Told

@@ -1,24 +1,7 @@
 -- A code that is told at once: the place of a value is named in its refusals alone.
-use mathlib.Core.Path.{_≡_, sym, ap, _∙_}
-use mathlib.Core.Bool.{Bool, not}
-use Prim.Native.Nat.{ℕ, _^_, _<_}
-use lib.Ieee.{Float, binary32, toBits}
-use lib.IntN.{ℤ, pos, natAbs}
-use Rattle.refusal.specs.Outcome.{good, _>>_, refuse_if_}
-use Rattle.refusal.specs.Rows.{wrongSort, outOfRange}
-use Rattle.refusal.proofs.Outcomes.{no-value, passed}
-use Rattle.fields.specs.declared.Value.{Value}
-use Rattle.fields.specs.declared.Value.the-variants.{Whole, Single, Missing}
-use Rattle.fields.specs.declared.Rule.{Rule}
-use Rattle.fields.specs.declared.Rule.the-variants.{Plain, Stepped, Geometric, Single as Ieee}
-use Rattle.fields.specs.declared.Row.{Row}
-use Rattle.fields.specs.declared.Encoded.{Encoded}
-use Rattle.fields.specs.declared.Encoded.the-variants.{Code}
-use Rattle.fields.specs.Rules.{allOnes, topCode, steppedValue, steppedCode, progression, geometricValue, finite, outside, storedAt, wholeCode, singleCode, encode}
-use Rattle.fields.specs.Stored.{Sound, Real}
-use Rattle.fields.specs.Answers.{encodedSaid}
-use Rattle.fields.proofs.StoredLaws.{reads-back}
-use Rattle.coding.specs.Swift.{Told}
+use Rattle.coding.proofs.Names.{_≡_, sym, ap, _∙_, Bool, not, ℕ, _^_, _<_, Float, binary32, toBits, ℤ, pos, natAbs, good, _>>_, refuse_if_, wrongSort, outOfRange, no-value, passed, Value, Whole, Single, Missing}
+use Rattle.coding.proofs.Names.{Rule, Plain, Stepped, Geometric, Ieee, Row, Encoded, Code, allOnes, topCode, steppedValue, steppedCode, progression, geometricValue, finite, outside, storedAt, wholeCode}
+use Rattle.coding.proofs.Names.{singleCode, encode, Sound, Real, encodedSaid, reads-back, Told}
 
 module _ (p q : ℕ) where
   -- A figure in its range is so at any place.

@@ -1,22 +1,7 @@
 -- The greatest difference is enough, is no more than any number that is enough, and is attained.
-use mathlib.Core.Path.{_≡_, refl, subst}
-use mathlib.Core.List.{List, [], _∷_}
-use mathlib.Core.Logic.{_⊎_, inl, inr}
-use Prim.Native.Nat.{ℕ, max, _+_, _*_, _≤_, _<_}
-use native.Mathlib.Nat.{mul-le-mul-right, mul-pos}
-use native.Mathlib.Decide.{decLe}
-use native.Mathlib.Omega.{arith}
-use lib.IntN.{ℤ, pos, natAbs, _+ℤ_, _-ℤ_, _*ℤ_}
-use Rattle.integers.specs.Nearest.{_over_, nearest}
-use Rattle.fields.specs.declared.Pair.{Pair}
-use Rattle.line.specs.Certificate.{Rises, Slopes}
-use Rattle.line.specs.Conformity.{Conforms, AtPoints, WithinOf}
-use Rattle.line.specs.Line.{correction, deviation, certificateLine}
-use Rattle.line.proofs.Bends.{correction-some}
-use Rattle.line.proofs.Conformity.{conforms-within}
-use Rattle.distance.proofs.Apart.{ceiling-meets, ceiling-least}
-use Rattle.conformity.specs.Conformity.{differenceAt, greatestOver, greatestDifference}
-use Rattle.conformity.specs.Tight.{Attains, AtSome}
+use Rattle.conformity.proofs.Names.{_≡_, refl, subst, List, [], _∷_, _⊎_, inl, inr, ℕ, max, _+_, _*_, _≤_, _<_, mul-le-mul-right, mul-pos, decLe, arith, ℤ, pos, natAbs, _+ℤ_, _-ℤ_, _*ℤ_, _over_, nearest, Pair}
+use Rattle.conformity.proofs.Names.{Rises, Slopes, Conforms, AtPoints, WithinOf, correction, deviation, certificateLine, correction-some, conforms-within, ceiling-meets, ceiling-least, differenceAt, greatestOver}
+use Rattle.conformity.proofs.Names.{greatestDifference, Attains, AtSome}
 use Rattle.conformity.proofs.Ceilings.{ceiling-tight}
 
 module _ (stored lent : List Pair) (stored-rises : Rises stored) (rises : Rises lent) where

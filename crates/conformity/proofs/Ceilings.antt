@@ -1,10 +1,5 @@
 -- Quotients rounded up.
-use mathlib.Core.Path.{_≡_, sym, ap}
-use Prim.Native.Nat.{ℕ, _+_, _*_, _-_, _/_, _%_, _≤_, _<_}
-use native.Mathlib.Nat.{div-add-mod', mod-lt, mul-le-mul-right, le-of-mul-le-mul-right}
-use native.Mathlib.Omega.{arith}
-use Rattle.distance.specs.Distance.{ceiling}
-use Rattle.distance.proofs.Apart.{ceiling-meets, ceiling-least}
+use Rattle.conformity.proofs.Names.{_≡_, sym, ap, ℕ, _+_, _*_, _-_, _/_, _%_, _≤_, _<_, div-add-mod', mod-lt, mul-le-mul-right, le-of-mul-le-mul-right, arith, ceiling, ceiling-meets, ceiling-least}
 
 -- Equal fractions have equal quotients.
 no-more : (a b c d : ℕ) → 0 < b → 0 < d → a * d ≡ c * b → ceiling a b ≤ ceiling c d

@@ -1,31 +1,8 @@
 -- A correction at a whole position, in parts; and of points lent, by how many lie before it.
-use mathlib.Core.Path.{_≡_, refl, sym, ap, _∙_}
-use mathlib.Core.Bool.{true, false, cond}
-use mathlib.Core.List.{List, [], _∷_}
-use Prim.Native.Nat.{ℕ, zero, suc, _+_, _*_, _/_, _^_, _≤_, _<_}
-use native.Mathlib.Nat.{mul-le-mul-right}
-use native.Mathlib.Omega.{arith}
-use lib.IntN.{ℤ, pos, natAbs, _-ℤ_, _*ℤ_}
-use lib.ListN.{length, getD}
-use lib.Signed.{leZ, _<ℤ_}
-use Rattle.integers.specs.Parts.{up, dn}
-use Rattle.integers.specs.Nearest.{_over_}
-use Rattle.integers.proofs.PartLaws.{same, abs-parts, nleZ-parts, parts-<ℤ, is-true, is-false}
-use Rattle.fields.specs.declared.Pair.{Pair}
-use Rattle.fields.specs.Calibration.{noPair}
-use Rattle.build.specs.Build.{pairsLent}
-use Rattle.build.specs.Tested.{pairAt}
-use Rattle.build.proofs.PairPlans.{pairs-length}
-use Rattle.line.specs.Before.{pointOf, Before}
-use Rattle.line.specs.Line.{atEnd, between, correctionAfter, correction}
-use Rattle.line.specs.Ranges.{Between, Table}
-use Rattle.line.proofs.Distances.{scaled}
-use Rattle.line.proofs.Order.{Ahead}
-use Rattle.line.proofs.Weights.{at, weights-run, weights-num}
-use Rattle.line.proofs.Told.{gap-parts, gaps}
-use Rattle.line.proofs.Places.{Pieced, first-piece, last-piece, next-piece, figures-at, next-between}
-use Rattle.conformity.specs.declared.corrections.Corrected.{Corrected}
-use Rattle.conformity.specs.Steps.{Exact}
+use Rattle.conformity.proofs.Names.{_≡_, refl, sym, ap, _∙_, true, false, cond, List, [], _∷_, ℕ, zero, suc, _+_, _*_, _/_, _^_, _≤_, _<_, mul-le-mul-right, arith, ℤ, pos, natAbs, _-ℤ_, _*ℤ_, length, getD, leZ}
+use Rattle.conformity.proofs.Names.{_<ℤ_, up, dn, _over_, same, abs-parts, nleZ-parts, parts-<ℤ, is-true, is-false, Pair, noPair, pairsLent, pairAt, pairs-length, pointOf, Before, atEnd, between, correctionAfter}
+use Rattle.conformity.proofs.Names.{correction, Between, Table, scaled, Ahead, at, weights-run, weights-num, gap-parts, gaps, Pieced, first-piece, last-piece, next-piece, figures-at, next-between, Corrected}
+use Rattle.conformity.proofs.Names.{Exact}
 
 -- ---- in parts
 

@@ -1,23 +1,7 @@
 -- The pairs of a sheet, written into room for points by turns.
-use mathlib.Core.Path.{_≡_, ap₂, _∙_, subst}
-use mathlib.Core.List.{List}
-use Prim.Native.Nat.{ℕ, _+_, _*_, _≤_, _<_}
-use native.Mathlib.Decide.{decLe}
-use native.Mathlib.Omega.{arith}
-use lib.IntN.{ℤ, pos}
-use lib.ListN.{length, getD, take, set, length-set, length-map}
-use lib.Seq.{length-take-le, getD-set-same, getD-set-other, getD-take, ext-getD}
-use Rattle.fields.specs.declared.Pair.{Pair}
-use Rattle.fields.specs.Calibration.{noPair}
-use Rattle.build.specs.Build.{pairsLent}
-use Rattle.build.specs.Tested.{pairAt}
-use Rattle.build.proofs.PairPlans.{pairs-length}
-use Rattle.layout.specs.Contents.{Calibration, bare, table, curve, Contents}
-use Rattle.layout.specs.Image.{pairsIn, pairIn, points}
-use Rattle.layout.proofs.Calibrations.{CalibrationAt}
-use Rattle.sheet.specs.declared.opening.Opened.{Opened}
-use Rattle.sheet.specs.Opened.{Opens}
-use Rattle.sheet.proofs.HeldLaws.{points-are, holding}
+use Rattle.conformity.proofs.Names.{_≡_, ap₂, _∙_, subst, List, ℕ, _+_, _*_, _≤_, _<_, decLe, arith, ℤ, pos, length, getD, take, set, length-set, length-map, length-take-le, getD-set-same, getD-set-other}
+use Rattle.conformity.proofs.Names.{getD-take, ext-getD, Pair, noPair, pairsLent, pairAt, pairs-length, Calibration, bare, table, curve, Contents, pairsIn, pairIn, points, CalibrationAt, Opened, Opens, points-are}
+use Rattle.conformity.proofs.Names.{holding}
 use Rattle.conformity.proofs.Exacts.{pair-lent}
 
 -- ---- a sheet has 127 pairs at most

@@ -1,35 +1,8 @@
 -- The difference of two corrections at a point of one of them, and the greatest over its points.
-use mathlib.Core.Path.{_≡_, refl, sym, ap, ap₂, _∙_, subst}
-use mathlib.Core.List.{List, [], _∷_}
-use mathlib.Core.Logic.{inl, inr}
-use Prim.Native.Nat.{ℕ, zero, suc, max, _+_, _*_, _/_, _≤_, _<_}
-use native.Mathlib.Nat.{mul-pos, mul-comm}
-use native.Mathlib.Numerals.{add-one}
-use native.Mathlib.Omega.{arith}
-use lib.IntN.{ℤ, pos, negsuc, natAbs, _-ℤ_, _*ℤ_}
-use lib.ListN.{length, getD}
-use lib.Signed.{_<ℤ_}
-use Rattle.integers.specs.Parts.{up, dn}
-use Rattle.integers.specs.Nearest.{_over_}
-use Rattle.integers.proofs.PartLaws.{sub-parts-ℤ, ltZ-parts, parts-≤ℤ, parts-<ℤ}
-use Rattle.fields.specs.declared.Pair.{Pair}
-use Rattle.fields.specs.Calibration.{noPair}
-use Rattle.build.specs.Build.{pairsLent}
-use Rattle.build.specs.Tested.{pairAt}
-use Rattle.build.proofs.PairPlans.{pairs-length}
-use Rattle.build.proofs.PairTurns.{pairsFrom, pairs-left, pairs-end}
-use Rattle.line.specs.Before.{pointOf, Before}
-use Rattle.line.specs.Certificate.{Rises}
-use Rattle.line.specs.Ranges.{Table}
-use Rattle.line.specs.Line.{Correction, correction}
-use Rattle.line.proofs.Distances.{scaled}
-use Rattle.line.proofs.Weights.{at}
-use Rattle.line.proofs.Bends.{Is, is-held, is-right, correction-some}
-use Rattle.line.proofs.Places.{first-piece, next-piece, rise-at}
-use Rattle.distance.specs.Distance.{ceiling}
-use Rattle.conformity.specs.declared.corrections.Corrected.{Corrected}
-use Rattle.conformity.specs.Conformity.{difference, differenceAt, greatestOver, comparedWith}
-use Rattle.conformity.specs.Steps.{Exact, Apart, upwardDifference}
+use Rattle.conformity.proofs.Names.{_≡_, refl, sym, ap, ap₂, _∙_, subst, List, [], _∷_, inl, inr, ℕ, zero, suc, max, _+_, _*_, _/_, _≤_, _<_, mul-pos, mul-comm, add-one, arith, ℤ, pos, negsuc, natAbs, _-ℤ_, _*ℤ_}
+use Rattle.conformity.proofs.Names.{length, getD, _<ℤ_, up, dn, _over_, sub-parts-ℤ, ltZ-parts, parts-≤ℤ, parts-<ℤ, Pair, noPair, pairsLent, pairAt, pairs-length, pairsFrom, pairs-left, pairs-end, pointOf, Before}
+use Rattle.conformity.proofs.Names.{Rises, Table, Correction, correction, scaled, at, Is, is-held, is-right, correction-some, first-piece, next-piece, rise-at, ceiling, Corrected, difference, differenceAt}
+use Rattle.conformity.proofs.Names.{greatestOver, comparedWith, Exact, Apart, upwardDifference}
 use Rattle.conformity.proofs.Ceilings.{ceiling-same}
 use Rattle.conformity.proofs.Exacts.{correction-pieced, pair-lent}
 

@@ -1,3 +1,4 @@
+mod Names
 pub mod Ceilings
 pub mod Exacts
 pub mod Greatest

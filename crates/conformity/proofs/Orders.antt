@@ -1,35 +1,9 @@
 -- The conformity in the order of its rows, and whether there is a straight table.
-use mathlib.Core.Path.{_≡_, refl, sym, ap₂, _∙_}
-use mathlib.Core.Bool.{true, false, true≢false}
-use mathlib.Core.List.{List, map}
-use mathlib.Core.Option.{Option, none, some}
-use Prim.Native.Nat.{ℕ}
-use native.Mathlib.Omega.{arith}
-use lib.Dec.{eqb, eqb→eq}
-use Rattle.integers.proofs.PartLaws.{is-true}
-use lib.IntN.{ℤ}
-use lib.ListN.{length, length-map}
-use Rattle.refusal.specs.declared.Refusal.{Refusal}
-use Rattle.refusal.specs.Outcome.{good, refused}
-use Rattle.refusal.specs.Rows.{wrongBlock}
-use Rattle.refusal.proofs.Outcomes.{good-same, good-bind, passed}
-use Rattle.fields.specs.declared.Pair.{Pair}
-use Rattle.fields.specs.declared.Domain.the-variants.{Electrical, Physical}
-use Rattle.layout.specs.Contents.{Calibration, bare, table, curve, Contents}
-use Rattle.layout.specs.Image.{contents, pairsIn, pairIn, segmentsIn, segmentIn, points}
-use Rattle.layout.specs.Places.{firstSelector}
-use Rattle.layout.proofs.Calibrations.{CalibrationAt}
-use Rattle.build.specs.Build.{pairsLent}
+use Rattle.conformity.proofs.Names.{_≡_, refl, sym, ap₂, _∙_, true, false, true≢false, List, map, Option, none, some, ℕ, arith, eqb, eqb→eq, is-true, ℤ, length, length-map, Refusal, good, refused, wrongBlock}
+use Rattle.conformity.proofs.Names.{good-same, good-bind, passed, Pair, Electrical, Physical, Calibration, bare, table, curve, Contents, contents, pairsIn, pairIn, segmentsIn, segmentIn, points, firstSelector}
+use Rattle.conformity.proofs.Names.{CalibrationAt, pairsLent, Opened, domainIn, Opens, segments-are, domain-is, holding, ToldDistance, distance, isResistance, comparedWith, straightTable, compared, conformity}
+use Rattle.conformity.proofs.Names.{isStraight}
 use Rattle.sheet.specs.declared.TableDomain.the-variants.{Is}
-use Rattle.sheet.specs.declared.opening.Opened.{Opened}
-use Rattle.sheet.specs.Check.{domainIn}
-use Rattle.sheet.specs.Opened.{Opens}
-use Rattle.sheet.proofs.HeldLaws.{segments-are, domain-is, holding}
-use Rattle.distance.specs.declared.ToldDistance.{ToldDistance}
-use Rattle.distance.specs.Distance.{distance}
-use Rattle.reading.specs.Reading.{isResistance}
-use Rattle.conformity.specs.Conformity.{comparedWith, straightTable, compared, conformity}
-use Rattle.conformity.specs.Steps.{isStraight}
 
 -- ---- the order
 

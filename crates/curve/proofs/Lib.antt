@@ -1,2 +1,3 @@
+mod Names
 pub mod NestedLaws
 pub mod PowerLaws

@@ -1,14 +1,6 @@
 -- The nested rule, a turn at a time.
-use mathlib.Core.Path.{_≡_, refl, sym}
-use mathlib.Core.List.{List, [], _∷_}
-use Prim.Native.Nat.{ℕ, zero, suc, _+_, _-_, _≤_, _<_}
-use native.Mathlib.Omega.{arith}
-use lib.Count.{trailingZeros}
-use lib.IntN.{pos}
-use lib.Ieee.{Float, nan, binary64, add, mul, ofInt, ofBits, ofFields, round, units, odd, size, climb, span}
-use lib.ListN.{length, take, drop, getD, length-drop}
-use lib.Seq.{drop-cons, getD-take, length-take-le}
-use Rattle.curve.specs.Curve.{nested}
+use Rattle.curve.proofs.Names.{_≡_, refl, List, [], _∷_, ℕ, suc, _+_, _-_, _≤_, _<_, arith, trailingZeros, pos, Float, nan, binary64, add, mul, ofInt, ofBits, ofFields, round, units, odd, size, climb, span}
+use Rattle.curve.proofs.Names.{length, take, drop, getD, length-drop, drop-cons, getD-take, length-take-le, nested}
 
 -- The highest power's coefficient as it stands.
 alone : (x c : Float) (l : List Float) → length l ≡ 0 → c ≡ nested x (c ∷ l)

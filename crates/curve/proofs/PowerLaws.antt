@@ -1,19 +1,7 @@
 -- Terms of rising exponents, taken one after the other: their coefficients by powers.
-use mathlib.Core.Path.{_≡_, refl, sym, _∙_}
-use mathlib.Core.Bool.{Bool, cond, true, false}
-use mathlib.Core.List.{List, [], _∷_, _++_, append-assoc, append-nil}
-use Prim.Native.Nat.{ℕ, suc, _+_, _-_, _≤_, _<_}
-use native.Mathlib.Omega.{arith}
-use borrow.Author.Tests.{lt-ltb, ltb-true}
-use lib.Dec.{ltb}
-use lib.IntN.{ℤ, natAbs}
-use lib.Ieee.{Float}
-use lib.ListN.{length, replicate, set, take, length-append, length-replicate, replicate-append-replicate}
-use lib.Seq.{set-at, take-at}
-use Rattle.fields.specs.declared.Term.{Term}
-use Rattle.curve.specs.declared.Powers.{Powers}
-use Rattle.curve.specs.Curve.{zero, coefficients, fractionBy, fractionOf}
-use Rattle.curve.specs.Powers.{noPowers, withPower, withTerm, taken, upToHighest, Rising}
+use Rattle.curve.proofs.Names.{_≡_, refl, sym, _∙_, Bool, cond, true, false, List, [], _∷_, _++_, append-assoc, append-nil, ℕ, suc, _+_, _-_, _≤_, _<_, arith, lt-ltb, ltb-true, ltb, ℤ, natAbs, Float, length}
+use Rattle.curve.proofs.Names.{replicate, set, length-append, length-replicate, replicate-append-replicate, set-at, take-at, Term, Powers, zero, coefficients, fractionBy, fractionOf, noPowers, withPower, withTerm}
+use Rattle.curve.proofs.Names.{taken, upToHighest, Rising}
 
 -- Powers that hold these coefficients, and nothing above them.
 record Held (powers : Powers) (l : List Float) : Type 0 where

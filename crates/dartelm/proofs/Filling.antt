@@ -1,13 +1,7 @@
 -- An array of n elements, each zero at first, that is filled from its start with what a function makes of the elements of a list.
 -- Assumes nothing.
-use mathlib.Core.Path.{_≡_, ap, _∙_}
-use mathlib.Core.List.{List, [], _∷_, _++_, map, map-append, append-assoc, append-nil}
-use Prim.Native.Nat.{ℕ, suc, _+_, _-_, _≤_, _<_}
-use native.Mathlib.Omega.{arith}
-use native.Mathlib.Numerals.{add-one}
-use lib.ListN.{length, getD, take, set, replicate, length-map}
-use lib.Seq.{take-suc, take-all, set-at, length-take-le}
-use Rattle.dartelm.specs.Answers.{padded}
+use Rattle.dartelm.proofs.Names.{_≡_, ap, _∙_, List, [], _∷_, _++_, map, map-append, append-assoc, append-nil, ℕ, suc, _+_, _-_, _≤_, _<_, arith, add-one, length, getD, take, set, replicate, length-map, take-suc}
+use Rattle.dartelm.proofs.Names.{take-all, set-at, length-take-le, padded}
 
 -- The array when i elements are made.
 abbrev pub filled : {A B : Type 0} → (A → B) → ℕ → B → List A → ℕ → List B

@@ -1,32 +1,8 @@
 -- What is told may be handed in again, and a kind goes by the image's length.
 -- Assumes nothing.
-use mathlib.Core.Path.{_≡_, refl, ap, ap₂, _∙_}
-use mathlib.Core.Bool.{Bool, true, false, not}
-use mathlib.Core.List.{List, [], _∷_, map, map-append}
-use Prim.Native.Nat.{ℕ, zero, suc, _-_, _<_}
-use native.Mathlib.Omega.{arith}
-use lib.IntN.{ℤ, pos}
-use lib.Ieee.{Float}
-use lib.Dec.{eqb}
-use lib.ListN.{length, replicate, length-map}
-use borrow.Author.Tests.{eqb-true}
-use Rattle.refusal.specs.Outcome.{good, _>>_, refuse_if_}
-use Rattle.refusal.specs.Rows.{wrongImage}
-use Rattle.memory.specs.declared.Sizes.{Sizes}
-use Rattle.memory.specs.Image.{imageSizes}
-use Rattle.fields.specs.declared.Value.{Value}
-use Rattle.fields.specs.declared.Value.the-variants.{Whole, Single, Missing}
-use Rattle.fields.specs.declared.Template.{Template}
-use Rattle.fields.specs.declared.Template.the-variants.{Bridge, Resistance}
-use Rattle.fields.specs.Lines.{numberOf}
-use Rattle.build.specs.Build.{slot}
-use Rattle.build.specs.Tested.{Spread, sheetLent}
-use Rattle.build.proofs.Spreading.{spread-sheet}
-use Rattle.layout.specs.Pieces.{endCode}
-use Rattle.dartelm.specs.declared.values.DartelmFields.{DartelmFields}
-use Rattle.dartelm.specs.Values.{yes, levelOf, templateBy, templateFlag, valueOf, byFlags, noValue, slotOf, sheetOf}
-use Rattle.dartelm.specs.Calls.{kindOf}
-use Rattle.dartelm.specs.Sheets.{SheetAgain}
+use Rattle.dartelm.proofs.Names.{_≡_, refl, ap, ap₂, _∙_, Bool, true, false, not, List, [], _∷_, map, map-append, ℕ, zero, suc, _-_, _<_, arith, ℤ, pos, Float, eqb, replicate, length-map, eqb-true, good, _>>_}
+use Rattle.dartelm.proofs.Names.{refuse_if_, wrongImage, Sizes, imageSizes, Value, Whole, Single, Missing, Template, Bridge, Resistance, numberOf, slot, Spread, sheetLent, spread-sheet, endCode, DartelmFields}
+use Rattle.dartelm.proofs.Names.{yes, levelOf, templateBy, templateFlag, valueOf, byFlags, noValue, slotOf, sheetOf, kindOf, SheetAgain}
 
 pub value-again : (v : Value) → valueOf (byFlags v) ≡ v
 value-again (Whole z) = refl

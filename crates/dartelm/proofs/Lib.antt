@@ -1,3 +1,4 @@
+mod Names
 pub mod Filling
 pub mod Telling
 pub mod Padding

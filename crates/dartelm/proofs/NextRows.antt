@@ -1,15 +1,7 @@
 -- What the call for a row tells of its callee's answer.
 -- Assumes nothing.
-use mathlib.Core.Path.{_≡_, refl, ap}
-use Prim.Native.Nat.{ℕ}
-use native.Mathlib.Omega.{arith}
-use Rattle.refusal.specs.declared.Refusal.{Refusal}
-use Rattle.refusal.specs.Outcome.{Outcome, good, refused}
-use Rattle.writing.specs.declared.Answer.the-variants.{Done, Write, Refused}
-use Rattle.writing.specs.declared.NextRow.{NextRow}
-use Rattle.writing.specs.Steps.{Step, done, write}
-use Rattle.writing.specs.Answers.{answered}
-use Rattle.dartelm.specs.Answers.{told, rowAnswer, noRow}
+use Rattle.dartelm.proofs.Names.{_≡_, refl, ap, ℕ, arith, Refusal, Outcome, good, refused, Done, Write, NextRow, Step, done, write, answered, told, rowAnswer, noRow}
+use Rattle.writing.specs.declared.Answer.the-variants.{Refused}
 
 pub row-refused : (o : Outcome Step) {n : NextRow} {r : Refusal} → n ≡ answered o → n .answer ≡ Refused r → told rowAnswer noRow (refused r) ≡ told rowAnswer noRow o
 row-refused (good done) e f = let g = ap (λ (x : NextRow). x .answer) e in let z : _≡_ {A = ℕ} 0 1 = cc in absurd (omega arith)

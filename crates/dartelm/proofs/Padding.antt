@@ -1,25 +1,8 @@
 -- Lists with zeros behind them: a page's bytes and a text's characters, copied to the start of an array of zeros.
 -- Assumes nothing.
-use mathlib.Core.Path.{_≡_, refl, sym, ap, _∙_}
-use mathlib.Core.Bool.{Bool, true, false, cond}
-use mathlib.Core.List.{List, [], _++_, append-assoc}
-use Prim.Native.Nat.{ℕ, zero, suc, _+_, _-_, _≤_}
-use native.Mathlib.Omega.{arith}
-use native.Mathlib.Numerals.{unary-clauses}
-use lib.Dec.{ltb}
-use lib.ListN.{length, take, drop, replicate, length-append, length-take, length-drop, length-replicate, replicate-append-replicate}
-use lib.Seq.{take-length, drop-at}
-use Rattle.refusal.specs.Outcome.{Outcome, good, refused}
-use Rattle.refusal.specs.declared.Refusal.{Refusal}
-use Rattle.memory.specs.declared.Sizes.{Sizes}
-use Rattle.memory.specs.Image.{imageSizes, pageAt, partOf, pageBytes}
-use Rattle.texts.specs.declared.Text.{Text}
-use Rattle.texts.specs.declared.TextAnswer.the-variants.{Length, Refused}
-use Rattle.texts.specs.Text.{textSaid}
-use Rattle.texts.proofs.Answers.{said-refused}
-use Rattle.dartelm.specs.declared.answers.DartelmTextAnswer.{DartelmTextAnswer}
-use Rattle.dartelm.specs.Answers.{told, padded, textAnswer, pageAnswer}
-use Rattle.dartelm.specs.Calls.{pageCall}
+use Rattle.dartelm.proofs.Names.{_≡_, sym, ap, _∙_, Bool, true, false, cond, List, [], _++_, append-assoc, ℕ, zero, suc, _+_, _-_, _≤_, arith, unary-clauses, ltb, length, take, drop, replicate, length-append}
+use Rattle.dartelm.proofs.Names.{length-take, length-drop, length-replicate, replicate-append-replicate, take-length, Outcome, good, refused, Refusal, Sizes, imageSizes, partOf, pageBytes, Text, Length, Refused}
+use Rattle.dartelm.proofs.Names.{textSaid, said-refused, told, padded, textAnswer, pageAnswer, pageCall}
 
 -- ---- zeros
 

@@ -1,25 +1,8 @@
 -- The field reads of an accepted image give what its check found.
 -- Assumes nothing.
-use mathlib.Core.Path.{_≡_, refl, sym, ap, _∙_}
-use mathlib.Core.List.{List, map}
-use Prim.Native.Nat.{ℕ, zero, suc, _+_, _-_, _≤_, _<_}
-use native.Mathlib.Omega.{arith}
-use lib.ListN.{length, getD, take, drop, set, length-map, List·getD-map}
-use lib.Seq.{drop-cons, take-length}
-use borrow.Author.Tests.{ne-eqb, le-ltb}
-use Rattle.refusal.specs.Outcome.{good, refused}
-use Rattle.refusal.specs.declared.Refusal.{Refusal}
-use Rattle.layout.specs.Contents.{Contents}
-use Rattle.fields.specs.declared.Value.{Value}
-use Rattle.sheet.specs.declared.Summary.{Summary}
-use Rattle.layout.specs.Image.{contents, nothing, field}
-use Rattle.sheet.specs.Check.{summary, readField}
-use Rattle.layout.specs.Pieces.{endCode}
-use Rattle.dartelm.specs.declared.values.DartelmValue.{DartelmValue}
-use Rattle.dartelm.specs.Values.{templateFlag, byFlags, noValue}
-use Rattle.dartelm.specs.Answers.{toldAs, domainNumber}
-use Rattle.dartelm.specs.Sheets.{fieldReads, readFields, sheetAnswer, fieldNumbers, noFields}
-use Rattle.dartelm.specs.Found.{valueIn, foundFields}
+use Rattle.dartelm.proofs.Names.{_≡_, refl, sym, ap, _∙_, List, map, ℕ, zero, suc, _+_, _-_, _≤_, _<_, arith, length, getD, take, drop, set, length-map, List·getD-map, drop-cons, take-length, ne-eqb, le-ltb, good}
+use Rattle.dartelm.proofs.Names.{refused, Refusal, Contents, Value, Summary, contents, nothing, field, summary, readField, endCode, DartelmValue, templateFlag, byFlags, noValue, toldAs, domainNumber, fieldReads}
+use Rattle.dartelm.proofs.Names.{readFields, sheetAnswer, fieldNumbers, noFields, valueIn, foundFields}
 use Rattle.dartelm.proofs.Filling.{filled, filled-more, filled-whole}
 
 module _ (kind : ℕ) (image : List ℕ) (c : Contents) (e : contents kind image ≡ good c) where

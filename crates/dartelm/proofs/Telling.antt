@@ -1,13 +1,6 @@
 -- What a call tells: a callee's answer says the call's outcome, and the struct is told of that.
 -- Assumes nothing.
-use mathlib.Core.Path.{_≡_, sym, ap, _∙_}
-use mathlib.Core.List.{List, []}
-use Prim.Native.Nat.{ℕ}
-use Rattle.refusal.specs.Outcome.{Outcome}
-use Rattle.refusal.specs.declared.Written.{Written}
-use Rattle.refusal.specs.Written.{writtenSaid, afterwards}
-use Rattle.dartelm.specs.declared.answers.DartelmWriteAnswer.{DartelmWriteAnswer}
-use Rattle.dartelm.specs.Answers.{told, writeAnswer}
+use Rattle.dartelm.proofs.Names.{_≡_, sym, ap, _∙_, List, [], ℕ, Outcome, Written, writtenSaid, afterwards, DartelmWriteAnswer, told, writeAnswer}
 
 -- From the answer's case.
 pub tells : {E A S : Type 0} (tell : Outcome A → S) (said : E → Outcome A) {o : Outcome A} {answer case : E} → said answer ≡ o → answer ≡ case

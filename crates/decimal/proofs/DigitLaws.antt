@@ -1,14 +1,7 @@
 -- Decimal digits and the number that they are.
-use mathlib.Core.Path.{_≡_, refl, sym, ap, _∙_}
-use mathlib.Core.List.{List, [], _∷_, _++_, append-assoc, append-nil}
-use Prim.Native.Nat.{ℕ, zero, suc, _+_, _-_, _*_, _/_, _%_, _^_, _<_, _≤_}
-use native.Mathlib.Nat.{pow-zero, mul-assoc, add-mul, mul-right-comm, mul-le-mul, mul-le-mul-left, mul-one, one-le-pow, mod-eq-of-lt, add-mul-mod-self-right, mod-add-div', mod-one}
-use native.Mathlib.Numerals.{add-one}
-use native.Mathlib.Omega.{arith, pow-step}
-use lib.Arith.{mod-mul}
-use lib.ListN.{length, take, drop, getD, set, length-set, drop-of-length-le}
-use lib.Seq.{drop-cons, take-all, take-suc-set, drop-set-lt}
-use Rattle.decimal.specs.Digits.{Digits, number, Becomes}
+use Rattle.decimal.proofs.Names.{_≡_, refl, sym, ap, _∙_, List, [], _∷_, _++_, append-assoc, append-nil, ℕ, zero, suc, _+_, _-_, _*_, _/_, _%_, _^_, _<_, _≤_, pow-zero, mul-assoc, add-mul, mul-right-comm}
+use Rattle.decimal.proofs.Names.{mul-le-mul, mul-le-mul-left, mul-one, one-le-pow, mod-eq-of-lt, add-mul-mod-self-right, mod-add-div', mod-one, add-one, arith, pow-step, mod-mul, length, take, drop, getD, set}
+use Rattle.decimal.proofs.Names.{length-set, drop-of-length-le, drop-cons, take-all, take-suc-set, drop-set-lt, Digits, number, Becomes}
 
 -- The first digits and, above them, the rest.
 pub number-split : (l : List ℕ) (i : ℕ) → number l ≡ number (take i l) + number (drop i l) * 10 ^ i

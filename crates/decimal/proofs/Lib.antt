@@ -1,2 +1,3 @@
+mod Names
 pub mod DigitLaws
 pub mod RoundLaws

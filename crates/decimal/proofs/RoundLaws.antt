@@ -1,19 +1,7 @@
 -- Rounding to seven digits.
-use mathlib.Core.Path.{_≡_, refl, sym, ap, _∙_}
-use mathlib.Core.Bool.{Bool, true, false, cond}
-use mathlib.Core.List.{List, [], _∷_}
-use Prim.Native.Nat.{ℕ, zero, suc, _+_, _-_, _*_, _/_, _%_, _^_, _<_, _≤_}
-use native.Mathlib.Nat.{mul-assoc, mul-left-comm, mul-le-mul, mul-le-mul-left, one-le-pow, pow-le-pow-right, lt-of-le-of-lt, add-mul-div-right, div-eq-of-lt, add-mul-mod-self-right, mod-eq-of-lt, mul-div-cancel-left}
-use native.Mathlib.Decide.{decLt}
-use native.Mathlib.Numerals.{add-one}
-use native.Mathlib.Omega.{arith, pow-step}
-use borrow.Author.Tests.{ltb-true, ltb-false, lt-ltb, le-ltb, eq-eqb, ne-eqb}
-use lib.Pow.{pow-add}
-use lib.Dec.{eqb, ltb, ltb→lt}
-use lib.ListN.{length, take, drop, getD}
-use lib.Seq.{drop-cons}
-use Rattle.decimal.specs.Digits.{Digits, number, Becomes, Highest}
-use Rattle.decimal.specs.Rounding.{upward, Rounds, exact}
+use Rattle.decimal.proofs.Names.{_≡_, refl, sym, ap, _∙_, Bool, true, false, cond, List, [], _∷_, ℕ, zero, suc, _+_, _-_, _*_, _/_, _%_, _^_, _<_, _≤_, mul-assoc, mul-left-comm, mul-le-mul, mul-le-mul-left}
+use Rattle.decimal.proofs.Names.{one-le-pow, pow-le-pow-right, lt-of-le-of-lt, add-mul-div-right, div-eq-of-lt, add-mul-mod-self-right, mod-eq-of-lt, mul-div-cancel-left, decLt, add-one, arith, pow-step, ltb-true}
+use Rattle.decimal.proofs.Names.{ltb-false, lt-ltb, le-ltb, eq-eqb, ne-eqb, pow-add, eqb, ltb, ltb→lt, length, take, drop, getD, drop-cons, Digits, number, Becomes, Highest, upward, Rounds, exact}
 use Rattle.decimal.proofs.DigitLaws.{number-split, number-more, number-lt, raised-twice}
 
 -- One digit more from above.

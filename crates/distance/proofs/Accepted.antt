@@ -1,39 +1,9 @@
 -- Points that a build in domain 0 takes: neighbours lie near enough that nothing overflows, and apart. And the distance in the order of its rows.
-use mathlib.Core.Path.{_≡_, refl, sym, ap, _∙_}
-use mathlib.Core.Bool.{Bool, true, false, _||_}
-use mathlib.Core.List.{List, [], _∷_}
-use mathlib.Core.Option.{Option, none, some}
-use Prim.Native.Nat.{ℕ, zero, suc, _+_, _*_, _^_, _%_, _≤_, _<_}
-use native.Mathlib.Omega.{arith}
-use lib.Dec.{lit<, eqb, ltb}
-use lib.IntN.{ℤ, pos, natAbs, _-ℤ_}
-use lib.ListN.{length}
-use lib.Signed.{ltZ, _<ℤ_, ltZ-yes}
-use Rattle.integers.specs.Parts.{up, dn}
-use Rattle.integers.proofs.PartLaws.{same, sub-parts-ℤ, abs-parts, nltZ-parts, le-ltZ, is-true, is-false, parts-≤ℤ}
-use Rattle.refusal.specs.declared.Refusal.{Refusal}
-use Rattle.refusal.specs.Outcome.{Outcome, good, refused, _>>_}
-use Rattle.refusal.specs.Rows.{wrongList}
-use Rattle.refusal.proofs.Outcomes.{good-same, no-value, passed, neither}
-use Rattle.memory.specs.Pieces.{Piece}
-use Rattle.fields.specs.declared.Value.the-variants.{Whole}
-use Rattle.fields.specs.declared.Pair.{Pair}
-use Rattle.fields.specs.declared.Codes.{Codes}
-use Rattle.fields.specs.declared.Domain.{Domain}
-use Rattle.fields.specs.declared.Domain.the-variants.{Electrical}
-use Rattle.fields.specs.Rules.{topCode, steppedValue, steppedCode, encode}
-use Rattle.fields.specs.Calibration.{D, R, leastDeviation, calPoint, calDeviation}
-use Rattle.fields.proofs.StepLaws.{small, code-rises}
-use Rattle.fields.proofs.CalibrationLaws.{follows-rises}
-use Rattle.build.specs.Build.{pairsLent, pairPieces, tablePieces}
-use Rattle.build.proofs.PairPlans.{Coded, codes-planned, pairs-planned, table-planned}
-use Rattle.line.specs.Certificate.{Neighbours}
-use Rattle.line.specs.Ranges.{Figures, Table}
-use Rattle.line.proofs.Distances.{near-abs}
-use Rattle.distance.specs.declared.ToldDistance.{ToldDistance}
-use Rattle.distance.specs.Distance.{steepest, toldBy, distance}
-use Rattle.distance.specs.Steps.{Step}
-use Rattle.distance.specs.Least.{Least, LeastSlope, NoSlope}
+use Rattle.distance.proofs.Names.{_≡_, refl, sym, ap, _∙_, Bool, true, false, _||_, List, [], _∷_, Option, none, some, ℕ, zero, suc, _+_, _^_, _%_, _≤_, _<_, arith, lit<, eqb, ltb, ℤ, pos, natAbs, _-ℤ_, length}
+use Rattle.distance.proofs.Names.{ltZ, _<ℤ_, ltZ-yes, up, dn, same, sub-parts-ℤ, abs-parts, nltZ-parts, le-ltZ, is-true, is-false, parts-≤ℤ, Refusal, Outcome, good, refused, _>>_, wrongList, good-same, no-value}
+use Rattle.distance.proofs.Names.{passed, neither, Piece, Whole, Pair, Codes, Domain, Electrical, topCode, steppedValue, steppedCode, encode, D, R, leastDeviation, calPoint, calDeviation, small, code-rises}
+use Rattle.distance.proofs.Names.{follows-rises, pairsLent, pairPieces, tablePieces, Coded, codes-planned, pairs-planned, table-planned, Neighbours, Figures, Table, near-abs, ToldDistance, steepest, toldBy}
+use Rattle.distance.proofs.Names.{distance, Step, LeastSlope, NoSlope}
 use Rattle.distance.proofs.Slopes.{steepest-least, steepest-small}
 
 -- ---- one figure

@@ -1,15 +1,6 @@
 -- How far whole numbers are apart, and quotients rounded up.
-use mathlib.Core.Path.{_≡_, ap₂}
-use Prim.Native.Nat.{ℕ, suc, _+_, _*_, _-_, _/_, _≤_, _<_}
-use native.Mathlib.Nat.{div-lt-iff-lt-mul, div-le-self, div-add-mod', mod-lt}
-use native.Mathlib.Omega.{arith}
-use mir.Syntax.{w64}
-use mir.Val.{SFits, toZ, ofZ}
-use mir.Facts.{toZ-ofZ}
-use lib.IntN.{ℤ, pos, negsuc, natAbs, _-ℤ_}
-use Rattle.integers.specs.Parts.{up, dn}
-use Rattle.integers.proofs.PartLaws.{sub-parts-ℤ}
-use Rattle.distance.specs.Distance.{ceiling}
+use Rattle.distance.proofs.Names.{_≡_, ap₂, ℕ, suc, _+_, _*_, _-_, _≤_, _<_, div-lt-iff-lt-mul, div-le-self, div-add-mod', mod-lt, arith, w64, SFits, toZ, ofZ, toZ-ofZ, ℤ, pos, negsuc, natAbs, _-ℤ_, up, dn}
+use Rattle.distance.proofs.Names.{sub-parts-ℤ, ceiling}
 
 -- u − d in parts.
 parted : (x : ℤ) (u d : ℕ) → up x + d ≡ dn x + u → (d ≤ u → u - d ≡ natAbs x) × (u < d → d - u ≡ natAbs x)

@@ -1,3 +1,4 @@
+mod Names
 pub mod Apart
 pub mod Slopes
 pub mod Accepted

@@ -1,19 +1,6 @@
 -- The slopes of a list, one pair of neighbours after the other.
-use mathlib.Core.Path.{_≡_, refl, sym, ap, _∙_}
-use mathlib.Core.List.{List, [], _∷_}
-use Prim.Native.Nat.{ℕ, max, _+_, _*_, _/_, _^_, _≤_, _<_}
-use native.Mathlib.Nat.{mul-le-mul-right}
-use native.Mathlib.Omega.{arith}
-use lib.IntN.{ℤ, natAbs, _-ℤ_}
-use lib.ListN.{length, drop, length-drop}
-use Rattle.fields.specs.declared.Pair.{Pair}
-use Rattle.build.specs.Tested.{pairAt}
-use Rattle.build.proofs.PairPlans.{pairs-length}
-use Rattle.build.proofs.PairTurns.{pairsFrom, pairs-left}
-use Rattle.line.specs.Certificate.{Neighbours, Slopes}
-use Rattle.distance.specs.Distance.{leastSlope, steepest}
-use Rattle.distance.specs.Steps.{Step}
-use Rattle.distance.specs.Least.{Least}
+use Rattle.distance.proofs.Names.{_≡_, refl, sym, ap, _∙_, List, [], _∷_, ℕ, max, _+_, _*_, _/_, _^_, _≤_, _<_, mul-le-mul-right, arith, ℤ, natAbs, _-ℤ_, length, drop, length-drop, Pair, pairAt, pairs-length}
+use Rattle.distance.proofs.Names.{pairsFrom, pairs-left, Neighbours, Slopes, leastSlope, steepest, Step, Least}
 use Rattle.distance.proofs.Apart.{ceiling-meets, ceiling-least, ceiling-small}
 
 -- ---- the pairs left

@@ -1,23 +1,6 @@
 -- The domain of the calibration table, and its neighbouring pairs.
-use mathlib.Core.Path.{_≡_, refl}
-use mathlib.Core.Bool.{true, false, _&&_}
-use mathlib.Core.Option.{Option, none, some}
-use Prim.Native.Nat.{ℕ, zero, suc, _+_, _*_, _≤_, _<_}
-use native.Mathlib.Omega.{arith}
-use borrow.Author.Tests.{leb-false}
-use lib.Dec.{leb}
-use lib.IntN.{pos}
-use lib.Signed.{leZ, _<ℤ_}
-use Rattle.integers.specs.Parts.{up, dn}
-use Rattle.integers.proofs.PartLaws.{add-parts, le-leZ, lt-leZ, nleZ-parts, parts-<ℤ, is-false}
-use Rattle.refusal.specs.Outcome.{good}
-use Rattle.refusal.specs.Rows.{notRising, sumsNotRising}
-use Rattle.refusal.proofs.Outcomes.{passed}
-use Rattle.fields.specs.declared.Codes.{Codes}
-use Rattle.fields.specs.declared.Domain.{Domain}
-use Rattle.fields.specs.declared.Domain.the-variants.{Electrical, Physical}
-use Rattle.fields.specs.Rules.{steppedValue}
-use Rattle.fields.specs.Calibration.{D, R, leastDeviation, domainCode, domainOf, isPhysical, storedSum, follows}
+use Rattle.fields.proofs.Names.{_≡_, refl, true, false, _&&_, Option, none, some, ℕ, zero, suc, _+_, _*_, _≤_, _<_, arith, leb-false, leb, pos, leZ, _<ℤ_, up, dn, add-parts, le-leZ, lt-leZ, nleZ-parts, parts-<ℤ}
+use Rattle.fields.proofs.Names.{is-false, good, notRising, sumsNotRising, passed, Codes, Domain, Electrical, Physical, steppedValue, D, R, leastDeviation, domainCode, domainOf, isPhysical, storedSum, follows}
 use Rattle.fields.proofs.DecodeLaws.{tested}
 
 -- ---- the domain

@@ -1,10 +1,5 @@
 -- The codes of w bits.
-use mathlib.Core.Path.{_≡_, _∙_}
-use Prim.Native.Nat.{ℕ, _*_, _%_, _^_, _≤_, _<_}
-use native.Mathlib.Nat.{one-mul, le-of-lt, lt-of-lt-of-le, lt-of-le-of-lt, mul-le-mul-left}
-use native.Mathlib.Omega.{arith}
-use lib.Pow.{pow-pos, pow-mono, shl-exact}
-use Rattle.fields.specs.Rules.{topCode}
+use Rattle.fields.proofs.Names.{_≡_, _∙_, ℕ, _*_, _%_, _^_, _≤_, _<_, one-mul, le-of-lt, lt-of-lt-of-le, lt-of-le-of-lt, mul-le-mul-left, arith, pow-pos, pow-mono, shl-exact, topCode}
 
 -- 1 shifted up by w.
 pub shifted : (w : ℕ) → w ≤ 32 → 1 * 2 ^ w % 2 ^ 64 ≡ 2 ^ w

@@ -1,23 +1,7 @@
 -- The exponents of a curve: tenths, codes and whole numbers.
-use mathlib.Core.Path.{_≡_, refl, sym, _∙_}
-use mathlib.Core.Bool.{Bool, true, false, not, _&&_, _||_, Bool·beq, true≢false}
-use mathlib.Core.Option.{Option, none, some}
-use Prim.Native.Nat.{ℕ, _+_, _*_, _/_, _%_, _≤_, _<_}
-use native.Mathlib.Omega.{arith}
-use native.Mathlib.Decide.{decLt}
-use borrow.Author.Tests.{le-leb, leb-true, le-ltb, ltb-true, ltb-false}
-use lib.Dec.{eqb, leb, ltb, ltb→lt, eqb→eq}
-use mir.Facts.{and-yes}
-use lib.IntN.{ℤ, pos, negsuc, natAbs, _*ℤ_}
-use lib.Signed.{leZ, ltZ}
-use Rattle.integers.specs.Parts.{up, dn}
-use Rattle.integers.proofs.PartLaws.{same, add-parts, mul-parts, ltZ-parts, nltZ-parts, le-leZ, lt-leZ, lt-ltZ, le-ltZ, is-true, is-false}
-use Rattle.refusal.specs.Outcome.{good, refused}
-use Rattle.refusal.specs.Rows.{wrongCurve}
-use Rattle.refusal.proofs.Outcomes.{both}
-use Rattle.fields.specs.declared.Value.the-variants.{Whole}
-use Rattle.fields.specs.Rules.{decode, encode}
-use Rattle.fields.specs.Curves.{leastExponent, exponent, isTermCount, isExponent, exponentFollows, exponentCode, tenthsOf}
+use Rattle.fields.proofs.Names.{_≡_, refl, sym, _∙_, Bool, true, false, not, _&&_, _||_, Bool·beq, true≢false, Option, none, some, ℕ, _+_, _*_, _/_, _%_, _≤_, _<_, arith, decLt, le-leb, leb-true, le-ltb, ltb-true}
+use Rattle.fields.proofs.Names.{ltb-false, eqb, leb, ltb, ltb→lt, eqb→eq, and-yes, ℤ, pos, negsuc, natAbs, _*ℤ_, ltZ, up, dn, same, add-parts, mul-parts, ltZ-parts, nltZ-parts, le-leZ, lt-leZ, lt-ltZ, le-ltZ}
+use Rattle.fields.proofs.Names.{is-true, is-false, good, refused, wrongCurve, both, Whole, decode, encode, leastExponent, exponent, isTermCount, isExponent, exponentFollows, exponentCode, tenthsOf}
 use Rattle.fields.proofs.RowLaws.{agree, exponent-sound}
 use Rattle.fields.proofs.Table.{at}
 use Rattle.fields.proofs.StoredLaws.{stored-again}

@@ -1,22 +1,6 @@
 -- Judgements and what comes behind them.
-use mathlib.Core.Path.{_≡_, refl, sym, ap, _∙_}
-use mathlib.Core.Bool.{Bool, true, false, not, _&&_, cond}
-use Prim.Native.Nat.{ℕ}
-use borrow.Author.Tests.{not-false}
-use lib.Dec.{eqb}
-use lib.Ieee.{binary32, ofBits}
-use Rattle.refusal.specs.Outcome.{Outcome, good, refused, _>>_, refuse_if_}
-use Rattle.refusal.specs.Rows.{outsideTable, notFinite}
-use Rattle.refusal.specs.declared.Refusal.{Refusal}
-use Rattle.refusal.proofs.Outcomes.{passed}
-use Rattle.fields.specs.declared.Value.the-variants.{Single, Missing}
-use Rattle.fields.specs.declared.Rule.the-variants.{Single as Ieee}
-use Rattle.fields.specs.declared.Judged.{Judged}
-use Rattle.fields.specs.declared.Judged.the-variants.{Stands, Refused}
-use Rattle.fields.specs.declared.Row.{Row}
-use Rattle.fields.specs.Rules.{allOnes, finite, meaning, decode}
-use Rattle.fields.specs.Judgement.{judge, ruled, singleRuled}
-use Rattle.fields.specs.Answers.{judgedSaid}
+use Rattle.fields.proofs.Names.{_≡_, refl, sym, ap, _∙_, Bool, true, false, not, _&&_, cond, ℕ, not-false, eqb, binary32, ofBits, Outcome, good, refused, _>>_, refuse_if_, outsideTable, notFinite, Refusal, passed}
+use Rattle.fields.proofs.Names.{Single, Missing, Ieee, Judged, Stands, Refused, Row, allOnes, finite, meaning, decode, judge, ruled, singleRuled, judgedSaid}
 
 -- With the value left out, the tests before it are left.
 pub left-out : {A : Type 0} (o : Outcome (Unit {0})) (a : A) → ((o >> good a) >> good tt) ≡ o

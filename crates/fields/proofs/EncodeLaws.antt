@@ -1,16 +1,5 @@
 -- A figure's range, as code has tested it.
-use mathlib.Core.Path.{_≡_, refl, _∙_}
-use mathlib.Core.Bool.{Bool, false, true≢false}
-use Prim.Native.Nat.{ℕ, _≤_}
-use borrow.Author.Tests.{ltb-false}
-use lib.Dec.{ltb}
-use lib.IntN.{ℤ, pos, negsuc, natAbs}
-use mir.Syntax.{w64}
-use mir.Val.{SFits, toZ, ofZ}
-use mir.Facts.{toZ-ofZ}
-use Rattle.integers.specs.Parts.{up}
-use Rattle.refusal.proofs.Outcomes.{neither}
-use Rattle.fields.specs.Rules.{outside}
+use Rattle.fields.proofs.Names.{_≡_, refl, _∙_, Bool, false, true≢false, ℕ, _≤_, ltb-false, ltb, ℤ, pos, negsuc, natAbs, w64, SFits, toZ, ofZ, toZ-ofZ, up, neither, outside}
 
 -- The same range of the same figures.
 pub same-range : {a b f a' b' f' : ℤ} {t : Bool} → t ≡ outside a b f → a ≡ a' → b ≡ b' → f ≡ f' → t ≡ outside a' b' f'

@@ -1,17 +1,7 @@
 -- Singles: which patterns are finite.
-use mathlib.Core.Path.{_≡_, refl, sym, _∙_, subst}
-use mathlib.Core.Bool.{Bool, true, false, not, cond}
-use Prim.Native.Nat.{ℕ, zero, suc, _+_, _/_, _%_, _^_, _≤_, _<_}
-use native.Mathlib.Omega.{arith}
-use borrow.Author.Tests.{eq-eqb, ne-eqb}
-use lib.Count.{trailingZeros}
-use lib.Dec.{T, eqb, leb, le→leb, lt→ltb}
-use lib.IntN.{ℤ, pos, negsuc, natAbs}
-use lib.Ieee.{Float, nan, inf, fin, ne, odd, ofFields, ofBits, toBits, isNan, fits, inFloat, nanBits, binary32, binary64, ofInt, round, units, size, climb, span, div}
-use lib.Ieee.Compare.{differs-from-itself, nan-differs}
-use lib.Ieee.Bits.{ofBits-toBits, nanBits-is}
-use Rattle.fields.specs.Figure.{billion}
-use Rattle.fields.specs.Rules.{finite}
+use Rattle.fields.proofs.Names.{_≡_, refl, sym, _∙_, subst, Bool, true, false, not, cond, ℕ, zero, suc, _+_, _/_, _%_, _^_, _≤_, _<_, arith, eq-eqb, ne-eqb, trailingZeros, T, eqb, leb, le→leb, lt→ltb, ℤ, pos}
+use Rattle.fields.proofs.Names.{negsuc, natAbs, Float, nan, inf, fin, ne, odd, ofFields, ofBits, toBits, isNan, fits, inFloat, nanBits, binary32, binary64, ofInt, round, units, size, climb, span, div}
+use Rattle.fields.proofs.Names.{differs-from-itself, nan-differs, ofBits-toBits, nanBits-is, billion, finite}
 
 -- A finite number is no NaN.
 pub no-nan : (x : Float) → finite x ≡ true → T (not (isNan x))

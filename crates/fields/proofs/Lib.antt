@@ -1,3 +1,4 @@
+mod Names
 pub mod RowLaws
 pub mod TemplateFacts
 pub mod CodeLaws

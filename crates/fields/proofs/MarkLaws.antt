@@ -1,13 +1,5 @@
 -- The marks of the lines, by one computed test of a run of fields.
-use mathlib.Core.Path.{_≡_, refl, ap, _∙_}
-use mathlib.Core.Bool.{Bool}
-use Prim.Native.Nat.{ℕ, _+_, _-_, _≤_}
-use native.Mathlib.Omega.{arith}
-use lib.Dec.{T, eqb}
-use Rattle.fields.specs.declared.Mark.{Mark}
-use Rattle.fields.specs.declared.Mark.the-variants.{Id, Cal, Usr}
-use Rattle.fields.specs.declared.Template.{Template}
-use Rattle.fields.specs.Lines.{lineOf}
+use Rattle.fields.proofs.Names.{_≡_, refl, ap, _∙_, Bool, ℕ, _+_, _-_, _≤_, arith, T, eqb, Mark, Id, Cal, Usr, Template, lineOf}
 use Rattle.fields.proofs.Table.{each, at}
 
 abbrev pub markNumber : Mark → ℕ

@@ -1,20 +1,6 @@
 -- Rows in which every code stands, by one computed test of a run of fields.
-use mathlib.Core.Path.{_≡_, refl, subst}
-use mathlib.Core.Bool.{Bool, true, false, _&&_, cond}
-use Prim.Native.Nat.{ℕ, _+_, _-_, _^_, _≤_, _<_}
-use native.Mathlib.Omega.{arith}
-use borrow.Author.Tests.{eqb-false, le-ltb}
-use lib.Dec.{T, eqb, leb, eqb→eq, leb→le}
-use mir.Facts.{and-yes}
-use Rattle.refusal.specs.Outcome.{good, _>>_}
-use Rattle.fields.specs.declared.Value.the-variants.{Missing}
-use Rattle.fields.specs.declared.Rule.{Rule}
-use Rattle.fields.specs.declared.Rule.the-variants.{Plain, Stepped, Geometric, Single as Ieee}
-use Rattle.fields.specs.declared.Row.{Row}
-use Rattle.fields.specs.declared.Template.{Template}
-use Rattle.fields.specs.Rules.{allOnes, topCode, meaning, decode}
-use Rattle.fields.specs.Lines.{lineOf}
-use Rattle.fields.specs.Judgement.{Open, OpenBehind}
+use Rattle.fields.proofs.Names.{_≡_, refl, subst, Bool, true, false, _&&_, cond, ℕ, _+_, _-_, _^_, _≤_, _<_, arith, eqb-false, le-ltb, T, eqb, leb, eqb→eq, leb→le, and-yes, good, _>>_, Missing, Rule, Plain}
+use Rattle.fields.proofs.Names.{Stepped, Geometric, Ieee, Row, Template, allOnes, topCode, meaning, decode, lineOf, Open}
 use Rattle.fields.proofs.Table.{each, at}
 
 -- Plain, from 0 up to all ones; any but a Single, up to all ones less one where all ones is missing.

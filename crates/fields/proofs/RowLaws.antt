@@ -1,23 +1,8 @@
 -- The rows of the layout.
-use mathlib.Core.Path.{_≡_, refl, subst}
-use mathlib.Core.Bool.{Bool, true, false, Bool·beq}
-use mathlib.Core.List.{List, [], _∷_, _++_}
-use Prim.Native.Nat.{ℕ, zero, suc, _+_, _-_, _^_, _≤_, _<_}
-use native.Mathlib.Nat.{lt-of-le-of-lt, le-add-right, le-of-suc-le-suc, not-suc-le-zero}
-use native.Mathlib.Omega.{arith}
-use lib.Dec.{T, eqb}
-use lib.ListN.{length, getD}
-use Rattle.fields.specs.declared.Rule.{Rule}
-use Rattle.fields.specs.declared.Rule.the-variants.{Plain, Single as Ieee}
-use Rattle.fields.specs.declared.Row.{Row}
-use Rattle.fields.specs.declared.Template.{Template}
-use Rattle.fields.specs.declared.Template.the-variants.{Bridge, Resistance}
-use Rattle.fields.specs.declared.Layout.{Layout}
-use Rattle.fields.specs.Rows.{optional, bridgeEnd, resistanceEnd}
-use Rattle.fields.specs.Lines.{Line, basic, template33, template32, templateLines, linesOf, lastField, lineOf, rowOf, rowsOf, noLine}
-use Rattle.fields.specs.Calibration.{calDomain, pointCount, calPoint, calDeviation}
-use Rattle.fields.specs.Curves.{curveDomain, segmentCount, segmentStart, termCount, exponent, coefficient}
-use Rattle.fields.specs.Stored.{Sound, SoundRule, AllSound, RowsSound}
+use Rattle.fields.proofs.Names.{_≡_, refl, subst, Bool, true, false, Bool·beq, List, [], _∷_, _++_, ℕ, zero, suc, _+_, _-_, _^_, _≤_, _<_, lt-of-le-of-lt, le-add-right, le-of-suc-le-suc, not-suc-le-zero, arith, T}
+use Rattle.fields.proofs.Names.{eqb, length, getD, Rule, Plain, Ieee, Row, Template, Bridge, Resistance, Layout, optional, bridgeEnd, resistanceEnd, Line, basic, template33, template32, templateLines, linesOf}
+use Rattle.fields.proofs.Names.{lastField, lineOf, rowOf, rowsOf, noLine, calDomain, pointCount, calPoint, calDeviation, curveDomain, segmentCount, segmentStart, termCount, exponent, coefficient, Sound, SoundRule}
+use Rattle.fields.proofs.Names.{AllSound, RowsSound}
 use Rattle.fields.proofs.CodeLaws.{below-2^32}
 use Rattle.fields.proofs.Table.{at}
 

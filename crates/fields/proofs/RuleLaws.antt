@@ -1,18 +1,5 @@
 -- What rules let through, for any width, start and step.
-use mathlib.Core.Path.{_≡_, sym}
-use mathlib.Core.Bool.{_||_}
-use Prim.Native.Nat.{ℕ, _≤_}
-use borrow.Author.Tests.{ltb-false, le-ltb}
-use lib.Dec.{ltb}
-use lib.IntN.{ℤ, pos}
-use Rattle.refusal.specs.Outcome.{good}
-use Rattle.refusal.specs.Rows.{outsideTable}
-use Rattle.refusal.proofs.Outcomes.{good-same, passed, neither}
-use Rattle.fields.specs.declared.Value.{Value}
-use Rattle.fields.specs.declared.Value.the-variants.{Whole}
-use Rattle.fields.specs.declared.Rule.the-variants.{Plain, Stepped}
-use Rattle.fields.specs.Rules.{topCode, steppedValue, decode}
-use Rattle.fields.specs.Rows.{always}
+use Rattle.fields.proofs.Names.{_≡_, sym, _||_, ℕ, _≤_, ltb-false, le-ltb, ltb, ℤ, pos, good, outsideTable, good-same, passed, neither, Value, Whole, Plain, Stepped, topCode, steppedValue, decode, always}
 
 -- A stepped value is the code's.
 pub stepped-whole : (w : ℕ) (start : ℤ) (step at code : ℕ) (v : Value) → decode (always w (Stepped start step)) at code ≡ good v → v ≡ Whole (steppedValue start step code)

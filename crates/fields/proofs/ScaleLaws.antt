@@ -1,20 +1,7 @@
 -- The values of the scales, and the tables that code holds.
-use mathlib.Core.Path.{_≡_, ap}
-use mathlib.Core.Bool.{Bool, _&&_}
-use mathlib.Core.List.{List}
-use Prim.Native.Nat.{ℕ, suc, _+_, _*_, _-_, _/_, _^_, _≤_, _<_}
-use native.Mathlib.Nat.{le-refl, le-of-lt, div-mul-le-self, lt-div-mul-add, one-le-pow}
-use native.Mathlib.Omega.{arith}
-use lib.Dec.{T, eqb, eqb→eq, ltb, ltb→lt}
-use lib.IntN.{natAbs}
-use lib.ListN.{length, getD}
-use mir.Facts.{and-yes}
-use Rattle.integers.proofs.NearestLaws.{nearest-natural}
-use Rattle.fields.specs.declared.Scale.{Scale}
-use Rattle.fields.specs.declared.Scale.the-variants.{ResponseTime, Current}
-use Rattle.fields.specs.Rules.{Progression, progression, scaleWidth, topCode, geometricValue, storedAt}
-use Rattle.fields.specs.Stored.{Rising, ValuesRise, NearestUnit, ValuesNearest}
-use Rattle.fields.specs.Tables.{listed, RisingList, TableOf}
+use Rattle.fields.proofs.Names.{_≡_, ap, Bool, _&&_, List, ℕ, suc, _+_, _*_, _-_, _/_, _^_, _≤_, _<_, le-refl, le-of-lt, div-mul-le-self, lt-div-mul-add, one-le-pow, arith, T, eqb, eqb→eq, ltb, ltb→lt, natAbs}
+use Rattle.fields.proofs.Names.{length, getD, and-yes, nearest-natural, Scale, ResponseTime, Current, Progression, progression, scaleWidth, topCode, geometricValue, storedAt, Rising, ValuesRise, NearestUnit}
+use Rattle.fields.proofs.Names.{ValuesNearest, listed, RisingList, TableOf}
 use Rattle.fields.proofs.Table.{each, at}
 use Rattle.fields.proofs.StoringLaws.{stored-same}
 

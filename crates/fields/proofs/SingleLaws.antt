@@ -1,23 +1,7 @@
 -- What holds of the nearest nV/V of a Single: half a nV/V at most, the order of Singles, and the range of −2 to 2 V/V.
-use mathlib.Core.Path.{_≡_, refl, ap}
-use mathlib.Core.Bool.{true, false, not}
-use mathlib.Core.List.{[], _∷_, map}
-use Prim.Native.Nat.{ℕ, _+_, _*_, _≤_, _<_}
-use native.Mathlib.Omega.{arith}
-use lib.Count.{trailingZeros}
-use lib.IntN.{ℤ, pos, negsuc, negℤ, _-ℤ_, _*ℤ_}
-use lib.Signed.{ltZ}
-use lib.Ieee.{Float, nan, inf, fin, binary32, ofBits, ofFields, odd}
-use lib.Ieee.Fits.{down-pos}
-use Rattle.integers.specs.Parts.{up, dn}
-use Rattle.integers.specs.Nearest.{Fraction, _over_, nearest}
-use Rattle.integers.proofs.PartLaws.{sub-parts-ℤ, mul-parts, leZ-parts, ltZ-parts, nltZ-parts, parts-≤ℤ, is-false}
-use Rattle.integers.proofs.NearestLaws.{nearest-high, nearest-half, nearest-rises-parts, nearest-exact}
-use Rattle.refusal.proofs.Outcomes.{neither}
-use Rattle.fields.specs.Rules.{finite, outside}
-use Rattle.fields.specs.Figure.{billion}
-use Rattle.fields.specs.Stored.{Nearest}
-use Rattle.fields.specs.Singles.{exact, outsideTwo, exactNanovolts, nanovolts, NanovoltsNearest, NanovoltsRise, NanovoltsWithin}
+use Rattle.fields.proofs.Names.{_≡_, refl, ap, true, false, not, [], _∷_, map, ℕ, _+_, _*_, _≤_, _<_, arith, trailingZeros, ℤ, pos, negsuc, negℤ, _-ℤ_, _*ℤ_, ltZ, Float, nan, inf, fin, binary32, ofBits, ofFields}
+use Rattle.fields.proofs.Names.{odd, down-pos, up, dn, Fraction, _over_, nearest, sub-parts-ℤ, mul-parts, leZ-parts, ltZ-parts, nltZ-parts, parts-≤ℤ, is-false, nearest-high, nearest-half, nearest-rises-parts}
+use Rattle.fields.proofs.Names.{nearest-exact, neither, finite, outside, billion, Nearest, exact, outsideTwo, exactNanovolts, nanovolts, NanovoltsNearest, NanovoltsRise, NanovoltsWithin}
 use Rattle.fields.proofs.StepLaws.{small, smaller}
 
 den-some : (x : Float) → 0 < exact x .den

@@ -1,21 +1,7 @@
 -- The nearest nV/V of a Single, by its bits.
-use mathlib.Core.Path.{_≡_, refl, sym, ap, ap₂, _∙_}
-use mathlib.Core.Bool.{Bool, true, false}
-use Prim.Native.Nat.{ℕ, zero, suc, _+_, _-_, _*_, _/_, _%_, _^_, _≤_, _<_}
-use native.Mathlib.Nat.{zero-mul, mul-comm}
-use native.Mathlib.Omega.{arith}
-use borrow.Author.Tests.{le-leb, lt-leb}
-use lib.Dec.{leb}
-use lib.IntN.{ℤ, pos, negℤ, subℕ, _*ℤ_}
-use lib.Pow.{pow-pos, shl-exact, mod-mod-pow}
-use lib.Ieee.{Float, nan, inf, fin, binary32, ofBits, up as above, down as below}
-use lib.Ieee.Exact.{HasValue}
-use lib.Ieee.Fits.{down-pos}
-use Rattle.integers.specs.Nearest.{_over_, nearest}
-use Rattle.integers.proofs.PartLaws.{sub-is, up-neg, dn-neg}
-use Rattle.integers.proofs.NearestLaws.{nearest-is, nearest-scale}
-use Rattle.fields.specs.Figure.{billion}
-use Rattle.fields.specs.Singles.{signed, nanovolts}
+use Rattle.fields.proofs.Names.{_≡_, refl, sym, ap, ap₂, _∙_, Bool, true, false, ℕ, zero, suc, _+_, _-_, _*_, _/_, _%_, _^_, _≤_, _<_, zero-mul, mul-comm, arith, le-leb, lt-leb, leb, ℤ, pos, negℤ, subℕ, _*ℤ_}
+use Rattle.fields.proofs.Names.{pow-pos, shl-exact, mod-mod-pow, Float, nan, inf, fin, binary32, ofBits, above, below, HasValue, down-pos, _over_, nearest, sub-is, up-neg, dn-neg, nearest-is, nearest-scale}
+use Rattle.fields.proofs.Names.{billion, signed, nanovolts}
 use Rattle.fields.proofs.SingleValues.{size, bits-value, size-digits, unit-digits, sizes-rise}
 
 -- ±n times k.

@@ -1,22 +1,8 @@
 -- What the bits of a Single stand for: a number of units of 2^−149. The sign's bit taken off, patterns are in the order of these numbers, so that one
 -- comparison tells which of them are from −2 to 2.
-use mathlib.Core.Path.{_≡_, ap, _∙_, subst}
-use mathlib.Core.Bool.{Bool, true, false}
-use mathlib.Core.Logic.{_⊎_, inl, inr}
-use Prim.Native.Nat.{ℕ, zero, suc, _+_, _-_, _*_, _/_, _%_, _^_, _≤_, _<_}
-use native.Mathlib.Nat.{eq-or-lt-of-le, le-of-eq, le-of-lt, le-trans, lt-of-lt-of-le, mul-le-mul-right, mul-lt-mul-of-pos-right, lt-of-mul-lt-mul-right}
-use native.Mathlib.Omega.{arith}
-use borrow.Author.Tests.{ne-eqb}
-use lib.Dec.{T, leb}
-use lib.IntN.{pos, negℤ, _*ℤ_}
-use lib.Pow.{pow-add, pow-pos, pow-mono, shl-lt}
-use lib.Ieee.{Float, nan, inf, fin, binary32, fits, ofFields, ofBits, toBits, up as above, down as below}
-use lib.Ieee.Bits.{ofBits-toBits}
-use lib.Ieee.Exact.{HasValue, odd-sign}
-use lib.Ieee.Fits.{down-pos}
-use Rattle.integers.proofs.PartLaws.{up-neg, dn-neg, lt-ltZ, le-ltZ}
-use Rattle.fields.specs.Rules.{finite, outside}
-use Rattle.fields.specs.Singles.{signed, outsideTwo}
+use Rattle.fields.proofs.Names.{_≡_, ap, _∙_, subst, Bool, true, false, _⊎_, inl, inr, ℕ, zero, suc, _+_, _-_, _*_, _/_, _%_, _^_, _≤_, _<_, eq-or-lt-of-le, le-of-eq, le-of-lt, le-trans, lt-of-lt-of-le}
+use Rattle.fields.proofs.Names.{mul-le-mul-right, mul-lt-mul-of-pos-right, lt-of-mul-lt-mul-right, arith, ne-eqb, T, leb, pos, negℤ, _*ℤ_, pow-add, pow-pos, pow-mono, shl-lt, Float, nan, inf, fin, binary32, fits}
+use Rattle.fields.proofs.Names.{ofFields, ofBits, toBits, above, below, ofBits-toBits, HasValue, odd-sign, down-pos, up-neg, dn-neg, lt-ltZ, le-ltZ, finite, outside, signed, outsideTwo}
 use Rattle.fields.proofs.FloatLaws.{not-finite-bits}
 
 -- The size of a finite Single with the exponent's field x and the digits t, in units of 2^−149.

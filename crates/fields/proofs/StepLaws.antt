@@ -1,17 +1,7 @@
 -- Stepped values and codes, for any start and step.
-use mathlib.Core.Path.{_≡_, refl, sym, ap, _∙_}
-use mathlib.Core.Bool.{false}
-use Prim.Native.Nat.{ℕ, _+_, _*_, _-_, _/_, _^_, _≤_, _<_}
-use native.Mathlib.Nat.{div-add-mod', mod-lt, le-antisymm, mul-le-mul-left, lt-of-mul-lt-mul-left}
-use native.Mathlib.Omega.{arith}
-use lib.IntN.{ℤ, pos, negsuc, natAbs, subℕ, _+ℤ_, _-ℤ_}
-use lib.Signed.{ltZ}
-use Rattle.integers.specs.Parts.{up, dn, InRange}
-use Rattle.integers.specs.Nearest.{_over_, nearest}
-use Rattle.integers.proofs.PartLaws.{same, sub-parts, add-parts, sub-parts-ℤ, abs-parts, ltZ-parts, nltZ-parts, le-ltZ, is-false}
-use Rattle.integers.proofs.NearestLaws.{nearest-natural}
-use Rattle.fields.specs.Rules.{steppedValue, steppedCode}
-use Rattle.fields.specs.Stored.{Nearest}
+use Rattle.fields.proofs.Names.{_≡_, refl, sym, ap, _∙_, false, ℕ, _+_, _*_, _-_, _/_, _^_, _≤_, _<_, div-add-mod', mod-lt, le-antisymm, mul-le-mul-left, lt-of-mul-lt-mul-left, arith, ℤ, pos, negsuc, natAbs, subℕ}
+use Rattle.fields.proofs.Names.{_+ℤ_, _-ℤ_, ltZ, up, dn, InRange, _over_, nearest, same, sub-parts, add-parts, sub-parts-ℤ, abs-parts, ltZ-parts, nltZ-parts, le-ltZ, is-false, nearest-natural, steppedValue}
+use Rattle.fields.proofs.Names.{steppedCode, Nearest}
 
 -- start + s, where neither is large.
 module _ (start : ℤ) (s u d : ℕ) (eu : u ≡ up start) (ed : d ≡ dn start) where

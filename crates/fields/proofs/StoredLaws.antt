@@ -1,27 +1,10 @@
 -- What a rule keeps of a value: the promises of `specs/Stored.antt`.
-use mathlib.Core.Path.{_≡_, refl, sym, ap, _∙_, subst}
-use mathlib.Core.Bool.{Bool, true, false, not, _||_, cond}
-use Prim.Native.Nat.{ℕ, _+_, _-_, _^_, _≤_, _<_}
-use native.Mathlib.Omega.{arith}
-use borrow.Author.Tests.{le-ltb, eq-eqb, ne-eqb, ltb-false, eqb-true, not-false}
-use lib.Dec.{T, eqb, ltb}
-use lib.IntN.{ℤ, pos, negsuc, natAbs}
-use lib.Signed.{ltZ}
-use lib.Pow.{ones-lt}
-use lib.Ieee.{Float, binary32, fits, ofBits, toBits}
-use lib.Ieee.Bits.{is-true, ofBits-toBits, toBits-ofBits, toBits-lt}
-use Rattle.integers.proofs.PartLaws.{le-ltZ, leZ-parts}
-use Rattle.refusal.specs.declared.Refusal.{Refusal}
-use Rattle.refusal.specs.Outcome.{good, refused, _>>_, refuse_if_}
-use Rattle.refusal.specs.Rows.{outOfRange, outsideTable, notFinite, wrongSort}
-use Rattle.refusal.proofs.Outcomes.{good-same, passed, neither}
-use Rattle.fields.specs.declared.Value.{Value}
-use Rattle.fields.specs.declared.Value.the-variants.{Whole, Single, Missing}
-use Rattle.fields.specs.declared.Rule.{Rule}
-use Rattle.fields.specs.declared.Rule.the-variants.{Plain, Stepped, Geometric, Single as Ieee}
-use Rattle.fields.specs.declared.Row.{Row}
-use Rattle.fields.specs.Rules.{allOnes, topCode, steppedValue, steppedCode, progression, geometricValue, finite, meaning, storedAt, wholeCode, singleCode, decode, encode}
-use Rattle.fields.specs.Stored.{keptBy, kept, Real, Sound, Rising, ReadsBack, StoredAgain, SteppedNearest, SteppedRises, SteppedRange}
+use Rattle.fields.proofs.Names.{_≡_, refl, sym, ap, _∙_, subst, Bool, true, false, not, _||_, cond, ℕ, _+_, _-_, _^_, _≤_, _<_, arith, le-ltb, eq-eqb, ne-eqb, ltb-false, eqb-true, not-false, T, eqb, ltb, ℤ, pos}
+use Rattle.fields.proofs.Names.{negsuc, natAbs, ltZ, ones-lt, Float, binary32, fits, ofBits, toBits, ofBits-toBits, toBits-ofBits, toBits-lt, le-ltZ, leZ-parts, Refusal, good, refused, _>>_, refuse_if_}
+use Rattle.fields.proofs.Names.{outOfRange, outsideTable, notFinite, wrongSort, good-same, passed, neither, Value, Whole, Single, Missing, Rule, Plain, Stepped, Geometric, Ieee, Row, allOnes, topCode}
+use Rattle.fields.proofs.Names.{steppedValue, steppedCode, progression, geometricValue, finite, meaning, storedAt, wholeCode, singleCode, decode, encode, keptBy, kept, Real, Sound, Rising, ReadsBack, StoredAgain}
+use Rattle.fields.proofs.Names.{SteppedNearest, SteppedRises, SteppedRange}
+use lib.Ieee.Bits.{is-true}
 use Rattle.fields.proofs.CodeLaws.{two-codes}
 use Rattle.fields.proofs.StepLaws.{code-nearest, code-rises, code-back, code-most, value-above, value-rises}
 use Rattle.fields.proofs.ScaleLaws.{values-rise}

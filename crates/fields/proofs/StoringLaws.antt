@@ -1,14 +1,6 @@
 -- The code that a figure is stored at, for any table that rises.
-use mathlib.Core.Path.{_≡_, refl, sym, ap, _∙_}
-use mathlib.Core.Bool.{Bool, true, false, cond}
-use mathlib.Core.Logic.{_⊎_, inl, inr}
-use Prim.Native.Nat.{ℕ, zero, suc, _≤_, _<_}
-use native.Mathlib.Nat.{le-refl, le-trans, le-of-lt, le-of-suc-le-suc, le-antisymm, not-suc-le-zero, eq-or-lt-of-le}
-use native.Mathlib.Omega.{arith}
-use borrow.Author.Tests.{lt-ltb, le-ltb, ltb-true, ltb-false}
-use lib.Dec.{ltb}
-use Rattle.fields.specs.Rules.{goesUp, storedAt}
-use Rattle.fields.specs.Stored.{Rising, GeometricBetween, GeometricRises, GeometricOwn, GeometricByRatio, GeometricCovers}
+use Rattle.fields.proofs.Names.{_≡_, refl, sym, ap, _∙_, Bool, true, false, cond, _⊎_, inl, inr, ℕ, zero, suc, _≤_, _<_, le-refl, le-trans, le-of-lt, le-of-suc-le-suc, le-antisymm, not-suc-le-zero, eq-or-lt-of-le}
+use Rattle.fields.proofs.Names.{arith, lt-ltb, le-ltb, ltb-true, ltb-false, ltb, goesUp, storedAt, Rising, GeometricBetween, GeometricRises, GeometricOwn, GeometricByRatio, GeometricCovers}
 use Rattle.fields.proofs.StoringRule.{up-later, up-lower, up-above, stay-below, up-ratio, stay-ratio}
 
 -- Whether a figure goes up from code m to the next.

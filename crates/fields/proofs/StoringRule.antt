@@ -1,11 +1,6 @@
 -- The rule between two neighbouring values. Nothing else looks into `goesUp`: another rule that has the first four laws can stand behind the
 -- name, and the last two say which rule it is.
-use mathlib.Core.Path.{_≡_}
-use mathlib.Core.Bool.{true, false}
-use Prim.Native.Nat.{ℕ, _*_, _≤_, _<_}
-use native.Mathlib.Nat.{le-trans, lt-of-le-of-lt, mul-le-mul, mul-lt-mul-of-pos-left}
-use borrow.Author.Tests.{le-leb, lt-leb, leb-true}
-use Rattle.fields.specs.Rules.{goesUp}
+use Rattle.fields.proofs.Names.{_≡_, true, false, ℕ, _*_, _≤_, _<_, le-trans, lt-of-le-of-lt, mul-le-mul, mul-lt-mul-of-pos-left, le-leb, lt-leb, leb-true, goesUp}
 
 -- A greater figure goes up where a smaller one does, and a figure goes up to smaller values where it goes up to greater ones.
 pub up-later : (a b v w : ℕ) → v ≤ w → goesUp a b v ≡ true → goesUp a b w ≡ true

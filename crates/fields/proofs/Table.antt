@@ -1,12 +1,5 @@
 -- A test of the numbers 0 to n that antt computes, and what it says of each.
-use mathlib.Core.Path.{_≡_}
-use mathlib.Core.Bool.{Bool, _&&_}
-use mathlib.Core.Logic.{_⊎_, inl, inr}
-use Prim.Native.Nat.{ℕ, zero, suc, _≤_, _<_}
-use native.Mathlib.Nat.{le-of-suc-le-suc, eq-or-lt-of-le}
-use native.Mathlib.Omega.{arith}
-use lib.Dec.{T}
-use mir.Facts.{and-yes}
+use Rattle.fields.proofs.Names.{_≡_, Bool, _&&_, _⊎_, inl, inr, ℕ, zero, suc, _≤_, _<_, le-of-suc-le-suc, eq-or-lt-of-le, arith, T, and-yes}
 
 abbrev pub each : (ℕ → Bool) → ℕ → Bool
 each test zero = test zero

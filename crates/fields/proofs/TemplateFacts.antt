@@ -1,16 +1,6 @@
 -- What holds of every template, worked out from its lines. The crates above cite these, and look at no template's lines themselves.
-use mathlib.Core.Path.{_≡_, refl}
-use mathlib.Core.Bool.{Bool, true, false, cond}
-use mathlib.Core.Option.{none, some}
-use Prim.Native.Nat.{ℕ, zero, suc, _+_, _*_, _^_, _≤_, _<_}
-use native.Mathlib.Omega.{arith}
-use borrow.Author.Tests.{eqb-true}
-use lib.Dec.{eqb}
-use Rattle.fields.specs.declared.Mark.the-variants.{Cal}
-use Rattle.fields.specs.declared.Template.{Template}
-use Rattle.fields.specs.declared.Template.the-variants.{Bridge, Resistance}
-use Rattle.fields.specs.Rows.{physical, bridgePrecision, bridgeEnd}
-use Rattle.fields.specs.Lines.{line, choice, chosen, basic, template33, template32, numberOf, templateOf, linesOf, lastField, lineOf, bitsBefore}
+use Rattle.fields.proofs.Names.{_≡_, refl, Bool, true, false, cond, none, some, ℕ, zero, suc, _+_, _*_, _^_, _≤_, _<_, arith, eqb-true, eqb, Cal, Template, Bridge, Resistance, physical, bridgePrecision, bridgeEnd}
+use Rattle.fields.proofs.Names.{line, choice, chosen, basic, template33, template32, numberOf, templateOf, linesOf, lastField, lineOf, bitsBefore}
 
 -- Their numbers: of eight bits, and each of one template.
 pub number-lt : (t : Template) → numberOf t < 2 ^ 8

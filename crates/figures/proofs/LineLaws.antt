@@ -1,13 +1,7 @@
 -- The figure of a fraction that is near a point of the certificate line.
-use mathlib.Core.Path.{_≡_, ap}
-use Prim.Native.Nat.{ℕ, _+_, _*_, _^_, _≤_}
-use native.Mathlib.Nat.{mul-le-mul-left, mul-le-mul-right}
-use native.Mathlib.Omega.{arith}
-use lib.IntN.{ℤ, pos, negsuc, natAbs, _+ℤ_, _-ℤ_, _*ℤ_}
-use Rattle.integers.specs.Parts.{up, dn}
-use Rattle.integers.proofs.PartLaws.{add-parts, sub-parts-ℤ, mul-parts, abs-parts}
-use Rattle.fields.specs.Figure.{billion}
-use Rattle.figures.specs.Figures.{units, figure, FigureNearLine}
+use Rattle.figures.proofs.Names.{_≡_, ap, ℕ, _+_, _*_, _^_, _≤_, mul-le-mul-left, mul-le-mul-right, arith, ℤ, pos, negsuc, natAbs, _+ℤ_, _-ℤ_, _*ℤ_, dn, add-parts, sub-parts-ℤ, mul-parts, abs-parts, billion}
+use Rattle.figures.proofs.Names.{units, figure, FigureNearLine}
+use Rattle.integers.specs.Parts.{up}
 use Rattle.figures.proofs.FigureLaws.{figure-close}
 
 scaled : (s : ℤ) (n : ℕ) → up (s *ℤ pos n) + dn s * n ≡ dn (s *ℤ pos n) + up s * n

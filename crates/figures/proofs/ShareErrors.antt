@@ -1,8 +1,5 @@
 -- How the roundings of a product with any fraction and of the sum add up, over natural numbers alone. U is 2^prec.
-use mathlib.Core.Logic.{_⊎_, inl, inr}
-use Prim.Native.Nat.{ℕ, _+_, _*_, _≤_}
-use native.Mathlib.Nat.{mul-le-mul-right, le-of-mul-le-mul-right}
-use native.Mathlib.Omega.{arith}
+use Rattle.figures.proofs.Names.{_⊎_, inl, inr, ℕ, _+_, _*_, _≤_, mul-le-mul-right, le-of-mul-le-mul-right, arith}
 
 -- X is near P: half of K away at most, or 1 / U of P.
 pub record Within (U K P X : ℕ) : Type 0 where

@@ -1,16 +1,6 @@
 -- The physical figure of two Singles and any fraction, near the exact one.
-use mathlib.Core.Path.{_≡_, refl, ap, _∙_, subst}
-use mathlib.Core.Bool.{Bool, true, false}
-use Prim.Native.Nat.{ℕ, zero, suc, _+_, _*_, _^_, _≤_}
-use native.Mathlib.Nat.{mul-zero}
-use native.Mathlib.Omega.{arith}
-use lib.Dec.{lit≤}
-use lib.IntN.{ℤ, pos, negsuc, natAbs, _+ℤ_, _-ℤ_, _*ℤ_}
-use lib.Ieee.{Float, binary64, unlike, add, sub, mul}
-use lib.Ieee.Exact.{HasValue}
-use Rattle.fields.specs.Figure.{physicalFigure}
-use Rattle.fields.specs.Singles.{signed}
-use Rattle.figures.specs.Figures.{End, NearShare, FigureNearShare}
+use Rattle.figures.proofs.Names.{_≡_, refl, ap, _∙_, subst, Bool, true, false, ℕ, zero, suc, _+_, _*_, _^_, _≤_, mul-zero, arith, lit≤, ℤ, pos, negsuc, natAbs, _+ℤ_, _-ℤ_, _*ℤ_, Float, binary64, unlike, add, sub}
+use Rattle.figures.proofs.Names.{mul, HasValue, physicalFigure, signed, End, NearShare, FigureNearShare}
 use Rattle.figures.proofs.Signed.{plus, minus}
 use Rattle.figures.proofs.Operations.{Sized, in-units}
 use Rattle.figures.proofs.Chain.{difference, Near-by, Near-at}

@@ -1,15 +1,6 @@
 -- The physical figure of any finite fraction x, in any format: least + (greatest − least) × x. The ends and x are ±l, ±g and ±n units, of which K are 1.
-use mathlib.Core.Path.{sym, subst}
-use mathlib.Core.Bool.{Bool}
-use mathlib.Core.Logic.{_⊎_, inl, inr}
-use Prim.Native.Nat.{ℕ, _+_, _*_, _^_, _≤_, _<_}
-use native.Mathlib.Nat.{lt-of-le-of-lt, mul-le-mul-left, mul-le-mul-right, mul-pos, le-of-mul-le-mul-right}
-use native.Mathlib.Omega.{arith}
-use lib.Pow.{pow-pos, pow-mono}
-use lib.Ieee.{Float, Format, prec, low, unlike, add, sub, mul}
-use lib.Ieee.Fits.{two, two-le-pos}
-use lib.Ieee.Exact.{HasValue}
-use lib.Ieee.Scale.{grid, overflow}
+use Rattle.figures.proofs.Names.{sym, subst, Bool, _⊎_, inl, inr, ℕ, _+_, _*_, _^_, _≤_, _<_, lt-of-le-of-lt, mul-le-mul-left, mul-le-mul-right, mul-pos, le-of-mul-le-mul-right, arith, pow-pos, pow-mono, Float}
+use Rattle.figures.proofs.Names.{Format, prec, low, unlike, add, sub, mul, two, two-le-pos, HasValue, grid, overflow}
 use Rattle.figures.proofs.Rounding.{Half, Near, rounded-near, rounded-most}
 use Rattle.figures.proofs.Signed.{plus, minus}
 use Rattle.figures.proofs.Operations.{round-value, mul-value, Sized, sized, add-units}

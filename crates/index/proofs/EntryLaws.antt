@@ -1,31 +1,8 @@
 -- The entries of an accepted sheet: what a check finds stands where its layout says, so both give the same entries.
-use mathlib.Core.Path.{_≡_, refl, sym, ap, ap₂, _∙_}
-use mathlib.Core.List.{List, [], _∷_, _++_, map}
-use Prim.Native.Nat.{ℕ, zero, suc, _+_, _-_, _≤_, _<_}
-use native.Mathlib.Numerals.{add-one}
-use native.Mathlib.Omega.{arith}
-use native.Mathlib.Decide.{decLt}
-use lib.ListN.{length, getD, length-append, length-map, List·getD-map}
-use lib.Seq.{ext-getD, getD-at}
-use borrow.Author.Tests.{lt-ltb, le-ltb}
-use Rattle.fields.specs.declared.Row.{Row}
-use Rattle.fields.specs.declared.Layout.{Layout}
-use Rattle.fields.specs.Lines.{Line, line, basic, templateLines, linesOf, lastField, rowOf, bitsBefore, noLine}
-use Rattle.fields.proofs.RowLaws.{row-sound}
-use Rattle.layout.specs.Format.{Stream}
-use Rattle.layout.specs.Contents.{FoundPair, Contents}
-use Rattle.layout.specs.Image.{nothing, field, layoutOf, pairsIn}
-use Rattle.layout.specs.Places.{fieldPlace, pairBits, pairPlace}
-use Rattle.layout.proofs.Choices.{bits-front}
-use Rattle.layout.proofs.Fields.{at-is, width-is}
-use Rattle.layout.proofs.Places.{get-front, get-back, fields-count}
-use Rattle.layout.proofs.Accepted.{Holding}
-use Rattle.layout.proofs.Standing.{field-stands, pair-here}
-use Rattle.layout.proofs.PlaceSteps.{in-basic, behind-basic}
-use Rattle.sheet.proofs.WalkSteps.{basic-most}
-use Rattle.index.specs.declared.Entry.{Entry}
-use Rattle.index.specs.Index.{entry, fieldEntry, pairEntry, entries}
-use Rattle.index.specs.Laid.{entryOf, firstEntries}
+use Rattle.index.proofs.Names.{_≡_, refl, sym, ap, ap₂, _∙_, List, [], _∷_, _++_, map, ℕ, zero, suc, _+_, _-_, _≤_, _<_, add-one, arith, decLt, length, getD, length-append, length-map, List·getD-map, ext-getD}
+use Rattle.index.proofs.Names.{getD-at, lt-ltb, le-ltb, Row, Layout, Line, basic, templateLines, linesOf, lastField, rowOf, bitsBefore, noLine, row-sound, Stream, FoundPair, Contents, nothing, field, layoutOf}
+use Rattle.index.proofs.Names.{pairsIn, fieldPlace, pairBits, pairPlace, bits-front, at-is, width-is, get-front, get-back, fields-count, Holding, field-stands, pair-here, in-basic, behind-basic, basic-most, Entry}
+use Rattle.index.proofs.Names.{entry, fieldEntry, pairEntry, entries, entryOf, firstEntries}
 use Rattle.index.proofs.Laying.{first-length}
 
 -- ---- by the layout

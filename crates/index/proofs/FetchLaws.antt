@@ -1,34 +1,8 @@
 -- A fetch, step by step.
-use mathlib.Core.Path.{_≡_, refl, sym, ap, ap₂, _∙_}
-use mathlib.Core.Bool.{Bool, true, false}
-use mathlib.Core.List.{List, [], _∷_, map}
-use Prim.Native.Nat.{ℕ, zero, suc, _+_, _-_, _*_, _^_, _≤_, _<_}
-use native.Mathlib.Omega.{arith}
-use native.Mathlib.Decide.{ℕ-discrete}
-use lib.Dec.{ltb}
-use lib.ListN.{length, drop}
-use borrow.Author.Tests.{eq-eqb, ne-eqb, lt-ltb, le-ltb}
-use Rattle.refusal.specs.declared.Refusal.{Refusal}
-use Rattle.refusal.specs.Outcome.{Outcome, good, refused, _>>_, _>>=_, refuse_if_}
-use Rattle.refusal.specs.Rows.{pastEnd, outsideTable, noSuch, shortIndex}
-use Rattle.refusal.proofs.Outcomes.{good-same, no-value, told, bind-good, bind-refused}
-use Rattle.memory.specs.declared.Sizes.{Sizes}
-use Rattle.stream.specs.declared.cursor.Cursor.{Cursor}
-use Rattle.stream.specs.declared.cursor.Taken.{Taken}
-use Rattle.stream.specs.declared.cursor.Taken.the-variants.{Field, Refused as NotTaken}
-use Rattle.memory.specs.Bits.{fieldAt}
-use Rattle.memory.specs.Image.{imageSizes, sums, streamBits, streamNumber, takeAt}
-use Rattle.stream.specs.Answers.{Step, takenSaid, takenAt}
-use Rattle.memory.proofs.FieldLaws.{field-lt}
-use Rattle.fields.specs.declared.Value.{Value}
-use Rattle.fields.specs.declared.Row.{Row}
-use Rattle.fields.specs.declared.Template.{Template}
-use Rattle.fields.specs.Rules.{decode}
-use Rattle.fields.specs.Lines.{Line, lastField, lineOf}
-use Rattle.fields.specs.Stored.{Sound}
-use Rattle.fields.proofs.RowLaws.{row-sound}
-use Rattle.index.specs.declared.Entry.{Entry}
-use Rattle.index.specs.Index.{templateAt, entryAt, ofLength, choices, rowOfLength, bitsAt, fetchIn, fetch}
+use Rattle.index.proofs.Names.{_≡_, refl, sym, ap, ap₂, _∙_, Bool, true, false, List, [], _∷_, map, ℕ, zero, suc, _+_, _-_, _*_, _^_, _≤_, _<_, arith, ℕ-discrete, ltb, length, drop, eq-eqb, ne-eqb, lt-ltb, le-ltb}
+use Rattle.index.proofs.Names.{Refusal, Outcome, good, refused, _>>_, _>>=_, refuse_if_, pastEnd, outsideTable, noSuch, shortIndex, good-same, no-value, told, bind-good, bind-refused, Sizes, Cursor, Taken, Field}
+use Rattle.index.proofs.Names.{NotTaken, fieldAt, imageSizes, sums, streamBits, streamNumber, takeAt, Step, takenSaid, takenAt, field-lt, Value, Row, Template, decode, Line, lastField, lineOf, Sound, row-sound}
+use Rattle.index.proofs.Names.{Entry, templateAt, entryAt, ofLength, choices, rowOfLength, bitsAt, fetchIn, fetch}
 
 -- ---- the row of a length
 

@@ -1,39 +1,9 @@
 -- A field fetched through the index of its own image: the entries are read back as they were written, and a field's row is told by its entry.
-use mathlib.Core.Path.{_≡_, refl, sym, ap, ap₂, _∙_}
-use mathlib.Core.Bool.{Bool}
-use mathlib.Core.List.{List, [], _∷_, _++_}
-use mathlib.Core.Logic.{inl, inr}
-use Prim.Native.Nat.{ℕ, zero, suc, _+_, _-_, _*_, _/_, _%_, _≤_, _<_}
-use native.Mathlib.Omega.{arith}
-use native.Mathlib.Decide.{decLt}
-use lib.ListN.{length, getD, length-append}
-use borrow.Author.Tests.{eq-eqb, le-ltb}
-use Rattle.refusal.specs.Outcome.{good, _>>_, _>>=_, refuse_if_}
-use Rattle.refusal.specs.Rows.{outsideTable}
-use Rattle.memory.specs.declared.Sizes.{Sizes}
-use Rattle.memory.specs.Bits.{number, fieldAt}
-use Rattle.memory.specs.Image.{streamBits, streamNumber}
-use Rattle.memory.proofs.Chips.{sizes-chip}
-use Rattle.fields.specs.declared.Row.{Row}
-use Rattle.fields.specs.declared.Template.{Template}
-use Rattle.fields.specs.declared.Template.the-variants.{Bridge, Resistance}
-use Rattle.fields.specs.declared.Mark.{Mark}
-use Rattle.fields.specs.declared.Mark.the-variants.{Cal}
-use Rattle.fields.specs.declared.Layout.{Layout}
-use Rattle.fields.specs.Rules.{decode}
-use Rattle.fields.specs.Rows.{bridgeEnd, resistanceEnd}
-use Rattle.fields.specs.Lines.{Line, chosen, basic, template33, template32, templateLines, numberOf, linesOf, lastField, lineOf, rowOf, noLine}
-use Rattle.layout.specs.Format.{Stream}
-use Rattle.layout.specs.Contents.{Contents}
-use Rattle.layout.specs.Image.{streamIn, contents, field, layoutOf}
-use Rattle.layout.specs.Places.{fieldPlace}
-use Rattle.layout.proofs.Accepted.{Holding, number-stands, Accepted, contents-accepted}
-use Rattle.layout.proofs.Standing.{Stands, field-stands}
-use Rattle.sheet.specs.Check.{readField}
-use Rattle.sheet.proofs.ReadLaws.{accepted-reads}
-use Rattle.index.specs.declared.Entry.{Entry}
-use Rattle.index.specs.Index.{entry, entries, entryBytes, takenAs, templateAt, entryAt, rowOfLength, bitsAt, fetchIn, fetch}
-use Rattle.index.specs.Laid.{entryOf}
+use Rattle.index.proofs.Names.{_≡_, refl, sym, ap, ap₂, _∙_, Bool, List, [], _∷_, _++_, inl, inr, ℕ, zero, suc, _+_, _-_, _*_, _/_, _%_, _≤_, _<_, arith, decLt, length, getD, length-append, eq-eqb, le-ltb, good}
+use Rattle.index.proofs.Names.{_>>_, _>>=_, refuse_if_, outsideTable, Sizes, number, fieldAt, streamBits, streamNumber, sizes-chip, Row, Template, Bridge, Resistance, Mark, Cal, Layout, decode, bridgeEnd}
+use Rattle.index.proofs.Names.{resistanceEnd, Line, chosen, basic, template33, template32, templateLines, numberOf, linesOf, lastField, lineOf, rowOf, noLine, Stream, Contents, streamIn, contents, field, layoutOf}
+use Rattle.index.proofs.Names.{fieldPlace, Holding, number-stands, Accepted, contents-accepted, Stands, field-stands, readField, accepted-reads, Entry, entry, entries, entryBytes, takenAs, templateAt, entryAt}
+use Rattle.index.proofs.Names.{rowOfLength, bitsAt, fetchIn, fetch, entryOf}
 use Rattle.index.proofs.Laying.{bytes-count}
 use Rattle.index.proofs.EntryLaws.{noEntry, of-field, entries-count, lies}
 use Rattle.index.proofs.FetchLaws.{in-none, in-past, in-entry, fetch-right}

@@ -1,27 +1,7 @@
 -- An index made: what it is of an accepted image, and of one that is not.
-use mathlib.Core.Path.{_≡_, sym, ap, _∙_}
-use mathlib.Core.List.{List, _++_}
-use Prim.Native.Nat.{ℕ, _+_, _-_, _*_, _^_, _≤_, _<_}
-use native.Mathlib.Omega.{arith}
-use native.Mathlib.Decide.{decLt}
-use lib.Dec.{ltb}
-use lib.ListN.{length, drop, length-map}
-use borrow.Author.Tests.{lt-ltb, le-ltb}
-use Rattle.refusal.specs.declared.Refusal.{Refusal}
-use Rattle.refusal.specs.Outcome.{Outcome, good, refused, _>>_, _>>=_, refuse_if_}
-use Rattle.refusal.specs.Rows.{shortIndex}
-use Rattle.refusal.proofs.Outcomes.{good-same, good-bind, passed}
-use Rattle.memory.proofs.Chips.{sizes-chip}
-use Rattle.fields.specs.Lines.{lastField}
-use Rattle.layout.specs.Contents.{Contents}
-use Rattle.layout.specs.Image.{contents, layoutOf, pairsIn, pairIn}
-use Rattle.sheet.specs.declared.opening.Opened.{Opened}
-use Rattle.sheet.specs.Opened.{Opens}
-use Rattle.fields.proofs.TemplateFacts.{last-most}
-use Rattle.sheet.proofs.HeldLaws.{layout-is, points-are, holding}
-use Rattle.index.specs.declared.Entry.{Entry}
-use Rattle.index.specs.Index.{entryBytes, entries, index}
-use Rattle.index.specs.Laid.{laid, firstEntries}
+use Rattle.index.proofs.Names.{_≡_, sym, ap, _∙_, List, _++_, ℕ, _+_, _-_, _*_, _^_, _≤_, _<_, arith, decLt, ltb, length, drop, length-map, lt-ltb, le-ltb, Refusal, Outcome, good, refused, _>>_, _>>=_, refuse_if_}
+use Rattle.index.proofs.Names.{shortIndex, good-same, good-bind, passed, sizes-chip, lastField, Contents, contents, layoutOf, pairsIn, pairIn, Opened, Opens, last-most, layout-is, points-are, holding, Entry}
+use Rattle.index.proofs.Names.{entryBytes, entries, index, laid, firstEntries}
 use Rattle.index.proofs.Laying.{laid-start, bytes-count}
 use Rattle.index.proofs.EntryLaws.{of-pair, entries-count, lies, entries-are}
 

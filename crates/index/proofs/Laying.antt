@@ -1,17 +1,6 @@
 -- Bytes laid into a buffer, one behind the other, and the bytes of entries.
-use mathlib.Core.Path.{_≡_, refl, sym, ap, ap₂, _∙_}
-use mathlib.Core.List.{List, [], _∷_, _++_, append-assoc}
-use Prim.Native.Nat.{ℕ, zero, suc, _+_, _-_, _*_, _/_, _%_, _≤_}
-use native.Mathlib.Nat.{zero-add}
-use native.Mathlib.Numerals.{add-one}
-use native.Mathlib.Omega.{arith}
-use lib.ListN.{length, take, drop, set, length-append, length-drop}
-use lib.Seq.{length-take-le, take-at, drop-at, drop-drop, sets-eq}
-use Rattle.memory.specs.Bits.{bytesOf}
-use Rattle.fields.specs.declared.Layout.{Layout}
-use Rattle.index.specs.declared.Entry.{Entry}
-use Rattle.index.specs.Index.{entryBytes}
-use Rattle.index.specs.Laid.{laid, entryOf, firstEntries}
+use Rattle.index.proofs.Names.{_≡_, refl, sym, ap, ap₂, _∙_, List, [], _∷_, _++_, append-assoc, ℕ, zero, suc, _+_, _-_, _*_, _/_, _%_, _≤_, zero-add, add-one, arith, length, take, drop, set, length-append}
+use Rattle.index.proofs.Names.{length-drop, length-take-le, take-at, drop-at, drop-drop, sets-eq, bytesOf, Layout, Entry, entryBytes, laid, entryOf, firstEntries}
 
 module _ (buffer : List ℕ) (at : ℕ) (xs : List ℕ) (inside : at + length xs ≤ length buffer) where
   front-length : length (take at buffer ++ xs) ≡ at + length xs

@@ -1,3 +1,4 @@
+mod Names
 pub mod Laying
 pub mod EntryLaws
 pub mod IndexLaws

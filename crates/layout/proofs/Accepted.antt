@@ -1,24 +1,8 @@
 -- What an accepted check says: the image's sizes and sums, the sheet that may stand there, and that its stream holds it.
-use mathlib.Core.Path.{_≡_, refl, sym, ap, _∙_, subst}
-use mathlib.Core.List.{List, [], _∷_, _++_, map, append-assoc}
-use Prim.Native.Nat.{ℕ, _+_, _^_, _≤_, _<_, _%_}
-use native.Mathlib.Omega.{arith}
-use lib.ListN.{length}
-use Rattle.refusal.specs.Outcome.{Outcome, good, _>>=_, _>>_}
-use Rattle.refusal.proofs.Outcomes.{good-same, good-bind, good-then}
-use Rattle.memory.specs.declared.Sizes.{Sizes}
-use Rattle.memory.specs.Bits.{bit, fieldAt}
-use Rattle.memory.specs.Image.{imageSizes, sums, streamBits, streamNumber, imageOf}
-use Rattle.memory.specs.Pieces.{Piece, piece, needed}
-use Rattle.memory.proofs.Chips.{sizes-chip}
-use Rattle.memory.proofs.FieldLaws.{field-bit}
-use Rattle.memory.proofs.Images.{image-length, image-number-lt, image-passes}
-use Rattle.memory.proofs.PieceLaws.{Fit, Holds, needed-append, holds-piece}
-use Rattle.fields.specs.Lines.{numberOf}
-use Rattle.layout.specs.Format.{Stream, Parsed, parse}
-use Rattle.layout.specs.Contents.{Contents, sheetOf}
-use Rattle.layout.specs.Image.{streamIn, contents}
-use Rattle.layout.specs.Places.{firstNumber}
+use Rattle.layout.proofs.Names.{_≡_, sym, ap, _∙_, subst, List, [], _∷_, _++_, map, append-assoc, ℕ, _+_, _^_, _≤_, _<_, _%_, arith, length, Outcome, good, good-same, good-bind, good-then, Sizes, bit, fieldAt}
+use Rattle.layout.proofs.Names.{imageSizes, sums, streamBits, streamNumber, imageOf, Piece, piece, needed, sizes-chip, field-bit, image-length, image-number-lt, image-passes, Fit, Holds, needed-append}
+use Rattle.layout.proofs.Names.{holds-piece, numberOf, Stream, Parsed, parse, Contents, sheetOf, streamIn, contents, firstNumber}
+use Rattle.refusal.specs.Outcome.{_>>=_, _>>_}
 use Rattle.layout.proofs.Formats.{parsed, parses-fit, parse-held, parsed-by, parse-agrees}
 use Rattle.layout.proofs.Fields.{pieceOf}
 use Rattle.layout.proofs.Places.{basic-is-64}

@@ -1,27 +1,8 @@
 -- Behind the fields: what may stand as a calibration table or a curve, and the pieces that it is.
-use mathlib.Core.Path.{_≡_, refl, sym, ap, ap₂, _∙_, subst, subst₂}
-use mathlib.Core.Bool.{Bool, true, false, not, cond}
-use mathlib.Core.List.{List, [], _∷_, _++_}
-use mathlib.Core.Option.{Option, none, some}
-use Prim.Native.Nat.{ℕ, zero, suc, _+_, _*_, _^_, _≤_, _<_}
-use native.Mathlib.Omega.{arith}
-use lib.Dec.{eqb}
-use lib.ListN.{length}
-use borrow.Author.Tests.{eqb-true, eq-eqb, not-false}
-use Rattle.refusal.specs.Outcome.{Outcome, good, refused}
-use Rattle.refusal.specs.Rows.{wrongBlock}
-use Rattle.memory.specs.Pieces.{Piece, piece, needed}
-use Rattle.memory.proofs.PieceLaws.{needed-append}
-use Rattle.fields.specs.declared.Codes.{Codes}
-use Rattle.fields.specs.declared.Domain.{Domain}
-use Rattle.fields.specs.Calibration.{calDomain, domainCode, domainOf, pointCount, calPoint, calDeviation, follows}
-use Rattle.fields.proofs.RuleLaws.{plain-bounds}
-use Rattle.fields.proofs.CalibrationLaws.{domain-coded, code-domained, domain-most}
-use Rattle.layout.specs.Format.{Format, ends, stops, _>>=_, _>>_, given, refuse_if_}
-use Rattle.layout.specs.Contents.{Found, FoundPair, Calibration, bare, table, curve, paired, codesIn, fieldOf, selectorOf, pairOf, pairsOf, tableOf, nothingPassed, curveOf, blockOf, blockAt, calibrationOf}
-use Rattle.layout.specs.Image.{pairsIn, segmentsIn, allTerms}
-use Rattle.layout.specs.Places.{tableBits, curveBits}
-use Rattle.layout.specs.Pieces.{blockPieces}
+use Rattle.layout.proofs.Names.{_≡_, refl, sym, ap, ap₂, _∙_, subst, Bool, true, false, not, cond, List, [], _∷_, _++_, Option, none, some, ℕ, zero, suc, _+_, _*_, _^_, _≤_, _<_, arith, eqb, length, eqb-true}
+use Rattle.layout.proofs.Names.{not-false, Outcome, good, refused, wrongBlock, Piece, piece, needed, needed-append, Codes, Domain, calDomain, domainCode, domainOf, pointCount, calPoint, calDeviation, follows}
+use Rattle.layout.proofs.Names.{plain-bounds, domain-coded, code-domained, domain-most, Format, ends, stops, _>>=_, _>>_, given, refuse_if_, Found, FoundPair, Calibration, bare, table, curve, paired, codesIn}
+use Rattle.layout.proofs.Names.{fieldOf, selectorOf, pairOf, pairsOf, tableOf, nothingPassed, curveOf, blockOf, blockAt, calibrationOf, pairsIn, segmentsIn, allTerms, tableBits, curveBits, blockPieces}
 use Rattle.layout.proofs.Formats.{Parses, parses-bind, parses-halves, ends-pieces, refuse-pieces, parses-made, made-pieces, fixed-pieces}
 use Rattle.layout.proofs.Fields.{pieceOf, FieldAt, width-is, at-is, plain-field, field-parses, field-pieces}
 use Rattle.layout.proofs.Curves.{curvePieces, CurveAt, SegmentsAt, segments-needed, curve-parses, curve-pieces}

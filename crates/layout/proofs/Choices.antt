@@ -1,18 +1,6 @@
 -- Lines that set widths at most once: every row is the row at the last choice, so that a field's place and row follow from it.
-use mathlib.Core.Path.{_≡_, refl, sym, ap, ap₂, _∙_, subst, subst₂}
-use mathlib.Core.Bool.{Bool, true, false, true≢false}
-use mathlib.Core.List.{List, [], _∷_, _++_, map}
-use Prim.Native.Nat.{ℕ, zero, suc, _+_, _≤_, _<_}
-use native.Mathlib.Nat.{zero-add}
-use native.Mathlib.Omega.{arith}
-use lib.ListN.{length, getD}
-use Rattle.memory.specs.Pieces.{needed}
-use Rattle.fields.specs.declared.Row.{Row}
-use Rattle.fields.specs.declared.Template.{Template}
-use Rattle.fields.specs.declared.Template.the-variants.{Bridge, Resistance}
-use Rattle.fields.specs.Lines.{Line, chose, basic, template33, template32, templateLines, linesOf, rowsOf, bitsBefore}
-use Rattle.layout.specs.Contents.{Found}
-use Rattle.layout.specs.Image.{nothing, lastChoice}
+use Rattle.layout.proofs.Names.{_≡_, refl, sym, ap, ap₂, _∙_, subst, subst₂, Bool, true, false, true≢false, List, [], _∷_, _++_, map, ℕ, zero, suc, _+_, _≤_, _<_, zero-add, arith, length, getD, needed, Row}
+use Rattle.layout.proofs.Names.{Template, Bridge, Resistance, Line, chose, basic, template33, template32, templateLines, linesOf, rowsOf, bitsBefore, Found, nothing, lastChoice}
 use Rattle.layout.proofs.Fields.{pieceOf, FieldAt, row-is, width-is, Laid}
 
 -- ---- lines

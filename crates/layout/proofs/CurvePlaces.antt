@@ -1,22 +1,9 @@
 -- What stands in the stream of a sheet at the places of its curve's segments and terms.
-use mathlib.Core.Path.{_≡_, sym, ap, ap₂, _∙_, subst}
-use mathlib.Core.List.{List, [], _∷_, _++_, append-assoc}
-use mathlib.Core.Option.{Option, none as none-before}
-use Prim.Native.Nat.{ℕ, zero, suc, _+_, _*_, _≤_, _<_}
-use native.Mathlib.Omega.{arith}
-use lib.ListN.{length, getD}
-use Rattle.memory.specs.Bits.{fieldAt}
-use Rattle.memory.specs.Pieces.{Piece, piece, needed}
-use Rattle.memory.proofs.PieceLaws.{Fit, Holds, needed-append, fit-split, holds-front, holds-back, holds-uncons}
-use Rattle.fields.specs.declared.Row.{Row}
-use Rattle.fields.specs.Curves.{segmentStart, termCount, exponent, coefficient}
-use Rattle.layout.specs.Format.{Stream}
-use Rattle.layout.specs.Contents.{Found, FoundTerm, FoundSegment, Calibration, bare, table, curve, Contents, Passed, behindTerm, behindSegment, nothingPassed}
-use Rattle.layout.specs.Image.{layoutOf, segmentsIn}
-use Rattle.layout.specs.Places.{behindFields}
-use Rattle.layout.specs.Pieces.{blockPieces}
+use Rattle.layout.proofs.Names.{_≡_, sym, ap, _∙_, subst, List, [], _∷_, _++_, append-assoc, Option, none-before, ℕ, zero, suc, _+_, _*_, _≤_, _<_, arith, length, getD, fieldAt, Piece, piece, needed, Fit, Holds}
+use Rattle.layout.proofs.Names.{needed-append, fit-split, holds-front, holds-back, holds-uncons, Row, segmentStart, termCount, exponent, coefficient, Stream, Found, FoundTerm, FoundSegment, Calibration, bare}
+use Rattle.layout.proofs.Names.{table, curve, Contents, Passed, behindTerm, behindSegment, nothingPassed, layoutOf, segmentsIn, behindFields, blockPieces}
 use Rattle.layout.proofs.Fields.{pieceOf, FieldAt, width-is, at-is}
-use Rattle.layout.proofs.Curves.{termPieces, TermAt, TermsAt, termsPieces, terms-needed, term-needed, segmentPieces, SegmentAt, SegmentsAt, segmentsPieces, segment-needed}
+use Rattle.layout.proofs.Curves.{termPieces, TermAt, TermsAt, termsPieces, term-needed, segmentPieces, SegmentAt, SegmentsAt, segmentsPieces, segment-needed}
 use Rattle.layout.proofs.Calibrations.{calibrationPieces, CalibrationAt}
 use Rattle.layout.proofs.Endings.{endPieces}
 use Rattle.layout.proofs.Places.{behind-is}

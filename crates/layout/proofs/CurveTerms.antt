@@ -1,26 +1,9 @@
 -- The terms of a curve that stands: their exponents are whole numbers up to 5 that rise inside a segment, their coefficients are finite.
-use mathlib.Core.Path.{_≡_, ap, _∙_, sym, subst}
-use mathlib.Core.Bool.{true, not}
-use mathlib.Core.List.{List, [], _∷_, map}
-use mathlib.Core.Option.{Option, none, some}
-use Prim.Native.Nat.{ℕ, suc, _+_, _/_, _≤_, _<_}
-use native.Mathlib.Omega.{arith}
-use lib.Dec.{eqb}
-use lib.IntN.{ℤ, pos, natAbs, _*ℤ_}
-use lib.Ieee.{binary32, ofBits}
-use borrow.Author.Tests.{not-false}
-use Rattle.refusal.specs.Outcome.{good, _>>_, refuse_if_}
-use Rattle.refusal.specs.Rows.{outsideTable, notFinite}
-use Rattle.refusal.proofs.Outcomes.{good-same, passed}
-use Rattle.memory.specs.Pieces.{needed}
+use Rattle.layout.proofs.Names.{_≡_, ap, _∙_, sym, subst, true, not, List, [], _∷_, map, Option, none, some, ℕ, suc, _+_, _/_, _≤_, _<_, arith, eqb, ℤ, pos, natAbs, _*ℤ_, binary32, ofBits, not-false, good}
+use Rattle.layout.proofs.Names.{outsideTable, notFinite, good-same, passed, needed, Term, allOnes, finite, decode, leastExponent, exponent, coefficient, isExponent, tenthsOf, tenthsBefore, stepped-whole, power}
+use Rattle.layout.proofs.Names.{follows-some, power-is, power-back, power-rises, Found, FoundTerm, figure, float, termIn}
+use Rattle.refusal.specs.Outcome.{_>>_, refuse_if_}
 use Rattle.fields.specs.declared.Value.the-variants.{Single}
-use Rattle.fields.specs.declared.Term.{Term}
-use Rattle.fields.specs.Rules.{allOnes, finite, decode}
-use Rattle.fields.specs.Curves.{leastExponent, exponent, coefficient, isExponent, tenthsOf, tenthsBefore}
-use Rattle.fields.proofs.RuleLaws.{stepped-whole}
-use Rattle.fields.proofs.CurveLaws.{power, follows-some, power-is, power-back, power-rises}
-use Rattle.layout.specs.Contents.{Found, FoundTerm, behindTerm}
-use Rattle.layout.specs.Image.{figure, float, termIn}
 use Rattle.layout.proofs.Fields.{FieldAt}
 use Rattle.layout.proofs.Curves.{termPieces, TermAt, TermsAt}
 

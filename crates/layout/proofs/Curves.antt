@@ -1,42 +1,8 @@
 -- A curve: what may stand as its terms, its segments and the curve, and the pieces that they are.
-use mathlib.Core.Path.{_≡_, refl, sym, ap, ap₂, _∙_, subst}
-use mathlib.Core.Bool.{Bool, true, false, not}
-use mathlib.Core.List.{List, [], _∷_, _++_}
-use mathlib.Core.Option.{Option, none, some}
-use Prim.Native.Nat.{ℕ, zero, suc, _+_, _*_, _^_, _≤_, _<_}
-use native.Mathlib.Omega.{arith}
-use lib.Dec.{ltb, leb}
-use lib.IntN.{pos}
-use lib.ListN.{length, length-append}
-use borrow.Author.Tests.{not-false, le-leb, leb-true}
-use Rattle.refusal.specs.Rows.{wrongCurve, tooManyTerms}
-use Rattle.refusal.proofs.Outcomes.{both}
-use Rattle.memory.specs.Pieces.{Piece, piece, needed}
-use Rattle.memory.proofs.PieceLaws.{needed-append}
-use Rattle.fields.specs.declared.Value.the-variants.{Whole}
-use Rattle.fields.specs.declared.Row.{Row}
-use Rattle.fields.specs.Curves.{curveDomain, segmentCount, segmentStart, termCount, exponent, coefficient, isSegmentCount, isTermCount, mostTerms, startFollows, tenthsOf, tenthsBefore, exponentFollows}
-use Rattle.fields.proofs.RuleLaws.{plain-bounds}
-use Rattle.layout.specs.Format.{Format, ends, _>>=_, _>>_, refuse_if_}
-use Rattle.layout.specs.Contents.{
-  Found,
-  FoundTerm,
-  FoundSegment,
-  Calibration,
-  curve,
-  Passed,
-  fieldOf,
-  ruledOf,
-  termOf,
-  behindTerm,
-  termsOf,
-  segmentOf,
-  behindSegment,
-  nothingPassed,
-  segmentsOf,
-  curveOf,
-}
-use Rattle.layout.specs.Image.{allTerms}
+use Rattle.layout.proofs.Names.{_≡_, refl, sym, ap, ap₂, _∙_, subst, Bool, true, false, not, List, [], _∷_, _++_, Option, none, some, ℕ, _+_, _*_, _≤_, arith, ltb, leb, pos, length, length-append, not-false}
+use Rattle.layout.proofs.Names.{le-leb, leb-true, wrongCurve, tooManyTerms, both, Piece, piece, needed, needed-append, Whole, Row, curveDomain, segmentCount, segmentStart, termCount, exponent, coefficient}
+use Rattle.layout.proofs.Names.{isSegmentCount, isTermCount, mostTerms, startFollows, tenthsOf, tenthsBefore, exponentFollows, plain-bounds, Format, ends, _>>=_, _>>_, refuse_if_, Found, FoundTerm, FoundSegment}
+use Rattle.layout.proofs.Names.{Calibration, curve, Passed, fieldOf, ruledOf, termOf, behindTerm, termsOf, segmentOf, behindSegment, nothingPassed, segmentsOf, curveOf, allTerms}
 use Rattle.layout.proofs.Formats.{Parses, parses-bind, parses-halves, ends-pieces, refuse-pieces, parses-made, made-pieces}
 use Rattle.layout.proofs.Fields.{pieceOf, found, FieldAt, width-is, plain-field, field-parses, field-pieces}
 use Rattle.layout.proofs.Repeats.{eachPieces, EachAt, each-parses, each-pieces}

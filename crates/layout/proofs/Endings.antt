@@ -1,17 +1,6 @@
 -- The ending: what may stand as the end bit and the text, and the pieces that they are. A zero character ends the text where room is left.
-use mathlib.Core.Path.{_≡_, refl, sym, ap, ap₂, _∙_, subst, subst₂}
-use mathlib.Core.Bool.{Bool, true, false, cond}
-use mathlib.Core.List.{List, [], _∷_, _++_, map}
-use Prim.Native.Nat.{ℕ, zero, suc, _+_, _-_, _*_, _/_, _^_, _≤_, _<_}
-use native.Mathlib.Omega.{arith}
-use lib.Dec.{eqb, ltb, leb·suc-suc}
-use lib.ListN.{length}
-use borrow.Author.Tests.{eqb-true, eqb-false, ne-eqb, lt-ltb}
-use Rattle.memory.specs.Pieces.{Piece, piece, pack, needed}
-use Rattle.memory.proofs.PieceLaws.{needed-append, pack-append}
-use Rattle.layout.specs.Format.{Format, ends, _>>=_}
-use Rattle.layout.specs.Contents.{Ending, charactersOf, endingOf}
-use Rattle.layout.specs.Pieces.{endCode}
+use Rattle.layout.proofs.Names.{_≡_, refl, sym, ap, ap₂, _∙_, subst, subst₂, Bool, true, false, cond, List, [], _∷_, _++_, map, ℕ, zero, suc, _+_, _-_, _*_, _/_, _^_, _≤_, _<_, arith, eqb, ltb, leb·suc-suc}
+use Rattle.layout.proofs.Names.{length, eqb-true, eqb-false, ne-eqb, lt-ltb, Piece, piece, pack, needed, needed-append, pack-append, ends, _>>=_, Ending, charactersOf, endingOf, endCode}
 use Rattle.layout.proofs.Formats.{Parses, ends-pieces, parses-made, made-pieces}
 
 -- ---- the text

@@ -1,24 +1,6 @@
 -- The fields of a sheet: what may stand on the lines of a template, and the pieces that they are.
-use mathlib.Core.Path.{_≡_, refl, sym, ap, ap₂, _∙_, subst}
-use mathlib.Core.Bool.{Bool, true, false}
-use mathlib.Core.List.{List, [], _∷_, _++_, map}
-use Prim.Native.Nat.{ℕ, zero, suc, _+_, _^_, _≤_, _<_}
-use native.Mathlib.Omega.{arith}
-use lib.IntN.{pos}
-use lib.ListN.{length, getD, set}
-use Rattle.refusal.specs.Outcome.{Outcome, good, refused}
-use Rattle.memory.specs.Pieces.{Piece, piece, needed}
-use Rattle.fields.specs.declared.Value.{Value}
-use Rattle.fields.specs.declared.Value.the-variants.{Whole}
-use Rattle.fields.specs.declared.Rule.the-variants.{Plain}
-use Rattle.fields.specs.declared.Row.{Row}
-use Rattle.fields.specs.Rows.{always}
-use Rattle.fields.specs.Rules.{decode}
-use Rattle.fields.specs.Lines.{Line, chose}
-use Rattle.fields.proofs.RuleLaws.{plain-good}
-use Rattle.layout.specs.Format.{Format, ends, _>>=_, given}
-use Rattle.layout.specs.Contents.{Found, fieldOf, fieldsOf}
-use Rattle.layout.specs.Image.{nothing}
+use Rattle.layout.proofs.Names.{_≡_, refl, sym, ap, ap₂, _∙_, subst, List, [], _∷_, _++_, map, ℕ, zero, suc, _+_, _^_, _≤_, _<_, arith, pos, length, getD, set, Outcome, good, refused, Piece, piece, needed, Value}
+use Rattle.layout.proofs.Names.{Whole, Plain, Row, always, decode, Line, chose, plain-good, Format, ends, _>>=_, given, Found, fieldOf, fieldsOf, nothing}
 use Rattle.layout.proofs.Formats.{Parses, ends-pieces, parses-made, made-pieces}
 
 -- ---- one field

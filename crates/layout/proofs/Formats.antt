@@ -1,20 +1,8 @@
 -- The laws of every format: pieces that parse by it are what a stream is read as, and the other way round.
-use mathlib.Core.Path.{_≡_, refl, sym, ap, ap₂, _∙_, subst}
-use mathlib.Core.Bool.{Bool, true, false, not, cond}
-use mathlib.Core.List.{List, [], _∷_, _++_, append-nil}
-use Prim.Native.Nat.{ℕ, zero, suc, _+_, _-_, _*_, _^_, _≤_, _<_, _%_}
-use native.Mathlib.Omega.{arith}
-use lib.Dec.{eqb, ltb}
-use borrow.Author.Tests.{le-ltb, ltb-false, eqb-true, not-false}
-use Rattle.refusal.specs.declared.Refusal.{Refusal}
+use Rattle.layout.proofs.Names.{_≡_, refl, sym, ap, ap₂, _∙_, subst, Bool, true, false, not, cond, List, [], _∷_, _++_, append-nil, ℕ, _+_, _-_, _^_, _≤_, _<_, _%_, arith, eqb, ltb, le-ltb, ltb-false, eqb-true}
+use Rattle.layout.proofs.Names.{not-false, Refusal, Outcome, good, refused, pastEnd, fieldAt, Piece, piece, needed, field-lt, Fit, Holds, holds-cons, holds-uncons, holds-nil, holds-mod, Format, ends, stops, takes}
+use Rattle.layout.proofs.Names.{looks, _>>=_, _>>_, bits, refuse_if_, Stream, Parsed, parse}
 use Rattle.refusal.specs.Outcome as outcome
-use Rattle.refusal.specs.Outcome.{Outcome, good, refused}
-use Rattle.refusal.specs.Rows.{pastEnd}
-use Rattle.memory.specs.Bits.{fieldAt}
-use Rattle.memory.specs.Pieces.{Piece, piece, pack, needed}
-use Rattle.memory.proofs.FieldLaws.{field-lt}
-use Rattle.memory.proofs.PieceLaws.{Fit, Holds, holds-cons, holds-uncons, holds-nil, holds-mod}
-use Rattle.layout.specs.Format.{Format, ends, stops, takes, looks, _>>=_, _>>_, bits, refuse_if_, Stream, Parsed, parse}
 
 abbrev pub parsed : {A : Type 0} → A → ℕ → Parsed A
 parsed a at = record { found = a; next = at }

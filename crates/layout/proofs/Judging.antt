@@ -1,40 +1,10 @@
 -- Fields that lie in the stream: judged at their places one after the other, which is what parsing them line by line comes to.
-use mathlib.Core.Path.{_≡_, refl, sym, ap, ap₂, _∙_, subst}
-use mathlib.Core.Bool.{Bool, true, false, not, cond}
-use mathlib.Core.List.{List, [], _∷_, _++_}
-use mathlib.Core.Option.{Option}
-use Prim.Native.Nat.{ℕ, zero, suc, _+_, _-_, _*_, _/_, _%_, _^_, _≤_, _<_}
-use native.Mathlib.Omega.{arith}
-use lib.Dec.{eqb, ltb}
-use lib.ListN.{length, take, drop, getD}
-use lib.Pow.{high, low}
-use borrow.Author.Tests.{le-ltb, eq-eqb, ne-eqb}
-use Rattle.refusal.specs.declared.Refusal.{Refusal}
+use Rattle.layout.proofs.Names.{_≡_, refl, sym, ap, ap₂, _∙_, subst, Bool, false, not, cond, List, [], _∷_, _++_, ℕ, zero, suc, _+_, _-_, _*_, _/_, _%_, _≤_, _<_, arith, eqb, length, take, drop, getD, high, low}
+use Rattle.layout.proofs.Names.{le-ltb, eq-eqb, ne-eqb, Refusal, Outcome, good, refused, pastEnd, wrongBlock, told, then-good, then-refused, bind-assoc, fieldAt, field-lt, field-add, Value, Row, Judged, Stands}
+use Rattle.layout.proofs.Names.{Refused, Template, Bridge, Resistance, TemplateAnswer, Is, Unknown, Layout, judgedSaid, templateSaid, decode, judge, Open, Line, chose, basic, template33, template32, templateLines}
+use Rattle.layout.proofs.Names.{templateOf, linesOf, lastField, lineOf, rowOf, bitsBefore, row-open, Format, ends, _>>=_, bits, given, refuse_if_, Stream, Parsed, parse, Found, fieldOf, fieldsOf, selectorOf}
+use Rattle.layout.proofs.Names.{named, firstBlock, lastChoice, blockBits, firstSelector, fieldPlace, behindFields, judged, frontLines}
 use Rattle.refusal.specs.Outcome as outcome
-use Rattle.refusal.specs.Outcome.{Outcome, good, refused}
-use Rattle.refusal.specs.Rows.{pastEnd, wrongBlock}
-use Rattle.refusal.proofs.Outcomes.{told, then-good, then-refused, bind-assoc}
-use Rattle.memory.specs.Bits.{fieldAt}
-use Rattle.memory.proofs.FieldLaws.{field-lt, field-add}
-use Rattle.fields.specs.declared.Value.{Value}
-use Rattle.fields.specs.declared.Row.{Row}
-use Rattle.fields.specs.declared.Judged.{Judged}
-use Rattle.fields.specs.declared.Judged.the-variants.{Stands, Refused}
-use Rattle.fields.specs.declared.Template.{Template}
-use Rattle.fields.specs.declared.Template.the-variants.{Bridge, Resistance}
-use Rattle.fields.specs.declared.TemplateAnswer.{TemplateAnswer}
-use Rattle.fields.specs.declared.TemplateAnswer.the-variants.{Is, Unknown}
-use Rattle.fields.specs.declared.Layout.{Layout}
-use Rattle.fields.specs.Answers.{judgedSaid, templateSaid}
-use Rattle.fields.specs.Rules.{decode}
-use Rattle.fields.specs.Judgement.{judge, Open}
-use Rattle.fields.specs.Lines.{Line, chose, basic, template33, template32, templateLines, templateOf, linesOf, lastField, lineOf, rowOf, bitsBefore}
-use Rattle.fields.proofs.OpenLaws.{row-open}
-use Rattle.layout.specs.Format.{Format, ends, _>>=_, bits, given, refuse_if_, Stream, Parsed, parse}
-use Rattle.layout.specs.Contents.{Found, fieldOf, fieldsOf, selectorOf, named, firstBlock}
-use Rattle.layout.specs.Image.{lastChoice}
-use Rattle.layout.specs.Places.{blockBits, firstSelector, fieldPlace, behindFields}
-use Rattle.layout.specs.Judgement.{judged, frontLines}
 use Rattle.layout.proofs.Formats.{parsed, parse-bind}
 use Rattle.layout.proofs.Fields.{found}
 

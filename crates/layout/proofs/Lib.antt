@@ -1,3 +1,4 @@
+mod Names
 pub mod Formats
 pub mod Fields
 pub mod Choices

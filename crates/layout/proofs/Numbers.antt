@@ -1,55 +1,11 @@
 -- The numbers that a stream is turned down with: never 15, which no row has, or 17, a blank chip's.
-use mathlib.Core.Bool.{Bool, true, false, not, _||_, _&&_, cond}
-use mathlib.Core.List.{List, [], _∷_}
-use mathlib.Core.Option.{Option, none, some}
-use Prim.Native.Nat.{ℕ, zero, suc, _+_, _/_}
-use native.Mathlib.Omega.{arith}
-use lib.Dec.{eqb, ltb, leb}
-use lib.Ieee.{binary32, ofBits}
-use lib.Signed.{leZ}
-use Rattle.refusal.specs.declared.Refusal.{Refusal}
-use Rattle.refusal.specs.Outcome.{Outcome, good, refused}
-use Rattle.refusal.specs.Rows.{wrongBlock, outsideTable, notFinite, notRising, sumsNotRising, wrongCurve, tooManyTerms}
-use Rattle.refusal.proofs.Outcomes.{Elsewhere, Other, other-cond, other-test, other-then}
-use Rattle.fields.specs.declared.Row.{Row}
-use Rattle.fields.specs.declared.Rule.{Rule}
-use Rattle.fields.specs.declared.Rule.the-variants.{Plain, Stepped, Geometric, Single}
-use Rattle.fields.specs.declared.Template.{Template}
-use Rattle.fields.specs.declared.Codes.{Codes}
-use Rattle.fields.specs.declared.Domain.{Domain}
-use Rattle.fields.specs.Rules.{allOnes, topCode, finite, meaning, decode}
-use Rattle.fields.specs.Lines.{Line, chose, basic, templateLines, templateOf}
-use Rattle.fields.specs.Calibration.{calDomain, pointCount, calPoint, calDeviation, domainOf, isPhysical, storedSum, follows}
-use Rattle.fields.specs.Curves.{curveDomain, segmentCount, segmentStart, termCount, exponent, coefficient, isSegmentCount, isTermCount, mostTerms, startFollows, tenthsOf, tenthsBefore, exponentFollows}
-use Rattle.layout.specs.Format.{Format, ends, stops, takes, looks, _>>=_, given, refuse_if_, repeated, Stream, parse}
-use Rattle.layout.specs.Contents.{
-  Found,
-  fieldOf,
-  fieldsOf,
-  selectorOf,
-  named,
-  firstBlock,
-  paired,
-  codesIn,
-  pairOf,
-  pairsOf,
-  tableOf,
-  Passed,
-  ruledOf,
-  termOf,
-  behindTerm,
-  termsOf,
-  segmentOf,
-  behindSegment,
-  nothingPassed,
-  segmentsOf,
-  curveOf,
-  blockAt,
-  calibrationOf,
-  charactersOf,
-  endingOf,
-  sheetOf,
-}
+use Rattle.layout.proofs.Names.{Bool, true, false, not, _||_, _&&_, cond, List, [], _∷_, Option, none, some, ℕ, zero, suc, _+_, _/_, arith, eqb, ltb, leb, binary32, ofBits, leZ, Refusal, Outcome, good, refused}
+use Rattle.layout.proofs.Names.{wrongBlock, outsideTable, notFinite, notRising, sumsNotRising, wrongCurve, tooManyTerms, Elsewhere, Other, other-cond, other-test, other-then, Row, Rule, Plain, Stepped, Geometric}
+use Rattle.layout.proofs.Names.{Single, Template, Codes, Domain, allOnes, topCode, finite, meaning, decode, Line, chose, basic, templateLines, templateOf, calDomain, pointCount, calPoint, calDeviation, domainOf}
+use Rattle.layout.proofs.Names.{isPhysical, storedSum, follows, curveDomain, segmentCount, segmentStart, termCount, exponent, coefficient, isSegmentCount, isTermCount, mostTerms, startFollows, tenthsOf}
+use Rattle.layout.proofs.Names.{tenthsBefore, exponentFollows, Format, ends, stops, takes, looks, _>>=_, given, refuse_if_, repeated, Stream, parse, fieldOf, fieldsOf, selectorOf, named, firstBlock, paired}
+use Rattle.layout.proofs.Names.{codesIn, pairOf, pairsOf, tableOf, Passed, ruledOf, termOf, behindTerm, termsOf, segmentOf, behindSegment, nothingPassed, segmentsOf, curveOf, blockAt, calibrationOf, charactersOf}
+use Rattle.layout.proofs.Names.{endingOf, sheetOf}
 
 -- Every refusal of a format has another number.
 abbrev Others : {A : Type 0} → Format A → Type 0

@@ -1,15 +1,6 @@
 -- Places from the bits that stand before them.
-use mathlib.Core.Path.{_≡_, refl, ap, _∙_}
-use mathlib.Core.Bool.{Bool, cond}
-use mathlib.Core.List.{List, [], _∷_}
-use Prim.Native.Nat.{ℕ, zero, suc, _+_, _-_, _*_, _^_, _≤_, _<_}
-use native.Mathlib.Omega.{arith}
-use lib.ListN.{length, length-append}
-use borrow.Author.Tests.{lt-ltb, le-ltb}
-use Rattle.fields.specs.declared.Layout.{Layout}
-use Rattle.fields.specs.Lines.{Line, basic, templateLines, linesOf, lastField, ending, bitsBefore}
-use Rattle.fields.proofs.TemplateFacts.{bits-few}
-use Rattle.layout.specs.Places.{blockBits, fieldPlace, behindFields, tableBits, curveBits}
+use Rattle.layout.proofs.Names.{_≡_, refl, ap, _∙_, Bool, cond, List, [], _∷_, ℕ, zero, suc, _+_, _-_, _*_, _^_, _≤_, _<_, arith, length, length-append, lt-ltb, le-ltb, Layout, Line, basic, templateLines, linesOf}
+use Rattle.layout.proofs.Names.{lastField, ending, bitsBefore, bits-few, blockBits, fieldPlace, behindFields, tableBits, curveBits}
 
 bits-most : (lines : List Line) (p i : ℕ) → bitsBefore lines p i ≤ bitsBefore lines p (length lines)
 bits-most [] p i = omega arith

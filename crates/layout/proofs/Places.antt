@@ -1,22 +1,8 @@
 -- Where the fields of a sheet stand: row, place, code and value of each, in closed form.
-use mathlib.Core.Path.{_≡_, refl, sym, ap, ap₂, _∙_, subst, subst₂}
-use mathlib.Core.Bool.{Bool, true, false, cond}
-use mathlib.Core.List.{List, [], _∷_, _++_, map}
-use Prim.Native.Nat.{ℕ, zero, suc, _+_, _-_, _≤_, _<_}
-use native.Mathlib.Nat.{zero-add}
-use native.Mathlib.Omega.{arith}
-use native.Mathlib.Decide.{decLt}
-use lib.Dec.{ltb}
-use lib.ListN.{length, getD, length-append}
-use borrow.Author.Tests.{lt-ltb, le-ltb}
-use Rattle.memory.specs.Pieces.{needed}
-use Rattle.fields.specs.declared.Row.{Row}
-use Rattle.fields.specs.declared.Template.{Template}
-use Rattle.fields.specs.Lines.{Line, basic, templateLines, linesOf, lastField, lineOf, rowOf, rowsOf, bitsBefore, noLine}
-use Rattle.layout.specs.Contents.{Found, Contents}
-use Rattle.layout.specs.Image.{nothing, field, lastChoice, layoutOf}
-use Rattle.layout.specs.Places.{blockBits, fieldPlace, behindFields}
-use Rattle.layout.proofs.Fields.{pieceOf, FieldAt, Laid, laid-length}
+use Rattle.layout.proofs.Names.{_≡_, refl, sym, ap, ap₂, _∙_, subst, subst₂, Bool, true, cond, List, [], _∷_, _++_, map, ℕ, zero, suc, _+_, _-_, _≤_, _<_, arith, decLt, ltb, length, getD, length-append, lt-ltb}
+use Rattle.layout.proofs.Names.{le-ltb, needed, Template, Line, basic, templateLines, linesOf, lastField, lineOf, rowOf, rowsOf, bitsBefore, noLine, Contents, nothing, field, lastChoice, layoutOf, blockBits}
+use Rattle.layout.proofs.Names.{fieldPlace, behindFields}
+use Rattle.layout.proofs.Fields.{pieceOf, FieldAt, laid-length}
 use Rattle.layout.proofs.Choices.{MetAt, met-field, met-bits, met-rows, bits-append, bits-front, last-append, basic-met, basic-last, template-met, steady-set, lines-steady}
 use Rattle.layout.proofs.Sheets.{Formed}
 

@@ -1,25 +1,10 @@
 -- A field of a sheet at another code: the sheet may stand all the same, and one piece differs.
-use mathlib.Core.Path.{_≡_, refl, sym, ap, ap₂, _∙_, subst, subst₂}
-use mathlib.Core.List.{List, [], _∷_, _++_, map, append-assoc}
-use Prim.Native.Nat.{ℕ, zero, suc, _+_, _-_, _^_, _≤_, _<_}
-use native.Mathlib.Nat.{zero-add}
-use native.Mathlib.Omega.{arith}
-use native.Mathlib.Decide.{decLt}
-use lib.ListN.{length, getD, set, length-append}
-use Rattle.refusal.specs.Outcome.{good}
-use Rattle.memory.specs.Pieces.{Piece, piece, needed}
-use Rattle.memory.specs.Bits.{fieldAt, putAt}
-use Rattle.memory.proofs.PieceLaws.{Fit, Holds, needed-append, holds-piece, holds-put}
-use Rattle.fields.specs.declared.Value.{Value}
-use Rattle.fields.specs.Rules.{decode}
-use Rattle.fields.specs.Lines.{Line, basic, templateLines, numberOf, linesOf, noLine}
-use Rattle.layout.specs.Format.{Stream}
-use Rattle.layout.specs.Contents.{Found, Contents}
-use Rattle.layout.specs.Image.{nothing, field}
-use Rattle.layout.specs.Pieces.{blockPieces}
-use Rattle.layout.proofs.Fields.{pieceOf, recoded, Laid, laid-length, Keeps, laid-put, Split, laid-split}
-use Rattle.layout.proofs.Sheets.{Formed, restPieces, sheetPieces, sheet-needed}
-use Rattle.layout.proofs.Places.{get-front, get-back, fields-count}
+use Rattle.layout.proofs.Names.{_≡_, refl, sym, ap, _∙_, subst, subst₂, List, [], _∷_, _++_, map, append-assoc, ℕ, zero, suc, _+_, _-_, _^_, _≤_, _<_, zero-add, arith, decLt, length, getD, set, length-append}
+use Rattle.layout.proofs.Names.{good, Piece, piece, needed, putAt, Fit, Holds, needed-append, holds-put, Value, decode, Line, basic, templateLines, numberOf, linesOf, noLine, Stream, Found, Contents, nothing}
+use Rattle.layout.proofs.Names.{blockPieces}
+use Rattle.layout.proofs.Fields.{pieceOf, recoded, Laid, laid-length, Keeps, laid-put, laid-split}
+use Rattle.layout.proofs.Sheets.{Formed, restPieces, sheetPieces}
+use Rattle.layout.proofs.Places.{get-front, get-back}
 use Rattle.layout.proofs.Accepted.{Holding, holding-fit}
 
 -- ---- an element replaced in two lists joined

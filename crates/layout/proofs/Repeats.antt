@@ -1,10 +1,5 @@
 -- Formats one after the other: what may stand for each, and the pieces that they are.
-use mathlib.Core.Path.{_≡_, refl, sym, ap, ap₂, _∙_, subst}
-use mathlib.Core.List.{List, [], _∷_, _++_}
-use Prim.Native.Nat.{ℕ, zero, suc, _+_}
-use lib.ListN.{length}
-use Rattle.memory.specs.Pieces.{Piece, needed}
-use Rattle.layout.specs.Format.{Format, ends, _>>=_, repeated}
+use Rattle.layout.proofs.Names.{_≡_, refl, sym, ap, ap₂, _∙_, subst, List, [], _∷_, _++_, ℕ, zero, suc, _+_, length, Piece, needed, Format, ends, _>>=_, repeated}
 use Rattle.layout.proofs.Formats.{Parses, parses-bind, parses-halves, ends-pieces, parses-made, made-pieces}
 
 -- The pieces of each, and each at the place where the one before it ends.

@@ -1,27 +1,7 @@
 -- A calibration table as fields of 37 bits, a pair each: pairs that stand and rise are parsed.
-use mathlib.Core.Path.{_≡_, refl, sym, ap, ap₂, _∙_}
-use mathlib.Core.Bool.{Bool, true, false}
-use mathlib.Core.Option.{Option, none, some}
-use Prim.Native.Nat.{ℕ, suc, _+_, _*_, _/_, _%_, _^_, _≤_, _<_}
-use native.Mathlib.Omega.{arith}
-use borrow.Author.Tests.{lt-leb, le-ltb}
-use lib.IntN.{ℤ, pos}
-use lib.Pow.{high, low}
-use Rattle.refusal.specs.Outcome.{Outcome, good}
-use Rattle.memory.specs.Bits.{fieldAt}
-use Rattle.memory.proofs.FieldLaws.{field-lt, field-add}
-use Rattle.fields.specs.declared.Value.the-variants.{Whole}
-use Rattle.fields.specs.declared.Rule.the-variants.{Stepped}
-use Rattle.fields.specs.declared.Codes.{Codes}
-use Rattle.fields.specs.declared.Domain.{Domain}
-use Rattle.fields.specs.declared.Domain.the-variants.{Electrical, Physical}
-use Rattle.fields.specs.Rules.{allOnes, topCode, steppedValue, decode}
-use Rattle.fields.specs.Rows.{always}
-use Rattle.fields.specs.Calibration.{D, R, leastDeviation, calPoint, calDeviation, codesOf, isPhysical, follows}
-use Rattle.fields.proofs.CalibrationLaws.{sum-climbs}
-use Rattle.layout.specs.Format.{Format, ends, _>>=_, _>>_, given, Stream, parse}
-use Rattle.layout.specs.Contents.{Found, FoundPair, paired, codesIn, fieldOf, pairOf}
-use Rattle.layout.specs.Places.{pairBits}
+use Rattle.layout.proofs.Names.{_≡_, refl, sym, ap, _∙_, Option, none, some, ℕ, _+_, _*_, _/_, _%_, _^_, _≤_, _<_, arith, lt-leb, le-ltb, ℤ, pos, high, low, good, fieldAt, field-lt, field-add, Whole, Stepped}
+use Rattle.layout.proofs.Names.{Codes, Domain, Electrical, Physical, allOnes, topCode, steppedValue, decode, always, D, R, leastDeviation, calPoint, calDeviation, codesOf, follows, sum-climbs, Format, ends, _>>=_}
+use Rattle.layout.proofs.Names.{_>>_, given, Stream, parse, Found, FoundPair, paired, codesIn, fieldOf, pairOf, pairBits}
 use Rattle.layout.proofs.Formats.{parsed, parse-next}
 use Rattle.layout.proofs.Fields.{found}
 use Rattle.layout.proofs.Standing.{Stands, stands-parse}

@@ -1,18 +1,7 @@
 -- A whole sheet: what may stand in a stream, and the pieces that it is.
-use mathlib.Core.Path.{_≡_, refl, sym, ap, ap₂, _∙_, subst}
-use mathlib.Core.List.{List, [], _∷_, _++_, map, append-nil}
-use mathlib.Core.Option.{Option, none, some}
-use Prim.Native.Nat.{ℕ, _+_}
-use native.Mathlib.Omega.{arith}
-use Rattle.refusal.specs.Rows.{wrongBlock}
-use Rattle.memory.specs.Pieces.{Piece, piece, needed}
-use Rattle.memory.proofs.PieceLaws.{needed-append}
-use Rattle.fields.specs.declared.Template.{Template}
-use Rattle.fields.specs.Lines.{basic, templateLines, numberOf, templateOf}
-use Rattle.fields.proofs.TemplateFacts.{number-lt, number-known, known-number}
-use Rattle.layout.specs.Format.{Format, ends, _>>=_, bits, place}
-use Rattle.layout.specs.Contents.{Found, Calibration, Contents, Ending, fieldsOf, selectorOf, named, firstBlock, calibrationOf, endingOf, sheetOf}
-use Rattle.layout.specs.Pieces.{blockPieces}
+use Rattle.layout.proofs.Names.{_≡_, refl, sym, ap, ap₂, _∙_, subst, List, [], _∷_, _++_, map, append-nil, Option, none, some, ℕ, _+_, arith, wrongBlock, Piece, piece, needed, needed-append, Template, basic}
+use Rattle.layout.proofs.Names.{templateLines, numberOf, templateOf, number-lt, number-known, known-number, Format, ends, _>>=_, bits, place, Found, Calibration, Contents, Ending, fieldsOf, selectorOf, named}
+use Rattle.layout.proofs.Names.{firstBlock, calibrationOf, endingOf, sheetOf, blockPieces}
 use Rattle.layout.proofs.Formats.{Parses, parses-bind, parses-halves, ends-pieces, fixed-pieces}
 use Rattle.layout.proofs.Fields.{pieceOf, Laid, laid-parses, laid-pieces}
 use Rattle.layout.proofs.Calibrations.{calibrationPieces, CalibrationAt, calibration-parses, calibration-pieces}

@@ -1,36 +1,13 @@
 -- What stands in the stream of a sheet at the places of its fields, its pairs and its characters.
-use mathlib.Core.Path.{_≡_, refl, sym, ap, ap₂, _∙_, subst, subst₂}
-use mathlib.Core.Bool.{Bool, true, false, cond}
-use mathlib.Core.List.{List, [], _∷_, _++_, map, append-assoc}
-use mathlib.Core.Option.{Option, none as none-before, some}
-use Prim.Native.Nat.{ℕ, zero, suc, _+_, _-_, _*_, _^_, _≤_, _<_}
-use native.Mathlib.Nat.{zero-add}
-use native.Mathlib.Omega.{arith}
-use lib.Dec.{ltb}
-use lib.ListN.{length, getD}
-use borrow.Author.Tests.{le-ltb}
-use Rattle.refusal.specs.Outcome.{Outcome, good, refused}
-use Rattle.refusal.specs.Rows.{pastEnd}
-use Rattle.memory.specs.Bits.{fieldAt}
-use Rattle.memory.specs.Pieces.{Piece, piece, needed}
-use Rattle.memory.proofs.PieceLaws.{Fit, Holds, needed-append, fit-split, holds-front, holds-back, holds-piece, holds-uncons}
-use Rattle.fields.specs.declared.Value.{Value}
-use Rattle.fields.specs.declared.Row.{Row}
-use Rattle.fields.specs.declared.Codes.{Codes}
-use Rattle.fields.specs.declared.Domain.{Domain}
-use Rattle.fields.specs.Rules.{decode}
-use Rattle.fields.specs.Calibration.{domainCode, calPoint, calDeviation}
-use Rattle.fields.specs.Lines.{numberOf, lastField, rowOf}
-use Rattle.layout.specs.Format.{Format, ends, _>>=_, given, Stream, parse}
-use Rattle.layout.specs.Contents.{Found, FoundPair, Calibration, bare, table, curve, Contents, codesIn, fieldOf}
-use Rattle.layout.specs.Image.{nothing, field, layoutOf, pairsIn, segmentsIn, allTerms}
-use Rattle.layout.specs.Places.{fieldPlace, pairPlace, behindBlock}
-use Rattle.layout.specs.Pieces.{blockPieces, endCode}
+use Rattle.layout.proofs.Names.{_≡_, refl, sym, ap, ap₂, _∙_, subst, Bool, cond, List, [], _∷_, _++_, map, append-assoc, Option, none-before, some, ℕ, zero, suc, _+_, _-_, _*_, _^_, _≤_, _<_, zero-add, arith, ltb}
+use Rattle.layout.proofs.Names.{length, getD, le-ltb, good, refused, pastEnd, fieldAt, Piece, piece, needed, Fit, Holds, needed-append, fit-split, holds-front, holds-back, holds-piece, holds-uncons, Row, Codes}
+use Rattle.layout.proofs.Names.{Domain, decode, domainCode, calPoint, calDeviation, numberOf, lastField, rowOf, ends, _>>=_, given, Stream, parse, Found, FoundPair, Calibration, bare, table, curve, Contents}
+use Rattle.layout.proofs.Names.{codesIn, fieldOf, field, layoutOf, pairsIn, segmentsIn, allTerms, fieldPlace, pairPlace, behindBlock, blockPieces, endCode}
 use Rattle.layout.proofs.Formats.{parsed}
 use Rattle.layout.proofs.Fields.{pieceOf, found, FieldAt, row-is, at-is, width-is}
 use Rattle.layout.proofs.Calibrations.{foundPairPieces, PairAt, foundPairsPieces, PairsAt, pairs-needed, calibrationPieces, CalibrationAt, calibration-needed}
 use Rattle.layout.proofs.Endings.{zeroIf, text-needed, charactersFrom, endPieces}
-use Rattle.layout.proofs.Sheets.{Formed, restPieces, sheetPieces, sheet-needed}
+use Rattle.layout.proofs.Sheets.{restPieces, sheetPieces, sheet-needed}
 use Rattle.layout.proofs.Places.{field-at, behind-is, fields-count}
 use Rattle.layout.proofs.Accepted.{Holding, holding-fit}
 use Rattle.layout.proofs.Puts.{formed-put}

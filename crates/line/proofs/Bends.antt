@@ -1,16 +1,5 @@
 -- The line is bent at its points: what holds piece by piece holds of any two positions.
-use mathlib.Core.Path.{ap}
-use mathlib.Core.Bool.{cond}
-use mathlib.Core.List.{List, [], _∷_}
-use Prim.Native.Nat.{ℕ, _*_, _<_}
-use native.Mathlib.Nat.{mul-pos}
-use native.Mathlib.Omega.{arith}
-use lib.IntN.{ℤ, pos, _*ℤ_}
-use lib.Signed.{leZ, _<ℤ_}
-use Rattle.integers.specs.Nearest.{Fraction, _over_}
-use Rattle.fields.specs.declared.Pair.{Pair}
-use Rattle.line.specs.Line.{Correction, atEnd, between, correctionAfter, correction}
-use Rattle.line.specs.Certificate.{Neighbours, Rises}
+use Rattle.line.proofs.Names.{ap, cond, List, [], _∷_, ℕ, _*_, _<_, mul-pos, arith, ℤ, pos, _*ℤ_, leZ, _<ℤ_, Fraction, _over_, Pair, Correction, atEnd, between, correctionAfter, correction, Neighbours, Rises}
 use Rattle.line.proofs.Distances.{scaled, Apart}
 use Rattle.line.proofs.Order.{AtMost, by-test, is-up-to}
 use Rattle.line.proofs.Weights.{at, run, run-parts, run-some, between-parts, weights-num}

@@ -1,17 +1,6 @@
 -- Demand 3's mathematics, over any steps D and R, any K, any two lists of pairs and any position; and the distance of any two lists whose corrections are known to be near.
-use mathlib.Core.Path.{_≡_, ap}
-use mathlib.Core.List.{List}
-use Prim.Native.Nat.{ℕ, _+_, _*_, _≤_, _<_}
-use native.Mathlib.Nat.{mul-pos}
-use native.Mathlib.Omega.{arith}
-use lib.IntN.{ℤ, pos, natAbs, _+ℤ_, _-ℤ_, _*ℤ_}
-use Rattle.integers.specs.Parts.{up, dn}
-use Rattle.integers.specs.Nearest.{Fraction, _over_, nearest}
-use Rattle.integers.proofs.PartLaws.{add-parts, sub-parts-ℤ, abs-parts}
-use Rattle.fields.specs.declared.Pair.{Pair}
-use Rattle.line.specs.Line.{Correction, correction, deviation, certificateLine}
-use Rattle.line.specs.Certificate.{Rises, Slopes, Close, Within}
-use Rattle.line.specs.Conformity.{Agree, Conforms, WithinOf}
+use Rattle.line.proofs.Names.{_≡_, ap, List, ℕ, _+_, _*_, _≤_, _<_, mul-pos, arith, ℤ, pos, natAbs, _+ℤ_, _-ℤ_, _*ℤ_, up, dn, Fraction, _over_, nearest, add-parts, sub-parts-ℤ, abs-parts, Pair, Correction}
+use Rattle.line.proofs.Names.{correction, deviation, certificateLine, Rises, Slopes, Close, Within, Agree, Conforms, WithinOf}
 use Rattle.line.proofs.Distances.{near-as, near-mean, near-abs, scaled, Apart, apart-sym, apart-as, apart-through, apart-nearest}
 use Rattle.line.proofs.Bends.{value, correction-some}
 use Rattle.line.proofs.Steepness.{steady}

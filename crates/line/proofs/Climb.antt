@@ -1,18 +1,6 @@
 -- The line x + c: it never falls where points plus deviations never fall, and it rises where they rise.
-use mathlib.Core.Path.{_≡_, ap}
-use mathlib.Core.List.{List, [], _∷_}
-use Prim.Native.Nat.{ℕ, zero, suc, _+_, _*_, _<_}
-use native.Mathlib.Nat.{mul-pos}
-use native.Mathlib.Omega.{arith}
-use lib.IntN.{ℤ, pos, natAbs, _+ℤ_, _-ℤ_, _*ℤ_}
-use lib.Signed.{_≤ℤ_, _<ℤ_}
-use Rattle.integers.specs.Parts.{up, dn}
-use Rattle.integers.specs.Nearest.{Fraction, _over_}
-use Rattle.integers.proofs.PartLaws.{add-parts, sub-parts-ℤ, ltZ-parts}
-use Rattle.fields.specs.declared.Pair.{Pair}
-use Rattle.line.specs.Line.{Correction, between, correction}
-use Rattle.line.specs.Certificate.{Neighbours, Rises}
-use Rattle.line.specs.Crossing.{sum}
+use Rattle.line.proofs.Names.{_≡_, ap, List, [], _∷_, ℕ, zero, suc, _+_, _*_, _<_, mul-pos, arith, ℤ, pos, natAbs, _+ℤ_, _-ℤ_, _*ℤ_, _≤ℤ_, _<ℤ_, up, dn, Fraction, _over_, add-parts, sub-parts-ℤ, ltZ-parts, Pair}
+use Rattle.line.proofs.Names.{Correction, between, correction, Neighbours, Rises, sum}
 use Rattle.line.proofs.Distances.{above-parts, scaled}
 use Rattle.line.proofs.Order.{Ahead, AtMost, through}
 use Rattle.line.proofs.Weights.{at, run, rise, run-parts, run-some, between-parts}

@@ -1,19 +1,7 @@
 -- What is computed is the crossing. There is a position at which the line is p, and the crossing is the least whole number that is at least that position.
-use mathlib.Core.Path.{_≡_, ap}
-use mathlib.Core.List.{List, [], _∷_}
-use mathlib.Core.Logic.{_↔_, _⊎_, inl, inr}
-use Prim.Native.Nat.{ℕ, _+_, _*_, _-_, _≤_, _<_}
-use native.Mathlib.Nat.{mul-le-mul-right, mul-pos, le-of-mul-le-mul-right, div-add-mod', mod-lt, div-lt-iff-lt-mul}
-use native.Mathlib.Omega.{arith}
-use lib.IntN.{ℤ, pos, natAbs, _+ℤ_, _-ℤ_, _*ℤ_}
-use lib.Signed.{_≤ℤ_, _<ℤ_}
-use Rattle.integers.specs.Parts.{up, dn}
-use Rattle.integers.specs.Nearest.{Fraction, _over_}
-use Rattle.integers.proofs.PartLaws.{same, add-parts, sub-parts-ℤ, leZ-parts, ltZ-parts, parts-≤ℤ}
-use Rattle.fields.specs.declared.Pair.{Pair}
-use Rattle.line.specs.Line.{Correction, atEnd, between, correctionAfter, correction, certificateLine}
-use Rattle.line.specs.Certificate.{Neighbours, Rises}
-use Rattle.line.specs.Crossing.{sum, SumsRise, Meets, Crossing, ceiling, crossingHeld, crossingBetween, crossingAfter, crossing, Crosses}
+use Rattle.line.proofs.Names.{_≡_, ap, List, [], _∷_, _↔_, _⊎_, inl, inr, ℕ, _+_, _*_, _-_, _≤_, _<_, mul-le-mul-right, mul-pos, le-of-mul-le-mul-right, div-add-mod', mod-lt, div-lt-iff-lt-mul, arith, ℤ, pos}
+use Rattle.line.proofs.Names.{natAbs, _+ℤ_, _-ℤ_, _*ℤ_, _≤ℤ_, _<ℤ_, up, dn, Fraction, _over_, same, add-parts, sub-parts-ℤ, leZ-parts, ltZ-parts, parts-≤ℤ, Pair, Correction, atEnd, between, correctionAfter}
+use Rattle.line.proofs.Names.{correction, certificateLine, Neighbours, Rises, sum, SumsRise, Meets, Crossing, ceiling, crossingHeld, crossingBetween, crossingAfter, crossing, Crosses}
 use Rattle.line.proofs.Distances.{less, above-parts, scaled}
 use Rattle.line.proofs.Order.{Ahead, AtMost, Below, at-most, below, order, through, by-order, is-up-to, is-behind}
 use Rattle.line.proofs.Weights.{at, run, run-parts, run-some}

@@ -1,14 +1,6 @@
 -- Distances, of natural numbers, of whole numbers and of fractions. A distance is two inequalities, which `omega` proves together.
-use mathlib.Core.Path.{_≡_, ap}
-use Prim.Native.Nat.{ℕ, _+_, _*_, _≤_, _<_}
-use native.Mathlib.Nat.{mul-le-mul-left, mul-le-mul-right, le-of-mul-le-mul-left}
-use native.Mathlib.Omega.{arith}
-use lib.IntN.{ℤ, pos, negsuc, natAbs, _-ℤ_, _*ℤ_}
-use lib.Signed.{_≤ℤ_, _<ℤ_}
-use Rattle.integers.specs.Parts.{up, dn}
-use Rattle.integers.specs.Nearest.{Fraction, _over_, nearest}
-use Rattle.integers.proofs.PartLaws.{sub-parts-ℤ, mul-parts, abs-parts, leZ-parts, ltZ-parts, parts-≤ℤ}
-use Rattle.integers.proofs.NearestLaws.{nearest-low, nearest-high}
+use Rattle.line.proofs.Names.{_≡_, ap, ℕ, _+_, _*_, _≤_, _<_, mul-le-mul-left, mul-le-mul-right, le-of-mul-le-mul-left, arith, ℤ, pos, negsuc, natAbs, _-ℤ_, _*ℤ_, _≤ℤ_, _<ℤ_, up, dn, Fraction, _over_, nearest}
+use Rattle.line.proofs.Names.{sub-parts-ℤ, mul-parts, abs-parts, leZ-parts, ltZ-parts, parts-≤ℤ, nearest-low, nearest-high}
 
 -- l and r are at most b apart.
 pub record Near (l r b : ℕ) : Type 0 where

@@ -1,3 +1,4 @@
+mod Names
 pub mod Distances
 pub mod Order
 pub mod Weights

@@ -1,18 +1,6 @@
 -- The fraction is the line at p to the nearest whole; the line never falls, and rounding keeps the order.
-use mathlib.Core.Path.{_≡_, ap₂, _∙_, subst₂}
-use mathlib.Core.List.{List}
-use Prim.Native.Nat.{ℕ, _<_}
-use native.Mathlib.Nat.{one-mul, mul-le-mul-right}
-use native.Mathlib.Omega.{arith}
-use lib.IntN.{ℤ, pos, _+ℤ_, _*ℤ_, +ℤ-comm}
-use lib.Signed.{_≤ℤ_}
-use Rattle.integers.specs.Nearest.{Fraction, _over_, nearest}
-use Rattle.integers.proofs.PartLaws.{leZ-parts, parts-≤ℤ}
-use Rattle.integers.proofs.NearestLaws.{nearest-rises-parts, nearest-shift}
-use Rattle.fields.specs.declared.Pair.{Pair}
-use Rattle.line.specs.Line.{Correction, correction, deviation, certificateLine}
-use Rattle.line.specs.Crossing.{Meets, crossing}
-use Rattle.line.specs.Needle.{DeviatedNeverFalls, CrossingNeverFalls}
+use Rattle.line.proofs.Names.{_≡_, ap₂, _∙_, subst₂, List, ℕ, _<_, one-mul, mul-le-mul-right, arith, ℤ, pos, _+ℤ_, _*ℤ_, +ℤ-comm, _≤ℤ_, Fraction, _over_, nearest, leZ-parts, parts-≤ℤ, nearest-rises-parts}
+use Rattle.line.proofs.Names.{nearest-shift, Pair, Correction, correction, deviation, certificateLine, Meets, crossing, DeviatedNeverFalls, CrossingNeverFalls}
 use Rattle.line.proofs.Distances.{scaled}
 use Rattle.line.proofs.Order.{AtMost, whole-at-most}
 use Rattle.line.proofs.Climb.{each-two, Rising, rising}

@@ -1,16 +1,6 @@
 -- The order of fractions, and what goes by the test of a position against a point.
-use mathlib.Core.Path.{_≡_, refl, ap}
-use mathlib.Core.Bool.{Bool, true, false, cond}
-use mathlib.Core.Logic.{_⊎_, inl, inr}
-use Prim.Native.Nat.{ℕ, _+_, _*_, _-_, _≤_, _<_}
-use native.Mathlib.Decide.{decLe}
-use native.Mathlib.Nat.{le-of-mul-le-mul-right}
-use native.Mathlib.Omega.{arith}
-use lib.IntN.{ℤ, pos, _*ℤ_}
-use lib.Signed.{leZ, _≤ℤ_, _<ℤ_}
-use Rattle.integers.specs.Parts.{up, dn}
-use Rattle.integers.specs.Nearest.{Fraction, _over_}
-use Rattle.integers.proofs.PartLaws.{leZ-parts, nleZ-parts, ltZ-parts, parts-≤ℤ, parts-<ℤ, le-leZ, lt-leZ, is-true, is-false}
+use Rattle.line.proofs.Names.{_≡_, refl, ap, Bool, true, false, cond, _⊎_, inl, inr, ℕ, _+_, _*_, _-_, _≤_, _<_, decLe, le-of-mul-le-mul-right, arith, ℤ, pos, _*ℤ_, leZ, _≤ℤ_, _<ℤ_, up, dn, Fraction, _over_}
+use Rattle.line.proofs.Names.{leZ-parts, nleZ-parts, ltZ-parts, parts-≤ℤ, parts-<ℤ, le-leZ, lt-leZ, is-true, is-false}
 use Rattle.line.proofs.Distances.{scaled}
 
 -- y is d / (x .den × y .den) above x.

@@ -1,23 +1,7 @@
 -- The search for a position in a table, and what goes by the pairs that lie before it: the deviation by their points, the crossing by their sums.
-use mathlib.Core.Path.{_≡_, refl, sym, ap, _∙_}
-use mathlib.Core.Bool.{Bool, true, false, cond}
-use mathlib.Core.List.{List, [], _∷_}
-use Prim.Native.Nat.{ℕ, zero, suc, _+_, _≤_, _<_}
-use native.Mathlib.Numerals.{add-one}
-use native.Mathlib.Omega.{arith}
-use lib.IntN.{ℤ, pos, _+ℤ_, _*ℤ_}
-use lib.ListN.{length, getD}
-use lib.Signed.{leZ, _≤ℤ_, _<ℤ_}
-use Rattle.integers.specs.Nearest.{_over_, nearest}
-use Rattle.integers.proofs.PartLaws.{same, add-parts, leZ-parts, ltZ-parts, nleZ-parts, parts-<ℤ, le-leZ, lt-leZ, is-true, is-false}
-use Rattle.integers.proofs.NearestLaws.{nearest-exact}
-use Rattle.fields.specs.declared.Pair.{Pair}
-use Rattle.line.specs.Line.{Correction, atEnd, between, correctionAfter, correction, deviation}
-use Rattle.line.specs.Crossing.{sum, crossingHeld, crossingBetween, crossingAfter, crossing}
-use Rattle.line.specs.Certificate.{Neighbours, Rises}
-use Rattle.line.specs.Ranges.{Figures, AllFigures, Between, Table}
-use Rattle.fields.specs.Calibration.{noPair}
-use Rattle.line.specs.Before.{pointOf, Before}
+use Rattle.line.proofs.Names.{_≡_, refl, sym, ap, _∙_, Bool, true, false, cond, List, [], _∷_, ℕ, zero, suc, _+_, _≤_, _<_, add-one, arith, ℤ, pos, _+ℤ_, _*ℤ_, length, getD, leZ, _≤ℤ_, _<ℤ_, _over_, nearest, same}
+use Rattle.line.proofs.Names.{add-parts, leZ-parts, ltZ-parts, nleZ-parts, parts-<ℤ, le-leZ, lt-leZ, is-true, is-false, nearest-exact, Pair, Correction, atEnd, between, correctionAfter, correction, deviation, sum}
+use Rattle.line.proofs.Names.{crossingHeld, crossingBetween, crossingAfter, crossing, Neighbours, Rises, Figures, AllFigures, Between, Table, noPair, pointOf, Before}
 use Rattle.line.proofs.Distances.{scaled}
 
 -- ---- the search

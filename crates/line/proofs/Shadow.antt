@@ -1,18 +1,6 @@
 -- For each p there is a position on the lent line, within half of D of p, where the lent correction is within half of R of the stored one at p.
-use mathlib.Core.Path.{_≡_, ap}
-use mathlib.Core.Bool.{cond}
-use mathlib.Core.List.{List, [], _∷_}
-use Prim.Native.Nat.{ℕ, _+_, _*_, _<_}
-use native.Mathlib.Nat.{mul-pos}
-use native.Mathlib.Omega.{arith}
-use lib.IntN.{ℤ, pos, _+ℤ_, _-ℤ_, _*ℤ_}
-use lib.Signed.{leZ, _<ℤ_}
-use Rattle.integers.specs.Parts.{up, dn}
-use Rattle.integers.specs.Nearest.{Fraction, _over_}
-use Rattle.integers.proofs.PartLaws.{add-parts, sub-parts-ℤ}
-use Rattle.fields.specs.declared.Pair.{Pair}
-use Rattle.line.specs.Line.{Correction, atEnd, between, correctionAfter, correction}
-use Rattle.line.specs.Certificate.{Rises, Close}
+use Rattle.line.proofs.Names.{_≡_, ap, cond, List, [], _∷_, ℕ, _+_, _*_, _<_, mul-pos, arith, ℤ, pos, _+ℤ_, _-ℤ_, _*ℤ_, leZ, _<ℤ_, up, dn, Fraction, _over_, add-parts, sub-parts-ℤ, Pair, Correction, atEnd}
+use Rattle.line.proofs.Names.{between, correctionAfter, correction, Rises, Close}
 use Rattle.line.proofs.Distances.{Near, near-as, near-times, near-mean, scaled, Apart, apart-whole}
 use Rattle.line.proofs.Order.{Ahead, AtMost, Below, by-test, is-up-to, is-behind}
 use Rattle.line.proofs.Weights.{at, run, run-parts, run-some, weights-run, weights-num}

@@ -1,21 +1,7 @@
 -- How large a correction is, a deviation and a crossing.
-use mathlib.Core.Path.{ap}
-use mathlib.Core.List.{List, [], _∷_}
-use Prim.Native.Nat.{ℕ, _+_, _*_, _^_, _≤_, _<_}
-use native.Mathlib.Nat.{lt-of-mul-lt-mul-right, le-of-mul-le-mul-right}
-use native.Mathlib.Omega.{arith}
-use lib.IntN.{ℤ, pos, negsuc, natAbs, _+ℤ_, _*ℤ_}
-use lib.Signed.{_<ℤ_}
-use Rattle.integers.specs.Parts.{up, dn}
-use Rattle.integers.specs.Nearest.{Fraction, _over_, nearest}
-use Rattle.integers.proofs.PartLaws.{add-parts, abs-parts, leZ-parts, parts-≤ℤ}
-use Rattle.integers.proofs.NearestLaws.{Low, High, nearest-low, nearest-high}
-use Rattle.fields.specs.declared.Pair.{Pair}
-use Rattle.line.specs.Before.{pointOf}
-use Rattle.line.specs.Line.{Correction, atEnd, between, correctionAfter, correction, deviation, certificateLine}
-use Rattle.line.specs.Certificate.{Rises}
-use Rattle.line.specs.Crossing.{SumsRise, Meets, crossing, OneCrossing}
-use Rattle.line.specs.Ranges.{AllFigures, Table, Between}
+use Rattle.line.proofs.Names.{ap, List, [], _∷_, ℕ, _+_, _*_, _^_, _≤_, _<_, lt-of-mul-lt-mul-right, le-of-mul-le-mul-right, arith, ℤ, pos, negsuc, natAbs, _+ℤ_, _*ℤ_, _<ℤ_, up, dn, Fraction, _over_, nearest}
+use Rattle.line.proofs.Names.{add-parts, abs-parts, leZ-parts, parts-≤ℤ, Low, High, nearest-low, nearest-high, Pair, pointOf, Correction, atEnd, between, correctionAfter, correction, deviation, certificateLine}
+use Rattle.line.proofs.Names.{Rises, SumsRise, Meets, crossing, OneCrossing, AllFigures, Table, Between}
 use Rattle.line.proofs.Distances.{Near, near-as, near-times, near-mean, near-abs, less, scaled}
 use Rattle.line.proofs.Order.{AtMost, whole-at-most, by-test}
 use Rattle.line.proofs.Weights.{at, run-some, weights-run, weights-num}

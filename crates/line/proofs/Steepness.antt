@@ -1,17 +1,5 @@
 -- The correction is nowhere steeper than its table: between any two positions it changes by at most K / 1000 of their distance.
-use mathlib.Core.Path.{_≡_, ap}
-use mathlib.Core.List.{List}
-use mathlib.Core.Logic.{⊎-elim}
-use Prim.Native.Nat.{ℕ, _+_, _*_, _≤_, _<_}
-use native.Mathlib.Nat.{mul-le-mul-left, mul-pos}
-use native.Mathlib.Omega.{arith}
-use lib.IntN.{ℤ, natAbs}
-use Rattle.integers.specs.Parts.{up, dn}
-use Rattle.integers.specs.Nearest.{Fraction}
-use Rattle.integers.proofs.PartLaws.{abs-parts}
-use Rattle.fields.specs.declared.Pair.{Pair}
-use Rattle.line.specs.Line.{Correction, between, correction}
-use Rattle.line.specs.Certificate.{Rises, Slopes}
+use Rattle.line.proofs.Names.{_≡_, ap, List, ⊎-elim, ℕ, _+_, _*_, _≤_, _<_, mul-le-mul-left, mul-pos, arith, ℤ, natAbs, up, dn, Fraction, abs-parts, Pair, Correction, between, correction, Rises, Slopes}
 use Rattle.line.proofs.Distances.{Near, near-as, near-times, Apart, apart-sym, apart-as, apart-through}
 use Rattle.line.proofs.Order.{Ahead, AtMost, order}
 use Rattle.line.proofs.Weights.{at, run, rise, between-parts}

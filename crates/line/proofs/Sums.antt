@@ -1,19 +1,6 @@
 -- What calls say of sums, and that nothing overflows on the way to the crossing.
-use mathlib.Core.Path.{_≡_, ap, ap₂, _∙_}
-use Prim.Native.Nat.{ℕ, _+_, _*_, _^_, _≤_, _<_}
-use native.Mathlib.Nat.{mul-le-mul, mul-le-mul-right}
-use native.Mathlib.Omega.{arith}
-use lib.IntN.{ℤ, pos, negsuc, natAbs, _+ℤ_, _-ℤ_}
-use lib.Signed.{_≤ℤ_}
-use mir.Syntax.{w64}
-use mir.Val.{SFits, toZ, ofZ}
-use mir.Facts.{toZ-ofZ}
-use Rattle.integers.specs.Parts.{up, dn}
-use Rattle.integers.proofs.PartLaws.{add-parts, sub-parts-ℤ, abs-parts, leZ-parts, ltZ-parts, parts-≤ℤ}
-use Rattle.integers.proofs.Bridge.{parts-fit}
-use Rattle.fields.specs.declared.Pair.{Pair}
-use Rattle.line.specs.Crossing.{sum, ceiling, crossingBetween}
-use Rattle.line.specs.Ranges.{Between}
+use Rattle.line.proofs.Names.{_≡_, ap, ap₂, _∙_, ℕ, _+_, _*_, _^_, _≤_, _<_, mul-le-mul, mul-le-mul-right, arith, ℤ, pos, negsuc, natAbs, _+ℤ_, _-ℤ_, _≤ℤ_, w64, SFits, toZ, ofZ, toZ-ofZ, up, dn, add-parts}
+use Rattle.line.proofs.Names.{sub-parts-ℤ, abs-parts, leZ-parts, ltZ-parts, parts-≤ℤ, parts-fit, Pair, sum, ceiling, crossingBetween, Between}
 use Rattle.line.proofs.Told.{gap-parts}
 use Rattle.line.proofs.Crossings.{ceiling-least}
 

@@ -1,21 +1,6 @@
 -- What calls say of signed numbers, and what their answers come to.
-use mathlib.Core.Path.{_≡_, ap₂, _∙_}
-use Prim.Native.Nat.{ℕ, _+_, _*_, _-_, _^_, _≤_, _<_}
-use native.Mathlib.Nat.{mul-le-mul-right}
-use native.Mathlib.Omega.{arith}
-use lib.IntN.{ℤ, pos, subℕ, _-ℤ_}
-use lib.Signed.{_≤ℤ_}
-use mir.Syntax.{w64}
-use mir.Val.{SFits, toZ, ofZ}
-use mir.Facts.{toZ-ofZ}
-use Rattle.integers.specs.Parts.{up, dn}
-use Rattle.integers.specs.Nearest.{_over_, nearest}
-use Rattle.integers.proofs.PartLaws.{same, sub-is, sub-parts-ℤ, abs-parts, leZ-parts, ltZ-parts}
-use Rattle.integers.proofs.Bridge.{seen, parts-fit}
-use Rattle.fields.specs.declared.Pair.{Pair}
-use Rattle.line.specs.Before.{pointOf}
-use Rattle.line.specs.Line.{between}
-use Rattle.line.specs.Ranges.{Figures, Weights, Between}
+use Rattle.line.proofs.Names.{_≡_, ap₂, _∙_, ℕ, _+_, _*_, _-_, _^_, _≤_, _<_, mul-le-mul-right, arith, ℤ, pos, subℕ, _-ℤ_, _≤ℤ_, w64, SFits, toZ, ofZ, toZ-ofZ, up, dn, _over_, nearest, same, sub-is, sub-parts-ℤ}
+use Rattle.line.proofs.Names.{abs-parts, leZ-parts, ltZ-parts, seen, parts-fit, Pair, pointOf, between, Figures, Weights, Between}
 use Rattle.line.proofs.Order.{Ahead}
 use Rattle.line.proofs.Weights.{at, weights-run, weights-num}
 

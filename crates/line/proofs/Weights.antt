@@ -1,14 +1,5 @@
 -- The straight line between neighbours: from the left point on, and as a mean of the two deviations with weights.
-use mathlib.Core.Path.{_≡_, ap}
-use Prim.Native.Nat.{ℕ, _+_, _*_, _<_}
-use native.Mathlib.Omega.{arith}
-use lib.IntN.{ℤ, pos, natAbs, _-ℤ_, _*ℤ_}
-use lib.Signed.{_<ℤ_}
-use Rattle.integers.specs.Parts.{up, dn}
-use Rattle.integers.specs.Nearest.{Fraction, _over_}
-use Rattle.integers.proofs.PartLaws.{add-parts, sub-parts-ℤ, ltZ-parts}
-use Rattle.fields.specs.declared.Pair.{Pair}
-use Rattle.line.specs.Line.{between}
+use Rattle.line.proofs.Names.{_≡_, ap, ℕ, _+_, _*_, _<_, arith, ℤ, pos, natAbs, _-ℤ_, _*ℤ_, _<ℤ_, up, dn, Fraction, _over_, add-parts, sub-parts-ℤ, ltZ-parts, Pair, between}
 use Rattle.line.proofs.Distances.{less, above-parts, multiple, scaled}
 use Rattle.line.proofs.Order.{Ahead}
 

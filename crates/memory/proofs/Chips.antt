@@ -1,18 +1,6 @@
 -- What every accepted image's sizes have.
-use mathlib.Core.Path.{_≡_, refl, subst, _∙_}
-use mathlib.Core.Bool.{not, cond}
-use mathlib.Core.List.{List}
-use Prim.Native.Nat.{ℕ, zero, suc, _≤_}
-use native.Mathlib.Omega.{arith}
-use lib.ListN.{length}
-use lib.Dec.{eqb}
-use borrow.Author.Tests.{eqb-true, not-false}
-use Rattle.refusal.specs.Outcome.{good, refused}
-use Rattle.refusal.specs.Rows.{wrongImage}
-use Rattle.refusal.proofs.Outcomes.{good-same, no-value, good-bind, passed, bind-good, chosen}
-use Rattle.memory.specs.declared.Sizes.{Sizes}
-use Rattle.memory.specs.Image.{sizesOf, imageBytes, imageSizes}
-use Rattle.memory.specs.Answers.{Whole}
+use Rattle.memory.proofs.Names.{_≡_, refl, subst, _∙_, not, cond, List, ℕ, zero, suc, _≤_, arith, length, eqb, eqb-true, not-false, good, refused, wrongImage, good-same, no-value, good-bind, passed, bind-good}
+use Rattle.memory.proofs.Names.{chosen, Sizes, sizesOf, imageBytes, imageSizes, Whole}
 
 pub sizes-kind : (kind bytes : ℕ) (z : Sizes) → sizesOf kind ≡ good z → imageSizes kind bytes ≡ cond (eqb bytes (imageBytes z)) (good z) (refused wrongImage)
 unfolding imageSizes

@@ -1,15 +1,7 @@
 -- Bytes and the number that they are.
-use mathlib.Core.Path.{_≡_, refl, sym, ap, ap₂, _∙_}
-use mathlib.Core.List.{List, [], _∷_, _++_}
-use Prim.Native.Nat.{ℕ, zero, suc, _+_, _-_, _*_, _/_, _%_, _^_, _<_}
-use native.Mathlib.Nat.{mul-assoc, add-mul, add-assoc, mod-lt, mod-one, zero-div, le-refl}
-use native.Mathlib.Omega.{arith}
-use native.Mathlib.Decide.{decLt}
-use lib.ListN.{length, take, drop, getD, set, length-set}
-use lib.Seq.{drop-cons, take-set-le, drop-set-lt, getD-set-same, getD-drop}
-use lib.Arith.{digits-lt}
-use lib.Pow.{pow-pos, pow-add, high, low, mod-pow-add, shr-shr}
-use Rattle.memory.specs.Bits.{Bytes, number, bytesOf, bit, fieldAt, putAt}
+use Rattle.memory.proofs.Names.{_≡_, refl, sym, ap, ap₂, _∙_, List, [], _∷_, _++_, ℕ, zero, suc, _+_, _-_, _*_, _/_, _%_, _^_, _<_, mul-assoc, add-mul, add-assoc, mod-lt, mod-one, zero-div, le-refl, arith, decLt}
+use Rattle.memory.proofs.Names.{length, take, drop, getD, set, length-set, drop-cons, take-set-le, drop-set-lt, getD-set-same, getD-drop, digits-lt, pow-pos, pow-add, high, low, mod-pow-add, shr-shr, Bytes}
+use Rattle.memory.proofs.Names.{number, bytesOf, bit, fieldAt, putAt}
 use Rattle.memory.proofs.FieldLaws.{field-field}
 
 -- ---- lists of bytes

@@ -1,11 +1,6 @@
 -- Fields of a number: what is taken, what is put, and what a put leaves as it was.
-use mathlib.Core.Path.{_≡_, sym, ap, ap₂, _∙_}
-use Prim.Native.Nat.{ℕ, _+_, _-_, _*_, _/_, _%_, _^_, _≤_, _<_}
-use native.Mathlib.Nat.{add-mul, mul-assoc, add-assoc, add-comm, mod-lt}
-use native.Mathlib.Omega.{arith}
-use lib.Arith.{digits-lt}
-use lib.Pow.{pow-pos, pow-add, split, high, low, mod-pow-add, field, mod-mod-pow, shr-shr, shr-lt}
-use Rattle.memory.specs.Bits.{bit, fieldAt, putAt}
+use Rattle.memory.proofs.Names.{_≡_, sym, ap, ap₂, _∙_, ℕ, _+_, _-_, _*_, _/_, _%_, _^_, _≤_, _<_, add-mul, mul-assoc, add-assoc, add-comm, mod-lt, arith, digits-lt, pow-pos, pow-add, split, high, low}
+use Rattle.memory.proofs.Names.{mod-pow-add, field, mod-mod-pow, shr-shr, shr-lt, bit, fieldAt, putAt}
 
 -- ---- taking
 

@@ -1,15 +1,7 @@
 -- The image of a stream: what it has, and that nothing else has it.
-use mathlib.Core.Path.{_≡_, refl, sym, ap, ap₂, _∙_}
-use mathlib.Core.List.{List, [], _∷_, _++_}
-use Prim.Native.Nat.{ℕ, zero, suc, _+_, _-_, _*_, _%_, _^_, _<_}
-use native.Mathlib.Nat.{zero-add, mod-eq-of-lt}
-use native.Mathlib.Omega.{arith}
-use lib.ListN.{length, take, drop, getD, length-append, length-drop, take-append-drop}
-use lib.Seq.{length-take-le, take-at, drop-at, drop-drop, take-add, getD-drop}
-use Rattle.refusal.specs.Outcome.{good}
-use Rattle.memory.specs.declared.Sizes.{Sizes}
-use Rattle.memory.specs.Bits.{Bytes, number, bytesOf, bit}
-use Rattle.memory.specs.Image.{imageBytes, streamBytes, streamBits, pageAt, total, SumsRight, sums, checkByte, pagesStream, streamOf, streamNumber, pagesOf, withRight, imageOf}
+use Rattle.memory.proofs.Names.{_≡_, refl, sym, ap, ap₂, _∙_, List, [], _∷_, _++_, ℕ, zero, suc, _+_, _-_, _*_, _%_, _^_, _<_, zero-add, mod-eq-of-lt, arith, length, take, drop, getD, length-append, length-drop}
+use Rattle.memory.proofs.Names.{take-append-drop, length-take-le, take-at, drop-at, drop-drop, take-add, getD-drop, good, Sizes, Bytes, number, bytesOf, bit, imageBytes, streamBytes, streamBits, pageAt, total}
+use Rattle.memory.proofs.Names.{SumsRight, sums, checkByte, pagesStream, streamOf, streamNumber, pagesOf, withRight, imageOf}
 use Rattle.memory.proofs.Chips.{Chip}
 use Rattle.memory.proofs.Digits.{bytes-take, bytes-drop, bytes-append, bytes-of, bytes-length, number-bytes}
 use Rattle.memory.proofs.Streams.{getD-past, bytes-stream, image-ext}

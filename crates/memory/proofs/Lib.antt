@@ -1,3 +1,4 @@
+mod Names
 pub mod FieldLaws
 pub mod PieceLaws
 pub mod Digits

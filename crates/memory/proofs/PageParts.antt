@@ -1,21 +1,6 @@
 -- A page's stream bytes, as a part of the image.
-use mathlib.Core.Path.{_≡_, sym, ap, _∙_}
-use mathlib.Core.Bool.{Bool, cond}
-use mathlib.Core.List.{List, []}
-use Prim.Native.Nat.{ℕ, _+_, _-_, _≤_, _<_}
-use native.Mathlib.Nat.{add-sub-cancel-left}
-use native.Mathlib.Numerals.{add-one}
-use native.Mathlib.Omega.{arith}
-use lib.ListN.{length, take, drop}
-use lib.Seq.{drop-cons}
-use borrow.Author.Tests.{lt-ltb, le-ltb}
-use Rattle.refusal.specs.Outcome.{good}
-use Rattle.refusal.specs.declared.Refusal.{Refusal}
-use Rattle.memory.specs.declared.Sizes.{Sizes}
-use Rattle.memory.specs.declared.kinds.SizesAnswer.{SizesAnswer}
-use Rattle.memory.specs.declared.kinds.SizesAnswer.the-variants.{Are, Refused}
-use Rattle.memory.specs.Image.{imageSizes, pageAt, page, partOf, pageBytes}
-use Rattle.memory.specs.Answers.{sizesSaid}
+use Rattle.memory.proofs.Names.{_≡_, sym, ap, _∙_, Bool, cond, List, [], ℕ, _+_, _-_, _≤_, _<_, add-sub-cancel-left, add-one, arith, length, take, drop, drop-cons, lt-ltb, le-ltb, good, Refusal, Sizes}
+use Rattle.memory.proofs.Names.{SizesAnswer, Are, Refused, imageSizes, pageAt, page, partOf, pageBytes, sizesSaid}
 use Rattle.memory.proofs.Chips.{Chip, sizes-chip}
 
 module _ (kind : ℕ) (image : List ℕ) (a : SizesAnswer) (said : sizesSaid a ≡ imageSizes kind (length image)) where

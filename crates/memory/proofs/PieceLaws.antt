@@ -1,13 +1,6 @@
 -- Pieces of a stream: what a number holds from a place on.
-use mathlib.Core.Path.{_≡_, sym, ap, ap₂, _∙_}
-use mathlib.Core.List.{List, [], _∷_, _++_}
-use Prim.Native.Nat.{ℕ, _+_, _*_, _/_, _%_, _^_, _≤_, _<_}
-use native.Mathlib.Nat.{mod-eq-of-lt, mod-one, mul-assoc, le-refl}
-use native.Mathlib.Omega.{arith}
-use lib.Arith.{digits-lt}
-use lib.Pow.{pow-add}
-use Rattle.memory.specs.Bits.{fieldAt, putAt}
-use Rattle.memory.specs.Pieces.{Piece, piece, pack, needed}
+use Rattle.memory.proofs.Names.{_≡_, sym, ap, ap₂, _∙_, List, [], _∷_, _++_, ℕ, _+_, _*_, _/_, _%_, _^_, _≤_, _<_, mod-eq-of-lt, mod-one, mul-assoc, le-refl, arith, digits-lt, pow-add, fieldAt, putAt, Piece}
+use Rattle.memory.proofs.Names.{piece, pack, needed}
 use Rattle.memory.proofs.FieldLaws.{field-add, field-lt, field-mod, digits, put-field, put-before, put-after}
 
 -- Every code fits its width.

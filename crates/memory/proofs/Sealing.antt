@@ -1,14 +1,6 @@
 -- An image with one page's check byte made right.
-use mathlib.Core.Path.{_≡_, sym, ap, ap₂, _∙_}
-use mathlib.Core.List.{List}
-use Prim.Native.Nat.{ℕ, _+_, _%_, _<_}
-use native.Mathlib.Nat.{zero-add}
-use native.Mathlib.Omega.{arith}
-use lib.ListN.{length, getD, set, length-set}
-use lib.Seq.{getD-set-same, getD-set-other}
-use Rattle.memory.specs.declared.Sizes.{Sizes}
-use Rattle.memory.specs.Bits.{Bytes, number}
-use Rattle.memory.specs.Image.{imageBytes, pageAt, total, pageSum, checkByte, streamOf, streamNumber, sealed}
+use Rattle.memory.proofs.Names.{_≡_, sym, ap, ap₂, _∙_, List, ℕ, _+_, _%_, _<_, zero-add, arith, length, getD, set, length-set, getD-set-same, getD-set-other, Sizes, Bytes, number, imageBytes, pageAt, total}
+use Rattle.memory.proofs.Names.{pageSum, checkByte, streamOf, streamNumber, sealed}
 use Rattle.memory.proofs.Digits.{bytes-set}
 use Rattle.memory.proofs.Streams.{stream-check}
 use Rattle.memory.proofs.SumLaws.{streamPart, covered-total, sum-parts, sum-same, check-right, check-is, check-lt}

@@ -1,16 +1,7 @@
 -- Where the stream lies in an image.
-use mathlib.Core.Path.{_≡_, refl, sym, ap, _∙_}
-use mathlib.Core.List.{List, _++_}
-use Prim.Native.Nat.{ℕ, zero, suc, _+_, _-_, _*_, _/_, _%_, _^_, _≤_, _<_}
-use native.Mathlib.Omega.{arith}
-use native.Mathlib.Decide.{decLt, ℕ-discrete}
-use lib.ListN.{length, take, drop, getD, set, length-append, length-drop, length-set, List·getD-append, List·getD-eq-default}
-use lib.Seq.{length-take-le, getD-append-add, getD-take, getD-drop, getD-set-same, getD-set-other, ext-getD}
-use borrow.Author.Tests.{lt-ltb, le-ltb}
-use Rattle.memory.specs.declared.Sizes.{Sizes}
-use Rattle.memory.specs.Bits.{Bytes, bytesOf, bit}
-use Rattle.memory.specs.Image.{imageBytes, streamBytes, streamBits, pageAt, pagesStream, streamOf, streamNumber}
-use Rattle.memory.specs.Answers.{streamIndex}
+use Rattle.memory.proofs.Names.{_≡_, refl, sym, ap, _∙_, List, _++_, ℕ, zero, suc, _+_, _-_, _*_, _/_, _%_, _^_, _≤_, _<_, arith, decLt, ℕ-discrete, length, take, drop, getD, set, length-append, length-drop}
+use Rattle.memory.proofs.Names.{length-set, List·getD-append, List·getD-eq-default, length-take-le, getD-append-add, getD-take, getD-drop, getD-set-same, getD-set-other, ext-getD, lt-ltb, le-ltb, Sizes, Bytes}
+use Rattle.memory.proofs.Names.{bytesOf, bit, imageBytes, streamBytes, streamBits, pageAt, pagesStream, streamOf, streamNumber, streamIndex}
 use Rattle.memory.proofs.Digits.{number-lt, bytes-number, bit-at}
 
 -- ---- two lists, one after the other

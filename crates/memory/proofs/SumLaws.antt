@@ -1,43 +1,8 @@
 -- Sums of pages: what they add up, and what the check of all pages says.
-use mathlib.Core.Path.{_≡_, refl, sym, ap, ap₂, _∙_, subst}
-use mathlib.Core.Bool.{Bool, true, false, true≢false, not, _&&_}
-use mathlib.Core.List.{List, [], _∷_, _++_}
-use Prim.Native.Nat.{ℕ, zero, suc, _+_, _-_, _*_, _/_, _%_, _≤_, _<_}
-use native.Mathlib.Nat.{add-zero, add-sub-cancel-left, le-refl}
-use native.Mathlib.Numerals.{add-one}
-use native.Mathlib.Omega.{arith}
-use native.Mathlib.Decide.{ℕ-discrete, decLt}
-use lib.Arith.{lt-of-le-ne}
-use lib.Dec.{eqb}
-use lib.ListN.{length, take, drop, getD, length-drop}
-use lib.Seq.{drop-cons, take-add, length-take-le, getD-take, getD-drop, ext-getD}
-use borrow.Author.Tests.{eqb-true, eq-eqb, ne-eqb, not-false}
-use Rattle.refusal.specs.Outcome.{good, refused, refuse_if_, _>>_}
-use Rattle.refusal.specs.Rows.{wrongSum, blankChip}
-use Rattle.refusal.proofs.Outcomes.{passed, both, Other, other-then}
-use Rattle.memory.specs.declared.Sizes.{Sizes}
-use Rattle.memory.specs.declared.pages.PageTest.the-variants.{Good, Wrong, Blank}
-use Rattle.memory.specs.Bits.{Bytes, bit}
-use Rattle.memory.specs.Image.{
-  imageBytes,
-  pageAt,
-  page,
-  covered,
-  total,
-  pageSum,
-  SumsRight,
-  allFF,
-  blankPage,
-  pageTest,
-  isGood,
-  blankFrom,
-  sumsFrom,
-  sums,
-  checkByte,
-  streamOf,
-  streamNumber,
-}
-use Rattle.memory.specs.Answers.{streamIndex}
+use Rattle.memory.proofs.Names.{_≡_, refl, sym, ap, ap₂, _∙_, subst, Bool, true, false, true≢false, not, List, [], _∷_, _++_, ℕ, zero, suc, _+_, _-_, _*_, _/_, _%_, _≤_, _<_, add-zero, add-sub-cancel-left}
+use Rattle.memory.proofs.Names.{le-refl, add-one, arith, ℕ-discrete, lt-of-le-ne, eqb, length, take, drop, getD, length-drop, drop-cons, take-add, length-take-le, getD-take, getD-drop, ext-getD, eqb-true, eq-eqb}
+use Rattle.memory.proofs.Names.{ne-eqb, not-false, good, refused, refuse_if_, _>>_, wrongSum, blankChip, passed, both, Other, other-then, Sizes, Good, Wrong, Blank, Bytes, bit, imageBytes, pageAt, page, covered}
+use Rattle.memory.proofs.Names.{total, pageSum, SumsRight, allFF, blankPage, pageTest, isGood, blankFrom, sumsFrom, sums, checkByte, streamOf, streamNumber, streamIndex}
 use Rattle.memory.proofs.Streams.{stream-length, stream-at, stream-bit, index-register, index-page}
 
 -- ---- what a page's sum adds up

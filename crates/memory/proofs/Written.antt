@@ -1,15 +1,7 @@
 -- An image with another stream, and with a field put: what it has, and that nothing else has it.
-use mathlib.Core.Path.{_≡_, refl, sym, ap, ap₂, _∙_}
-use mathlib.Core.List.{List, [], _∷_, _++_}
-use Prim.Native.Nat.{ℕ, zero, suc, _+_, _-_, _*_, _%_, _^_, _≤_, _<_}
-use native.Mathlib.Nat.{mod-eq-of-lt}
-use native.Mathlib.Omega.{arith}
-use native.Mathlib.Decide.{decLt}
-use lib.ListN.{length, take, drop, getD, length-append, length-drop, take-append-drop, List·getD-eq-default}
-use lib.Seq.{length-take-le, take-at, drop-at, drop-drop, getD-take, getD-drop}
-use Rattle.memory.specs.declared.Sizes.{Sizes}
-use Rattle.memory.specs.Bits.{Bytes, number, bytesOf, putAt}
-use Rattle.memory.specs.Image.{imageBytes, streamBytes, streamBits, pageAt, pagesStream, streamOf, streamNumber, pagesWith, withStream, putIn}
+use Rattle.memory.proofs.Names.{_≡_, refl, sym, ap, ap₂, _∙_, List, [], _∷_, _++_, ℕ, zero, suc, _+_, _-_, _*_, _%_, _^_, _≤_, _<_, mod-eq-of-lt, arith, decLt, length, take, drop, getD, length-append, length-drop}
+use Rattle.memory.proofs.Names.{take-append-drop, List·getD-eq-default, length-take-le, take-at, drop-at, drop-drop, getD-take, getD-drop, Sizes, Bytes, number, bytesOf, putAt, imageBytes, streamBytes, streamBits}
+use Rattle.memory.proofs.Names.{pageAt, pagesStream, streamOf, streamNumber, pagesWith, withStream, putIn}
 use Rattle.memory.proofs.FieldLaws.{put-lt}
 use Rattle.memory.proofs.Digits.{bytes-take, bytes-drop, bytes-append, bytes-of, bytes-length, number-bytes}
 use Rattle.memory.proofs.Streams.{getD-front, getD-past, stream-lt, bytes-stream, image-ext}

@@ -1,52 +1,9 @@
 -- Demand 2 after each change or commit: the image is accepted and holds what they make of it.
-use mathlib.Core.Path.{_≡_, refl, sym, ap, _∙_, subst}
-use mathlib.Core.Bool.{Bool, true, false, not, cond}
-use mathlib.Core.List.{List, [], _∷_}
-use Prim.Native.Nat.{ℕ, zero, suc, _-_}
-use native.Mathlib.Omega.{arith}
-use lib.Dec.{eqb}
-use lib.ListN.{length}
-use borrow.Author.Tests.{eqb-true, eqb-false, not-false}
-use Rattle.refusal.specs.declared.Refusal.{Refusal}
-use Rattle.refusal.specs.Outcome.{Outcome, good, refused, _>>_, _>>=_, refuse_if_}
-use Rattle.refusal.specs.Rows.{wrongImage}
-use Rattle.refusal.specs.Written.{afterwards}
-use Rattle.refusal.proofs.Outcomes.{good-same, no-value, passed}
-use Rattle.memory.specs.declared.Sizes.{Sizes}
-use Rattle.memory.specs.Bits.{Bytes}
-use Rattle.memory.specs.Image.{imageSizes}
-use Rattle.fields.specs.declared.Value.{Value}
-use Rattle.fields.specs.declared.Level.{Level}
-use Rattle.fields.specs.Rules.{decode}
-use Rattle.fields.specs.Stored.{kept, Real}
-use Rattle.layout.specs.Contents.{Found, Contents}
-use Rattle.layout.specs.Image.{contents, field}
-use Rattle.layout.proofs.Accepted.{Accepted, contents-accepted}
-use Rattle.layout.proofs.Puts.{withField}
-use Rattle.change.specs.Change.{codeFor, recodedIn, change, mayCommit, commit}
-use Rattle.change.proofs.Recoding.{code-found, change-unread, change-is, change-made, made-length, made-bytes, stored-contents, same-value}
-use Rattle.change.proofs.CommitLaws.{commit-unread, commit-is, committed}
-use Rattle.change.proofs.Commits.{stands-means, commit-made, commit-length, commit-bytes, committed-contents}
-use Rattle.promises.specs.Alterations.{
-  Change,
-  Commit,
-  Alteration,
-  changes,
-  commits,
-  RealAlteration,
-  changedBy,
-  committedBy,
-  alteredBy,
-  altered,
-  replaced,
-  changeIn,
-  commitIn,
-  left,
-  heldBy,
-  held,
-  AfterAlterations,
-  ChangedToTheSame,
-}
+use Rattle.promises.proofs.Names.{_≡_, refl, sym, ap, _∙_, subst, Bool, true, false, not, cond, List, [], _∷_, ℕ, zero, suc, _-_, arith, eqb, length, eqb-true, eqb-false, not-false, Refusal, Outcome, good}
+use Rattle.promises.proofs.Names.{refused, _>>_, _>>=_, refuse_if_, wrongImage, afterwards, good-same, no-value, passed, Sizes, Bytes, imageSizes, Value, Level, decode, kept, Real, Found, Contents, contents}
+use Rattle.promises.proofs.Names.{field, Accepted, contents-accepted, withField, codeFor, recodedIn, mayCommit, code-found, change-unread, change-is, change-made, made-length, made-bytes, stored-contents}
+use Rattle.promises.proofs.Names.{same-value, commit-unread, commit-is, committed, stands-means, commit-made, commit-length, commit-bytes, committed-contents, Change, Commit, Alteration, changes, commits}
+use Rattle.promises.proofs.Names.{RealAlteration, changedBy, committedBy, alteredBy, altered, replaced, changeIn, commitIn, left, heldBy, held, AfterAlterations, ChangedToTheSame}
 
 -- ---- another kind
 

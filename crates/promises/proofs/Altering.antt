@@ -1,33 +1,8 @@
 -- Fields of the stream, and what a change or a commit leaves alone.
-use mathlib.Core.Path.{_≡_, sym, ap, ap₂, _∙_, subst}
-use mathlib.Core.List.{List}
-use mathlib.Core.Logic.{_⊎_, inl, inr}
-use Prim.Native.Nat.{ℕ, _+_, _^_, _≤_, _<_}
-use native.Mathlib.Omega.{arith}
-use lib.ListN.{length}
-use Rattle.refusal.specs.Outcome.{good}
-use Rattle.refusal.proofs.Outcomes.{good-same}
-use Rattle.memory.specs.declared.Sizes.{Sizes}
-use Rattle.memory.specs.Bits.{Bytes, bit, putAt}
-use Rattle.memory.specs.Image.{imageSizes, streamBits, streamOf, streamNumber}
-use Rattle.memory.proofs.FieldLaws.{field-bit, put-field, put-before, put-after, put-lt}
-use Rattle.memory.proofs.Digits.{bit-at}
-use Rattle.memory.proofs.Chips.{sizes-chip}
-use Rattle.memory.proofs.Streams.{stream-bytes, stream-lt}
-use Rattle.memory.proofs.SumLaws.{sums-right}
-use Rattle.memory.proofs.Images.{image-number-lt}
-use Rattle.stream.proofs.Mending.{mended-check}
-use Rattle.fields.specs.declared.Level.{Level}
-use Rattle.fields.proofs.StoredLaws.{reads-back}
-use Rattle.layout.specs.Contents.{Found, Contents}
-use Rattle.layout.specs.Image.{contents, field}
-use Rattle.layout.proofs.Accepted.{accepted-at}
-use Rattle.change.specs.Change.{codeFor, recodedIn}
-use Rattle.change.proofs.Recoding.{Changeable, code-found, change-made, field-sound, field-inside}
-use Rattle.change.proofs.CommitLaws.{Committed, stands-fits}
-use Rattle.change.proofs.Commits.{commit-made}
-use Rattle.promises.specs.Stream.{StreamBit, FirstBitLowest, Puts}
-use Rattle.promises.specs.Alterations.{AltersNoOther, ChangeAltersNoOther, CommitAltersNoOther}
+use Rattle.promises.proofs.Names.{_≡_, sym, ap, ap₂, _∙_, subst, List, _⊎_, inl, inr, ℕ, _+_, _^_, _≤_, _<_, arith, length, good, good-same, Sizes, Bytes, bit, putAt, imageSizes, streamBits, streamOf}
+use Rattle.promises.proofs.Names.{streamNumber, field-bit, put-field, put-before, put-after, put-lt, bit-at, sizes-chip, stream-bytes, stream-lt, sums-right, image-number-lt, mended-check, Level, reads-back}
+use Rattle.promises.proofs.Names.{Found, Contents, contents, field, accepted-at, codeFor, recodedIn, Changeable, code-found, change-made, field-sound, field-inside, Committed, stands-fits, commit-made, StreamBit}
+use Rattle.promises.proofs.Names.{FirstBitLowest, Puts, AltersNoOther, ChangeAltersNoOther, CommitAltersNoOther}
 
 pub stream-bit : StreamBit
 stream-bit kind image z bytes sizes n = bit-at (streamOf z image) (stream-bytes z image (sizes-chip kind (length image) z sizes .long) bytes) n

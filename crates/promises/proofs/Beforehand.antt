@@ -1,19 +1,6 @@
 -- The distance told beforehand is that of the certificate, at the least slope.
-use mathlib.Core.Path.{_≡_, sym}
-use mathlib.Core.Bool.{_||_}
-use mathlib.Core.List.{List, [], _∷_}
-use Prim.Native.Nat.{_%_}
-use lib.Dec.{eqb, ltb}
-use lib.IntN.{ℤ}
-use lib.ListN.{length}
-use Rattle.refusal.specs.Rows.{wrongList}
-use Rattle.refusal.proofs.Outcomes.{passed}
-use Rattle.fields.specs.declared.Domain.the-variants.{Electrical}
-use Rattle.build.specs.Build.{pairsLent, listed, plan}
-use Rattle.distance.specs.Distance.{steepest, toldBy}
-use Rattle.distance.proofs.Accepted.{distance-told, told-by, least-slope}
-use Rattle.promises.specs.Certificate.{Straight}
-use Rattle.promises.specs.Beforehand.{ToldWhereBuilt, StraysAtMost, DistanceTold}
+use Rattle.promises.proofs.Names.{sym, _||_, List, [], _∷_, _%_, eqb, ltb, ℤ, length, wrongList, passed, Electrical, pairsLent, listed, plan, steepest, toldBy, distance-told, told-by, least-slope, Straight}
+use Rattle.promises.proofs.Names.{ToldWhereBuilt, DistanceTold}
 use Rattle.promises.proofs.PlannedSheet.{plan-parts}
 use Rattle.promises.proofs.Written.{built}
 use Rattle.promises.proofs.Distance.{certificate-distance}

@@ -1,24 +1,7 @@
 -- Which images are named blank.
-use mathlib.Core.Path.{_≡_, refl, sym, ap, _∙_}
-use mathlib.Core.Bool.{Bool, true, false, true≢false}
-use mathlib.Core.List.{List, _∷_}
-use Prim.Native.Nat.{ℕ, zero, suc, _+_, _-_, _*_, _/_, _%_, _≤_, _<_}
-use native.Mathlib.Omega.{arith}
-use lib.ListN.{length, getD}
-use Rattle.refusal.specs.declared.Refusal.{Refusal}
-use Rattle.refusal.specs.Outcome.{Outcome, good, refused, _>>=_, _>>_, refuse_if_}
-use Rattle.refusal.specs.Rows.{blankChip}
-use Rattle.refusal.specs.Orders.{occurs, streamRows}
-use Rattle.refusal.proofs.Outcomes.{Other, other-number}
-use Rattle.memory.specs.declared.Sizes.{Sizes}
-use Rattle.memory.specs.Image.{imageSizes, imageBytes, pageAt, blankPage, blankFrom, sumsFrom, sums}
-use Rattle.memory.proofs.Chips.{sizes-chip}
-use Rattle.memory.proofs.SumLaws.{blank-all, all-blank, blank-at, at-blank, sums-other}
-use Rattle.layout.specs.Format.{Parsed, parse}
-use Rattle.layout.specs.Contents.{Contents, sheetOf}
-use Rattle.layout.specs.Image.{streamIn, contents}
-use Rattle.layout.proofs.Numbers.{parse-other, sheet-others}
-use Rattle.promises.specs.Blank.{AllBlank, BlankExactly, NamedBlank}
+use Rattle.promises.proofs.Names.{_≡_, refl, sym, ap, _∙_, Bool, true, false, List, _∷_, ℕ, _+_, _-_, _/_, _%_, _<_, arith, length, getD, Outcome, good, refused, _>>=_, _>>_, blankChip, occurs, streamRows, Other}
+use Rattle.promises.proofs.Names.{other-number, Sizes, imageSizes, imageBytes, pageAt, blankFrom, sumsFrom, sums, sizes-chip, blank-all, all-blank, blank-at, at-blank, sums-other, Parsed, parse, Contents, sheetOf}
+use Rattle.promises.proofs.Names.{streamIn, contents, parse-other, sheet-others, AllBlank, NamedBlank}
 
 module _ (kind : ℕ) (image : List ℕ) (z : Sizes) (sizes : imageSizes kind (length image) ≡ good z) where
   whole : length image ≡ imageBytes z

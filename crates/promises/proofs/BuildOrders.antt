@@ -1,41 +1,12 @@
 -- The rows of a build, with a points list or a curve, and of the distance.
 -- Assumes nothing.
-use mathlib.Core.Path.{_≡_, refl}
-use mathlib.Core.Bool.{Bool, not, _||_, _&&_}
-use mathlib.Core.List.{List, [], _∷_}
-use mathlib.Core.Option.{Option, none, some}
-use Prim.Native.Nat.{ℕ, suc, _+_, _%_}
-use native.Mathlib.Omega.{arith}
-use lib.Dec.{eqb, ltb, leb}
-use lib.IntN.{ℤ, pos, _*ℤ_}
-use lib.ListN.{length, take, drop}
-use lib.Signed.{leZ}
-use Rattle.refusal.specs.Outcome.{Outcome, good, refused, _>>=_, _>>_, refuse_if_}
-use Rattle.refusal.specs.Rows.{wrongSort, outOfRange, tooLong, wrongList, notRising, sumsNotRising, wrongCurve, tooManyTerms}
-use Rattle.refusal.specs.Orders.{By, buildOrder, curveOrder, distanceOrder}
-use Rattle.refusal.proofs.OrderLaws.{Among, by-among, by-bind, by-then, by-test, by-last}
-use Rattle.memory.specs.declared.Sizes.{Sizes}
-use Rattle.memory.specs.Image.{imageSizes, streamBits}
-use Rattle.memory.specs.Pieces.{Piece, needed}
-use Rattle.fields.specs.declared.Value.{Value}
-use Rattle.fields.specs.declared.Value.the-variants.{Whole, Single}
-use Rattle.fields.specs.declared.Row.{Row}
-use Rattle.fields.specs.declared.Pair.{Pair}
-use Rattle.fields.specs.declared.Codes.{Codes}
-use Rattle.fields.specs.declared.Domain.{Domain}
-use Rattle.fields.specs.declared.Domain.the-variants.{Electrical}
-use Rattle.fields.specs.declared.Segment.{Segment}
-use Rattle.fields.specs.declared.Term.{Term}
-use Rattle.fields.specs.declared.Curve.{Curve}
-use Rattle.fields.specs.declared.Rule.the-variants.{Stepped}
-use Rattle.fields.specs.Rules.{topCode, steppedValue, steppedCode, outside, encode}
-use Rattle.fields.specs.Lines.{Line, chose, basic, templateLines, ending}
-use Rattle.fields.specs.Calibration.{D, R, leastDeviation, calPoint, calDeviation, isPhysical, storedSum, follows}
-use Rattle.fields.specs.Curves.{segmentStart, exponent, coefficient, isSegmentCount, isTermCount, mostTerms, startFollows, exponentFollows, exponentCode}
-use Rattle.build.specs.declared.Sheet.{Sheet}
-use Rattle.build.specs.Build.{templateIn, lent, linePieces, fieldPieces, unfit, endingPieces, pairsLent, codesFor, pairCodes, pairPieces, tablePieces, termPieces, countTested, startCode, segmentPieces, curvePieces, Table, listed, drawn, listTested, behindPieces, plan, builtIn, buildWith, build, buildCurve}
-use Rattle.distance.specs.Distance.{distance}
-use Rattle.promises.specs.Refusals.{WritesByOrder}
+use Rattle.promises.proofs.Names.{_≡_, refl, Bool, not, _||_, _&&_, List, [], _∷_, Option, none, some, ℕ, suc, _+_, _%_, arith, eqb, ltb, leb, ℤ, pos, _*ℤ_, length, take, drop, leZ, Outcome, good, refused, _>>=_}
+use Rattle.promises.proofs.Names.{_>>_, wrongSort, outOfRange, tooLong, wrongList, notRising, sumsNotRising, wrongCurve, tooManyTerms, By, buildOrder, curveOrder, distanceOrder, Among, by-among, by-bind, by-then}
+use Rattle.promises.proofs.Names.{by-test, by-last, imageSizes, streamBits, needed, Value, Whole, Single, Row, Pair, Codes, Domain, Electrical, Segment, Term, Curve, Stepped, topCode, steppedValue, steppedCode}
+use Rattle.promises.proofs.Names.{outside, encode, Line, chose, basic, templateLines, ending, D, R, leastDeviation, calPoint, calDeviation, isPhysical, storedSum, follows, segmentStart, exponent, coefficient}
+use Rattle.promises.proofs.Names.{isSegmentCount, isTermCount, mostTerms, startFollows, exponentFollows, exponentCode, Sheet, templateIn, lent, linePieces, fieldPieces, unfit, endingPieces, pairsLent, codesFor}
+use Rattle.promises.proofs.Names.{pairCodes, pairPieces, tablePieces, termPieces, countTested, startCode, segmentPieces, curvePieces, Table, listed, drawn, listTested, behindPieces, plan, builtIn, buildWith}
+use Rattle.promises.proofs.Names.{distance, WritesByOrder}
 use Rattle.promises.proofs.Refusals.{image-by, encode-by, change-by, propose-by, commit-by}
 
 -- ---- the fields and the ending

@@ -1,17 +1,6 @@
 -- How far a check judges an image, and what is read of it: the laws of the layers below.
-use mathlib.Core.Path.{_≡_, sym, subst}
-use mathlib.Core.List.{List}
-use Prim.Native.Nat.{ℕ}
-use Rattle.refusal.specs.declared.Refusal.{Refusal}
-use Rattle.refusal.specs.Outcome.{Outcome, good, refused, _>>=_}
-use Rattle.refusal.proofs.Outcomes.{good-same, good-bind, no-value}
-use Rattle.layout.specs.Contents.{Contents}
-use Rattle.layout.specs.Image.{contents}
-use Rattle.layout.proofs.Accepted.{agree}
-use Rattle.sheet.specs.declared.Summary.{Summary}
-use Rattle.sheet.specs.Check.{summary, check}
-use Rattle.sheet.proofs.ReadLaws.{accepted-reads, refused-reads}
-use Rattle.promises.specs.Reads.{BitsBehindNotJudged, ReadsEach, ReadsNone, ReadByIndex}
+use Rattle.promises.proofs.Names.{_≡_, sym, subst, List, ℕ, Refusal, Outcome, good, refused, _>>=_, good-same, good-bind, no-value, Contents, contents, agree, Summary, summary, check, accepted-reads}
+use Rattle.promises.proofs.Names.{refused-reads, BitsBehindNotJudged, ReadsEach, ReadsNone, ReadByIndex}
 
 pub bits-behind-not-judged : BitsBehindNotJudged
 bits-behind-not-judged = agree

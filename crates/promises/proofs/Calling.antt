@@ -1,19 +1,6 @@
 -- Calls one after the other: what they answer and leave, and demand 3 of it.
 -- Assumes nothing.
-use mathlib.Core.Path.{_≡_, sym, ap, _∙_, subst}
-use mathlib.Core.List.{List}
-use Prim.Native.Nat.{ℕ}
-use lib.IntN.{ℤ}
-use Rattle.refusal.specs.Written.{writtenSaid}
-use Rattle.fields.specs.declared.Domain.{Domain}
-use Rattle.build.specs.declared.Sheet.{Sheet}
-use Rattle.build.specs.Build.{build}
-use Rattle.reading.specs.declared.Dash.{Dash}
-use Rattle.reading.specs.Reading.{takeReading, readingSaid}
-use Rattle.promises.specs.declared.Answers.{Answers}
-use Rattle.promises.specs.Lent.{Lendable}
-use Rattle.promises.specs.Alterations.{Alteration, RealAlterations, altered}
-use Rattle.promises.specs.Calls.{made, Answered}
+use Rattle.promises.proofs.Names.{_≡_, sym, ap, _∙_, subst, List, ℕ, ℤ, writtenSaid, Domain, Sheet, build, Dash, takeReading, readingSaid, Answers, Lendable, Alteration, RealAlterations, altered, made, Answered}
 use Rattle.promises.proofs.Distance.{certificate-distance}
 
 -- A build, alterations and a reading.

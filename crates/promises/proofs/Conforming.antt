@@ -1,51 +1,10 @@
 -- Conformity: what the call tells holds of every reading, is what was told beforehand or less, is moved by nothing, and is no more than it need be.
-use mathlib.Core.Path.{_≡_, refl, sym, ap, _∙_, subst}
-use mathlib.Core.Bool.{false}
-use mathlib.Core.List.{List, [], _∷_, map}
-use mathlib.Core.Option.{none, some}
-use Prim.Native.Nat.{ℕ, _+_, _*_, _<_}
-use native.Mathlib.Omega.{arith}
-use lib.IntN.{ℤ, pos, natAbs, _+ℤ_, _-ℤ_, _*ℤ_}
-use lib.Signed.{_<ℤ_}
-use Rattle.integers.proofs.PartLaws.{sub-parts-ℤ, abs-parts, ltZ-parts}
-use Rattle.refusal.specs.Outcome.{Outcome, good, refused}
-use Rattle.refusal.proofs.Outcomes.{good-same}
-use Rattle.memory.specs.Bits.{Bytes}
-use Rattle.memory.specs.Pieces.{pack}
-use Rattle.memory.proofs.Images.{image-bytes}
-use Rattle.fields.specs.declared.Domain.{Domain}
-use Rattle.fields.specs.declared.Domain.the-variants.{Electrical, Physical}
-use Rattle.fields.specs.declared.Pair.{Pair}
-use Rattle.fields.specs.Calibration.{D, R}
-use Rattle.fields.specs.Figure.{billion}
-use Rattle.layout.specs.Contents.{Calibration, bare, table, curve, Contents}
-use Rattle.layout.specs.Image.{contents, pairIn, pairsIn, points, segmentIn, segmentsIn}
-use Rattle.layout.proofs.Accepted.{contents-accepted}
-use Rattle.layout.proofs.Calibrations.{CalibrationAt}
-use Rattle.sheet.specs.declared.TableDomain.the-variants.{Is}
-use Rattle.sheet.specs.Check.{domainIn}
-use Rattle.build.specs.declared.Sheet.{Sheet}
-use Rattle.build.specs.Build.{pairsLent, listed, build}
-use Rattle.line.specs.Certificate.{Rises, Slopes}
-use Rattle.line.specs.Conformity.{WithinOf}
-use Rattle.line.specs.Line.{deviation, certificateLine}
-use Rattle.line.proofs.Bound.{close-conforms}
-use Rattle.distance.specs.declared.ToldDistance.{ToldDistance}
-use Rattle.distance.specs.Distance.{distance, toldBy}
-use Rattle.distance.proofs.Accepted.{told-by, least-slope, no-slope, taking}
-use Rattle.reading.specs.Reading.{isResistance, least, greatest, position}
-use Rattle.reading.proofs.Opening.{calibration-table}
-use Rattle.reading.proofs.Orders.{shown}
-use Rattle.reading.proofs.Fractions.{by-deviation}
-use Rattle.conformity.specs.Conformity.{greatestDifference, comparedWith, straightTable, compared, conformity}
-use Rattle.conformity.proofs.Bounds.{greatest-within, greatest-least, greatest-attained}
-use Rattle.conformity.proofs.Orders.{compares-refused, compares, compared-from, straight-points}
-use Rattle.promises.specs.Again.{keptPair}
-use Rattle.promises.specs.Alterations.{altered, held}
-use Rattle.promises.specs.Certificate.{Straight, leastIn, greatestIn, lineFor}
-use Rattle.promises.specs.Beforehand.{StraysAtMost}
-use Rattle.promises.specs.Conformity.{Conforms, FigureConforms, ToldIsKept, NoAlterationMoves, BoundTight}
-use Rattle.promises.specs.Figure.{NoCurve}
+use Rattle.promises.proofs.Names.{_≡_, refl, sym, ap, _∙_, subst, false, List, [], _∷_, map, none, some, ℕ, _+_, _*_, _<_, arith, ℤ, pos, natAbs, _+ℤ_, _-ℤ_, _*ℤ_, _<ℤ_, sub-parts-ℤ, abs-parts, ltZ-parts, Outcome}
+use Rattle.promises.proofs.Names.{good, refused, good-same, Bytes, pack, image-bytes, Domain, Electrical, Physical, Pair, D, R, billion, Calibration, bare, table, curve, Contents, contents, pairIn, pairsIn}
+use Rattle.promises.proofs.Names.{points, segmentIn, segmentsIn, contents-accepted, CalibrationAt, Is, domainIn, Sheet, pairsLent, listed, build, Rises, Slopes, WithinOf, deviation, certificateLine}
+use Rattle.promises.proofs.Names.{close-conforms, ToldDistance, distance, toldBy, told-by, least-slope, no-slope, taking, isResistance, least, greatest, position, calibration-table, shown, by-deviation}
+use Rattle.promises.proofs.Names.{greatestDifference, comparedWith, straightTable, compared, conformity, greatest-within, greatest-least, greatest-attained, compares-refused, compares, compared-from}
+use Rattle.promises.proofs.Names.{straight-points, keptPair, altered, held, Straight, leastIn, greatestIn, lineFor, StraysAtMost, Conforms, FigureConforms, ToldIsKept, NoAlterationMoves, BoundTight, NoCurve}
 use Rattle.promises.proofs.PlannedSheet.{plan-parts}
 use Rattle.promises.proofs.Written.{built, written-and-read-again}
 use Rattle.promises.proofs.AfterAlterations.{after-alterations, refused-after, held-keeps, held-calibration}

@@ -1,32 +1,7 @@
 -- Note 9: a reading in domain 1 shows the crossing.
-use mathlib.Core.Path.{_≡_, refl, sym, ap, ap₂, _∙_, subst}
-use mathlib.Core.List.{List, [], _∷_, map}
-use Prim.Native.Nat.{ℕ}
-use native.Mathlib.Omega.{arith}
-use lib.IntN.{ℤ}
-use Rattle.refusal.specs.Outcome.{good}
-use Rattle.refusal.proofs.Outcomes.{good-same}
-use Rattle.fields.specs.declared.Pair.{Pair}
-use Rattle.fields.specs.declared.Domain.the-variants.{Electrical, Physical}
-use Rattle.layout.specs.Contents.{Calibration, bare, table, curve, Contents}
-use Rattle.layout.specs.Image.{contents, pairIn, pairsIn, points}
-use Rattle.layout.proofs.Calibrations.{CalibrationAt}
-use Rattle.layout.proofs.Accepted.{contents-accepted}
-use Rattle.sheet.specs.declared.TableDomain.{TableDomain}
-use Rattle.sheet.specs.declared.TableDomain.the-variants.{NoTable, Is}
-use Rattle.sheet.specs.Check.{domainIn}
-use Rattle.build.specs.Build.{pairsLent}
-use Rattle.line.specs.Crossing.{SumsRise, crossing}
-use Rattle.line.proofs.Crossings.{crosses}
-use Rattle.reading.specs.declared.Reading.{Reading}
-use Rattle.reading.specs.declared.Dash.{Dash}
-use Rattle.reading.specs.Reading.{position, fraction, takeReading}
-use Rattle.reading.proofs.Opening.{calibration-table, calibration-rises}
-use Rattle.reading.proofs.Orders.{shown}
-use Rattle.reading.proofs.Fractions.{by-crossing}
-use Rattle.promises.specs.Again.{keptPair, domainLent}
-use Rattle.promises.specs.Alterations.{altered}
-use Rattle.promises.specs.Crossing.{OnlyCrossing, positionIn, CrossingShown, CrossingFromLent}
+use Rattle.promises.proofs.Names.{_≡_, refl, sym, ap, ap₂, _∙_, subst, List, [], _∷_, map, ℕ, arith, ℤ, good, good-same, Pair, Electrical, Physical, Calibration, bare, table, curve, Contents, contents, pairIn}
+use Rattle.promises.proofs.Names.{pairsIn, points, CalibrationAt, contents-accepted, TableDomain, Is, domainIn, pairsLent, SumsRise, crossing, crosses, Reading, Dash, position, fraction, takeReading}
+use Rattle.promises.proofs.Names.{calibration-table, calibration-rises, shown, by-crossing, domainLent, altered, OnlyCrossing, positionIn, CrossingShown, CrossingFromLent}
 use Rattle.promises.proofs.KeptLent.{kept-lent, ends-read}
 
 -- Sums rise where the domain is not 0.

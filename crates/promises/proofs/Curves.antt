@@ -1,15 +1,6 @@
 -- The segment that serves.
 -- Assumes nothing.
-use mathlib.Core.Path.{_≡_, refl, ap}
-use mathlib.Core.List.{List, [], _∷_, _++_}
-use native.Mathlib.Omega.{arith}
-use lib.IntN.{ℤ}
-use lib.Signed.{_≤ℤ_, _<ℤ_}
-use Rattle.integers.proofs.PartLaws.{leZ-parts, ltZ-parts, parts-<ℤ}
-use Rattle.layout.specs.Contents.{FoundSegment}
-use Rattle.line.proofs.Order.{by-order}
-use Rattle.reading.specs.Reading.{serving}
-use Rattle.promises.specs.Curves.{startOf, StartsRise, AllAbove, Serves, LastSegmentServes}
+use Rattle.promises.proofs.Names.{refl, ap, List, [], _∷_, arith, ℤ, _≤ℤ_, _<ℤ_, leZ-parts, ltZ-parts, parts-<ℤ, FoundSegment, by-order, serving, startOf, StartsRise, AllAbove, Serves, LastSegmentServes}
 
 all-above : (p : ℤ) (s : FoundSegment) (segments : List FoundSegment) → p <ℤ startOf s → StartsRise (s ∷ segments) → AllAbove p (s ∷ segments)
 all-above p s [] h rises = (h, tt)

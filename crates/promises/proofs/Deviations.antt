@@ -1,23 +1,9 @@
 -- The deviation of a table whose points rise.
 -- Assumes nothing.
-use mathlib.Core.Path.{_≡_, ap, _∙_}
-use mathlib.Core.List.{List, [], _∷_, _++_}
-use Prim.Native.Nat.{ℕ, _+_, _*_, _<_, _≤_}
-use native.Mathlib.Nat.{mul-le-mul-right}
-use native.Mathlib.Omega.{arith}
-use lib.IntN.{ℤ, pos, _*ℤ_}
-use lib.Signed.{_≤ℤ_, _<ℤ_}
-use Rattle.integers.specs.Parts.{up, dn}
-use Rattle.integers.specs.Nearest.{_over_, nearest}
-use Rattle.integers.proofs.PartLaws.{same, mul-parts, leZ-parts, ltZ-parts, parts-≤ℤ, le-leZ, lt-leZ}
-use Rattle.integers.proofs.NearestLaws.{nearest-rises-parts, nearest-exact, nearest-is}
-use Rattle.fields.specs.declared.Pair.{Pair}
-use Rattle.line.specs.Line.{Correction, atEnd, between, correctionAfter, correction, deviation}
-use Rattle.line.specs.Certificate.{Rises}
-use Rattle.line.proofs.Order.{AtMost, at-most, by-test}
-use Rattle.line.proofs.Distances.{scaled}
-use Rattle.line.proofs.Weights.{at, weights-run, weights-num}
-use Rattle.promises.specs.Deviations.{FirstHolds, LastHolds, AllWithin, DeviationWithin}
+use Rattle.promises.proofs.Names.{_≡_, ap, _∙_, List, [], _∷_, _++_, ℕ, _+_, _*_, _<_, _≤_, mul-le-mul-right, arith, ℤ, pos, _*ℤ_, _≤ℤ_, _<ℤ_, up, dn, _over_, nearest, same, mul-parts, leZ-parts, ltZ-parts}
+use Rattle.promises.proofs.Names.{parts-≤ℤ, le-leZ, lt-leZ, nearest-rises-parts, nearest-exact, nearest-is, Pair, Correction, atEnd, between, correctionAfter, correction, deviation, Rises, AtMost, at-most, scaled}
+use Rattle.promises.proofs.Names.{at, weights-run, weights-num, FirstHolds, LastHolds, AllWithin, DeviationWithin}
+use Rattle.line.proofs.Order.{by-test}
 use Rattle.promises.proofs.Rounding.{correction-some}
 
 -- Where a deviation holds it is whole.

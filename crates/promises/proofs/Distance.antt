@@ -1,33 +1,8 @@
 -- Demand 3: what was built holds points near those lent, no change or commit moves them, and a reading of them stays within the distance.
-use mathlib.Core.Path.{_≡_, refl, sym, _∙_}
-use mathlib.Core.List.{List, [], _∷_, map}
-use mathlib.Core.Option.{none}
-use Prim.Native.Nat.{ℕ, _+_}
-use native.Mathlib.Omega.{arith}
-use lib.IntN.{ℤ, pos, negsuc, natAbs, _+ℤ_, _-ℤ_, _*ℤ_}
-use lib.Signed.{_<ℤ_}
-use Rattle.integers.specs.Parts.{up, dn}
-use Rattle.integers.proofs.PartLaws.{sub-parts-ℤ, abs-parts, ltZ-parts}
-use Rattle.refusal.specs.Outcome.{good}
-use Rattle.memory.specs.Pieces.{Piece}
-use Rattle.fields.specs.declared.Pair.{Pair}
-use Rattle.fields.specs.declared.Domain.{Domain}
-use Rattle.fields.specs.declared.Domain.the-variants.{Electrical, Physical}
-use Rattle.fields.specs.Calibration.{D, R}
-use Rattle.fields.specs.Figure.{billion}
-use Rattle.layout.specs.Image.{points}
-use Rattle.sheet.specs.declared.TableDomain.the-variants.{Is}
-use Rattle.build.specs.Build.{pairsLent, pairPieces, tablePieces, listed}
-use Rattle.build.proofs.PairPlans.{table-planned}
-use Rattle.line.specs.Line.{deviation, certificateLine}
-use Rattle.line.specs.Certificate.{Slopes, Within}
-use Rattle.line.proofs.Bound.{bound}
-use Rattle.reading.specs.Reading.{least, greatest, position}
-use Rattle.reading.proofs.Orders.{shown}
-use Rattle.reading.proofs.Fractions.{by-deviation}
-use Rattle.promises.specs.Again.{keptPair, domainLent}
-use Rattle.promises.specs.Alterations.{altered}
-use Rattle.promises.specs.Certificate.{Straight, CertificateDistance, LentPointsRise, EndsRise, DifferenceAbove}
+use Rattle.promises.proofs.Names.{_≡_, refl, sym, _∙_, List, [], _∷_, map, none, ℕ, _+_, arith, ℤ, pos, negsuc, natAbs, _+ℤ_, _-ℤ_, _*ℤ_, _<ℤ_, up, dn, sub-parts-ℤ, abs-parts, ltZ-parts, good, Piece, Pair, Domain}
+use Rattle.promises.proofs.Names.{Electrical, Physical, D, R, billion, points, Is, pairsLent, pairPieces, tablePieces, listed, table-planned, deviation, certificateLine, Slopes, bound, least, greatest, position}
+use Rattle.promises.proofs.Names.{shown, by-deviation, keptPair, domainLent, altered, Straight, CertificateDistance, LentPointsRise, EndsRise, DifferenceAbove}
+use Rattle.line.specs.Certificate.{Within}
 use Rattle.promises.proofs.PlannedSheet.{plan-parts}
 use Rattle.promises.proofs.Written.{built}
 use Rattle.promises.proofs.KeptLent.{kept-lent, ends-read}

@@ -1,26 +1,10 @@
 -- The cases hold: by computation, and the dates by the calendar's law.
-use mathlib.Core.Path.{refl}
-use lib.Dec.{lit≤}
-use lib.Ieee.{ofInt, toBits, ofBits, nanBits, ofFields, round, units, odd, span, climb, size, neg}
-use Rattle.integers.specs.Nearest.{nearest}
-use Rattle.memory.specs.Image.{imageSizes, pageTest, blankFrom, sumsFrom, streamOf, imageOf}
-use Rattle.fields.specs.Rules.{decode, encode, geometricValue, goesUp, storedAt}
-use Rattle.fields.specs.Lines.{basic, template33, template32, linesOf}
-use Rattle.fields.specs.Calibration.{follows}
-use Rattle.fields.specs.Figure.{floatFraction, physicalFigure}
-use Rattle.fields.specs.Singles.{outsideTwo, nanovolts}
-use Rattle.layout.specs.Contents.{fieldOf, fieldsOf, selectorOf, firstBlock, pairOf, pairsOf, tableOf, blockAt, calibrationOf, charactersOf, endingOf, sheetOf}
-use Rattle.layout.specs.Image.{contents}
-use Rattle.build.specs.Build.{codesFor, linePieces, fieldPieces, endingPieces, pairCodes, pairPieces, tablePieces, plan, builtIn, buildWith}
-use Rattle.change.specs.Change.{changeable, codeFor, rewritten, change, mayStand, mayCommit, commit}
-use Rattle.line.specs.Crossing.{crossing, crossingAfter, crossingBetween}
-use Rattle.line.specs.Line.{between, correctionAfter, correction, deviation, certificateLine}
-use Rattle.reading.specs.Reading.{spanOf, position, readingAt, takeReading}
-use Rattle.distance.specs.Distance.{distance}
-use Rattle.conformity.specs.Conformity.{conformity}
-use Rattle.texts.proofs.Calendar.{date-789, date-7306, date-37314, date-65534}
-use Rattle.promises.specs.Edges.{Edges, Examples}
-use Rattle.promises.specs.Attained.{NearlyAttained, ConformityAttained}
+use Rattle.promises.proofs.Names.{refl, lit≤, ofInt, toBits, ofBits, nanBits, ofFields, round, odd, span, climb, neg, nearest, imageSizes, pageTest, blankFrom, sumsFrom, streamOf, imageOf, decode, encode}
+use Rattle.promises.proofs.Names.{geometricValue, goesUp, storedAt, basic, template33, template32, linesOf, follows, outsideTwo, nanovolts, fieldOf, fieldsOf, selectorOf, firstBlock, pairOf, pairsOf, tableOf}
+use Rattle.promises.proofs.Names.{blockAt, calibrationOf, charactersOf, endingOf, sheetOf, contents, codesFor, linePieces, fieldPieces, endingPieces, pairCodes, pairPieces, tablePieces, plan, builtIn, buildWith}
+use Rattle.promises.proofs.Names.{changeable, codeFor, rewritten, change, mayStand, mayCommit, commit, crossing, crossingAfter, crossingBetween, between, correctionAfter, correction, deviation, certificateLine}
+use Rattle.promises.proofs.Names.{spanOf, position, readingAt, takeReading, distance, conformity, date-789, date-7306, date-37314, date-65534, Edges, Examples, NearlyAttained, ConformityAttained}
+use lib.Ieee.{units, size}
 
 pub edges : Edges
 unfolding encode decode nearest linePieces basic position deviation correction correctionAfter between

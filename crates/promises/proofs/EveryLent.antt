@@ -1,37 +1,8 @@
 -- Every list of changes and commits can be lent as slices.
 -- Assumes nothing.
-use mathlib.Core.Path.{_≡_, refl, ap, ap₂, _∙_}
-use mathlib.Core.Bool.{cond}
-use mathlib.Core.List.{List, [], _∷_, _++_, map}
-use Prim.Native.Nat.{ℕ, zero, suc}
-use lib.Dec.{eqb}
-use lib.IntN.{ℤ}
-use lib.Ieee.{Float}
-use lib.ListN.{length}
-use Rattle.fields.specs.declared.Value.{Value}
-use Rattle.fields.specs.declared.Value.the-variants.{Whole, Single, Missing}
-use Rattle.fields.specs.declared.Level.{Level}
-use Rattle.fields.specs.declared.Level.the-variants.{Owner, CalibrationRoom, Maker}
-use Rattle.promises.specs.Alterations.{Alteration, changes, commits}
-use Rattle.promises.specs.AlterationsLent.{
-  levelLent,
-  valueOfSort,
-  alterationLent,
-  alterationsBefore,
-  kindIn,
-  levelNumber,
-  levelIn,
-  fieldIn,
-  sortOf,
-  sortIn,
-  wholeOf,
-  wholeIn,
-  singleOf,
-  singleIn,
-  presentIn,
-  newIn,
-  EveryListLent,
-}
+use Rattle.promises.proofs.Names.{_≡_, refl, ap, ap₂, _∙_, cond, List, [], _∷_, _++_, map, ℕ, zero, suc, eqb, ℤ, Float, length, Value, Whole, Single, Missing, Level, Owner, CalibrationRoom, Maker, Alteration}
+use Rattle.promises.proofs.Names.{changes, commits, levelLent, valueOfSort, alterationLent, alterationsBefore, kindIn, levelNumber, levelIn, fieldIn, sortOf, sortIn, wholeOf, wholeIn, singleOf, singleIn}
+use Rattle.promises.proofs.Names.{presentIn, newIn, EveryListLent}
 
 level-back : (l : Level) → levelLent (levelNumber l) ≡ l
 level-back Owner = refl

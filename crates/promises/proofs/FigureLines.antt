@@ -1,29 +1,7 @@
 -- From the certificate line to the figure.
-use mathlib.Core.Path.{_≡_, ap}
-use mathlib.Core.List.{List, [], _∷_, map}
-use mathlib.Core.Option.{some}
-use Prim.Native.Nat.{ℕ, _+_, _*_, _≤_}
-use native.Mathlib.Nat.{le-refl}
-use native.Mathlib.Omega.{arith}
-use lib.IntN.{ℤ}
-use Rattle.integers.specs.Nearest.{Fraction}
-use Rattle.refusal.specs.Outcome.{good}
-use Rattle.fields.specs.Calibration.{D, R}
-use Rattle.fields.specs.Lines.{lastField}
-use Rattle.fields.proofs.TemplateFacts.{span-listed}
-use Rattle.layout.specs.Contents.{Calibration, bare, table, curve, Contents}
-use Rattle.layout.specs.Image.{contents, segmentIn, segmentsIn}
-use Rattle.layout.proofs.Accepted.{contents-accepted}
-use Rattle.layout.proofs.Calibrations.{CalibrationAt}
-use Rattle.sheet.proofs.ReadLaws.{accepted-reads}
-use Rattle.reading.specs.declared.Dash.{Dash}
-use Rattle.reading.specs.declared.Reading.{Reading}
-use Rattle.reading.specs.Reading.{takeReading}
-use Rattle.reading.proofs.Orders.{shown}
-use Rattle.figures.proofs.LineLaws.{figure-near-line}
-use Rattle.promises.specs.Beforehand.{StraysAtMost}
-use Rattle.promises.specs.Alterations.{altered}
-use Rattle.promises.specs.Figure.{NoCurve, low, high, single, lowIn, highIn, FigureStraysAtMost, CertificateFigure}
+use Rattle.promises.proofs.Names.{_≡_, ap, List, [], _∷_, map, some, ℕ, _+_, _*_, _≤_, le-refl, arith, ℤ, Fraction, good, D, R, lastField, span-listed, Calibration, bare, table, curve, Contents, contents}
+use Rattle.promises.proofs.Names.{segmentIn, segmentsIn, contents-accepted, CalibrationAt, accepted-reads, Dash, Reading, takeReading, shown, figure-near-line, StraysAtMost, altered, NoCurve, low, high, single}
+use Rattle.promises.proofs.Names.{lowIn, highIn, FigureStraysAtMost, CertificateFigure}
 use Rattle.promises.proofs.Distance.{certificate-distance}
 use Rattle.promises.proofs.KeptLent.{kept-lent}
 use Rattle.promises.proofs.Figures.{taken, figure-is}

@@ -1,57 +1,15 @@
 -- The figure that a reading shows: its ends are finite Singles and its fraction is small, so the laws of the figure hold of it.
-use mathlib.Core.Path.{_≡_, refl, sym, ap, _∙_, subst}
-use mathlib.Core.Bool.{Bool, true, false, not, _&&_, cond}
-use mathlib.Core.List.{List}
-use Prim.Native.Nat.{ℕ, _^_, _≤_}
-use native.Mathlib.Omega.{arith}
-use borrow.Author.Tests.{not-false}
-use lib.Dec.{T, eqb}
-use lib.IntN.{ℤ, natAbs}
-use lib.ListN.{length}
-use lib.Signed.{_<ℤ_}
-use lib.Ieee.{binary32, ofBits}
-use lib.Ieee.Bits.{ofBits-fits}
-use Rattle.refusal.specs.Outcome.{good}
-use Rattle.refusal.specs.Rows.{wrongBlock, outsideSpan, tooManyPoints, outsideTable, notFinite}
-use Rattle.refusal.proofs.Outcomes.{good-same, good-bind, passed}
-use Rattle.fields.specs.declared.Value.{Value}
-use Rattle.fields.specs.declared.Value.the-variants.{Whole, Single, Missing}
-use Rattle.fields.specs.declared.Rule.the-variants.{Single as Ieee}
-use Rattle.fields.specs.declared.Row.{Row}
-use Rattle.fields.specs.declared.Template.{Template}
-use Rattle.fields.specs.declared.Template.the-variants.{Bridge}
-use Rattle.fields.specs.Figure.{floatFraction, physicalFigure}
-use Rattle.fields.specs.Lines.{Line, lineOf}
-use Rattle.fields.specs.Rules.{allOnes, finite, meaning, decode}
-use Rattle.fields.proofs.TemplateFacts.{span-listed, span-lines}
-use Rattle.layout.specs.Contents.{Found, Calibration, bare, table, curve, Contents}
-use Rattle.layout.specs.Image.{contents, field, layoutOf, points}
-use Rattle.layout.specs.Places.{firstSelector, fieldPlace}
-use Rattle.layout.proofs.Accepted.{Accepted, contents-accepted}
-use Rattle.layout.proofs.Calibrations.{CalibrationAt}
-use Rattle.layout.proofs.Fields.{FieldAt}
-use Rattle.layout.proofs.Places.{field-at}
-use Rattle.sheet.specs.declared.TableDomain.the-variants.{Is}
-use Rattle.sheet.specs.Check.{domainIn}
-use Rattle.sheet.specs.Opened.{Opens, openedAs}
-use Rattle.fields.specs.declared.Domain.the-variants.{Physical}
-use Rattle.reading.specs.declared.Dash.{Dash}
-use Rattle.reading.specs.declared.Reading.{Reading}
-use Rattle.reading.specs.declared.span.Span.{Span}
-use Rattle.reading.specs.Reading.{isResistance, tooMany, isMissing, float, least, greatest, spanOf, tooFar, position, fraction, servingTerms, share, readingAt, takeReading}
-use Rattle.reading.proofs.Opening.{bridge}
-use Rattle.reading.proofs.Orders.{shown}
-use Rattle.reading.proofs.Spans.{spanned, span-ready}
-use Rattle.reading.proofs.Positions.{position-small}
-use Rattle.reading.proofs.Fractions.{fraction-small}
+use Rattle.promises.proofs.Names.{_≡_, refl, sym, ap, _∙_, subst, Bool, true, false, not, _&&_, cond, List, ℕ, _^_, _≤_, arith, not-false, T, eqb, ℤ, natAbs, length, _<ℤ_, binary32, ofBits, ofBits-fits, good}
+use Rattle.promises.proofs.Names.{wrongBlock, outsideSpan, tooManyPoints, outsideTable, notFinite, good-same, good-bind, passed, Value, Whole, Single, Missing, Ieee, Row, Template, Bridge, floatFraction}
+use Rattle.promises.proofs.Names.{physicalFigure, Line, lineOf, allOnes, finite, meaning, decode, span-listed, span-lines, Found, Calibration, bare, table, curve, Contents, contents, field, layoutOf, points}
+use Rattle.promises.proofs.Names.{firstSelector, fieldPlace, Accepted, contents-accepted, CalibrationAt, FieldAt, field-at, Is, domainIn, Opens, openedAs, Physical, Dash, Reading, Span, isResistance, tooMany}
+use Rattle.promises.proofs.Names.{isMissing, least, greatest, spanOf, tooFar, position, fraction, servingTerms, share, readingAt, takeReading, bridge, shown, spanned, span-ready, position-small, fraction-small}
+use Rattle.promises.proofs.Names.{NeverFalls, End, near-share, fractionOf, figure-finite, figure-close, figure-follows, fraction-finite, fraction-rises, NoCurve, low, high, CurveShownNear, ShownNear, ShownFinite}
+use Rattle.promises.proofs.Names.{ShownFollows, ShownRises, ShownRisesByPhysicalPoint}
+use Rattle.reading.specs.Reading.{float}
 use Rattle.promises.proofs.Needles.{needle, needle-by-physical-point}
-use Rattle.promises.specs.Needle.{NeverFalls}
-use Rattle.figures.specs.Figures.{figure, End}
-use Rattle.figures.proofs.ShareLaws.{near-share}
-use Rattle.curve.specs.Curve.{fractionOf}
-use Rattle.figures.proofs.FigureLaws.{figure-finite, figure-close, figure-follows, fraction-finite, fraction-rises}
+use Rattle.figures.specs.Figures.{figure}
 use Rattle.promises.proofs.CurveFigures.{curve-held, curve-number}
-use Rattle.promises.specs.Figure.{NoCurve, low, high, CurveShownNear, ShownNear, ShownFinite, ShownFollows, ShownRises, ShownRisesByPhysicalPoint}
 
 -- ---- the ends
 

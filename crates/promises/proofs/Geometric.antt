@@ -1,22 +1,7 @@
 -- A geometric figure is stored by ratio.
 -- Assumes nothing.
-use mathlib.Core.Path.{_≡_, refl, ap, _∙_}
-use mathlib.Core.Bool.{Bool, false, _||_}
-use Prim.Native.Nat.{ℕ, suc, _*_, _≤_, _<_}
-use native.Mathlib.Omega.{arith}
-use lib.IntN.{pos}
-use lib.Signed.{ltZ}
-use Rattle.refusal.specs.Outcome.{good}
-use Rattle.integers.proofs.PartLaws.{le-ltZ}
-use Rattle.fields.specs.declared.Scale.{Scale}
-use Rattle.fields.specs.declared.Row.{Row}
-use Rattle.fields.specs.declared.Rule.the-variants.{Geometric}
-use Rattle.fields.specs.declared.Value.the-variants.{Whole}
-use Rattle.fields.specs.Rules.{topCode, progression, scaleWidth, geometricValue, storedAt, encode}
-use Rattle.fields.specs.Stored.{Rising}
-use Rattle.fields.proofs.ScaleLaws.{values-rise}
-use Rattle.fields.proofs.StoringLaws.{no-less, geometric-by-ratio}
-use Rattle.promises.specs.Geometric.{EncodedByRatio}
+use Rattle.promises.proofs.Names.{_≡_, ap, _∙_, ℕ, suc, _≤_, arith, pos, good, le-ltZ, Scale, Row, Geometric, Whole, topCode, progression, geometricValue, storedAt, encode, Rising, values-rise, no-less}
+use Rattle.promises.proofs.Names.{geometric-by-ratio, EncodedByRatio}
 
 -- A figure from the least to the greatest value is stored at the code of the storing rule.
 stored : (row : Row) (scale : Scale) (place w : ℕ) → row .rule ≡ Geometric scale →

@@ -1,48 +1,13 @@
 -- The greatest fraction that a straight table can give, and the figure's distance told beforehand.
-use mathlib.Core.Path.{_≡_, refl, sym, ap, _∙_}
-use mathlib.Core.Bool.{Bool, true, false, _||_, true≢false}
-use mathlib.Core.List.{List, [], _∷_, map}
-use mathlib.Core.Option.{Option, none, some}
-use Prim.Native.Nat.{ℕ, _+_, _*_, _≤_, _<_}
-use native.Mathlib.Nat.{mul-le-mul-left, mul-le-mul-right}
-use native.Mathlib.Omega.{arith}
-use borrow.Author.Tests.{ltb-false}
-use lib.Dec.{ltb}
-use lib.IntN.{ℤ, pos, natAbs, negℤ, _+ℤ_, _-ℤ_, _*ℤ_}
-use lib.Signed.{ltZ, _<ℤ_}
-use lib.Ieee.{Float}
-use Rattle.integers.specs.Parts.{up, dn}
-use Rattle.integers.specs.Nearest.{Fraction, _over_}
-use Rattle.integers.proofs.PartLaws.{add-parts, sub-parts-ℤ, mul-parts, abs-parts, up-neg, dn-neg, ltZ-parts, nltZ-parts, is-false}
-use Rattle.refusal.specs.Rows.{outsideTable}
-use Rattle.refusal.proofs.Outcomes.{passed}
-use Rattle.fields.specs.declared.Codes.{Codes}
-use Rattle.fields.specs.declared.Domain.{Domain}
-use Rattle.fields.specs.declared.Domain.the-variants.{Electrical, Physical}
-use Rattle.fields.specs.Calibration.{R, leastDeviation, calDeviation}
-use Rattle.fields.specs.Figure.{billion}
-use Rattle.fields.specs.Rules.{topCode, steppedValue, decode}
-use Rattle.fields.proofs.RuleLaws.{stepped-whole}
-use Rattle.layout.specs.Contents.{Found, FoundPair, Calibration, bare, table, curve, codesIn}
-use Rattle.layout.specs.Image.{figure, pairIn}
-use Rattle.layout.proofs.Accepted.{contents-accepted}
-use Rattle.layout.proofs.Fields.{FieldAt}
-use Rattle.layout.proofs.Calibrations.{PairsAt, CalibrationAt}
-use Rattle.sheet.specs.declared.TableDomain.the-variants.{Is}
-use Rattle.sheet.specs.Check.{domainIn}
-use Rattle.line.specs.Line.{deviation}
-use Rattle.line.proofs.Distances.{less, above-parts, near-abs, scaled}
-use Rattle.line.proofs.Sizes.{nearest-small, Deviations, deviation-within}
-use Rattle.reading.specs.Reading.{least, greatest, tooFar, position, fraction}
-use Rattle.reading.proofs.Opening.{pairs-table}
-use Rattle.reading.proofs.Orders.{shown}
-use Rattle.promises.specs.Alterations.{altered}
-use Rattle.promises.specs.Certificate.{Straight, leastIn, greatestIn, lineFor}
-use Rattle.promises.specs.Figure.{NoCurve, FigureWithin, lowIn, highIn, StraightTable, greatestFraction, FractionAtMost, DistanceFigure}
+use Rattle.promises.proofs.Names.{_≡_, refl, sym, ap, _∙_, Bool, true, false, _||_, true≢false, List, [], _∷_, map, Option, none, some, ℕ, _+_, _*_, _≤_, _<_, mul-le-mul-left, mul-le-mul-right, arith, ltb-false}
+use Rattle.promises.proofs.Names.{ltb, ℤ, pos, natAbs, negℤ, _+ℤ_, _-ℤ_, _*ℤ_, ltZ, _<ℤ_, Float, up, dn, Fraction, _over_, add-parts, sub-parts-ℤ, mul-parts, abs-parts, up-neg, dn-neg, ltZ-parts, nltZ-parts}
+use Rattle.promises.proofs.Names.{is-false, outsideTable, passed, Codes, Domain, Electrical, Physical, R, leastDeviation, calDeviation, billion, topCode, steppedValue, decode, stepped-whole, Found, FoundPair}
+use Rattle.promises.proofs.Names.{Calibration, bare, table, curve, codesIn, figure, pairIn, contents-accepted, FieldAt, PairsAt, CalibrationAt, Is, domainIn, deviation, less, above-parts, near-abs, scaled}
+use Rattle.promises.proofs.Names.{nearest-small, Deviations, deviation-within, least, greatest, tooFar, position, fraction, pairs-table, shown, altered, Straight, leastIn, greatestIn, lineFor, NoCurve}
+use Rattle.promises.proofs.Names.{FigureWithin, lowIn, highIn, StraightTable, greatestFraction, FractionAtMost, DistanceFigure, units}
 use Rattle.promises.proofs.KeptLent.{kept-lent}
 use Rattle.promises.proofs.Distance.{straight-lent}
 use Rattle.promises.proofs.Beforehand.{distance-holds}
-use Rattle.figures.specs.Figures.{units}
 use Rattle.promises.proofs.Figures.{taken}
 use Rattle.promises.proofs.FigureLines.{figure-strays, no-curve}
 

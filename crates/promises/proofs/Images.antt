@@ -1,8 +1,6 @@
 -- An image and its stream.
 -- Assumes nothing.
-use mathlib.Core.Path.{refl}
-use Rattle.memory.proofs.Images.{image-length, image-bytes, image-sums, image-number-lt, two-views}
-use Rattle.promises.specs.Images.{StreamSizes, StreamToImage, ImageToStream}
+use Rattle.promises.proofs.Names.{refl, image-length, image-bytes, image-sums, image-number-lt, two-views, StreamSizes, StreamToImage, ImageToStream}
 
 pub stream-sizes : StreamSizes
 stream-sizes = record { image0 = refl; image1 = refl; image2 = refl; stream0 = refl; stream1 = refl; stream2 = refl }

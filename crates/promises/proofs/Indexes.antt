@@ -1,41 +1,9 @@
 -- An index, and fields fetched through it.
-use mathlib.Core.Path.{_≡_, refl, sym, ap, _∙_}
-use mathlib.Core.Bool.{Bool, true, false, cond}
-use mathlib.Core.List.{List, [], _∷_, _++_, map}
-use Prim.Native.Nat.{ℕ, suc, _-_, _≤_, _<_}
-use native.Mathlib.Omega.{arith}
-use native.Mathlib.Decide.{decLt}
-use lib.Dec.{eqb}
-use lib.ListN.{length, drop}
-use lib.Seq.{map-set-same}
-use Rattle.refusal.specs.Outcome.{Outcome, good, refused, _>>_, _>>=_}
-use Rattle.refusal.proofs.Outcomes.{good-same}
-use Rattle.memory.specs.declared.Sizes.{Sizes}
-use Rattle.memory.specs.Image.{imageSizes, sums}
-use Rattle.memory.proofs.Chips.{sizes-chip}
-use Rattle.fields.specs.declared.Layout.{Layout}
-use Rattle.fields.specs.Lines.{lastField}
-use Rattle.fields.proofs.TemplateFacts.{last-most, bits-least}
-use Rattle.layout.specs.Contents.{Contents}
-use Rattle.layout.specs.Image.{contents, nothing, field, layoutOf, pairsIn}
-use Rattle.layout.proofs.Accepted.{contents-accepted}
-use Rattle.sheet.specs.Check.{readField}
-use Rattle.layout.proofs.PlaceSteps.{fields-end}
-use Rattle.sheet.proofs.ReadLaws.{refused-reads}
-use Rattle.fields.specs.declared.Value.{Value}
-use Rattle.fields.specs.Rules.{decode}
-use Rattle.fields.specs.Stored.{kept}
-use Rattle.change.specs.Change.{codeFor, mayCommit}
-use Rattle.index.specs.declared.Entry.{Entry}
-use Rattle.index.specs.Index.{fieldEntry, pairEntry, entries, entryBytes, entryAt, index, fetch}
-use Rattle.index.specs.Laid.{entryOf}
-use Rattle.index.proofs.Laying.{bytes-count}
-use Rattle.index.proofs.EntryLaws.{of-pair, lies, entry-rises}
-use Rattle.index.proofs.IndexLaws.{index-unread, index-of, index-same}
-use Rattle.index.proofs.FetchLaws.{fetch-unsized, fetch-turned}
-use Rattle.index.proofs.Fetched.{read-back, fetched-own}
-use Rattle.promises.specs.Alterations.{Alteration, changes, commits, altered, replaced, left, heldBy, held}
-use Rattle.promises.specs.Index.{FetchedAsRead, RefusedAlike, IndexSorted, IndexFits, IndexKept, FetchedAfterChanges}
+use Rattle.promises.proofs.Names.{_≡_, refl, sym, ap, _∙_, Bool, true, false, cond, List, [], _∷_, _++_, map, ℕ, suc, _-_, _≤_, _<_, arith, decLt, eqb, length, drop, map-set-same, Outcome, good, refused, _>>_}
+use Rattle.promises.proofs.Names.{_>>=_, good-same, Sizes, imageSizes, sums, sizes-chip, Layout, lastField, last-most, bits-least, Contents, contents, nothing, field, layoutOf, pairsIn, contents-accepted}
+use Rattle.promises.proofs.Names.{readField, fields-end, refused-reads, Value, decode, kept, codeFor, mayCommit, Entry, fieldEntry, pairEntry, entries, entryBytes, entryAt, index, fetch, entryOf, bytes-count}
+use Rattle.promises.proofs.Names.{of-pair, lies, entry-rises, index-unread, index-of, index-same, fetch-unsized, fetch-turned, read-back, fetched-own, Alteration, changes, commits, altered, replaced, left, heldBy}
+use Rattle.promises.proofs.Names.{held, FetchedAsRead, RefusedAlike, IndexSorted, IndexFits, IndexKept, FetchedAfterChanges}
 use Rattle.promises.proofs.AfterAlterations.{after-alterations, refused-after}
 
 -- ---- fetched as read

@@ -1,29 +1,7 @@
 -- What a reading is taken from: the points that were lent and the ends of the span, as an image holds them after a build and whatever changes and commits.
-use mathlib.Core.Path.{_≡_, sym, ap, _∙_, subst}
-use mathlib.Core.List.{List, [], map}
-use Prim.Native.Nat.{ℕ, _≤_}
-use native.Mathlib.Nat.{le-refl}
-use native.Mathlib.Omega.{arith}
-use lib.IntN.{ℤ}
-use Rattle.refusal.specs.Outcome.{good}
-use Rattle.refusal.proofs.Outcomes.{good-same}
-use Rattle.memory.specs.Bits.{Bytes}
-use Rattle.memory.specs.Pieces.{pack}
-use Rattle.memory.proofs.Images.{image-bytes}
-use Rattle.fields.specs.declared.Domain.{Domain}
-use Rattle.fields.specs.Lines.{lastField}
-use Rattle.fields.proofs.TemplateFacts.{span-listed}
-use Rattle.layout.specs.Contents.{Calibration, Contents}
-use Rattle.layout.specs.Image.{contents, pairIn, pairsIn, points, segmentIn, segmentsIn, segments}
-use Rattle.sheet.specs.Check.{domainIn}
-use Rattle.sheet.proofs.ReadLaws.{accepted-reads}
-use Rattle.build.specs.declared.Sheet.{Sheet}
-use Rattle.build.specs.Build.{pairsLent, listed, build}
-use Rattle.reading.specs.Reading.{least, greatest}
-use Rattle.promises.specs.Lent.{Lendable}
-use Rattle.promises.specs.Again.{keptPair, domainLent}
-use Rattle.promises.specs.Alterations.{Alteration, RealAlterations, altered, held}
-use Rattle.promises.specs.Certificate.{whole, leastIn, greatestIn}
+use Rattle.promises.proofs.Names.{_≡_, sym, ap, _∙_, subst, List, [], map, ℕ, _≤_, le-refl, arith, ℤ, good, good-same, Bytes, pack, image-bytes, Domain, lastField, span-listed, Calibration, Contents, contents}
+use Rattle.promises.proofs.Names.{pairIn, pairsIn, points, segmentIn, segmentsIn, segments, domainIn, accepted-reads, Sheet, pairsLent, listed, build, least, greatest, Lendable, keptPair, domainLent, Alteration}
+use Rattle.promises.proofs.Names.{RealAlterations, altered, held, whole, leastIn, greatestIn}
 use Rattle.promises.proofs.Written.{built, written-and-read-again}
 use Rattle.promises.proofs.AfterAlterations.{same-kind, after-alterations, held-calibration}
 

@@ -1,25 +1,12 @@
 -- What the type of a parameter says: a sheet that is lent is `Lendable`.
 -- Assumes nothing.
-use mathlib.Core.Path.{subst}
-use mathlib.Core.List.{List, [], _∷_, map}
-use lib.ListN.{length-map}
-use mir.Val.{Val}
-use denote.Shadow.{shadow}
+use Rattle.promises.proofs.Names.{subst, List, [], _∷_, map, length-map, Val, shadow, each, tells, Value, Real, the-laws, lent-real, Slot, Sheet, AllReal, Lendable}
 use denote.Laws.{Is}
-use denote.Array.{each}
 use denote.Enum.Declared as enum
-use denote.Enum.Laws.{tells}
 use denote.Struct.Declared as struct
-use Rattle.fields.specs.declared.Value.{Value}
-use Rattle.fields.specs.Stored.{Real}
 use Rattle.fields.proofs.Value as value
-use Rattle.fields.proofs.Value.Laws.{the-laws}
-use Rattle.change.proofs.PartLaws.{lent-real}
-use Rattle.build.specs.declared.Slot.{Slot}
-use Rattle.build.specs.declared.Sheet.{Sheet}
 use Rattle.build.proofs.Slot as slot
 use Rattle.build.proofs.Sheet as sheet
-use Rattle.promises.specs.Lent.{AllReal, Lendable}
 
 -- A value, whatever machine values stand for it.
 value-real : (v : Value) (vs : List Val) → Is (enum.row value.the-type) v vs → Real v

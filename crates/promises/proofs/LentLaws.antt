@@ -1,24 +1,7 @@
 -- Changes and commits lent as slices.
 -- Assumes nothing.
-use mathlib.Core.Path.{_≡_, refl, sym, ap, _∙_, subst}
-use mathlib.Core.List.{List, [], _∷_, _++_}
-use mathlib.Core.Logic.{_≢_}
-use Prim.Native.Nat.{ℕ, zero, suc, _+_, _≤_, _<_}
-use native.Mathlib.Numerals.{add-one}
-use native.Mathlib.Omega.{arith}
-use borrow.Author.Tests.{ne-eqb}
-use lib.IntN.{ℤ, pos}
-use lib.Ieee.{Float, nan}
-use lib.ListN.{length, getD}
-use Rattle.refusal.specs.Written.{afterwards}
-use Rattle.fields.specs.declared.Value.{Value}
-use Rattle.fields.specs.declared.Value.the-variants.{Missing}
-use Rattle.fields.specs.declared.Level.{Level}
-use Rattle.fields.specs.declared.Level.the-variants.{Owner}
-use Rattle.fields.specs.Stored.{Real}
-use Rattle.change.specs.Change.{change, commit}
-use Rattle.promises.specs.Alterations.{Alteration, RealAlteration, RealAlterations, alteredBy, altered}
-use Rattle.promises.specs.AlterationsLent.{levelLent, valueOfSort, valueAt, alterationLent, alterationsBefore, alterationsLent}
+use Rattle.promises.proofs.Names.{_≡_, refl, sym, ap, _∙_, subst, List, [], _∷_, _++_, _≢_, ℕ, zero, suc, _+_, _≤_, _<_, add-one, arith, ne-eqb, ℤ, pos, Float, nan, length, getD, afterwards, Value, Missing, Level}
+use Rattle.promises.proofs.Names.{Owner, Real, change, commit, Alteration, RealAlteration, RealAlterations, alteredBy, altered, levelLent, valueOfSort, valueAt, alterationLent, alterationsBefore, alterationsLent}
 
 pub level-other : (n : ℕ) → n ≢ 1 → n ≢ 2 → Owner ≡ levelLent n
 level-other zero no1 no2 = refl

@@ -1,37 +1,9 @@
 -- Note 6: what a level may write.
-use mathlib.Core.Path.{_≡_, refl, sym, ap, _∙_, subst}
-use mathlib.Core.Bool.{Bool, true, false, not, _||_}
-use mathlib.Core.List.{List, [], _∷_}
-use Prim.Native.Nat.{ℕ, suc, _≤_}
-use native.Mathlib.Omega.{arith}
-use lib.Dec.{eqb, ltb}
-use lib.IntN.{ℤ}
-use lib.ListN.{length}
-use borrow.Author.Tests.{ne-eqb, le-ltb}
-use Rattle.refusal.specs.Outcome.{Outcome, good, refused, _>>_, _>>=_, refuse_if_}
-use Rattle.refusal.specs.Written.{afterwards}
-use Rattle.refusal.specs.Rows.{noSuch, changedAlone, levelTooLow}
-use Rattle.refusal.proofs.Outcomes.{bind-same, bind-good, bind-refused, then-good}
-use Rattle.memory.specs.declared.Sizes.{Sizes}
-use Rattle.fields.specs.declared.Value.{Value}
-use Rattle.fields.specs.declared.Level.{Level}
-use Rattle.fields.specs.declared.Level.the-variants.{Owner, CalibrationRoom, Maker}
-use Rattle.fields.specs.declared.Mark.{Mark}
-use Rattle.fields.specs.declared.Mark.the-variants.{Id, Cal, Usr}
-use Rattle.fields.specs.Rules.{encode}
-use Rattle.fields.specs.Lines.{Line, chose, basic, template33, template32, templateLines, linesOf, lineOf, numberOf}
-use Rattle.fields.specs.Levels.{mayWrite, rank}
-use Rattle.memory.specs.Pieces.{Piece, piece}
-use Rattle.layout.specs.Pieces.{blockPieces}
-use Rattle.layout.specs.Contents.{Found, Contents}
-use Rattle.layout.specs.Image.{contents, field}
-use Rattle.build.specs.declared.Sheet.{Sheet}
-use Rattle.build.specs.Build.{lent, templateIn, linePieces, fieldPieces, plan, builtIn, buildWith}
-use Rattle.change.specs.Change.{changeable, codeFor, rewritten, change, propose, mayCommit, commit}
-use Rattle.change.proofs.Recoding.{Changeable, changeable-good, code-found, change-is, change-made}
-use Rattle.change.proofs.CommitLaws.{commit-is}
-use Rattle.change.proofs.Commits.{commit-allowed, commit-made}
-use Rattle.promises.specs.Levels.{FieldsOfLevels, changeAsBefore, MakerAsBefore, RefusedTo, LowerRefused, HigherMayToo, LevelsNest, atLevel, BuildAsksNoLevel}
+use Rattle.promises.proofs.Names.{_≡_, refl, sym, ap, _∙_, Bool, true, false, _||_, List, [], _∷_, ℕ, suc, _≤_, arith, eqb, ltb, length, ne-eqb, le-ltb, good, refused, _>>_, _>>=_, refuse_if_, afterwards, noSuch}
+use Rattle.promises.proofs.Names.{changedAlone, levelTooLow, bind-same, bind-good, bind-refused, then-good, Value, Level, Owner, CalibrationRoom, Maker, Mark, Id, Cal, Usr, encode, Line, chose, basic, template33}
+use Rattle.promises.proofs.Names.{template32, templateLines, linesOf, lineOf, mayWrite, rank, piece, Found, Contents, contents, field, Sheet, lent, templateIn, linePieces, fieldPieces, plan, builtIn, buildWith}
+use Rattle.promises.proofs.Names.{changeable, codeFor, rewritten, change, propose, mayCommit, commit, Changeable, changeable-good, code-found, change-is, change-made, commit-is, commit-allowed, commit-made}
+use Rattle.promises.proofs.Names.{FieldsOfLevels, changeAsBefore, MakerAsBefore, RefusedTo, LowerRefused, HigherMayToo, LevelsNest, atLevel, BuildAsksNoLevel}
 
 pub fields-of-levels : FieldsOfLevels
 unfolding linesOf basic template33 template32

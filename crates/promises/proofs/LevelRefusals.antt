@@ -1,28 +1,8 @@
 -- Note 6: 20 is returned only where the level does not hold the field.
 -- Assumes nothing.
-use mathlib.Core.Path.{_≡_, refl, sym, ap, _∙_, subst}
-use mathlib.Core.Bool.{Bool, true, false, not, _||_}
-use mathlib.Core.List.{List, [], _∷_}
-use Prim.Native.Nat.{ℕ, _≤_, _<_}
-use native.Mathlib.Omega.{arith}
-use lib.Dec.{eqb, ltb}
-use lib.ListN.{length}
-use borrow.Author.Tests.{eqb-false, ltb-false}
-use Rattle.refusal.specs.declared.Refusal.{Refusal}
-use Rattle.refusal.specs.Outcome.{Outcome, good, refused, _>>=_, _>>_, refuse_if_}
-use Rattle.refusal.specs.Rows.{noSuch, changedAlone, levelTooLow, outOfRange, otherCode}
-use Rattle.refusal.specs.Orders.{occurs, By, checkOrder}
-use Rattle.refusal.proofs.Outcomes.{neither, bind-assoc}
-use Rattle.refusal.proofs.OrderLaws.{by-among, by-bind, by-then, by-test, by-last, by-number}
-use Rattle.fields.specs.declared.Value.{Value}
-use Rattle.fields.specs.declared.Level.{Level}
-use Rattle.fields.specs.Rules.{decode, encode}
-use Rattle.fields.specs.Lines.{lineOf}
-use Rattle.fields.specs.Levels.{mayWrite}
-use Rattle.layout.specs.Contents.{Found, Contents}
-use Rattle.layout.specs.Image.{contents, field}
-use Rattle.change.specs.Change.{changeable, codeFor, rewritten, change, proposedFor, propose, mayStand, mayCommit, commit}
-use Rattle.promises.specs.Levels.{NotHeld, RefusedOnlyThere}
+use Rattle.promises.proofs.Names.{_≡_, refl, sym, ap, _∙_, subst, Bool, true, false, not, _||_, List, [], _∷_, ℕ, _<_, arith, eqb, ltb, length, eqb-false, ltb-false, Refusal, Outcome, good, refused, _>>=_, _>>_}
+use Rattle.promises.proofs.Names.{refuse_if_, noSuch, changedAlone, levelTooLow, outOfRange, otherCode, occurs, By, checkOrder, neither, bind-assoc, by-among, by-bind, by-then, by-test, by-last, by-number, Value}
+use Rattle.promises.proofs.Names.{Level, decode, encode, lineOf, mayWrite, Found, Contents, contents, field, changeable, codeFor, rewritten, change, propose, mayStand, mayCommit, commit, NotHeld, RefusedOnlyThere}
 use Rattle.promises.proofs.Refusals.{contents-by, decode-by, encode-by, rewritten-by}
 
 -- The rows that a call adds to 8, 12 and 20; 20 is not among them.

@@ -1,3 +1,4 @@
+mod Names
 pub mod Blanks
 pub mod AfterAlterations
 pub mod Indexes

@@ -1,43 +1,10 @@
 -- Row 11: the bits that a build needs.
-use mathlib.Core.Path.{_≡_, refl, sym, ap, ap₂, _∙_, subst}
-use mathlib.Core.Bool.{Bool, true, false, cond}
-use mathlib.Core.List.{List, [], _∷_, _++_, map}
-use mathlib.Core.Option.{Option, none as none-before, some}
-use Prim.Native.Nat.{ℕ, zero, suc, _+_, _-_, _*_, _≤_}
-use native.Mathlib.Omega.{arith}
-use lib.Dec.{ltb, leb}
-use lib.IntN.{ℤ, pos}
-use lib.ListN.{length, drop, length-map, length-append}
-use lib.Seq.{length-take-le}
-use borrow.Author.Tests.{lt-ltb, leb-true}
-use Rattle.refusal.specs.Outcome.{good, _>>=_}
-use Rattle.refusal.specs.Rows.{outOfRange}
-use Rattle.refusal.proofs.Outcomes.{good-same, good-bind, passed, both}
-use Rattle.memory.specs.Pieces.{Piece, piece, needed}
-use Rattle.memory.proofs.PieceLaws.{needed-append}
-use Rattle.fields.specs.declared.Value.the-variants.{Whole}
-use Rattle.fields.specs.declared.Rule.the-variants.{Plain}
-use Rattle.fields.specs.declared.Row.{Row}
-use Rattle.fields.specs.declared.Template.{Template}
-use Rattle.fields.specs.declared.Template.the-variants.{Bridge, Resistance}
-use Rattle.fields.specs.declared.Layout.{Layout}
-use Rattle.fields.specs.Rules.{outside, encode}
-use Rattle.fields.specs.Rows.{always, bridgePrecision, resistancePrecision}
-use Rattle.fields.specs.Lines.{Line, chose, basic, template33, template32, templateLines, linesOf, numberOf, bitsBefore}
-use Rattle.fields.specs.declared.Segment.{Segment}
-use Rattle.fields.specs.declared.Term.{Term}
-use Rattle.layout.specs.Image.{pairIn, pairsIn, segmentsIn, segmentIn, allTerms, termIn}
-use Rattle.layout.specs.Places.{blockBits, fieldPlace, behindFields, tableBits, curveBits}
-use Rattle.layout.specs.Pieces.{blockPieces, endCode}
-use Rattle.layout.proofs.Choices.{Steady, basic-settled, template-steady, bits-append}
-use Rattle.layout.proofs.Calibrations.{calibration-needed}
-use Rattle.layout.proofs.Endings.{text-needed}
-use Rattle.build.specs.declared.Sheet.{Sheet}
-use Rattle.build.specs.Build.{lent, templateIn, linePieces, pairsLent, segmentPieces, Table, listed, drawn, behindPieces}
-use Rattle.build.proofs.CurvePlans.{segments-planned, block-planned}
-use Rattle.build.proofs.SegmentPlans.{start-planned}
-use Rattle.promises.specs.Again.{keptPair, keptSegment, segmentsLent, termsIn, behindBits, BitsNeeded, BridgeBits, ResistanceBits}
-use Rattle.promises.specs.Lent.{LendableTable}
+use Rattle.promises.proofs.Names.{_≡_, refl, sym, ap, ap₂, _∙_, Bool, true, false, cond, List, [], _∷_, _++_, map, Option, none-before, some, ℕ, zero, suc, _+_, _-_, _≤_, arith, leb, pos, length, drop, length-map}
+use Rattle.promises.proofs.Names.{length-append, length-take-le, lt-ltb, leb-true, good, _>>=_, outOfRange, good-same, good-bind, passed, both, Piece, piece, needed, needed-append, Whole, Plain, Template, Bridge}
+use Rattle.promises.proofs.Names.{Resistance, outside, encode, always, bridgePrecision, resistancePrecision, Line, chose, basic, template33, template32, templateLines, linesOf, numberOf, bitsBefore, Segment, Term}
+use Rattle.promises.proofs.Names.{pairIn, pairsIn, segmentsIn, segmentIn, allTerms, termIn, blockBits, fieldPlace, behindFields, tableBits, curveBits, blockPieces, endCode, Steady, basic-settled, template-steady}
+use Rattle.promises.proofs.Names.{bits-append, calibration-needed, text-needed, Sheet, lent, templateIn, linePieces, pairsLent, segmentPieces, Table, listed, drawn, behindPieces, segments-planned, block-planned}
+use Rattle.promises.proofs.Names.{start-planned, keptPair, keptSegment, segmentsLent, termsIn, behindBits, BitsNeeded, BridgeBits, ResistanceBits, LendableTable}
 use Rattle.promises.proofs.PlannedSheet.{plan-parts, BehindStands, behind-stands}
 
 -- ---- the bits of lines

@@ -1,25 +1,7 @@
 -- Note 14: the position never falls, and the fraction goes by it.
-use mathlib.Core.Path.{_≡_, refl, sym, ap, _∙_, subst₂}
-use mathlib.Core.List.{List, map}
-use Prim.Native.Nat.{ℕ}
-use native.Mathlib.Omega.{arith}
-use lib.IntN.{ℤ}
-use lib.Signed.{_≤ℤ_}
-use Rattle.refusal.specs.Outcome.{good}
-use Rattle.refusal.proofs.Outcomes.{good-same}
-use Rattle.fields.specs.declared.Domain.the-variants.{Electrical, Physical}
-use Rattle.layout.specs.Contents.{Calibration, bare, table, curve, Contents}
-use Rattle.layout.specs.Image.{contents, pairIn}
-use Rattle.layout.proofs.Calibrations.{CalibrationAt}
-use Rattle.layout.proofs.Accepted.{contents-accepted}
-use Rattle.sheet.specs.declared.TableDomain.the-variants.{Is}
-use Rattle.sheet.specs.Check.{domainIn}
-use Rattle.line.proofs.Needle.{deviated-never-falls, crossing-never-falls}
-use Rattle.reading.specs.Reading.{least, greatest, position, fraction}
-use Rattle.reading.proofs.Opening.{calibration-table, calibration-rises}
-use Rattle.reading.proofs.Orders.{shown}
-use Rattle.reading.proofs.Positions.{position-rises}
-use Rattle.promises.specs.Needle.{NeverFalls, NeverDrops, Needle, NeedleByPhysicalPoint}
+use Rattle.promises.proofs.Names.{_≡_, refl, sym, ap, _∙_, subst₂, List, map, ℕ, arith, ℤ, _≤ℤ_, good, good-same, Electrical, Physical, Calibration, bare, table, curve, Contents, contents, pairIn, CalibrationAt}
+use Rattle.promises.proofs.Names.{contents-accepted, Is, domainIn, deviated-never-falls, crossing-never-falls, least, greatest, position, fraction, calibration-table, calibration-rises, shown, position-rises}
+use Rattle.promises.proofs.Names.{NeverFalls, NeverDrops, Needle, NeedleByPhysicalPoint}
 
 -- A greater position never has a smaller fraction.
 abbrev Follows : Calibration → Type 0

@@ -1,7 +1,6 @@
 -- Every call refuses by a row that its order names.
 -- Assumes nothing.
-use mathlib.Core.Path.{refl}
-use Rattle.promises.specs.Refusals.{RefusedByOrder, NeverZero, NeverFifteen}
+use Rattle.promises.proofs.Names.{refl, RefusedByOrder, NeverZero, NeverFifteen}
 use Rattle.promises.proofs.Refusals.{reads-by-order, text-by, code-by}
 use Rattle.promises.proofs.BuildOrders.{writes-by-order, distance-by}
 

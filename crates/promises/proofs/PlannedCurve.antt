@@ -1,45 +1,15 @@
 -- A curve: what a build plans may stand there, and what stands there is planned again.
-use mathlib.Core.Path.{_≡_, refl, sym, ap, ap₂, _∙_, subst}
-use mathlib.Core.Bool.{Bool, true, false, not, true≢false}
-use mathlib.Core.List.{List, [], _∷_, _++_, map, map-append}
-use mathlib.Core.Option.{Option, none, some}
-use Prim.Native.Nat.{ℕ, zero, suc, _+_, _*_, _/_, _≤_, _<_}
-use native.Mathlib.Omega.{arith}
-use borrow.Author.Tests.{not-false, le-ltb, le-leb, leb-true}
-use lib.Dec.{ltb, leb}
-use lib.IntN.{ℤ, pos, negsuc, natAbs, _*ℤ_}
-use lib.ListN.{length, take, drop, length-map, length-append, length-take, length-drop}
-use lib.Seq.{take-add, take-append-seam, drop-append-seam, length-take-le, take-all, take-take, drop-drop}
-use lib.Signed.{ltZ}
-use Rattle.integers.specs.Parts.{up, dn}
-use Rattle.integers.proofs.PartLaws.{same, nltZ-parts, is-false}
-use Rattle.refusal.specs.Outcome.{good}
-use Rattle.refusal.specs.Rows.{wrongCurve}
-use Rattle.refusal.proofs.Outcomes.{good-same, passed, both}
-use Rattle.memory.specs.Pieces.{Piece, piece, needed}
-use Rattle.fields.specs.declared.Value.the-variants.{Whole, Single}
-use Rattle.fields.specs.declared.Segment.{Segment}
-use Rattle.fields.specs.declared.Term.{Term}
-use Rattle.fields.specs.declared.Curve.{Curve}
-use Rattle.fields.specs.Rules.{encode}
-use Rattle.fields.specs.Stored.{kept, Real}
-use Rattle.fields.specs.Curves.{segmentStart, termCount, exponent, coefficient, isTermCount, mostTerms, isExponent, tenthsOf, tenthsBefore, exponentFollows, exponentCode}
-use Rattle.fields.proofs.RowLaws.{start-sound, exponent-sound, coefficient-sound}
-use Rattle.fields.proofs.RuleLaws.{stepped-whole}
-use Rattle.fields.proofs.StoredLaws.{reads-back, stored-again}
-use Rattle.fields.proofs.CurveLaws.{power, follows-some, below-zero, above-five, between, exponent-taken, power-is, terms-most}
-use Rattle.layout.specs.Contents.{Found, FoundTerm, FoundSegment, Calibration, curve as curveFound, Passed, behindTerm, behindSegment, nothingPassed}
-use Rattle.layout.specs.Image.{figure, float, allTerms, segmentIn, termIn}
-use Rattle.layout.specs.Pieces.{blockPieces}
-use Rattle.layout.proofs.Fields.{found, FieldAt, width-is, plain-field}
-use Rattle.layout.proofs.Curves.{RuledAt, rises, TermAt, TermsAt, termsPieces, SegmentAt, SegmentsAt, segmentPieces, segmentsPieces}
-use Rattle.layout.proofs.CurveTerms.{coefficient-is, exponent-is, exponent-whole, exponent-power, exponent-back}
-use Rattle.layout.proofs.Calibrations.{calibrationPieces, CalibrationAt}
+use Rattle.promises.proofs.Names.{_≡_, refl, sym, ap, ap₂, _∙_, subst, Bool, true, false, not, true≢false, List, [], _∷_, _++_, map, map-append, Option, none, some, ℕ, zero, suc, _+_, _*_, _≤_, arith, not-false}
+use Rattle.promises.proofs.Names.{le-ltb, le-leb, leb-true, ltb, leb, ℤ, pos, negsuc, _*ℤ_, length, take, drop, length-map, length-append, length-take, length-drop, take-add, take-append-seam, drop-append-seam}
+use Rattle.promises.proofs.Names.{length-take-le, ltZ, up, dn, same, nltZ-parts, is-false, good, wrongCurve, good-same, passed, both, Piece, piece, needed, Whole, Single, Segment, Term, Curve, encode, kept}
+use Rattle.promises.proofs.Names.{segmentStart, termCount, exponent, coefficient, isTermCount, mostTerms, tenthsOf, tenthsBefore, exponentFollows, exponentCode, start-sound, exponent-sound, coefficient-sound}
+use Rattle.promises.proofs.Names.{stepped-whole, reads-back, stored-again, power, follows-some, below-zero, above-five, exponent-taken, power-is, terms-most, FoundTerm, FoundSegment, curveFound, Passed}
+use Rattle.promises.proofs.Names.{behindSegment, nothingPassed, figure, float, allTerms, segmentIn, termIn, blockPieces, found, width-is, plain-field, TermAt, TermsAt, termsPieces, SegmentAt, SegmentsAt}
+use Rattle.promises.proofs.Names.{segmentsPieces, coefficient-is, exponent-is, exponent-power, exponent-back, calibrationPieces, CalibrationAt, terms-planned, no-term, segments-planned, no-segment, block-planned}
+use Rattle.promises.proofs.Names.{start-planned, AllRealTerms, LendableCurve, keptSegment, segmentsLent, termsIn, termsLent}
+use Rattle.fields.proofs.CurveLaws.{between}
+use Rattle.layout.proofs.Curves.{segmentPieces}
 use Rattle.build.specs.Build as plan
-use Rattle.build.proofs.CurvePlans.{terms-planned, no-term, segments-planned, no-segment, block-planned}
-use Rattle.build.proofs.SegmentPlans.{start-planned}
-use Rattle.promises.specs.Lent.{AllRealTerms, LendableCurve}
-use Rattle.promises.specs.Again.{keptSegment, segmentsLent, termsIn, termsLent}
 
 -- ---- an exponent that was planned
 

@@ -1,24 +1,6 @@
 -- What a build plans by lines may stand there, and what stands there is planned again: for any lines.
-use mathlib.Core.Path.{_≡_, refl, sym, ap, ap₂, _∙_, subst}
-use mathlib.Core.List.{List, [], _∷_, _++_, map}
-use Prim.Native.Nat.{ℕ, zero, suc, _+_, _-_, _^_, _<_}
-use native.Mathlib.Omega.{arith}
-use lib.ListN.{length, getD}
-use Rattle.refusal.specs.Outcome.{Outcome, good, _>>=_}
-use Rattle.refusal.proofs.Outcomes.{good-same, good-bind}
-use Rattle.memory.specs.Pieces.{Piece, piece}
-use Rattle.fields.specs.declared.Value.{Value}
-use Rattle.fields.specs.declared.Value.the-variants.{Missing}
-use Rattle.fields.specs.declared.Row.{Row}
-use Rattle.fields.specs.Rules.{decode, encode}
-use Rattle.fields.specs.Stored.{kept, Real, AllSound}
-use Rattle.fields.specs.Lines.{Line, chose, rowsOf}
-use Rattle.fields.proofs.StoredLaws.{reads-back, stored-again}
-use Rattle.layout.specs.Contents.{Found}
-use Rattle.layout.proofs.Fields.{pieceOf, found, FieldAt, row-is, Laid}
-use Rattle.build.specs.declared.Slot.{Slot}
-use Rattle.build.specs.declared.Sheet.{Sheet}
-use Rattle.build.specs.Build.{slot, lent, linePieces}
+use Rattle.promises.proofs.Names.{_≡_, refl, sym, ap, _∙_, subst, List, [], _∷_, _++_, map, ℕ, suc, _+_, _-_, arith, length, getD, good, _>>=_, good-same, good-bind, Piece, piece, Value, Missing, Row, encode}
+use Rattle.promises.proofs.Names.{kept, Real, AllSound, Line, chose, rowsOf, reads-back, stored-again, Found, pieceOf, found, row-is, Laid, Slot, Sheet, slot, lent, linePieces}
 
 -- The rows are sound whatever the choice.
 abbrev pub SoundLines : List Line → Type 0

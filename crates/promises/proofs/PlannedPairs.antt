@@ -1,35 +1,8 @@
 -- The calibration pairs: what a build plans may stand there, and what stands there is planned again.
-use mathlib.Core.Path.{_≡_, refl, sym, ap, ap₂, _∙_, subst}
-use mathlib.Core.List.{List, [], _∷_, _++_, map}
-use mathlib.Core.Option.{Option, none, some}
-use Prim.Native.Nat.{ℕ, zero, suc, _+_, _*_, _≤_, _<_}
-use native.Mathlib.Omega.{arith}
-use lib.ListN.{length, length-map}
-use lib.IntN.{ℤ, pos}
-use Rattle.refusal.specs.Outcome.{Outcome, good, _>>=_, _>>_}
-use Rattle.refusal.proofs.Outcomes.{good-same, good-bind}
-use Rattle.memory.specs.Pieces.{Piece, piece, needed}
-use Rattle.fields.specs.declared.Value.{Value}
-use Rattle.fields.specs.declared.Value.the-variants.{Whole}
-use Rattle.fields.specs.declared.Pair.{Pair}
-use Rattle.fields.specs.declared.Codes.{Codes}
-use Rattle.fields.specs.declared.Domain.{Domain}
-use Rattle.fields.specs.Rules.{decode, encode}
-use Rattle.fields.specs.Stored.{kept}
-use Rattle.fields.specs.Calibration.{domainCode, calPoint, calDeviation}
-use Rattle.fields.proofs.RowLaws.{point-sound, deviation-sound}
-use Rattle.fields.proofs.RuleLaws.{stepped-whole}
-use Rattle.fields.proofs.CalibrationLaws.{follows-anywhere}
-use Rattle.fields.proofs.StoredLaws.{reads-back, stored-again}
-use Rattle.layout.specs.Contents.{Found, FoundPair, Calibration, bare, table, curve, paired, codesIn}
-use Rattle.layout.specs.Image.{figure, pairIn, pairsIn, segmentsIn}
-use Rattle.layout.specs.Pieces.{blockPieces}
-use Rattle.layout.proofs.Fields.{found, FieldAt, width-is}
-use Rattle.layout.proofs.Calibrations.{foundPairPieces, PairAt, foundPairsPieces, PairsAt, calibrationPieces, TableAt, CalibrationAt}
-use Rattle.sheet.specs.Check.{domainIn}
-use Rattle.build.specs.Build.{codesFor, pairCodes, pairPieces, tablePieces}
-use Rattle.build.proofs.PairPlans.{codes-planned, PairPlanned, no-pair, pairs-planned, no-table, table-planned}
-use Rattle.promises.specs.Again.{keptPair, domainLent, InDomain}
+use Rattle.promises.proofs.Names.{_≡_, refl, sym, ap, ap₂, _∙_, subst, List, [], _∷_, _++_, map, Option, none, some, ℕ, suc, _+_, _≤_, arith, length, length-map, ℤ, good, _>>=_, _>>_, Piece, piece, Value, Whole}
+use Rattle.promises.proofs.Names.{Pair, Codes, Domain, encode, kept, domainCode, calPoint, calDeviation, point-sound, deviation-sound, stepped-whole, follows-anywhere, reads-back, stored-again, FoundPair}
+use Rattle.promises.proofs.Names.{Calibration, bare, table, curve, paired, codesIn, figure, pairIn, pairsIn, segmentsIn, blockPieces, found, width-is, PairAt, foundPairsPieces, PairsAt, calibrationPieces}
+use Rattle.promises.proofs.Names.{CalibrationAt, domainIn, codesFor, pairCodes, pairPieces, tablePieces, codes-planned, PairPlanned, no-pair, pairs-planned, no-table, table-planned, keptPair, domainLent, InDomain}
 
 -- ---- one pair
 

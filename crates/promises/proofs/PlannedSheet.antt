@@ -1,36 +1,11 @@
 -- A whole plan: what it writes may stand in a stream, with the zero that may end the text, and what stands there is planned again.
-use mathlib.Core.Path.{_≡_, refl, sym, ap, ap₂, _∙_, subst}
-use mathlib.Core.Bool.{Bool, true, false, not, _&&_, _||_}
-use mathlib.Core.List.{List, [], _∷_, _++_, map, append-assoc}
-use Prim.Native.Nat.{ℕ, zero, suc, _+_, _-_, _*_, _/_, _%_, _≤_, _<_}
-use native.Mathlib.Omega.{arith}
-use lib.Dec.{eqb, ltb, leb}
-use lib.IntN.{ℤ}
-use lib.ListN.{length, take, length-map}
-use borrow.Author.Tests.{ltb-false, le-ltb, lt-ltb, leb-true, leb-false, eqb-false, ne-eqb}
-use Rattle.refusal.specs.declared.Refusal.{Refusal}
-use Rattle.refusal.specs.Outcome.{good, refuse_if_}
-use Rattle.refusal.specs.Rows.{wrongSort, outOfRange, wrongList}
-use Rattle.refusal.proofs.Outcomes.{good-same, good-bind, good-then, passed, no-value, neither, bind-good}
-use Rattle.memory.specs.Pieces.{Piece, piece, needed}
-use Rattle.memory.proofs.PieceLaws.{needed-append}
-use Rattle.fields.specs.declared.Template.{Template}
-use Rattle.fields.specs.Lines.{basic, templateLines, numberOf, ending}
-use Rattle.fields.specs.Stored.{Real}
-use Rattle.fields.specs.declared.Domain.{Domain}
-use Rattle.fields.proofs.RowLaws.{basic-sound, lines-sound}
-use Rattle.layout.specs.Contents.{Found, Calibration, bare, table as tableFound, curve as curveFound, Contents}
-use Rattle.layout.specs.Image.{pairIn, pairsIn, segmentsIn, allTerms, segmentIn, termIn, points, segments, terms}
-use Rattle.layout.specs.Pieces.{blockPieces, endCode}
-use Rattle.layout.proofs.Fields.{pieceOf, laid-length}
-use Rattle.layout.proofs.Calibrations.{calibrationPieces, CalibrationAt}
-use Rattle.layout.proofs.Endings.{Characters, zeroIf, text-needed, charactersFrom, endPieces, EndingAt}
-use Rattle.layout.proofs.Sheets.{Formed, sheetPieces}
-use Rattle.sheet.specs.Check.{domainIn}
-use Rattle.build.specs.declared.Sheet.{Sheet}
-use Rattle.build.specs.Build.{lent, templateIn, linePieces, fieldPieces, unfit, endingPieces, pairsLent, tablePieces, Table, listed, drawn, listTested, behindPieces, plan}
-use Rattle.promises.specs.Lent.{LendableTable}
-use Rattle.promises.specs.Again.{segmentsLent, keptPoints, keptDomain, keptSegments, keptTerms, InDomain}
+use Rattle.promises.proofs.Names.{_≡_, refl, sym, ap, ap₂, _∙_, subst, Bool, true, false, not, _&&_, _||_, List, [], _∷_, _++_, map, append-assoc, ℕ, suc, _+_, _-_, _*_, _/_, _%_, _≤_, _<_, arith, eqb, ltb, leb}
+use Rattle.promises.proofs.Names.{ℤ, length, take, length-map, ltb-false, le-ltb, lt-ltb, leb-true, leb-false, eqb-false, ne-eqb, Refusal, good, refuse_if_, wrongSort, outOfRange, wrongList, good-same, good-bind}
+use Rattle.promises.proofs.Names.{good-then, passed, no-value, neither, bind-good, Piece, piece, needed, needed-append, Template, basic, templateLines, numberOf, ending, Real, Domain, basic-sound, lines-sound}
+use Rattle.promises.proofs.Names.{Calibration, bare, tableFound, curveFound, Contents, pairIn, pairsIn, segmentsIn, allTerms, segmentIn, termIn, points, segments, terms, blockPieces, endCode, pieceOf, laid-length}
+use Rattle.promises.proofs.Names.{calibrationPieces, CalibrationAt, Characters, zeroIf, text-needed, charactersFrom, endPieces, Formed, sheetPieces, domainIn, Sheet, lent, templateIn, linePieces, fieldPieces}
+use Rattle.promises.proofs.Names.{unfit, endingPieces, pairsLent, tablePieces, Table, listed, drawn, listTested, behindPieces, plan, LendableTable, segmentsLent, keptPoints, keptDomain, keptSegments, keptTerms}
+use Rattle.promises.proofs.Names.{InDomain}
 use Rattle.promises.proofs.PlannedFields.{KeptFrom, LentFrom, lines-stand, lines-again, kept-append, lent-split}
 use Rattle.promises.proofs.PlannedPairs.{table-stands, table-again}
 use Rattle.promises.proofs.PlannedCurve.{curve-stands, curve-again}

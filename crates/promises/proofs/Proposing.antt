@@ -1,29 +1,8 @@
 -- Note 5: a proposal and its commit are the change; what a commit stores; a commit after another change.
-use mathlib.Core.Path.{_≡_, refl, sym, ap, _∙_, subst}
-use mathlib.Core.List.{List}
-use Prim.Native.Nat.{ℕ, _-_}
-use native.Mathlib.Omega.{arith}
-use lib.ListN.{length-set}
-use lib.Seq.{getD-set-same}
-use Rattle.refusal.specs.declared.Refusal.{Refusal}
-use Rattle.refusal.specs.Outcome.{Outcome, good, refused, _>>=_}
-use Rattle.refusal.proofs.Outcomes.{good-same, bind-good, bind-refused, then-good, then-refused}
-use Rattle.memory.specs.Bits.{Bytes}
-use Rattle.fields.specs.declared.Value.{Value}
-use Rattle.fields.specs.declared.Level.{Level}
-use Rattle.fields.specs.Stored.{kept, Real}
-use Rattle.fields.proofs.StoredLaws.{reads-back}
-use Rattle.layout.specs.Contents.{Found, Contents}
-use Rattle.layout.specs.Image.{nothing, contents, field}
-use Rattle.layout.proofs.Fields.{recoded}
-use Rattle.layout.proofs.Accepted.{Accepted, contents-accepted}
-use Rattle.layout.proofs.Puts.{withField}
-use Rattle.change.specs.declared.Proposal.{Proposal}
-use Rattle.change.specs.Change.{codeFor, recodedIn, change, propose, commit}
-use Rattle.change.proofs.Recoding.{Changeable, code-found, change-unread, change-is, field-sound, stored-contents}
-use Rattle.change.proofs.CommitLaws.{propose-unread, commit-is, Committed}
-use Rattle.change.proofs.Commits.{means-stands, stands-means, propose-is, commit-allowed, commit-other, commit-made, committed-contents}
-use Rattle.promises.specs.Proposals.{ProposedThenCommitted, whether, ProposalRefused, CommitStores, CommitAfterAnother}
+use Rattle.promises.proofs.Names.{_≡_, refl, sym, ap, _∙_, subst, List, ℕ, _-_, arith, length-set, getD-set-same, Refusal, Outcome, good, refused, _>>=_, good-same, bind-good, bind-refused, then-good}
+use Rattle.promises.proofs.Names.{then-refused, Bytes, Value, Level, kept, Real, reads-back, Found, Contents, nothing, contents, field, recoded, Accepted, contents-accepted, withField, Proposal, codeFor}
+use Rattle.promises.proofs.Names.{recodedIn, change, propose, commit, Changeable, code-found, change-unread, change-is, field-sound, stored-contents, propose-unread, commit-is, Committed, means-stands}
+use Rattle.promises.proofs.Names.{stands-means, propose-is, commit-allowed, commit-other, commit-made, committed-contents, ProposedThenCommitted, whether, ProposalRefused, CommitStores, CommitAfterAnother}
 
 -- ---- a proposal
 

@@ -1,18 +1,6 @@
 -- The small dash.
-use mathlib.Core.Path.{_≡_}
-use mathlib.Core.Bool.{Bool, true, false}
-use Prim.Native.Nat.{ℕ}
-use lib.Dec.{ltb}
-use lib.ListN.{length}
-use borrow.Author.Tests.{le-ltb}
-use Rattle.refusal.specs.declared.Refusal.{Refusal}
-use Rattle.refusal.specs.Outcome.{Outcome, good, _>>_, refuse_if_}
-use Rattle.refusal.specs.Rows.{wrongBlock, tooManyPoints}
-use Rattle.refusal.proofs.Outcomes.{no-value, good-bind, passed}
-use Rattle.layout.specs.Image.{contents, points}
-use Rattle.layout.specs.Places.{firstSelector}
-use Rattle.reading.specs.Reading.{isResistance, takeReading}
-use Rattle.promises.specs.Readings.{SmallShowsLarge, SmallTakesFew}
+use Rattle.promises.proofs.Names.{_≡_, Bool, true, false, ltb, length, le-ltb, Refusal, Outcome, good, _>>_, refuse_if_, wrongBlock, tooManyPoints, no-value, good-bind, passed, contents, points, firstSelector}
+use Rattle.promises.proofs.Names.{isResistance, takeReading, SmallShowsLarge, SmallTakesFew}
 
 -- Behind the test of the points the two go on alike.
 goes-on : {A : Type 0} (t : Bool) (r : Refusal) (o : Outcome A) (a : A) → ((refuse r if t) >> o) ≡ good a → ((refuse r if false) >> o) ≡ good a

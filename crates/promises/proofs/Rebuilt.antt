@@ -1,44 +1,11 @@
 -- Demand 2: read and rebuilt.
-use mathlib.Core.Path.{_≡_, refl, sym, ap, _∙_, subst}
-use mathlib.Core.Bool.{Bool, _&&_}
-use mathlib.Core.List.{List, [], _∷_, _++_, map}
-use Prim.Native.Nat.{ℕ, suc, _+_, _-_, _*_, _^_, _≤_, _<_}
-use native.Mathlib.Omega.{arith}
-use lib.Dec.{leb}
-use lib.IntN.{ℤ}
-use lib.ListN.{length, getD, take, replicate, length-map}
-use lib.Seq.{ext-getD, take-append-seam, length-take-le, getD-take}
-use borrow.Author.Tests.{le-ltb}
-use Rattle.refusal.specs.Outcome.{good}
-use Rattle.refusal.proofs.Outcomes.{bind-good}
-use Rattle.memory.specs.declared.Sizes.{Sizes}
-use Rattle.memory.specs.Bits.{Bytes}
-use Rattle.memory.specs.Image.{imageSizes, streamBits, streamNumber, imageOf}
-use Rattle.memory.specs.Pieces.{Piece, pack, needed}
-use Rattle.memory.proofs.PieceLaws.{pack-unique, needed-append}
-use Rattle.memory.proofs.Chips.{sizes-chip}
-use Rattle.memory.proofs.SumLaws.{sums-right}
-use Rattle.memory.proofs.Images.{two-views}
-use Rattle.fields.specs.declared.Pair.{Pair}
-use Rattle.fields.specs.declared.Domain.{Domain}
-use Rattle.fields.specs.Calibration.{noPair}
-use Rattle.fields.specs.Curves.{noSegment, noTerm}
-use Rattle.layout.specs.Contents.{Found, Calibration, bare, table as tableFound, curve as curveFound, Contents}
-use Rattle.layout.specs.Image.{contents, nothing, pairIn, pairsIn, segmentsIn, segmentIn, allTerms, termIn, points, segments, terms}
-use Rattle.layout.proofs.Endings.{zeroIf, zero-pack}
-use Rattle.layout.proofs.Sheets.{sheetPieces, sheet-needed}
-use Rattle.layout.proofs.Accepted.{accepted-at, contents-accepted}
-use Rattle.layout.proofs.Calibrations.{CalibrationAt}
-use Rattle.sheet.specs.declared.Summary.{Summary}
-use Rattle.sheet.specs.Check.{domainIn, summary}
-use Rattle.sheet.proofs.CurvePlaces.{curve-few}
-use Rattle.sheet.proofs.ReadLaws.{fields-are, accepted-reads}
-use Rattle.build.specs.declared.Slot.{Slot}
-use Rattle.build.specs.declared.Sheet.{Sheet}
-use Rattle.build.specs.Build.{slot, lent, templateIn, pairsLent, Table, listed, drawn, builtIn, buildWith}
-use Rattle.build.proofs.PairPlans.{pairs-length}
-use Rattle.promises.specs.Lent.{LendableTable}
-use Rattle.promises.specs.Again.{sheetRead, turns, tableOf, tableRead, segmentsLent, InDomain, TableReadOff, RebuiltSameBytes, RebuiltFromReads}
+use Rattle.promises.proofs.Names.{_≡_, refl, sym, ap, _∙_, subst, Bool, _&&_, List, [], _∷_, _++_, map, ℕ, suc, _+_, _-_, _*_, _^_, _≤_, _<_, arith, leb, length, getD, take, replicate, length-map, ext-getD}
+use Rattle.promises.proofs.Names.{take-append-seam, length-take-le, getD-take, le-ltb, good, bind-good, Sizes, Bytes, imageSizes, streamBits, streamNumber, imageOf, Piece, pack, needed, pack-unique, needed-append}
+use Rattle.promises.proofs.Names.{sizes-chip, sums-right, two-views, Pair, Domain, noPair, noSegment, noTerm, Found, Calibration, bare, tableFound, curveFound, Contents, contents, nothing, pairIn, pairsIn}
+use Rattle.promises.proofs.Names.{segmentsIn, segmentIn, allTerms, termIn, points, segments, terms, zeroIf, zero-pack, sheetPieces, sheet-needed, accepted-at, contents-accepted, CalibrationAt, Summary, domainIn}
+use Rattle.promises.proofs.Names.{summary, curve-few, fields-are, accepted-reads, Slot, Sheet, slot, lent, templateIn, pairsLent, Table, listed, drawn, builtIn, buildWith, pairs-length, LendableTable, sheetRead}
+use Rattle.promises.proofs.Names.{turns, tableRead, segmentsLent, InDomain, TableReadOff, RebuiltSameBytes, RebuiltFromReads}
+use Rattle.promises.specs.Again.{tableOf}
 use Rattle.promises.proofs.PlannedFields.{LentFrom, Slots, slots-all, slot-first, slots-others}
 use Rattle.promises.proofs.ByIndex.{check-holds}
 use Rattle.promises.proofs.PlannedSheet.{LentBehind, again, plan-again, zero-behind}

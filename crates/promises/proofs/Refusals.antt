@@ -1,44 +1,15 @@
 -- The rows of each call.
 -- Assumes nothing.
-use mathlib.Core.Bool.{Bool, true, false, not, _||_, _&&_}
-use mathlib.Core.List.{List, [], _∷_, _++_, map}
-use Prim.Native.Nat.{ℕ, zero, suc, _+_, _*_, _-_, _/_}
-use native.Mathlib.Omega.{arith}
-use lib.Dec.{eqb, ltb, leb}
-use lib.IntN.{ℤ, pos, natAbs}
-use lib.Ieee.{binary32, ofBits, toBits, Float}
-use lib.ListN.{length, getD}
-use lib.Signed.{leZ}
-use Rattle.refusal.specs.declared.Refusal.{Refusal}
-use Rattle.refusal.specs.Outcome.{Outcome, good, refused, _>>=_, _>>_, refuse_if_}
-use Rattle.refusal.specs.Rows.{wrongImage, wrongSum, wrongBlock, outsideTable, notFinite, noSuch, wrongSort, outOfRange, changedAlone, noSpan, outsideSpan, blankChip, shortIndex, otherCode, levelTooLow, endOutside, tooManyPoints, wrongTicks}
-use Rattle.refusal.specs.Orders.{occurs, By, streamRows, checkOrder, readOrder, textOrder, changeOrder, commitOrder, indexOrder, fetchOrder, readingOrder, compareOrder, distanceOrder}
-use Rattle.refusal.proofs.OrderLaws.{Among, by-among, by-bind, by-then, by-test, by-last, by-cond}
-use Rattle.memory.specs.declared.Sizes.{Sizes}
-use Rattle.memory.specs.Image.{sizesOf, imageBytes, imageSizes, streamBits, streamNumber, isGood, pageTest, blankFrom, sumsFrom, sums}
-use Rattle.memory.specs.Bits.{fieldAt}
-use Rattle.fields.specs.declared.Value.{Value}
-use Rattle.fields.specs.declared.Value.the-variants.{Whole, Single, Missing}
-use Rattle.fields.specs.declared.Level.{Level}
-use Rattle.fields.specs.declared.Row.{Row}
-use Rattle.fields.specs.declared.Rule.{Rule}
-use Rattle.fields.specs.declared.Rule.the-variants.{Plain, Stepped, Geometric, Single as Ieee}
-use Rattle.fields.specs.Rules.{allOnes, topCode, steppedValue, steppedCode, geometricValue, progression, storedAt, finite, meaning, decode, outside, wholeCode, singleCode, encode}
-use Rattle.fields.specs.Lines.{lineOf, lastField}
-use Rattle.fields.specs.Levels.{mayWrite}
-use Rattle.texts.specs.Text.{Texted, texted, textOf, same, whoseText, codeOf}
-use Rattle.layout.specs.Format.{parse}
-use Rattle.layout.specs.Contents.{Found, Contents, sheetOf}
-use Rattle.layout.specs.Image.{streamIn, contents, field, numbered, points, segments, terms}
-use Rattle.layout.specs.Places.{firstSelector}
-use Rattle.layout.proofs.Numbers.{parse-other, sheet-others}
-use Rattle.sheet.specs.Check.{check, indexed, readField, readPair, readCharacter, readSegment, readTerm}
-use Rattle.index.specs.Index.{entries, entryBytes, index, templateAt, entryAt, ofLength, rowOfLength, choices, bitsAt, fetchIn, fetch}
-use Rattle.change.specs.Change.{changeable, codeFor, rewritten, change, proposedFor, propose, mayStand, mayCommit, commit}
-use Rattle.reading.specs.declared.Dash.{Dash}
-use Rattle.reading.specs.Reading.{isResistance, tooMany, isMissing, isOutside, refuseFirst, least, greatest, spanOf, tooFar, takeReading}
-use Rattle.recordings.specs.Recordings.{unlike, compare}
-use Rattle.promises.specs.Refusals.{ReadsByOrder}
+use Rattle.promises.proofs.Names.{Bool, not, _||_, _&&_, List, [], _∷_, map, ℕ, zero, suc, _+_, _*_, _-_, _/_, arith, eqb, ltb, leb, ℤ, pos, natAbs, binary32, ofBits, toBits, length, leZ, Refusal, Outcome, good}
+use Rattle.promises.proofs.Names.{refused, _>>=_, _>>_, refuse_if_, wrongImage, wrongSum, wrongBlock, outsideTable, notFinite, noSuch, wrongSort, outOfRange, changedAlone, noSpan, outsideSpan, blankChip}
+use Rattle.promises.proofs.Names.{shortIndex, otherCode, levelTooLow, endOutside, tooManyPoints, wrongTicks, By, streamRows, checkOrder, readOrder, textOrder, changeOrder, commitOrder, indexOrder, fetchOrder}
+use Rattle.promises.proofs.Names.{readingOrder, compareOrder, Among, by-among, by-bind, by-then, by-test, by-last, by-cond, Sizes, sizesOf, imageBytes, imageSizes, streamBits, streamNumber, isGood, pageTest}
+use Rattle.promises.proofs.Names.{blankFrom, sumsFrom, sums, fieldAt, Value, Whole, Single, Missing, Level, Row, Rule, Plain, Stepped, Geometric, Ieee, allOnes, topCode, steppedValue, steppedCode, geometricValue}
+use Rattle.promises.proofs.Names.{progression, storedAt, finite, meaning, decode, outside, wholeCode, singleCode, encode, lineOf, lastField, mayWrite, texted, textOf, whoseText, codeOf, parse, Found, Contents}
+use Rattle.promises.proofs.Names.{sheetOf, streamIn, contents, field, numbered, points, segments, terms, firstSelector, parse-other, sheet-others, check, indexed, readField, readPair, readCharacter, readSegment}
+use Rattle.promises.proofs.Names.{readTerm, entries, entryBytes, index, templateAt, entryAt, ofLength, rowOfLength, choices, bitsAt, fetchIn, fetch, changeable, codeFor, rewritten, change, propose, mayStand}
+use Rattle.promises.proofs.Names.{mayCommit, commit, Dash, isResistance, tooMany, isMissing, isOutside, refuseFirst, least, greatest, spanOf, tooFar, takeReading, unlike, compare, ReadsByOrder}
+use Rattle.texts.specs.Text.{same}
 
 -- ---- the check
 

@@ -1,23 +1,8 @@
 -- To the nearest whole, halves upward.
 -- Assumes nothing.
-use mathlib.Core.Path.{_≡_, refl, subst}
-use mathlib.Core.List.{List, [], _∷_}
-use mathlib.Core.Logic.{_↔_}
-use Prim.Native.Nat.{ℕ, _<_}
-use native.Mathlib.Omega.{arith}
-use lib.IntN.{ℤ, pos, natAbs, _+ℤ_, _-ℤ_, _*ℤ_}
-use lib.Signed.{_<ℤ_}
-use Rattle.integers.specs.Parts.{up, dn}
-use Rattle.integers.specs.Nearest.{Fraction, _over_, nearest}
-use Rattle.integers.proofs.PartLaws.{add-parts, sub-parts-ℤ, mul-parts, leZ-parts, ltZ-parts, parts-≤ℤ, parts-<ℤ, abs-parts}
-use Rattle.integers.proofs.NearestLaws.{Low, High, nearest-low, nearest-high, nearest-is}
-use Rattle.fields.specs.declared.Pair.{Pair}
-use Rattle.line.specs.Line.{Correction, atEnd, between, correctionAfter, correction, deviation}
-use Rattle.line.specs.Certificate.{Rises}
-use Rattle.line.proofs.Weights.{run-some}
-use Rattle.line.proofs.Order.{by-order}
-use Rattle.reading.specs.Reading.{position}
-use Rattle.promises.specs.Rounding.{HalvesUp, NearestHalvesUp, PositionHalvesUp, DeviationHalvesUp}
+use Rattle.promises.proofs.Names.{subst, List, [], _∷_, _<_, arith, ℤ, pos, _+ℤ_, _-ℤ_, _*ℤ_, _<ℤ_, Fraction, nearest, add-parts, sub-parts-ℤ, mul-parts, leZ-parts, ltZ-parts, parts-≤ℤ, parts-<ℤ, abs-parts, Low}
+use Rattle.promises.proofs.Names.{High, nearest-low, nearest-high, nearest-is, Pair, Correction, between, correctionAfter, correction, deviation, Rises, run-some, by-order, position, HalvesUp, NearestHalvesUp}
+use Rattle.promises.proofs.Names.{PositionHalvesUp, DeviationHalvesUp}
 
 module _ (f : Fraction) (k : ℤ) where
   abbrev whole : ℤ

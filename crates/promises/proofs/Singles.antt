@@ -1,24 +1,8 @@
 -- A Single in nV/V from its own bits.
 -- Assumes nothing.
-use mathlib.Core.Path.{_≡_, refl, sym, ap, _∙_, subst}
-use mathlib.Core.Bool.{Bool, true, false}
-use Prim.Native.Nat.{ℕ, zero, suc, _+_, _*_, _/_, _%_, _^_, _≤_, _<_}
-use native.Mathlib.Nat.{mul-one}
-use native.Mathlib.Omega.{arith}
-use lib.Dec.{leb}
-use lib.IntN.{ℤ, pos, negℤ, _*ℤ_}
-use lib.Pow.{pow-pos}
-use lib.Ieee.{Float, nan, inf, fin, binary32, ofBits, up as above, down as below}
-use lib.Ieee.Exact.{HasValue}
-use lib.Ieee.Fits.{down-pos}
-use Rattle.integers.specs.Parts.{up, dn}
-use Rattle.integers.specs.Nearest.{Fraction, _over_, nearest}
-use Rattle.integers.proofs.PartLaws.{same, up-neg, dn-neg, mul-parts}
-use Rattle.integers.proofs.NearestLaws.{nearest-rises-parts}
-use Rattle.fields.specs.Figure.{billion}
-use Rattle.fields.specs.Singles.{signed, nanovolts}
-use Rattle.fields.proofs.SingleValues.{size, bits-value}
-use Rattle.promises.specs.Singles.{isNegative, exponentField, digits, unitsOf, NanovoltsOfBits}
+use Rattle.promises.proofs.Names.{_≡_, refl, ap, _∙_, Bool, true, false, ℕ, zero, suc, _+_, _*_, _^_, _<_, mul-one, arith, ℤ, pos, negℤ, _*ℤ_, pow-pos, Float, nan, inf, fin, binary32, ofBits, above, below}
+use Rattle.promises.proofs.Names.{HasValue, down-pos, up, dn, Fraction, _over_, nearest, same, up-neg, dn-neg, mul-parts, nearest-rises-parts, billion, signed, nanovolts, size, bits-value, isNegative}
+use Rattle.promises.proofs.Names.{exponentField, digits, unitsOf, NanovoltsOfBits}
 
 -- Equal fractions have one nearest.
 same-nearest : (f g : Fraction) → 0 < f .den → 0 < g .den →

@@ -1,36 +1,7 @@
 -- The points that an accepted build stores: each within half a step of the point lent, and rising as those do.
-use mathlib.Core.Path.{_≡_, refl, sym, ap, _∙_, subst}
-use mathlib.Core.Bool.{Bool, true, false, not}
-use mathlib.Core.List.{List, [], _∷_, map}
-use mathlib.Core.Option.{Option, none, some}
-use Prim.Native.Nat.{ℕ, suc, _+_, _*_, _≤_, _<_}
-use native.Mathlib.Nat.{mul-lt-mul-of-pos-left}
-use native.Mathlib.Omega.{arith}
-use lib.Dec.{T, lit<}
-use lib.IntN.{ℤ, pos, natAbs, _-ℤ_}
-use lib.Signed.{ltZ, _<ℤ_, ltZ-yes}
-use Rattle.integers.proofs.PartLaws.{add-parts, parts-<ℤ, nltZ-parts}
-use Rattle.refusal.specs.Outcome.{good}
-use Rattle.refusal.specs.Rows.{outOfRange}
-use Rattle.memory.specs.Pieces.{Piece}
-use Rattle.fields.specs.declared.Value.the-variants.{Whole}
-use Rattle.fields.specs.declared.Rule.the-variants.{Stepped}
-use Rattle.fields.specs.declared.Row.{Row}
-use Rattle.fields.specs.Rules.{topCode, outside, steppedValue, steppedCode, encode}
-use Rattle.fields.specs.declared.Pair.{Pair}
-use Rattle.fields.specs.declared.Codes.{Codes}
-use Rattle.fields.specs.declared.Domain.{Domain}
-use Rattle.fields.specs.Calibration.{D, R, leastDeviation}
-use Rattle.fields.specs.Stored.{kept}
-use Rattle.fields.proofs.StoredLaws.{stepped-nearest}
-use Rattle.fields.proofs.StepLaws.{code-rises}
-use Rattle.fields.proofs.CalibrationLaws.{follows-rises}
-use Rattle.layout.specs.Image.{figure}
-use Rattle.refusal.proofs.Outcomes.{passed, neither}
-use Rattle.build.specs.Build.{pairPieces}
-use Rattle.build.proofs.PairPlans.{codes-planned, pairs-planned}
-use Rattle.line.specs.Certificate.{Rises, Close}
-use Rattle.promises.specs.Again.{keptPair}
+use Rattle.promises.proofs.Names.{_≡_, refl, sym, ap, subst, Bool, true, false, not, List, [], _∷_, map, Option, some, ℕ, suc, _*_, _≤_, _<_, mul-lt-mul-of-pos-left, arith, T, lit<, ℤ, pos, natAbs, _-ℤ_, ltZ}
+use Rattle.promises.proofs.Names.{_<ℤ_, ltZ-yes, add-parts, parts-<ℤ, nltZ-parts, good, outOfRange, Piece, Whole, Stepped, Row, topCode, outside, steppedValue, steppedCode, encode, Pair, Codes, Domain, D, R}
+use Rattle.promises.proofs.Names.{leastDeviation, kept, stepped-nearest, code-rises, follows-rises, figure, passed, neither, pairPieces, codes-planned, pairs-planned, Rises, Close, keptPair}
 
 -- ---- one stepped figure
 

@@ -1,12 +1,7 @@
 -- Text and code, and the calendar.
 -- Assumes nothing.
-use mathlib.Core.Path.{_≡_, refl}
-use mathlib.Core.Bool.{Bool, true, false, cond}
-use Prim.Native.Nat.{ℕ}
-use Rattle.texts.specs.Dates.{Date, leap, monthLengths, dateOf, daysOfYear}
-use Rattle.texts.proofs.Calendar.{Real, counted, real-date}
-use Rattle.texts.proofs.Turning.{text-back, code-back}
-use Rattle.promises.specs.Texts.{TextAndCode, Day, Calendar, LeapYears}
+use Rattle.promises.proofs.Names.{_≡_, refl, Bool, true, false, cond, ℕ, Date, leap, dateOf, daysOfYear, counted, real-date, text-back, code-back, TextAndCode, Day, Calendar, LeapYears}
+use Rattle.texts.proofs.Calendar.{Real}
 
 pub text-and-code : TextAndCode
 text-and-code field code text = (text-back field code text, code-back field code text)

@@ -1,31 +1,11 @@
 -- What is promised of an image that is written row by row.
-use mathlib.Core.Path.{_≡_, refl, sym, ap, _∙_}
-use mathlib.Core.Bool.{Bool, true, false, not}
-use mathlib.Core.List.{List}
-use mathlib.Core.Logic.{_⊎_, inl, inr}
-use Prim.Native.Nat.{ℕ, zero, suc, _/_, _≤_}
-use native.Mathlib.Omega.{arith}
-use lib.ListN.{length}
-use lib.Seq.{ext-getD}
-use Rattle.refusal.specs.declared.Refusal.{Refusal}
-use Rattle.refusal.specs.Outcome.{Outcome, good, refused, _>>_, _>>=_, refuse_if_}
-use Rattle.refusal.specs.Rows.{wrongSum, blankChip}
-use Rattle.refusal.proofs.Outcomes.{no-value, bind-good, then-refused}
-use Rattle.memory.specs.declared.Sizes.{Sizes}
-use Rattle.memory.specs.Bits.{Bytes}
-use Rattle.memory.specs.Image.{imageSizes, pageTest, isGood, blankFrom, sumsFrom, sums}
-use Rattle.layout.specs.Format.{parse}
-use Rattle.layout.specs.Contents.{sheetOf}
-use Rattle.layout.specs.Image.{contents, streamIn}
-use Rattle.writing.specs.Numbers.{count}
-use Rattle.sheet.specs.declared.Summary.{Summary}
-use Rattle.sheet.specs.Check.{check}
-use Rattle.writing.specs.Steps.{differs, differing as differingRows, Step, write, step, nextRow}
-use Rattle.writing.specs.Chip.{after, Torn, Refuses, WantedOrRefused}
-use Rattle.writing.specs.Answers.{Fits}
-use Rattle.writing.proofs.StepLaws.{left, there-done, step-whole, step-torn, step-bytes, step-fits, left-none, left-most, left-two, step-nearer, done-there, step-changes}
-use Rattle.writing.proofs.CallLaws.{Called, called, calls, kind-pages}
-use Rattle.promises.specs.Writing.{carriedOut, next, writes, Reached, start, whole, torn, RefusedBySums, Safe, differing, enough, Ends, DoneExactly, Resumes, Sparing}
+use Rattle.promises.proofs.Names.{_≡_, refl, sym, ap, _∙_, Bool, true, false, not, List, _⊎_, inl, inr, ℕ, zero, suc, _/_, _≤_, arith, length, ext-getD, Refusal, Outcome, good, refused, _>>_, _>>=_, refuse_if_}
+use Rattle.promises.proofs.Names.{wrongSum, blankChip, no-value, bind-good, then-refused, Sizes, Bytes, imageSizes, pageTest, isGood, blankFrom, sumsFrom, sums, parse, sheetOf, contents, streamIn, count, Summary}
+use Rattle.promises.proofs.Names.{check, differs, differingRows, Step, write, step, nextRow, after, Torn, Refuses, WantedOrRefused, Fits, there-done, step-whole, step-torn, step-bytes, step-fits, left-none}
+use Rattle.promises.proofs.Names.{left-most, left-two, step-nearer, done-there, step-changes, Called, called, calls, kind-pages, carriedOut, next, writes, Reached, start, torn, RefusedBySums, Safe, differing}
+use Rattle.promises.proofs.Names.{enough, Ends, DoneExactly, Resumes, Sparing}
+use Rattle.writing.proofs.StepLaws.{left}
+use Rattle.promises.specs.Writing.{whole}
 
 -- ---- refused by its sums
 

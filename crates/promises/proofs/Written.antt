@@ -1,35 +1,8 @@
 -- Demand 2: written and read again.
-use mathlib.Core.Path.{_≡_, refl, sym, ap, ap₂, _∙_, subst}
-use mathlib.Core.Bool.{Bool, true, false, _&&_, cond}
-use mathlib.Core.List.{List, [], _∷_, _++_, map}
-use Prim.Native.Nat.{ℕ, zero, suc, _+_, _-_, _^_, _≤_, _<_}
-use native.Mathlib.Nat.{lt-of-lt-of-le}
-use native.Mathlib.Omega.{arith}
-use lib.Dec.{leb, ltb}
-use lib.ListN.{length}
-use lib.Pow.{pow-mono}
-use borrow.Author.Tests.{leb-true, ltb-false}
-use Rattle.refusal.specs.Outcome.{good, _>>=_}
-use Rattle.refusal.specs.Rows.{tooLong}
-use Rattle.refusal.proofs.Outcomes.{good-same, good-bind, passed}
-use Rattle.memory.specs.declared.Sizes.{Sizes}
-use Rattle.memory.specs.Image.{imageSizes, streamBits, imageOf}
-use Rattle.memory.specs.Pieces.{Piece, pack, needed}
-use Rattle.memory.proofs.PieceLaws.{Holds, pack-lt, holds-pack}
-use Rattle.fields.proofs.TemplateFacts.{last-most}
-use Rattle.fields.specs.Stored.{kept, Real}
-use Rattle.layout.specs.Contents.{Found, Contents, sheetOf}
-use Rattle.layout.specs.Image.{contents}
-use Rattle.layout.proofs.Formats.{parses-fit}
-use Rattle.layout.proofs.Endings.{zeroIf, zero-needed, zero-pack}
-use Rattle.layout.proofs.Sheets.{Formed, sheetPieces, sheet-needed, sheet-parses}
-use Rattle.layout.proofs.Places.{fields-count, fields-rows}
-use Rattle.layout.proofs.Accepted.{written-contents}
-use Rattle.build.specs.declared.Slot.{Slot}
-use Rattle.build.specs.declared.Sheet.{Sheet}
-use Rattle.build.specs.Build.{Table, plan, builtIn, buildWith}
-use Rattle.promises.specs.Lent.{AllReal, Lendable, LendableTable}
-use Rattle.promises.specs.Again.{keptAll, SameSheet, WrittenAndReadAgain, ZeroEndsText}
+use Rattle.promises.proofs.Names.{_≡_, refl, sym, ap, ap₂, _∙_, subst, Bool, true, false, _&&_, cond, List, [], _∷_, _++_, map, ℕ, zero, suc, _+_, _-_, _^_, _≤_, _<_, lt-of-lt-of-le, arith, leb, ltb, length}
+use Rattle.promises.proofs.Names.{pow-mono, leb-true, ltb-false, good, _>>=_, tooLong, good-same, good-bind, passed, Sizes, imageSizes, streamBits, imageOf, Piece, pack, needed, Holds, pack-lt, holds-pack}
+use Rattle.promises.proofs.Names.{last-most, kept, Real, Found, Contents, sheetOf, contents, parses-fit, zeroIf, zero-needed, zero-pack, Formed, sheetPieces, sheet-needed, sheet-parses, fields-count, fields-rows}
+use Rattle.promises.proofs.Names.{written-contents, Slot, Sheet, Table, plan, builtIn, buildWith, AllReal, Lendable, LendableTable, keptAll, SameSheet, WrittenAndReadAgain, ZeroEndsText}
 use Rattle.promises.proofs.PlannedFields.{KeptFrom, valueAt, Slots, slots-all, slot-first, slots-others}
 use Rattle.promises.proofs.PlannedSheet.{plan-stands}
 

@@ -1,16 +1,5 @@
 -- The electrical ends: a value that is given, one that is turned down, and rows 13 and 21 in their order.
-use mathlib.Core.Path.{_≡_, refl}
-use mathlib.Core.Bool.{Bool, true, false, cond}
-use mathlib.Core.Option.{none, some}
-use Prim.Native.Nat.{ℕ}
-use native.Mathlib.Omega.{arith}
-use lib.IntN.{ℤ}
-use lib.Signed.{leZ}
-use Rattle.refusal.specs.Outcome.{good, refused}
-use Rattle.refusal.specs.Rows.{noSpan, endOutside}
-use Rattle.fields.specs.declared.Value.{Value}
-use Rattle.reading.specs.Reading.{electricalFigure, isMissing, isOutside}
-use Rattle.reading.specs.Steps.{endsOf}
+use Rattle.reading.proofs.Names.{_≡_, refl, Bool, true, false, cond, none, some, ℕ, arith, ℤ, leZ, good, refused, noSpan, endOutside, Value, electricalFigure, isMissing, isOutside, endsOf}
 
 pub turned : (v : Value) → none ≡ cond (isOutside v) none (some (electricalFigure v)) → isOutside v ≡ true
 turned v e = go (isOutside v) e

@@ -1,39 +1,9 @@
 -- The fraction q, as calls give it: it goes by the pairs before a position, it is small, and with the figure it is the reading.
-use mathlib.Core.Path.{_≡_, refl}
-use mathlib.Core.List.{List, [], _∷_, map}
-use mathlib.Core.Option.{none}
-use Prim.Native.Nat.{ℕ, _+_, _^_, _≤_, _<_}
-use native.Mathlib.Omega.{arith}
-use lib.IntN.{ℤ, natAbs, _+ℤ_}
-use lib.ListN.{length, getD}
-use lib.Ieee.{Float}
-use mir.Syntax.{w64}
-use mir.Val.{SFits, toZ, ofZ}
-use mir.Facts.{toZ-ofZ}
-use Rattle.integers.proofs.PartLaws.{add-parts, abs-parts}
-use Rattle.fields.specs.declared.Pair.{Pair}
-use Rattle.fields.specs.declared.Domain.{Domain}
-use Rattle.fields.specs.declared.Domain.the-variants.{Electrical, Physical}
-use Rattle.fields.specs.Calibration.{noPair}
-use Rattle.fields.specs.Figure.{physicalFigure}
-use Rattle.layout.specs.Contents.{Calibration, bare, table, curve, Contents}
-use Rattle.layout.specs.Image.{pairIn, pairsIn}
-use Rattle.layout.proofs.Calibrations.{CalibrationAt}
-use Rattle.line.specs.Before.{Before}
-use Rattle.line.specs.Line.{correctionAfter, deviation}
-use Rattle.line.specs.Crossing.{crossingAfter, crossing}
-use Rattle.line.specs.Ranges.{Table}
-use Rattle.line.proofs.Distances.{near-abs}
-use Rattle.line.proofs.Sizes.{deviation-small, crossing-small}
-use Rattle.line.proofs.Places.{Pieced, first-piece, last-piece, next-piece, rounded, deviation-pieced, crossing-pieced, none-deviates, none-crosses}
-use Rattle.sheet.specs.declared.TableDomain.the-variants.{NoTable, Is}
-use Rattle.sheet.specs.declared.opening.Opened.{Opened}
-use Rattle.sheet.specs.Check.{domainIn}
-use Rattle.sheet.specs.Opened.{Opens}
-use Rattle.sheet.proofs.HeldLaws.{holding}
-use Rattle.reading.specs.declared.span.Span.{Span}
-use Rattle.reading.specs.Reading.{position, fractionBy, fraction, share, readingAt}
-use Rattle.reading.specs.Steps.{figureIn, heldIn, betweenIn}
+use Rattle.reading.proofs.Names.{_≡_, refl, List, [], _∷_, map, none, ℕ, _+_, _^_, _≤_, _<_, arith, ℤ, natAbs, _+ℤ_, length, getD, Float, w64, SFits, toZ, ofZ, toZ-ofZ, add-parts, abs-parts, Pair, Domain}
+use Rattle.reading.proofs.Names.{Electrical, Physical, noPair, physicalFigure, Calibration, bare, table, curve, Contents, pairIn, pairsIn, CalibrationAt, Before, correctionAfter, deviation, crossingAfter}
+use Rattle.reading.proofs.Names.{crossing, Table, near-abs, deviation-small, crossing-small, Pieced, first-piece, last-piece, next-piece, rounded, deviation-pieced, crossing-pieced, none-deviates, none-crosses}
+use Rattle.reading.proofs.Names.{NoTable, Is, Opened, domainIn, Opens, holding, Span, position, fraction, share, readingAt, figureIn, heldIn, betweenIn}
+use Rattle.reading.specs.Reading.{fractionBy}
 use Rattle.reading.proofs.Opening.{RisesIn, pairs-table, pairs-rise}
 
 -- ---- by the pairs before a position

@@ -1,3 +1,4 @@
+mod Names
 pub mod Positions
 pub mod Opening
 pub mod EndLaws

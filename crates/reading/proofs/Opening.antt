@@ -1,58 +1,11 @@
 -- What an opened sheet holds: the sorts and sizes of the values that a reading is taken from.
-use mathlib.Core.Path.{_≡_, refl, sym, ap, ap₂, _∙_, subst}
-use mathlib.Core.Bool.{Bool, true, false, not, _&&_, cond, true≢false}
-use mathlib.Core.List.{List, [], _∷_, map}
-use mathlib.Core.Option.{Option, none, some}
-use Prim.Native.Nat.{ℕ, zero, suc, _+_, _*_, _^_, _≤_, _<_}
-use native.Mathlib.Nat.{mul-le-mul-left}
-use native.Mathlib.Omega.{arith}
-use borrow.Author.Tests.{not-false}
-use lib.Dec.{T, eqb, ltb}
-use lib.IntN.{ℤ, pos, natAbs, _+ℤ_}
-use lib.Ieee.{binary32, ofBits, isNan}
-use lib.ListN.{getD}
-use lib.Signed.{_<ℤ_}
-use Rattle.integers.proofs.PartLaws.{add-parts, abs-parts, parts-≤ℤ, parts-<ℤ}
-use Rattle.refusal.specs.Outcome.{good}
-use Rattle.refusal.specs.Rows.{outsideTable, notFinite}
-use Rattle.refusal.proofs.Outcomes.{good-same, passed}
-use Rattle.fields.specs.declared.Value.{Value}
-use Rattle.fields.specs.declared.Value.the-variants.{Whole, Single, Missing}
-use Rattle.fields.specs.declared.Rule.the-variants.{Stepped, Single as Ieee}
-use Rattle.fields.specs.declared.Row.{Row}
-use Rattle.fields.specs.declared.Template.{Template}
-use Rattle.fields.specs.declared.Template.the-variants.{Bridge, Resistance}
-use Rattle.fields.specs.declared.Codes.{Codes}
-use Rattle.fields.specs.declared.Pair.{Pair}
-use Rattle.fields.specs.declared.Domain.{Domain}
-use Rattle.fields.specs.declared.Domain.the-variants.{Electrical, Physical}
-use Rattle.fields.specs.Rules.{allOnes, topCode, steppedValue, finite, meaning, decode}
-use Rattle.fields.specs.Rows.{bridgeEnd}
-use Rattle.fields.specs.Lines.{Line, lineOf}
-use Rattle.fields.specs.Calibration.{noPair, D, R, leastDeviation, calPoint, calDeviation, storedSum}
-use Rattle.fields.proofs.TemplateFacts.{span-listed, span-lines}
-use Rattle.fields.proofs.FloatLaws.{no-nan}
-use Rattle.fields.proofs.SingleLaws.{nanovolts-within}
-use Rattle.fields.proofs.RuleLaws.{stepped-whole}
-use Rattle.fields.proofs.CalibrationLaws.{follows-rises, follows-climbs}
-use Rattle.layout.specs.Contents.{Found, FoundPair, Calibration, bare, table, curve, Contents, codesIn}
-use Rattle.layout.specs.Image.{figure, field, layoutOf, pairsIn, pairIn, points}
-use Rattle.layout.specs.Places.{fieldPlace}
-use Rattle.layout.proofs.Fields.{FieldAt}
-use Rattle.layout.proofs.Calibrations.{PairAt, PairsAt, CalibrationAt}
-use Rattle.layout.proofs.Places.{field-at}
-use Rattle.line.specs.Certificate.{Neighbours}
-use Rattle.line.specs.Crossing.{sum, SumsRise}
-use Rattle.line.specs.Ranges.{Figures, Table}
-use Rattle.line.proofs.Distances.{near-abs}
-use Rattle.line.proofs.Places.{figures-at}
-use Rattle.sheet.specs.declared.TableDomain.the-variants.{Is}
-use Rattle.sheet.specs.declared.opening.Opened.{Opened}
-use Rattle.sheet.specs.Check.{domainIn}
-use Rattle.sheet.specs.Opened.{Opens}
-use Rattle.sheet.proofs.HeldLaws.{points-are, holding, domain-is}
-use Rattle.reading.specs.Reading.{isResistance, electricalFigure, float, isMissing, isOutside}
-use Rattle.reading.specs.Steps.{figureIn}
+use Rattle.reading.proofs.Names.{_≡_, refl, sym, ap, ap₂, _∙_, subst, Bool, true, false, not, _&&_, cond, true≢false, List, [], _∷_, map, Option, none, some, ℕ, zero, suc, _+_, _*_, _^_, _≤_, _<_, mul-le-mul-left}
+use Rattle.reading.proofs.Names.{arith, not-false, T, eqb, ltb, ℤ, pos, natAbs, _+ℤ_, binary32, ofBits, isNan, getD, _<ℤ_, add-parts, abs-parts, parts-≤ℤ, parts-<ℤ, good, outsideTable, notFinite, good-same}
+use Rattle.reading.proofs.Names.{passed, Value, Whole, Single, Missing, Stepped, Ieee, Row, Template, Bridge, Resistance, Codes, Pair, Domain, Electrical, Physical, allOnes, topCode, steppedValue, finite, meaning}
+use Rattle.reading.proofs.Names.{decode, bridgeEnd, Line, lineOf, noPair, D, R, leastDeviation, calPoint, calDeviation, storedSum, span-listed, span-lines, no-nan, nanovolts-within, stepped-whole, follows-rises}
+use Rattle.reading.proofs.Names.{follows-climbs, Found, FoundPair, Calibration, bare, table, curve, Contents, codesIn, figure, field, layoutOf, pairsIn, pairIn, points, fieldPlace, FieldAt, PairAt, PairsAt}
+use Rattle.reading.proofs.Names.{CalibrationAt, field-at, Neighbours, sum, SumsRise, Figures, Table, near-abs, figures-at, Is, Opened, domainIn, Opens, points-are, holding, domain-is, isResistance}
+use Rattle.reading.proofs.Names.{electricalFigure, float, isMissing, isOutside, figureIn}
 
 -- ---- the sorts
 

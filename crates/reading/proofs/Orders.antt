@@ -1,22 +1,6 @@
 -- A reading in the order of its rows: check, 4, 23, 13 and 21, 14, and what it shows.
-use mathlib.Core.Path.{_≡_, sym, ap, _∙_}
-use mathlib.Core.Bool.{true, false}
-use mathlib.Core.List.{List}
-use Prim.Native.Nat.{ℕ}
-use lib.IntN.{ℤ}
-use lib.ListN.{length}
-use lib.Signed.{_<ℤ_}
-use Rattle.refusal.specs.declared.Refusal.{Refusal}
-use Rattle.refusal.specs.Outcome.{good, refused}
-use Rattle.refusal.specs.Rows.{wrongBlock, outsideSpan, tooManyPoints}
-use Rattle.refusal.proofs.Outcomes.{good-same, good-bind, passed}
-use Rattle.layout.specs.Contents.{Contents}
-use Rattle.layout.specs.Image.{contents, points}
-use Rattle.layout.specs.Places.{firstSelector}
-use Rattle.reading.specs.declared.Dash.{Dash}
-use Rattle.reading.specs.declared.Reading.{Reading}
-use Rattle.reading.specs.declared.span.Span.{Span}
-use Rattle.reading.specs.Reading.{isResistance, tooMany, least, greatest, spanOf, tooFar, position, fraction, readingAt, takeReading}
+use Rattle.reading.proofs.Names.{_≡_, sym, ap, _∙_, true, false, List, ℕ, ℤ, length, _<ℤ_, Refusal, good, refused, wrongBlock, outsideSpan, tooManyPoints, good-same, good-bind, passed, Contents, contents, points}
+use Rattle.reading.proofs.Names.{firstSelector, Dash, Reading, Span, isResistance, tooMany, least, greatest, spanOf, tooFar, position, fraction, readingAt, takeReading}
 use Rattle.reading.proofs.Spans.{spanned}
 
 module _ (kind : ℕ) (image : List ℕ) (v : ℤ) (dash : Dash) where

@@ -1,27 +1,7 @@
 -- Where an input lies in the span: row 14, and the position.
-use mathlib.Core.Path.{_≡_, refl, ap, ap₂}
-use mathlib.Core.Bool.{Bool, true, false, _||_}
-use Prim.Native.Nat.{ℕ, _+_, _*_, _^_, _≤_, _<_}
-use native.Mathlib.Nat.{mul-le-mul-right}
-use native.Mathlib.Omega.{arith}
-use borrow.Author.Tests.{lt-ltb, le-ltb, ltb-true, ltb-false}
-use lib.Dec.{ltb}
-use lib.IntN.{ℤ, pos, negsuc, negℤ, natAbs, subℕ, _-ℤ_, _*ℤ_}
-use lib.Signed.{ltZ, _≤ℤ_, _<ℤ_}
-use Rattle.integers.specs.Parts.{up, dn}
-use Rattle.integers.specs.Nearest.{_over_, nearest}
-use Rattle.integers.proofs.PartLaws.{sub-is, sub-parts-ℤ, up-neg, dn-neg, abs-parts, mul-parts, leZ-parts, ltZ-parts, nltZ-parts, lt-ltZ, le-ltZ, is-false}
-use Rattle.refusal.proofs.Outcomes.{neither}
-use Rattle.fields.specs.Figure.{billion}
-use Rattle.line.proofs.Distances.{less, above-parts, scaled}
-use Rattle.line.proofs.Sizes.{nearest-small}
-use Rattle.line.proofs.Told.{gap-parts}
-use Rattle.line.proofs.Order.{at-most}
-use Rattle.line.proofs.Needle.{nearest-at-most}
-use Rattle.reading.specs.declared.position.Offset.{Offset}
-use Rattle.reading.specs.declared.span.Span.{Span}
-use Rattle.reading.specs.Reading.{tooFar, position}
-use Rattle.reading.specs.Steps.{Ready, Lies}
+use Rattle.reading.proofs.Names.{_≡_, refl, ap, ap₂, Bool, true, false, _||_, ℕ, _+_, _*_, _^_, _≤_, _<_, mul-le-mul-right, arith, lt-ltb, le-ltb, ltb-true, ltb-false, ltb, ℤ, pos, negsuc, negℤ, natAbs, subℕ}
+use Rattle.reading.proofs.Names.{_-ℤ_, _*ℤ_, ltZ, _≤ℤ_, _<ℤ_, up, dn, _over_, nearest, sub-is, sub-parts-ℤ, up-neg, dn-neg, abs-parts, mul-parts, leZ-parts, ltZ-parts, nltZ-parts, lt-ltZ, le-ltZ, is-false}
+use Rattle.reading.proofs.Names.{neither, billion, less, above-parts, scaled, nearest-small, gap-parts, at-most, nearest-at-most, Offset, Span, tooFar, position, Ready, Lies}
 
 -- An input from −2,000,000,000 to 2,000,000,000.
 pub record Inside (v : ℤ) : Type 0 where

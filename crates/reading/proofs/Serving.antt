@@ -1,22 +1,7 @@
 -- The segment of a curve that serves, found by going along its segments from place to place, and its terms where they stand.
-use mathlib.Core.Path.{_≡_, refl, sym, ap, ap₂, _∙_, subst}
-use mathlib.Core.List.{List, [], _∷_, map}
-use mathlib.Core.Bool.{true, false}
-use Prim.Native.Nat.{ℕ, suc, _+_, _-_, _*_, _≤_, _<_}
-use native.Mathlib.Omega.{arith}
-use lib.IntN.{ℤ}
-use lib.ListN.{length, getD}
-use lib.Signed.{ltZ}
-use Rattle.integers.proofs.PartLaws.{le-leZ, lt-leZ, ltZ-parts, nltZ-parts, is-true, is-false}
-use Rattle.fields.specs.declared.Segment.{Segment}
-use Rattle.layout.specs.Format.{Stream}
-use Rattle.layout.specs.Contents.{FoundTerm, FoundSegment}
-use Rattle.layout.specs.Image.{segmentIn, termIn}
-use Rattle.layout.proofs.CurvePlaces.{TermStands, CurveStands}
-use Rattle.sheet.specs.Walk.{segmentAt, segmentEnd}
-use Rattle.sheet.proofs.CurvePlaces.{term-is, curve-behind, first-is}
-use Rattle.reading.specs.Reading.{serving, servingTerms}
-use Rattle.reading.specs.Steps.{termsFrom, ownTerms}
+use Rattle.reading.proofs.Names.{_≡_, refl, sym, ap, ap₂, _∙_, subst, List, [], _∷_, map, true, false, ℕ, suc, _+_, _-_, _*_, _≤_, _<_, arith, ℤ, length, getD, ltZ, le-leZ, lt-leZ, ltZ-parts, nltZ-parts, is-true}
+use Rattle.reading.proofs.Names.{is-false, Segment, Stream, FoundTerm, FoundSegment, segmentIn, termIn, TermStands, CurveStands, segmentAt, segmentEnd, term-is, curve-behind, first-is, serving, servingTerms}
+use Rattle.reading.proofs.Names.{termsFrom, ownTerms}
 
 -- Terms that stand one behind the other.
 terms-are : (s : Stream) (at : ℕ) (terms : List FoundTerm) → ((i : ℕ) (none : FoundTerm) → i < length terms → TermStands s (at + 39 * i) (getD terms i none)) →

@@ -1,32 +1,7 @@
 -- The span: rows 13 and 21 in their order, and what its ends are then.
-use mathlib.Core.Path.{_≡_, refl, sym, ap, _∙_, subst}
-use mathlib.Core.Bool.{Bool, true, false}
-use mathlib.Core.Logic.{⊎-elim}
-use mathlib.Core.List.{List, [], _∷_}
-use Prim.Native.Nat.{ℕ}
-use native.Mathlib.Omega.{arith}
-use lib.IntN.{ℤ}
-use lib.Ieee.{Float}
-use lib.Signed.{leZ, _<ℤ_}
-use denote.Enum.Declared.{tagOf}
-use types.Run.{OneOf}
-use Rattle.integers.proofs.PartLaws.{nleZ-parts, parts-<ℤ, is-false}
-use Rattle.refusal.specs.Outcome.{Outcome, good, refused, _>>_, _>>=_, refuse_if_}
-use Rattle.refusal.specs.Rows.{noSpan, endOutside}
-use Rattle.refusal.proofs.Outcomes.{good-same, good-then, passed}
-use Rattle.fields.proofs.Value.{the-type}
-use Rattle.fields.specs.declared.Value.{Value}
-use Rattle.fields.specs.declared.Value.the-variants.{Whole, Single, Missing}
-use Rattle.fields.specs.declared.Layout.{Layout}
-use Rattle.layout.specs.Contents.{Contents}
-use Rattle.layout.specs.Image.{field}
-use Rattle.sheet.specs.declared.opening.Opened.{Opened}
-use Rattle.sheet.specs.Opened.{Opens}
-use Rattle.sheet.proofs.HeldLaws.{layout-is}
-use Rattle.reading.specs.declared.ends.Ends.{Ends}
-use Rattle.reading.specs.declared.span.Span.{Span}
-use Rattle.reading.specs.Reading.{isResistance, electricalFigure, least as leastOf, greatest as greatestOf, float, isMissing, isOutside, refuseFirst, spanOf}
-use Rattle.reading.specs.Steps.{endsOf, Ready}
+use Rattle.reading.proofs.Names.{_≡_, refl, sym, ap, _∙_, subst, Bool, true, false, ⊎-elim, List, [], _∷_, ℕ, arith, ℤ, Float, leZ, _<ℤ_, tagOf, OneOf, nleZ-parts, parts-<ℤ, is-false, Outcome, good, refused, _>>_}
+use Rattle.reading.proofs.Names.{_>>=_, refuse_if_, noSpan, endOutside, good-same, good-then, passed, the-type, Value, Whole, Single, Missing, Layout, Contents, field, Opened, Opens, layout-is, Ends, Span}
+use Rattle.reading.proofs.Names.{isResistance, electricalFigure, leastOf, greatestOf, float, isMissing, isOutside, refuseFirst, spanOf, endsOf, Ready}
 use Rattle.reading.proofs.Opening.{Floated, electrical-small, floated-real, opened-low, opened-high, opened-least, opened-greatest}
 
 -- ---- a value that is not of its field's sort is missing

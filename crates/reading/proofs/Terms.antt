@@ -1,27 +1,7 @@
 -- The terms of a curve that stands: their exponents rise from 0 to 5, so that the fraction is worked from them one after the other.
-use mathlib.Core.Path.{_≡_, refl, sym, ap, ap₂, _∙_}
-use mathlib.Core.Bool.{Bool, true, false, cond}
-use mathlib.Core.List.{List, [], _∷_, map}
-use Prim.Native.Nat.{ℕ, suc, _+_, _-_, _*_, _≤_, _<_}
-use native.Mathlib.Omega.{arith}
-use lib.IntN.{ℤ, natAbs}
-use lib.ListN.{length}
-use lib.Signed.{leZ}
-use Rattle.fields.specs.declared.Term.{Term}
-use Rattle.fields.specs.Figure.{floatFraction}
-use Rattle.layout.specs.Format.{Stream}
-use Rattle.layout.specs.Contents.{FoundSegment, Calibration, bare, table, curve, Passed, behindSegment, nothingPassed}
-use Rattle.layout.specs.Image.{segmentsIn, segmentIn, termIn}
-use Rattle.layout.proofs.Curves.{SegmentsAt}
-use Rattle.layout.proofs.CurveTerms.{Rises, terms-rise}
-use Rattle.layout.proofs.Calibrations.{CalibrationAt}
-use Rattle.sheet.specs.Walk.{termAt, segmentEnd}
-use Rattle.curve.specs.declared.Powers.{Powers}
-use Rattle.curve.specs.Curve.{fractionBy}
-use Rattle.curve.specs.Powers.{noPowers, withTerm, taken, upToHighest, Rising}
-use Rattle.curve.proofs.PowerLaws.{fraction-taken}
-use Rattle.reading.specs.Reading.{fraction, serving, servingTerms, share}
-use Rattle.reading.specs.Steps.{termsFrom, ownTerms}
+use Rattle.reading.proofs.Names.{_≡_, refl, sym, ap, ap₂, _∙_, Bool, true, false, cond, List, [], _∷_, map, ℕ, suc, _+_, _-_, _*_, _≤_, _<_, arith, ℤ, natAbs, length, leZ, Term, floatFraction, Stream}
+use Rattle.reading.proofs.Names.{FoundSegment, Calibration, bare, table, curve, Passed, behindSegment, nothingPassed, segmentsIn, segmentIn, termIn, SegmentsAt, Rises, terms-rise, CalibrationAt, termAt}
+use Rattle.reading.proofs.Names.{segmentEnd, Powers, fractionBy, noPowers, withTerm, taken, upToHighest, Rising, fraction-taken, fraction, serving, servingTerms, share, termsFrom, ownTerms}
 
 -- ---- exponents
 

@@ -1,25 +1,8 @@
 -- The answer of a comparison is agreement exactly where the recordings agree, and otherwise the first failing fast tick.
-use mathlib.Core.Path.{_≡_, refl, sym, ap, ap₂, _∙_, subst}
-use mathlib.Core.Bool.{Bool, true, false, cond, _&&_, true≢false}
-use mathlib.Core.List.{List, [], _∷_}
-use Prim.Native.Nat.{ℕ, zero, suc, _+_, _*_, _/_, _%_, _<_}
-use native.Mathlib.Omega.{arith}
-use borrow.Author.Tests.{eqb-true, eq-eqb}
-use lib.Dec.{eqb}
-use lib.IntN.{ℤ}
-use lib.ListN.{length, getD}
-use lib.Signed.{leZ}
-use Rattle.integers.proofs.PartLaws.{leZ-parts, le-leZ, is-true}
+use Rattle.recordings.proofs.Names.{_≡_, refl, sym, ap, ap₂, _∙_, subst, Bool, true, false, cond, _&&_, true≢false, List, [], _∷_, ℕ, zero, suc, _+_, _*_, _/_, _%_, _<_, arith, eqb-true, eq-eqb, eqb, ℤ, length}
+use Rattle.recordings.proofs.Names.{getD, leZ, leZ-parts, le-leZ, is-true, Outcome, good, refused, good-same, both, Contents, contents, Reading, Large, takeReading, Refresh, refresh, refreshes, same, never}
+use Rattle.recordings.proofs.Names.{showsBy, shows, pairs, right, Compared, agree, tickFails, comparedFrom, unlike, compare, Shown, Agrees, Right, FirstFailing, AgreesExactly, FailsFirst, EmptyAgree}
 use Rattle.integers.proofs.PartLaws as parts
-use Rattle.refusal.specs.Outcome.{Outcome, good, refused}
-use Rattle.refusal.proofs.Outcomes.{good-same, both}
-use Rattle.layout.specs.Contents.{Contents}
-use Rattle.layout.specs.Image.{contents}
-use Rattle.reading.specs.declared.Reading.{Reading}
-use Rattle.reading.specs.declared.Dash.the-variants.{Large}
-use Rattle.reading.specs.Reading.{takeReading}
-use Rattle.recordings.specs.Recordings.{Refresh, refresh, refreshes, same, never, showsBy, shows, pairs, right, Compared, agree, tickFails, comparedFrom, unlike, compare}
-use Rattle.recordings.specs.Agreement.{Shown, Agrees, Right, FirstFailing, AgreesExactly, FailsFirst, EmptyAgree}
 use Rattle.recordings.proofs.Ticks.{refreshes-length, six-times, compare-like}
 
 -- ---- figures that are the same

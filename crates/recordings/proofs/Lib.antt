@@ -1,2 +1,3 @@
+mod Names
 pub mod Ticks
 pub mod Agreement

@@ -1,29 +1,7 @@
 -- The refreshes of a recording one after the other, and what a turn of the comparison comes to.
-use mathlib.Core.Path.{_≡_, refl, sym, ap, ap₂, _∙_}
-use mathlib.Core.Bool.{Bool, true, false, not, _||_}
-use mathlib.Core.List.{List, [], _∷_}
-use Prim.Native.Nat.{ℕ, zero, suc, _+_, _*_, _/_, _%_, _≤_, _<_}
-use native.Mathlib.Numerals.{add-one}
-use native.Mathlib.Omega.{arith}
-use borrow.Author.Tests.{eqb-true, eqb-false, eq-eqb, ne-eqb, not-false}
-use mir.Syntax.{w64}
-use mir.Val.{SFits, toZ, ofZ}
-use mir.Facts.{toZ-ofZ}
-use lib.Dec.{eqb}
-use lib.IntN.{ℤ, pos}
-use lib.ListN.{length, drop, getD, length-drop}
-use lib.Seq.{drop-cons}
-use Rattle.refusal.specs.declared.Refusal.{Refusal}
-use Rattle.refusal.specs.Outcome.{good, refused}
-use Rattle.refusal.specs.Rows.{wrongTicks}
-use Rattle.refusal.proofs.Outcomes.{neither}
-use Rattle.layout.specs.Contents.{Contents}
-use Rattle.layout.specs.Image.{contents}
-use Rattle.reading.specs.declared.Reading.{Reading}
-use Rattle.reading.specs.declared.Dash.the-variants.{Large}
-use Rattle.reading.specs.Reading.{takeReading}
-use Rattle.recordings.specs.Recordings.{Refresh, refresh, refreshes, same, never, shows, pairs, right, agree, tickFails, comparedFrom, unlike, compare}
-use Rattle.recordings.specs.Ticks.{refreshAt}
+use Rattle.recordings.proofs.Names.{_≡_, refl, sym, ap, ap₂, _∙_, Bool, true, false, not, _||_, List, [], _∷_, ℕ, zero, suc, _+_, _*_, _/_, _%_, _≤_, _<_, add-one, arith, eqb-true, eqb-false, eq-eqb, ne-eqb}
+use Rattle.recordings.proofs.Names.{not-false, w64, SFits, toZ, ofZ, toZ-ofZ, eqb, ℤ, pos, length, drop, getD, length-drop, drop-cons, Refusal, good, refused, wrongTicks, neither, Contents, contents, Reading}
+use Rattle.recordings.proofs.Names.{Large, takeReading, Refresh, refresh, refreshes, same, never, shows, pairs, right, agree, tickFails, comparedFrom, unlike, compare, refreshAt}
 
 -- ---- by tick
 

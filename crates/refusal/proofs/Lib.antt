@@ -1,3 +1,4 @@
+mod Names
 pub mod Outcomes
 pub mod WrittenLaws
 pub mod OrderLaws

@@ -1,14 +1,5 @@
 -- The rows of a call from those of its steps.
-use mathlib.Core.Path.{_≡_, refl, sym, subst}
-use mathlib.Core.Bool.{Bool, true, false, cond}
-use mathlib.Core.List.{List, [], _∷_}
-use Prim.Native.Nat.{ℕ, _<_}
-use native.Mathlib.Omega.{arith}
-use lib.Dec.{eqb}
-use borrow.Author.Tests.{eqb-true}
-use Rattle.refusal.specs.declared.Refusal.{Refusal}
-use Rattle.refusal.specs.Outcome.{Outcome, good, refused, _>>=_, _>>_, refuse_if_}
-use Rattle.refusal.specs.Orders.{occurs, By}
+use Rattle.refusal.proofs.Names.{_≡_, refl, sym, subst, Bool, true, false, cond, List, [], _∷_, ℕ, _<_, arith, eqb, eqb-true, Refusal, Outcome, good, refused, _>>=_, _>>_, refuse_if_, occurs, By}
 
 -- Each of some rows is one of others.
 abbrev pub Among : List ℕ → List ℕ → Type 0

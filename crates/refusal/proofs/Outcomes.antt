@@ -1,12 +1,6 @@
 -- Outcomes: what a good one says of the tests and the calls on its way, and what the steps of one come to.
-use mathlib.Core.Path.{_≡_, refl, sym, ap, _∙_, subst}
-use mathlib.Core.Bool.{Bool, true, false, not, cond, _||_, true≢false, _&&_}
-use mathlib.Core.List.{_∷_}
-use Prim.Native.Nat.{ℕ, _<_}
-use native.Mathlib.Omega.{arith}
-use Rattle.refusal.specs.declared.Refusal.{Refusal}
-use Rattle.refusal.specs.Outcome.{Outcome, good, refused, _>>=_, _>>_, refuse_if_}
-use Rattle.refusal.specs.Orders.{occurs, By, streamRows}
+use Rattle.refusal.proofs.Names.{_≡_, refl, sym, ap, _∙_, subst, Bool, true, false, not, cond, _||_, true≢false, _&&_, _∷_, ℕ, _<_, arith, Refusal, Outcome, good, refused, _>>=_, _>>_, refuse_if_, occurs, By}
+use Rattle.refusal.proofs.Names.{streamRows}
 
 pub good-same : {A : Type 0} {a b : A} → good a ≡ good b → a ≡ b
 good-same e = cc

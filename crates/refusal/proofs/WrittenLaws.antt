@@ -1,12 +1,5 @@
 -- What a call that writes answers, with every byte afterwards: its contract is the pair `(writtenSaid w out ≡ o) × (out ≡ afterwards image o)`.
-use mathlib.Core.Path.{_≡_, sym, ap, _∙_}
-use mathlib.Core.List.{List}
-use Prim.Native.Nat.{ℕ}
-use Rattle.refusal.specs.declared.Refusal.{Refusal}
-use Rattle.refusal.specs.declared.Written.{Written}
-use Rattle.refusal.specs.declared.Written.the-variants.{Done, Refused}
-use Rattle.refusal.specs.Outcome.{Outcome, good, refused}
-use Rattle.refusal.specs.Written.{writtenSaid, afterwards}
+use Rattle.refusal.proofs.Names.{_≡_, sym, ap, _∙_, List, ℕ, Refusal, Written, Done, Refused, Outcome, good, refused, writtenSaid, afterwards}
 
 module _ (image : List ℕ) {o : Outcome (List ℕ)} where
   -- A refusal leaves every byte.

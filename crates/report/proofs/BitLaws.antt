@@ -1,18 +1,5 @@
 -- No image has more bits than the largest chip's stream.
-use mathlib.Core.Path.{_≡_, refl, ap}
-use mathlib.Core.List.{List}
-use Prim.Native.Nat.{ℕ, _≤_}
-use native.Mathlib.Omega.{arith}
-use lib.ListN.{length}
-use Rattle.refusal.specs.Outcome.{Outcome, good, refused}
-use Rattle.refusal.proofs.Outcomes.{good-same, good-bind}
-use Rattle.memory.proofs.Chips.{sizes-chip}
-use Rattle.layout.specs.Image.{contents}
-use Rattle.layout.proofs.Accepted.{contents-accepted}
-use Rattle.sheet.specs.declared.Summary.{Summary}
-use Rattle.sheet.specs.Check.{summary, check}
-use Rattle.report.specs.Tray.{bitsOf}
-use Rattle.report.specs.Trays.{FewBits}
+use Rattle.report.proofs.Names.{_≡_, refl, ap, List, ℕ, _≤_, arith, length, Outcome, good, refused, good-same, good-bind, sizes-chip, contents, contents-accepted, Summary, summary, check, bitsOf, FewBits}
 
 pub few-bits : FewBits
 unfolding check

@@ -1,15 +1,6 @@
 -- A number's digits in decimal, as io spells them: the fewest that hold it.
-use mathlib.Core.Path.{_≡_, refl, ap, _∙_}
-use mathlib.Core.List.{List, [], _∷_}
-use Prim.Native.Nat.{ℕ, zero, suc, _-_, _*_, _/_, _%_, _^_, _≤_, _<_}
-use native.Mathlib.Nat.{pow-suc, pow-le-pow-right}
-use native.Mathlib.Decide.{decLt}
-use native.Mathlib.Numerals.{unary-clauses}
-use native.Mathlib.Omega.{arith}
-use borrow.Author.Tests.{lt-ltb, le-ltb}
-use lib.ListN.{length, length-append}
-use Rattle.io.specs.Digits.{glyph, digits, Fewest}
-use Rattle.report.specs.Tray.{digitsUpTo, decimal}
+use Rattle.report.proofs.Names.{_≡_, refl, ap, _∙_, List, [], _∷_, ℕ, zero, suc, _-_, _*_, _/_, _%_, _^_, _≤_, _<_, pow-suc, pow-le-pow-right, decLt, unary-clauses, arith, lt-ltb, le-ltb, length, length-append}
+use Rattle.report.proofs.Names.{glyph, digits, Fewest, digitsUpTo, decimal}
 
 pub digits-count : (k n : ℕ) → length (digits 10 k n) ≡ k
 digits-count zero n = refl

@@ -1,20 +1,6 @@
 -- A tray with an image more.
-use mathlib.Core.Path.{_≡_}
-use mathlib.Core.Bool.{Bool, true, _&&_}
-use mathlib.Core.List.{List}
-use Prim.Native.Nat.{ℕ, _+_, _^_, _<_}
-use native.Mathlib.Omega.{arith}
-use borrow.Author.Tests.{ltb-true}
-use lib.Dec.{ltb}
-use lib.ListN.{length}
-use Rattle.refusal.proofs.Outcomes.{both}
-use Rattle.memory.specs.Image.{imageSizes}
-use Rattle.sheet.specs.declared.Checked.{Checked}
-use Rattle.sheet.specs.Check.{check, checkSaid}
-use Rattle.report.specs.declared.Line.{Line}
-use Rattle.report.specs.declared.SoFar.{SoFar}
-use Rattle.report.specs.Tray.{bitsOf, line}
-use Rattle.report.specs.Judging.{isWhole, begun, with, Reads, Sound, JudgedAs}
+use Rattle.report.proofs.Names.{_≡_, Bool, true, _&&_, List, ℕ, _+_, _^_, _<_, arith, ltb-true, ltb, length, both, imageSizes, Checked, check, checkSaid, Line, SoFar, bitsOf, line, isWhole, begun, with, Reads}
+use Rattle.report.proofs.Names.{Sound, JudgedAs}
 use Rattle.report.proofs.BitLaws.{bits-of-few}
 
 pub begun-sound : Sound begun

@@ -1,3 +1,4 @@
+mod Names
 pub mod DecimalLaws
 pub mod LineLaws
 pub mod BitLaws

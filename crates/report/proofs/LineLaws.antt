@@ -1,15 +1,6 @@
 -- A line, piece by piece.
-use mathlib.Core.Path.{_≡_, refl, sym, ap, ap₂, _∙_}
-use mathlib.Core.List.{List, [], _++_, append-assoc}
-use Prim.Native.Nat.{ℕ, zero, suc, _+_, _-_, _≤_}
-use native.Mathlib.Nat.{sub-zero}
-use native.Mathlib.Omega.{arith}
-use borrow.Rule.Slice.PartMut.{midOf, postOf, putMid, same-len-mid}
-use lib.ListN.{length, take, drop, replicate, length-append, length-replicate, take-append-drop}
-use lib.Seq.{take-at, drop-at, take-length, drop-append-le, drop-drop, length-take-le}
-use Rattle.report.specs.declared.Line.{Line}
-use Rattle.report.specs.Judging.{bytesIn, Reads, TextOfLine}
-use Rattle.report.specs.Lines.{Put, Room, Longer}
+use Rattle.report.proofs.Names.{_≡_, refl, sym, ap, ap₂, _∙_, List, [], _++_, append-assoc, ℕ, zero, suc, _+_, _-_, _≤_, sub-zero, arith, midOf, postOf, putMid, same-len-mid, length, take, drop, replicate}
+use Rattle.report.proofs.Names.{length-append, length-replicate, take-append-drop, take-at, drop-at, take-length, drop-append-le, drop-drop, length-take-le, Line, bytesIn, Reads, TextOfLine, Put, Room, Longer}
 
 -- A text copied to where a buffer's first bytes end, over the k bytes after them.
 pub put-as : (before text new : List ℕ) (at k n : ℕ) → at ≤ length before → length text ≤ length (midOf at k before) → n ≡ length text →

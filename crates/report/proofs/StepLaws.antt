@@ -1,30 +1,9 @@
 -- A tray step by step.
-use mathlib.Core.Path.{_≡_, refl, sym, ap, _∙_}
-use mathlib.Core.Bool.{Bool, true, false, cond, false≢true}
-use mathlib.Core.List.{List, [], _∷_, _++_, append-assoc, append-nil}
-use Prim.Native.Nat.{ℕ, zero, suc, _+_, _-_, _*_, _≤_, _<_}
-use native.Mathlib.Omega.{arith}
-use borrow.Author.Tests.{eqb-true}
-use lib.Dec.{ltb, eqb}
-use lib.ListN.{length, take, drop, getD, length-take}
-use lib.Seq.{length-take-le, take-all, take-at, drop-at}
-use Rattle.refusal.specs.Outcome.{Outcome, good, refused}
-use Rattle.refusal.specs.Rows.{wrongImage}
-use Rattle.refusal.proofs.Outcomes.{both}
-use Rattle.memory.specs.declared.Sizes.{Sizes}
-use Rattle.memory.specs.Image.{sizesOf, imageBytes, imageSizes}
-use Rattle.memory.proofs.Chips.{sizes-kind}
-use Rattle.sheet.specs.Check.{check}
-use Rattle.report.specs.declared.Line.{Line}
-use Rattle.report.specs.declared.SoFar.{SoFar}
-use Rattle.report.specs.declared.Judged.{Judged}
-use Rattle.report.specs.declared.Next.{Next}
-use Rattle.report.specs.declared.Next.the-variants.{Kind, Image, Total, Nothing}
-use Rattle.report.specs.declared.State.{State}
-use Rattle.report.specs.declared.Stepped.{Stepped}
-use Rattle.report.specs.Tray.{line, totalLine, report}
-use Rattle.report.specs.Judging.{bytesOf, isWhole, begun, with, reportFrom, Reads, Sound, JudgedAs}
-use Rattle.report.specs.Steps.{stateOf, initial, hasNext, bytesWanted, stepLine, nextState, Open, SoundState, StepsTo, SteppedOn, stepsLeft, Run, begins, steps, Ran, Reported, RunTells, written, WrittenInTurn, FewerStepsLeft}
+use Rattle.report.proofs.Names.{_≡_, refl, sym, ap, _∙_, Bool, true, false, cond, false≢true, List, [], _∷_, _++_, append-assoc, append-nil, ℕ, zero, suc, _+_, _-_, _*_, _≤_, _<_, arith, eqb-true, ltb, eqb}
+use Rattle.report.proofs.Names.{length, take, drop, getD, length-take, length-take-le, take-all, take-at, drop-at, Outcome, good, refused, wrongImage, both, Sizes, sizesOf, imageBytes, imageSizes, sizes-kind}
+use Rattle.report.proofs.Names.{check, Line, SoFar, Judged, Next, Kind, Image, Total, Nothing, State, Stepped, line, totalLine, report, bytesOf, isWhole, begun, with, reportFrom, Reads, Sound, JudgedAs, stateOf}
+use Rattle.report.proofs.Names.{initial, hasNext, bytesWanted, stepLine, nextState, Open, SoundState, StepsTo, SteppedOn, stepsLeft, Run, begins, steps, Ran, Reported, RunTells, written, WrittenInTurn}
+use Rattle.report.proofs.Names.{FewerStepsLeft}
 use Rattle.report.proofs.JudgeLaws.{begun-sound, with-sound}
 use Rattle.report.proofs.TrayLaws.{told-from-the-start, told-in-turn, told-at-the-end}
 

@@ -1,30 +1,9 @@
 -- What the report on a tray tells.
-use mathlib.Core.Path.{_≡_, refl, sym, ap, ap₂, _∙_}
-use mathlib.Core.Bool.{Bool, true, false, not, _&&_, cond}
-use mathlib.Core.List.{List, [], _∷_, _++_, append-assoc, append-nil, map}
-use Prim.Native.Nat.{ℕ, zero, suc, _+_, _-_, _≤_, _<_}
-use native.Mathlib.Nat.{sub-zero, zero-add}
-use native.Mathlib.Numerals.{add-one}
-use native.Mathlib.Omega.{arith}
-use native.Mathlib.Decide.{decLt}
-use borrow.Author.Tests.{lt-ltb, le-ltb, eq-eqb, ne-eqb, eqb-true, not-false}
-use lib.Dec.{eqb, ltb}
-use lib.ListN.{length, take, drop, length-append}
-use lib.Seq.{take-at, drop-at, take-all, length-take-le}
-use Rattle.refusal.specs.declared.Refusal.{Refusal}
-use Rattle.refusal.specs.Outcome.{Outcome, good, refused}
-use Rattle.refusal.specs.Rows.{wrongImage}
-use Rattle.refusal.proofs.Outcomes.{good-bind, passed, no-value}
-use Rattle.memory.specs.declared.Sizes.{Sizes}
-use Rattle.memory.specs.Image.{sizesOf, imageBytes, imageSizes}
-use Rattle.memory.proofs.Chips.{sizes-kind}
-use Rattle.layout.specs.Image.{contents}
-use Rattle.sheet.specs.declared.Summary.{Summary}
-use Rattle.sheet.specs.Check.{check}
-use Rattle.report.specs.declared.SoFar.{SoFar}
-use Rattle.report.specs.Tray.{digitsUpTo, First, cut, firstOf, checks, line, linesFrom, bitsOf, total, totalLine, report}
-use Rattle.report.specs.Judging.{bytesOf, isWhole, with, left, reportFrom}
-use Rattle.report.specs.Trays.{Sent, sentBytes, Sized, checkOf, sumOf, WholeTray, FullTray, CutShort, CutTray, PrintedExample, ToldFromTheStart, ToldInTurn, ToldAtTheEnd}
+use Rattle.report.proofs.Names.{_≡_, refl, sym, ap, ap₂, _∙_, Bool, true, false, not, _&&_, cond, List, [], _∷_, _++_, append-assoc, append-nil, map, ℕ, zero, suc, _+_, _-_, _≤_, _<_, sub-zero, zero-add, add-one}
+use Rattle.report.proofs.Names.{arith, decLt, lt-ltb, le-ltb, eq-eqb, ne-eqb, eqb-true, not-false, eqb, ltb, length, take, drop, length-append, take-at, drop-at, take-all, length-take-le, Refusal, Outcome, good}
+use Rattle.report.proofs.Names.{refused, wrongImage, good-bind, passed, no-value, Sizes, sizesOf, imageBytes, imageSizes, sizes-kind, contents, Summary, check, SoFar, digitsUpTo, First, cut, firstOf, checks, line}
+use Rattle.report.proofs.Names.{linesFrom, bitsOf, total, totalLine, report, bytesOf, isWhole, with, left, reportFrom, Sent, sentBytes, Sized, checkOf, sumOf, WholeTray, FullTray, CutShort, CutTray}
+use Rattle.report.proofs.Names.{PrintedExample, ToldFromTheStart, ToldInTurn, ToldAtTheEnd}
 
 -- ---- an image and its bytes
 

@@ -1,24 +1,7 @@
 -- The walk over what stands behind the fields: one block and the last selector.
-use mathlib.Core.Path.{_≡_, refl, sym, ap, ap₂, _∙_}
-use mathlib.Core.Bool.{Bool, not, cond}
-use Prim.Native.Nat.{ℕ}
-use lib.Dec.{eqb}
-use borrow.Author.Tests.{eq-eqb, ne-eqb}
-use Rattle.refusal.specs.declared.Refusal.{Refusal}
-use Rattle.refusal.specs.Outcome.{good, refused}
-use Rattle.refusal.specs.Rows.{wrongBlock}
-use Rattle.refusal.proofs.Outcomes.{told}
-use Rattle.stream.specs.declared.cursor.Cursor.{Cursor}
-use Rattle.layout.specs.Format.{Format, ends, stops, _>>=_, _>>_, bits, refuse_if_, Stream, parse}
-use Rattle.layout.specs.Contents.{Calibration, bare, selectorOf, tableOf, curveOf, blockOf, blockAt, calibrationOf}
-use Rattle.layout.proofs.Formats.{parsed, parse-next, parse-refused}
-use Rattle.sheet.specs.declared.TableDomain.the-variants.{NoTable as NotThere}
-use Rattle.sheet.specs.declared.walk.MarkStep.{MarkStep}
-use Rattle.sheet.specs.declared.walk.MarkStep.the-variants.{Behind, Refused as NoMark}
-use Rattle.sheet.specs.declared.block.Counts.{Counts}
-use Rattle.sheet.specs.declared.block.BlockStep.{BlockStep}
-use Rattle.sheet.specs.declared.block.BlockStep.the-variants.{Found as FoundBlock, Refused as NoBlock}
-use Rattle.sheet.specs.Walk.{keeping, countsOf, markOf, onlyBlock, behind, markSaid, blockSaid}
+use Rattle.sheet.proofs.Names.{_≡_, refl, sym, ap, ap₂, _∙_, Bool, not, cond, ℕ, eqb, eq-eqb, ne-eqb, Refusal, good, refused, wrongBlock, told, Cursor, Format, ends, stops, _>>=_, _>>_, bits, refuse_if_, Stream}
+use Rattle.sheet.proofs.Names.{parse, Calibration, bare, selectorOf, tableOf, curveOf, blockOf, blockAt, calibrationOf, parsed, parse-next, parse-refused, NotThere, MarkStep, Behind, NoMark, Counts, BlockStep}
+use Rattle.sheet.proofs.Names.{FoundBlock, NoBlock, keeping, countsOf, markOf, onlyBlock, behind, markSaid, blockSaid}
 use Rattle.sheet.proofs.Steps.{keep-next, keep-refused, keep-made}
 
 -- ---- the block behind its selector

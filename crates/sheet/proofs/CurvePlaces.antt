@@ -1,29 +1,8 @@
 -- Where the segments and terms of a curve stand, as its own counts tell.
-use mathlib.Core.Path.{_≡_, refl, sym, ap, ap₂, _∙_}
-use mathlib.Core.Bool.{Bool, cond}
-use mathlib.Core.List.{List, [], _∷_, _++_}
-use Prim.Native.Nat.{ℕ, zero, suc, _+_, _-_, _*_, _/_, _^_, _≤_, _<_}
-use native.Mathlib.Omega.{arith}
-use native.Mathlib.Decide.{decLt}
-use lib.Dec.{ltb}
-use lib.IntN.{ℤ, pos, natAbs}
-use lib.ListN.{length, getD, length-append}
-use borrow.Author.Tests.{le-ltb, lt-ltb, ltb-false}
-use Rattle.refusal.specs.Outcome.{Outcome, good, refused}
-use Rattle.refusal.specs.Rows.{pastEnd}
-use Rattle.fields.specs.declared.Value.{Value}
-use Rattle.fields.specs.declared.Term.{Term}
-use Rattle.fields.specs.Curves.{mostTerms}
-use Rattle.layout.specs.Format.{bits, Stream, Parsed, parse}
-use Rattle.layout.specs.Contents.{FoundTerm, FoundSegment, Calibration, bare, table, curve, Passed, behindSegment, nothingPassed}
-use Rattle.layout.specs.Image.{segmentsIn, segmentIn, allTerms, termIn, figure, float}
-use Rattle.layout.proofs.Formats.{parsed}
-use Rattle.layout.proofs.Curves.{SegmentsAt}
-use Rattle.layout.proofs.Calibrations.{CalibrationAt}
-use Rattle.layout.proofs.Places.{get-front, get-back}
-use Rattle.layout.proofs.Standing.{stands-parse}
-use Rattle.layout.proofs.CurvePlaces.{TermStands, SegmentStands, CurveStands}
-use Rattle.sheet.specs.Walk.{valueIn, numberIn, segmentAt, termAt, segmentEnd, behindSegments, termPlace}
+use Rattle.sheet.proofs.Names.{_≡_, refl, sym, ap, ap₂, _∙_, Bool, cond, List, [], _∷_, _++_, ℕ, zero, suc, _+_, _-_, _*_, _/_, _^_, _≤_, _<_, arith, decLt, ltb, ℤ, pos, natAbs, length, getD, length-append}
+use Rattle.sheet.proofs.Names.{le-ltb, lt-ltb, ltb-false, Outcome, good, refused, pastEnd, Value, Term, mostTerms, bits, Stream, Parsed, parse, FoundTerm, FoundSegment, Calibration, bare, table, curve, Passed}
+use Rattle.sheet.proofs.Names.{behindSegment, nothingPassed, segmentsIn, segmentIn, allTerms, termIn, figure, float, parsed, SegmentsAt, CalibrationAt, get-front, get-back, stands-parse, TermStands, SegmentStands}
+use Rattle.sheet.proofs.Names.{CurveStands, valueIn, numberIn, segmentAt, termAt, segmentEnd, behindSegments, termPlace}
 use Rattle.sheet.proofs.Steps.{bits-lt}
 
 -- ---- how many they are

@@ -1,73 +1,12 @@
 -- The walk over block 41.
-use mathlib.Core.Path.{_≡_, refl, sym, ap, ap₂, _∙_}
-use mathlib.Core.Bool.{Bool, true, false, not, cond}
-use mathlib.Core.List.{List, _∷_, _++_}
-use mathlib.Core.Option.{Option, none, some}
-use Prim.Native.Nat.{ℕ, zero, suc, _+_, _-_, _*_, _/_, _%_, _^_, _≤_, _<_}
-use native.Mathlib.Omega.{arith}
-use borrow.Author.Tests.{ltb-false}
-use lib.Dec.{ltb}
-use lib.ListN.{length, length-append}
-use lib.Pow.{high, low}
-use Rattle.memory.specs.Bits.{fieldAt}
-use Rattle.memory.proofs.FieldLaws.{field-lt, field-add}
-use Rattle.refusal.specs.declared.Refusal.{Refusal}
+use Rattle.sheet.proofs.Names.{_≡_, refl, sym, ap, ap₂, _∙_, Bool, true, false, not, cond, List, _∷_, _++_, Option, none, some, ℕ, zero, suc, _+_, _-_, _*_, _/_, _%_, _^_, _≤_, _<_, arith, ltb-false, ltb, length}
+use Rattle.sheet.proofs.Names.{length-append, high, low, fieldAt, field-lt, field-add, Refusal, Outcome, good, refused, wrongCurve, tooManyTerms, good-same, no-value, told, Cursor, Row, Earlier, Sound}
+use Rattle.sheet.proofs.Names.{curveDomain, segmentCount, segmentStart, termCount, exponent, coefficient, isSegmentCount, isTermCount, mostTerms, startFollows, tenthsOf, tenthsBefore, exponentFollows}
+use Rattle.sheet.proofs.Names.{segment-count-sound, start-sound, term-count-sound, exponent-sound, CurveField, SegmentCount, Start, TermCount, Exponent, curveRow, Format, ends, _>>=_, _>>_, refuse_if_, repeated}
+use Rattle.sheet.proofs.Names.{Stream, Parsed, parse, Found, FoundTerm, FoundSegment, Calibration, curve, Passed, fieldOf, ruledOf, termOf, behindTerm, termsOf, segmentOf, behindSegment, nothingPassed, segmentsOf}
+use Rattle.sheet.proofs.Names.{curveOf, allTerms, termBits, parsed, parse-split, NotThere, CodeStep, Code, NoCode, EarlierStep, SegmentStep, BeforeSegment, NoSegment, keeping, Coded, coded, countsOf, TermCodes}
+use Rattle.sheet.proofs.Names.{termsBehind, countBehind, passedBy, behind, codeSaid, earlierStepSaid, segmentStepSaid}
 use Rattle.refusal.specs.Outcome as outcome
-use Rattle.refusal.specs.Outcome.{Outcome, good, refused}
-use Rattle.refusal.specs.Rows.{wrongCurve, tooManyTerms}
-use Rattle.refusal.proofs.Outcomes.{good-same, no-value, told}
-use Rattle.stream.specs.declared.cursor.Cursor.{Cursor}
-use Rattle.fields.specs.declared.Row.{Row}
-use Rattle.fields.specs.declared.Earlier.{Earlier}
-use Rattle.fields.specs.Stored.{Sound}
-use Rattle.fields.specs.Curves.{
-  curveDomain,
-  segmentCount,
-  segmentStart,
-  termCount,
-  exponent,
-  coefficient,
-  isSegmentCount,
-  isTermCount,
-  mostTerms,
-  startFollows,
-  tenthsOf,
-  tenthsBefore,
-  exponentFollows,
-}
-use Rattle.fields.proofs.RowLaws.{segment-count-sound, start-sound, term-count-sound, exponent-sound}
-use Rattle.coding.specs.declared.curves.CurveField.{CurveField}
-use Rattle.coding.specs.declared.curves.CurveField.the-variants.{SegmentCount, Start, TermCount, Exponent}
-use Rattle.coding.specs.CurveRules.{curveRow}
-use Rattle.layout.specs.Format.{Format, ends, _>>=_, _>>_, refuse_if_, repeated, Stream, Parsed, parse}
-use Rattle.layout.specs.Contents.{
-  Found,
-  FoundTerm,
-  FoundSegment,
-  Calibration,
-  curve,
-  Passed,
-  fieldOf,
-  ruledOf,
-  termOf,
-  behindTerm,
-  termsOf,
-  segmentOf,
-  behindSegment,
-  nothingPassed,
-  segmentsOf,
-  curveOf,
-}
-use Rattle.layout.specs.Image.{allTerms}
-use Rattle.layout.specs.Places.{termBits}
-use Rattle.layout.proofs.Formats.{parsed, parse-split}
-use Rattle.sheet.specs.declared.TableDomain.the-variants.{NoTable as NotThere}
-use Rattle.sheet.specs.declared.walk.CodeStep.{CodeStep}
-use Rattle.sheet.specs.declared.walk.CodeStep.the-variants.{Code, Refused as NoCode}
-use Rattle.sheet.specs.declared.curve_block.EarlierStep.{EarlierStep}
-use Rattle.sheet.specs.declared.curve_block.SegmentStep.{SegmentStep}
-use Rattle.sheet.specs.declared.curve_block.SegmentStep.the-variants.{Behind as BeforeSegment, Refused as NoSegment}
-use Rattle.sheet.specs.Walk.{keeping, Coded, coded, countsOf, TermCodes, termsBehind, countBehind, passedBy, behind, codeSaid, earlierStepSaid, segmentStepSaid}
 use Rattle.sheet.proofs.Steps.{field-inside, kept, keep-next, keep-refused, keep-made, keep-bind, keep-twice, keep-through}
 
 -- The rows of the fields that a rule takes.

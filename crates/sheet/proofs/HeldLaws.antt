@@ -1,44 +1,11 @@
 -- What an opened sheet holds stands in its image where the check found it.
-use mathlib.Core.Path.{_≡_, refl, sym, ap, ap₂, _∙_, subst}
-use mathlib.Core.Bool.{Bool, cond}
-use mathlib.Core.List.{List, [], _∷_, map}
-use Prim.Native.Nat.{ℕ, zero, suc, _+_, _*_, _/_, _%_, _^_, _≤_, _<_}
-use native.Mathlib.Omega.{arith}
-use lib.ListN.{length, getD, length-map, List·getD-map}
-use lib.IntN.{ℤ, pos}
-use borrow.Author.Tests.{le-ltb}
-use Rattle.refusal.specs.Outcome.{good, refused}
-use Rattle.refusal.specs.Rows.{pastEnd}
-use Rattle.memory.specs.Bits.{fieldAt}
-use Rattle.memory.specs.Answers.{Whole}
-use Rattle.memory.proofs.FieldLaws.{field-lt, field-add}
-use Rattle.memory.proofs.Chips.{sizes-whole, sizes-chip}
-use Rattle.fields.specs.declared.Layout.{Layout}
-use Rattle.fields.specs.declared.Template.{Template}
-use Rattle.fields.specs.declared.Template.the-variants.{Bridge}
-use Rattle.fields.specs.declared.Rule.the-variants.{Stepped}
-use Rattle.fields.specs.Rules.{steppedValue}
-use Rattle.fields.specs.Rows.{always, bridgeEnd}
-use Rattle.fields.specs.Lines.{Line, lastField, lineOf, rowOf}
-use Rattle.fields.specs.Calibration.{D, R, leastDeviation, noPair}
-use Rattle.fields.specs.Curves.{noSegment, noTerm}
-use Rattle.fields.proofs.RuleLaws.{stepped-whole}
-use Rattle.fields.proofs.TemplateFacts.{span-lines}
-use Rattle.coding.specs.Unscaled.{Unscaled}
-use Rattle.layout.specs.Format.{bits, Stream, parse}
-use Rattle.layout.specs.Contents.{Found, Contents, FoundPair, FoundTerm, FoundSegment, fieldOf}
-use Rattle.layout.specs.Image.{streamIn, nothing, field, layoutOf, pairsIn, pairIn, segmentsIn, segmentIn, allTerms, termIn, figure, points, segments, terms}
-use Rattle.layout.specs.Places.{fieldPlace, behindFields, tableStart, pairBits, tableBits, pairPlace, curveBits, behindBlock, characterPlace}
-use Rattle.layout.proofs.Formats.{parsed}
-use Rattle.layout.proofs.Accepted.{Holding, accepted-at}
-use Rattle.layout.proofs.Standing.{Stands, field-stands, stands-parse, PairStands, pair-here, character-here}
-use Rattle.layout.proofs.Rising.{pairFrom}
-use Rattle.layout.proofs.CurvePlaces.{CurveStands, curve-here}
-use Rattle.sheet.specs.declared.opening.Opened.{Opened}
-use Rattle.sheet.specs.Check.{domainIn}
-use Rattle.sheet.specs.Opened.{Opens}
-use Rattle.sheet.specs.Walk.{valueIn, segmentAt, termAt, behindSegments, termPlace}
-use Rattle.layout.proofs.PlaceSteps.{end-few, table-least}
+use Rattle.sheet.proofs.Names.{_≡_, refl, sym, ap, ap₂, _∙_, subst, Bool, cond, List, [], _∷_, map, ℕ, zero, suc, _+_, _*_, _/_, _%_, _^_, _≤_, _<_, arith, length, getD, length-map, List·getD-map, ℤ, pos, le-ltb}
+use Rattle.sheet.proofs.Names.{good, refused, pastEnd, fieldAt, Whole, field-lt, field-add, sizes-whole, sizes-chip, Layout, Template, Bridge, Stepped, steppedValue, always, bridgeEnd, Line, lastField, lineOf}
+use Rattle.sheet.proofs.Names.{rowOf, D, R, leastDeviation, noPair, noSegment, noTerm, stepped-whole, span-lines, Unscaled, bits, Stream, parse, Found, Contents, FoundPair, FoundTerm, FoundSegment, fieldOf}
+use Rattle.sheet.proofs.Names.{streamIn, nothing, field, layoutOf, pairsIn, pairIn, segmentsIn, segmentIn, allTerms, termIn, figure, points, segments, terms, fieldPlace, behindFields, tableStart, pairBits}
+use Rattle.sheet.proofs.Names.{tableBits, pairPlace, curveBits, behindBlock, characterPlace, parsed, Holding, accepted-at, field-stands, stands-parse, PairStands, pair-here, character-here, pairFrom, CurveStands}
+use Rattle.sheet.proofs.Names.{curve-here, Opened, domainIn, Opens, valueIn, segmentAt, termAt, behindSegments, termPlace, end-few, table-least}
+use Rattle.layout.proofs.Standing.{Stands}
 use Rattle.sheet.proofs.CurvePlaces.{curve-few, segment-is, segment-place, term-place}
 
 -- An element of what is made of a list.

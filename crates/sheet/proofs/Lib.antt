@@ -1,3 +1,4 @@
+mod Names
 pub mod Steps
 pub mod WalkSteps
 pub mod TableSteps

@@ -1,35 +1,10 @@
 -- What an opened sheet says of its image.
-use mathlib.Core.Path.{_≡_, refl, sym, ap, _∙_, subst}
-use mathlib.Core.List.{List}
-use mathlib.Core.Logic.{_⊎_, inl, inr}
-use mathlib.Core.Bool.{Bool, true, false, not}
-use Prim.Native.Nat.{ℕ, zero, suc, _≤_, _<_}
-use native.Mathlib.Omega.{arith}
-use lib.Dec.{eqb, leb}
-use lib.ListN.{length}
-use borrow.Author.Tests.{le-leb, lt-leb, leb-true, leb-false}
-use Rattle.refusal.specs.declared.Refusal.{Refusal}
-use Rattle.refusal.specs.Outcome.{Outcome, good, refused, _>>=_, _>>_, refuse_if_}
-use Rattle.refusal.specs.Rows.{wrongImage, wrongSum, blankChip, noSuch}
-use Rattle.refusal.proofs.Outcomes.{good-same, no-value, told, good-bind, passed, bind-assoc}
-use Rattle.memory.specs.declared.Sizes.{Sizes}
-use Rattle.memory.specs.declared.kinds.SizesAnswer.{SizesAnswer}
-use Rattle.memory.specs.declared.kinds.SizesAnswer.the-variants.{Are, Refused as NoSizes}
-use Rattle.memory.specs.declared.pages.Sums.{Sums}
-use Rattle.memory.specs.declared.pages.Sums.the-variants.{Right, Wrong, Blank}
-use Rattle.memory.specs.Image.{sizesOf, imageBytes, streamBits, imageSizes, sums}
-use Rattle.memory.specs.Answers.{Whole, sizesSaid, sumsSaid}
-use Rattle.memory.proofs.Chips.{sizes-whole}
-use Rattle.layout.specs.Format.{parse}
-use Rattle.layout.specs.Contents.{Contents, sheetOf}
-use Rattle.layout.specs.Image.{streamIn, contents}
-use Rattle.sheet.specs.declared.opening.Item.{Item}
-use Rattle.sheet.specs.declared.opening.Opened.{Opened}
-use Rattle.sheet.specs.declared.opening.OpenedAnswer.{OpenedAnswer}
-use Rattle.sheet.specs.declared.opening.OpenedAnswer.the-variants.{Sheet, Refused as NoSheet}
-use Rattle.sheet.specs.Check.{summary}
-use Rattle.sheet.specs.Opened.{openedAs, opened, counted, openedAt, openedSaid, Opens, Held}
-use Rattle.sheet.specs.Walk.{Roomy, walked}
+use Rattle.sheet.proofs.Names.{_≡_, refl, sym, ap, _∙_, subst, List, _⊎_, inl, inr, Bool, true, false, not, ℕ, zero, suc, _≤_, _<_, arith, eqb, leb, length, le-leb, lt-leb, leb-true, leb-false, Refusal, Outcome}
+use Rattle.sheet.proofs.Names.{good, refused, wrongImage, wrongSum, blankChip, noSuch, good-same, no-value, told, good-bind, bind-assoc, Sizes, SizesAnswer, Are, NoSizes, Sums, Right, Wrong, Blank, sizesOf}
+use Rattle.sheet.proofs.Names.{imageBytes, streamBits, imageSizes, sums, Whole, sizesSaid, sumsSaid, sizes-whole, parse, Contents, sheetOf, streamIn, contents, Item, Opened, OpenedAnswer, Sheet, NoSheet, summary}
+use Rattle.sheet.proofs.Names.{openedAs, opened, counted, openedAt, openedSaid, Opens, Held, Roomy, walked}
+use Rattle.refusal.specs.Outcome.{_>>=_, _>>_, refuse_if_}
+use Rattle.refusal.proofs.Outcomes.{passed}
 use Rattle.sheet.proofs.Steps.{carried}
 
 -- ---- an opening, step by step

@@ -1,22 +1,7 @@
 -- What is read of an accepted image, and what is refused.
-use mathlib.Core.Path.{_≡_}
-use mathlib.Core.List.{List}
-use mathlib.Core.Logic.{_⊎_, ⊎-elim}
-use Prim.Native.Nat.{ℕ, _≤_, _<_}
-use native.Mathlib.Omega.{arith}
-use lib.ListN.{length, getD}
-use borrow.Author.Tests.{eq-eqb, ne-eqb, lt-ltb, le-ltb, le-leb, lt-leb}
-use Rattle.refusal.specs.declared.Refusal.{Refusal}
-use Rattle.refusal.specs.Outcome.{good, refused}
-use Rattle.refusal.specs.Rows.{noSuch}
-use Rattle.fields.specs.Calibration.{noPair}
-use Rattle.fields.specs.Curves.{noSegment, noTerm}
-use Rattle.fields.specs.Lines.{lastField}
-use Rattle.layout.specs.Contents.{Contents}
-use Rattle.layout.specs.Image.{contents, field, points, segments as segmentsOf, terms as termsOf}
-use Rattle.layout.proofs.Places.{fields-count}
-use Rattle.layout.proofs.Accepted.{contents-accepted}
-use Rattle.sheet.specs.Check.{summary, check, indexed, readField, readPair, readCharacter, readSegment, readTerm}
+use Rattle.sheet.proofs.Names.{_≡_, List, _⊎_, ⊎-elim, ℕ, _≤_, _<_, arith, length, getD, eq-eqb, ne-eqb, lt-ltb, le-ltb, le-leb, lt-leb, Refusal, good, refused, noSuch, noPair, noSegment, noTerm, lastField}
+use Rattle.sheet.proofs.Names.{Contents, contents, field, points, fields-count, contents-accepted, summary, check, indexed, readField, readPair, readCharacter, readSegment, readTerm}
+use Rattle.layout.specs.Image.{segments as segmentsOf, terms as termsOf}
 
 -- The item of an index, and an index past the last.
 module _ {A : Type 0} (items : List A) (none : A) (i : ℕ) where

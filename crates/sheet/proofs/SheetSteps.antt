@@ -1,46 +1,9 @@
 -- The walk over a whole sheet.
-use mathlib.Core.Path.{_≡_, sym, ap, _∙_}
-use mathlib.Core.Bool.{Bool}
-use mathlib.Core.List.{List, _++_, map}
-use Prim.Native.Nat.{ℕ}
-use native.Mathlib.Omega.{arith}
-use lib.ListN.{length, length-map}
+use Rattle.sheet.proofs.Names.{_≡_, sym, ap, _∙_, Bool, List, _++_, map, ℕ, arith, length, length-map, Outcome, good, bind-assoc, bind-same, Sizes, Cursor, Layout, Template, basic, templateLines, linesOf, Format}
+use Rattle.sheet.proofs.Names.{ends, _>>=_, place, Stream, Parsed, parse, Found, Calibration, Contents, Ending, fieldsOf, firstBlock, calibrationOf, endingOf, sheetOf, streamIn, lastChoice, pairIn, pairsIn}
+use Rattle.sheet.proofs.Names.{segmentIn, segmentsIn, termIn, allTerms, behindFields, parsed, parse-bind, parsed-by, laid-pieces, laid-length, last-append, basic-last, Opened, Counts, EndStep, Ended, domainIn}
+use Rattle.sheet.proofs.Names.{openedAs, keeping, choiceOn, countsOf, endCount, basicChoice, layoutAt, openedOf, walked, endingOpened, calibrationOpened, ownOpened, blockOpened, endSaid}
 use Rattle.refusal.specs.Outcome as outcome
-use Rattle.refusal.specs.Outcome.{Outcome, good}
-use Rattle.refusal.proofs.Outcomes.{bind-assoc, bind-same}
-use Rattle.memory.specs.declared.Sizes.{Sizes}
-use Rattle.stream.specs.declared.cursor.Cursor.{Cursor}
-use Rattle.fields.specs.declared.Layout.{Layout}
-use Rattle.fields.specs.declared.Template.{Template}
-use Rattle.fields.specs.Lines.{basic, templateLines, linesOf}
-use Rattle.layout.specs.Format.{Format, ends, _>>=_, place, Stream, Parsed, parse}
-use Rattle.layout.specs.Contents.{Found, Calibration, Contents, Ending, fieldsOf, firstBlock, calibrationOf, endingOf, sheetOf}
-use Rattle.layout.specs.Image.{streamIn, lastChoice, pairIn, pairsIn, segmentIn, segmentsIn, termIn, allTerms}
-use Rattle.layout.specs.Places.{behindFields}
-use Rattle.layout.proofs.Formats.{parsed, parse-bind, parsed-by}
-use Rattle.layout.proofs.Fields.{laid-pieces, laid-length}
-use Rattle.layout.proofs.Choices.{last-append, basic-last}
-use Rattle.sheet.specs.declared.opening.Opened.{Opened}
-use Rattle.sheet.specs.declared.block.Counts.{Counts}
-use Rattle.sheet.specs.declared.ending.EndStep.{EndStep}
-use Rattle.sheet.specs.declared.ending.EndStep.the-variants.{Ended}
-use Rattle.sheet.specs.Check.{domainIn}
-use Rattle.sheet.specs.Opened.{openedAs}
-use Rattle.sheet.specs.Walk.{
-  keeping,
-  choiceOn,
-  countsOf,
-  endCount,
-  basicChoice,
-  layoutAt,
-  openedOf,
-  walked,
-  endingOpened,
-  calibrationOpened,
-  ownOpened,
-  blockOpened,
-  endSaid,
-}
 use Rattle.sheet.proofs.Steps.{keep-through, carried}
 
 abbrev made : Template → List Found → Calibration → Ending → ℕ → Contents

@@ -1,41 +1,9 @@
 -- A step of the walk: from what a callee says of it to what the format says behind it.
-use mathlib.Core.Path.{_≡_, refl, sym, ap, _∙_, subst}
-use mathlib.Core.Bool.{Bool, true, false, cond}
-use mathlib.Core.List.{List, [], _∷_}
-use Prim.Native.Nat.{ℕ, _+_, _-_, _^_, _≤_, _<_}
-use native.Mathlib.Omega.{arith}
-use lib.Dec.{ltb}
-use lib.ListN.{length}
-use borrow.Author.Tests.{le-ltb, ltb-false}
-use Rattle.refusal.specs.declared.Refusal.{Refusal}
+use Rattle.sheet.proofs.Names.{_≡_, refl, sym, ap, _∙_, subst, Bool, true, false, cond, List, [], _∷_, ℕ, _+_, _-_, _^_, _≤_, _<_, arith, ltb, length, le-ltb, ltb-false, Refusal, Outcome, good, refused, pastEnd}
+use Rattle.sheet.proofs.Names.{good-same, no-value, told, Sizes, Cursor, Taken, Field, NotTaken, fieldAt, streamBits, streamNumber, takeAt, Step, takenSaid, takenAt, field-lt, Value, Missing, Row, Decoded, Means}
+use Rattle.sheet.proofs.Names.{NoValue, decodedSaid, decode, judge, Format, ends, _>>=_, bits, given, Stream, Parsed, parse, Found, fieldOf, streamIn, parsed, parse-bind, parse-next, parse-refused, found}
+use Rattle.sheet.proofs.Names.{CodeStep, Code, keeping, Coded, coded, valueIn, behind, codeSaid, judgedAt}
 use Rattle.refusal.specs.Outcome as outcome
-use Rattle.refusal.specs.Outcome.{Outcome, good, refused}
-use Rattle.refusal.specs.Rows.{pastEnd}
-use Rattle.refusal.proofs.Outcomes.{good-same, no-value, told}
-use Rattle.memory.specs.declared.Sizes.{Sizes}
-use Rattle.stream.specs.declared.cursor.Cursor.{Cursor}
-use Rattle.stream.specs.declared.cursor.Taken.{Taken}
-use Rattle.stream.specs.declared.cursor.Taken.the-variants.{Field, Refused as NotTaken}
-use Rattle.memory.specs.Bits.{fieldAt}
-use Rattle.memory.specs.Image.{streamBits, streamNumber, takeAt}
-use Rattle.stream.specs.Answers.{Step, takenSaid, takenAt}
-use Rattle.memory.proofs.FieldLaws.{field-lt}
-use Rattle.fields.specs.declared.Value.{Value}
-use Rattle.fields.specs.declared.Value.the-variants.{Missing}
-use Rattle.fields.specs.declared.Row.{Row}
-use Rattle.fields.specs.declared.Decoded.{Decoded}
-use Rattle.fields.specs.declared.Decoded.the-variants.{Means, Refused as NoValue}
-use Rattle.fields.specs.Answers.{decodedSaid}
-use Rattle.fields.specs.Rules.{decode}
-use Rattle.fields.specs.Judgement.{judge}
-use Rattle.layout.specs.Format.{Format, ends, _>>=_, bits, given, Stream, Parsed, parse}
-use Rattle.layout.specs.Contents.{Found, fieldOf}
-use Rattle.layout.specs.Image.{streamIn}
-use Rattle.layout.proofs.Formats.{parsed, parse-bind, parse-next, parse-refused}
-use Rattle.layout.proofs.Fields.{found}
-use Rattle.sheet.specs.declared.walk.CodeStep.{CodeStep}
-use Rattle.sheet.specs.declared.walk.CodeStep.the-variants.{Code}
-use Rattle.sheet.specs.Walk.{keeping, Coded, coded, valueIn, behind, codeSaid, judgedAt}
 
 -- ---- what is kept of what was found
 

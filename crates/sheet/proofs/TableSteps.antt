@@ -1,34 +1,9 @@
 -- The walk over block 40.
-use mathlib.Core.Path.{_≡_, refl, sym, ap, ap₂, _∙_}
-use mathlib.Core.List.{List, _∷_}
-use mathlib.Core.Option.{Option, none, some}
-use Prim.Native.Nat.{ℕ, suc, _+_, _-_, _/_, _%_, _^_, _≤_, _<_}
-use native.Mathlib.Omega.{arith}
-use lib.ListN.{length}
-use Rattle.refusal.specs.declared.Refusal.{Refusal}
+use Rattle.sheet.proofs.Names.{_≡_, refl, sym, ap, ap₂, _∙_, List, _∷_, Option, none, some, ℕ, suc, _+_, _-_, _/_, _%_, _^_, _≤_, _<_, arith, length, Refusal, Outcome, good, refused, told, fieldAt, Cursor, Codes}
+use Rattle.sheet.proofs.Names.{Domain, Physical, allOnes, calDomain, domainOf, pointCount, calPoint, calDeviation, codesOf, follows, Format, ends, _>>=_, _>>_, given, Stream, Parsed, parse, Found, FoundPair}
+use Rattle.sheet.proofs.Names.{Calibration, table, paired, codesIn, fieldOf, pairOf, pairsOf, tableOf, pairBits, sumAbove, Admits, admits-first, admits-next, codesFrom, pair-rises, CodeStep, Code, NoCode}
+use Rattle.sheet.proofs.Names.{CodesStep, Stand, NoCodes, CountStep, Counted, NoCount, Is, Counts, keeping, Coded, coded, countsOf, tableFrom, behind, codeSaid, codesSaid, countSaid}
 use Rattle.refusal.specs.Outcome as outcome
-use Rattle.refusal.specs.Outcome.{Outcome, good, refused}
-use Rattle.refusal.proofs.Outcomes.{told}
-use Rattle.memory.specs.Bits.{fieldAt}
-use Rattle.stream.specs.declared.cursor.Cursor.{Cursor}
-use Rattle.fields.specs.declared.Codes.{Codes}
-use Rattle.fields.specs.declared.Domain.{Domain}
-use Rattle.fields.specs.declared.Domain.the-variants.{Physical}
-use Rattle.fields.specs.Rules.{allOnes}
-use Rattle.fields.specs.Calibration.{calDomain, domainOf, pointCount, calPoint, calDeviation, codesOf, follows}
-use Rattle.layout.specs.Format.{Format, ends, _>>=_, _>>_, given, Stream, Parsed, parse}
-use Rattle.layout.specs.Contents.{Found, FoundPair, Calibration, table, paired, codesIn, fieldOf, pairOf, pairsOf, tableOf}
-use Rattle.layout.specs.Places.{pairBits}
-use Rattle.layout.proofs.Rising.{sumAbove, Admits, admits-first, admits-next, codesFrom, pair-rises}
-use Rattle.sheet.specs.declared.walk.CodeStep.{CodeStep}
-use Rattle.sheet.specs.declared.walk.CodeStep.the-variants.{Code, Refused as NoCode}
-use Rattle.sheet.specs.declared.table.CodesStep.{CodesStep}
-use Rattle.sheet.specs.declared.table.CodesStep.the-variants.{Stand, Refused as NoCodes}
-use Rattle.sheet.specs.declared.table.CountStep.{CountStep}
-use Rattle.sheet.specs.declared.table.CountStep.the-variants.{Counted, Refused as NoCount}
-use Rattle.sheet.specs.declared.TableDomain.the-variants.{Is}
-use Rattle.sheet.specs.declared.block.Counts.{Counts}
-use Rattle.sheet.specs.Walk.{keeping, Coded, coded, countsOf, tableFrom, behind, codeSaid, codesSaid, countSaid}
 use Rattle.sheet.proofs.Steps.{keep-next, keep-refused, keep-made, keep-twice, countLeft, count-start, count-more, count-done}
 
 -- ---- the codes of a pair

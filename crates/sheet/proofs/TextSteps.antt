@@ -1,22 +1,6 @@
 -- The walk over the ending: the end bit and the text.
-use mathlib.Core.Path.{_≡_, sym, ap, _∙_}
-use mathlib.Core.Bool.{Bool, cond}
-use mathlib.Core.List.{List, [], _∷_}
-use Prim.Native.Nat.{ℕ, suc, _+_, _-_, _/_, _≤_, _<_}
-use native.Mathlib.Omega.{arith}
-use lib.Dec.{eqb}
-use lib.ListN.{length}
-use borrow.Author.Tests.{eq-eqb, ne-eqb}
-use Rattle.refusal.specs.declared.Refusal.{Refusal}
-use Rattle.refusal.specs.Outcome.{good, refused}
-use Rattle.refusal.proofs.Outcomes.{told}
-use Rattle.stream.specs.declared.cursor.Cursor.{Cursor}
-use Rattle.layout.specs.Format.{Format, ends, _>>=_, bits, remaining, Stream, parse}
-use Rattle.layout.specs.Contents.{Ending, charactersOf, endingOf}
-use Rattle.layout.proofs.Formats.{parsed, parse-next, parse-refused}
-use Rattle.sheet.specs.declared.table.CountStep.{CountStep}
-use Rattle.sheet.specs.declared.table.CountStep.the-variants.{Counted, Refused as NoCount}
-use Rattle.sheet.specs.Walk.{keeping, EndCount, endCount, behind, countSaid}
+use Rattle.sheet.proofs.Names.{_≡_, sym, ap, _∙_, Bool, cond, List, [], _∷_, ℕ, suc, _+_, _-_, _/_, _≤_, _<_, arith, eqb, length, eq-eqb, ne-eqb, Refusal, good, refused, told, Cursor, Format, ends, _>>=_, bits}
+use Rattle.sheet.proofs.Names.{remaining, Stream, parse, Ending, charactersOf, endingOf, parsed, parse-next, parse-refused, CountStep, Counted, NoCount, keeping, EndCount, endCount, behind, countSaid}
 use Rattle.sheet.proofs.Steps.{keep-made, keep-twice, countLeft, count-more}
 
 -- ---- characters one after the other

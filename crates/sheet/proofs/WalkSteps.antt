@@ -1,44 +1,11 @@
 -- The walk over fields and blocks.
-use mathlib.Core.Path.{_≡_, refl, sym, ap, ap₂, _∙_, subst}
-use mathlib.Core.Bool.{not}
-use mathlib.Core.List.{List, [], _∷_}
-use Prim.Native.Nat.{ℕ, suc, _+_, _-_, _≤_, _<_}
-use native.Mathlib.Omega.{arith}
-use lib.Dec.{eqb}
-use lib.ListN.{length, take, drop, getD, length-append}
-use lib.Seq.{drop-cons, take-at, drop-at}
-use borrow.Author.Tests.{lt-ltb, le-ltb, eq-eqb, ne-eqb}
-use Rattle.refusal.specs.declared.Refusal.{Refusal}
+use Rattle.sheet.proofs.Names.{_≡_, refl, sym, ap, ap₂, _∙_, subst, not, List, [], _∷_, ℕ, suc, _+_, _-_, _≤_, _<_, arith, eqb, length, take, drop, getD, length-append, drop-cons, take-at, drop-at, lt-ltb, le-ltb}
+use Rattle.sheet.proofs.Names.{eq-eqb, ne-eqb, Refusal, Outcome, good, refused, pastEnd, wrongBlock, no-value, told, then-good, then-refused, Sizes, fieldAt, streamBits, streamNumber, Whole, field-lt, Value, Row}
+use Rattle.sheet.proofs.Names.{Template, Layout, Judged, Stands, Turned, judgedSaid, judge, Open, OpenBehind, Line, chose, basic, templateLines, linesOf, lastField, lineOf, rowOf, noLine, decode, Sound, row-sound}
+use Rattle.sheet.proofs.Names.{Format, ends, _>>=_, bits, given, refuse_if_, Stream, parse, Found, fieldOf, fieldsOf, streamIn, firstSelector, fieldPlace, behindFields, judged, frontLines, parsed, parse-next}
+use Rattle.sheet.proofs.Names.{parse-refused, found, Come, come-open, come-inside, come-halt, come-next, behind-open, basic-end, basic-judged, last-sets, last-open, front-end, own-judged, keeping, choiceOn, Roomy}
+use Rattle.sheet.proofs.Names.{basicChoice, ownStart, ownJudged, ownChoice, markOf, stoodTo}
 use Rattle.refusal.specs.Outcome as outcome
-use Rattle.refusal.specs.Outcome.{Outcome, good, refused}
-use Rattle.refusal.specs.Rows.{pastEnd, wrongBlock}
-use Rattle.refusal.proofs.Outcomes.{no-value, told, then-good, then-refused}
-use Rattle.memory.specs.declared.Sizes.{Sizes}
-use Rattle.memory.specs.Bits.{fieldAt}
-use Rattle.memory.specs.Image.{streamBits, streamNumber}
-use Rattle.memory.specs.Answers.{Whole}
-use Rattle.memory.proofs.FieldLaws.{field-lt}
-use Rattle.fields.specs.declared.Value.{Value}
-use Rattle.fields.specs.declared.Row.{Row}
-use Rattle.fields.specs.declared.Template.{Template}
-use Rattle.fields.specs.declared.Layout.{Layout}
-use Rattle.fields.specs.declared.Judged.{Judged}
-use Rattle.fields.specs.declared.Judged.the-variants.{Stands, Refused as Turned}
-use Rattle.fields.specs.Answers.{judgedSaid}
-use Rattle.fields.specs.Judgement.{judge, Open, OpenBehind}
-use Rattle.fields.specs.Lines.{Line, chose, basic, templateLines, linesOf, lastField, lineOf, rowOf, noLine}
-use Rattle.fields.specs.Rules.{decode}
-use Rattle.fields.specs.Stored.{Sound}
-use Rattle.fields.proofs.RowLaws.{row-sound}
-use Rattle.layout.specs.Format.{Format, ends, _>>=_, bits, given, refuse_if_, Stream, parse}
-use Rattle.layout.specs.Contents.{Found, fieldOf, fieldsOf}
-use Rattle.layout.specs.Image.{streamIn}
-use Rattle.layout.specs.Places.{firstSelector, fieldPlace, behindFields}
-use Rattle.layout.specs.Judgement.{judged, frontLines}
-use Rattle.layout.proofs.Formats.{parsed, parse-next, parse-refused}
-use Rattle.layout.proofs.Fields.{found}
-use Rattle.layout.proofs.Judging.{Come, come-open, come-inside, come-halt, come-next, behind-open, basic-end, basic-judged, last-sets, last-open, front-end, own-judged}
-use Rattle.sheet.specs.Walk.{keeping, choiceOn, Roomy, basicChoice, ownStart, ownJudged, ownChoice, markOf, stoodTo}
 use Rattle.sheet.proofs.Steps.{keep-made, keep-bind}
 
 -- ---- a code that has to be the one wanted

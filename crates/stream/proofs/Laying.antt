@@ -1,23 +1,9 @@
 -- Bytes of a word into an image: eight side by side, and a field of the stream.
-use mathlib.Core.Path.{_≡_, refl, sym, ap, ap₂, _∙_}
-use mathlib.Core.List.{List}
-use Prim.Native.Nat.{ℕ, zero, suc, _+_, _-_, _*_, _/_, _%_, _^_, _≤_, _<_}
-use native.Mathlib.Nat.{mod-lt, mod-one, mod-eq-of-lt, div-eq-of-lt, lt-of-lt-of-le, zero-mul}
-use native.Mathlib.Numerals.{add-one}
-use native.Mathlib.Omega.{arith}
-use lib.ListN.{length, getD, set, length-set}
-use lib.Seq.{getD-set-other}
-use lib.Dec.{lit<}
-use lib.Bits.{bitOr, bitAnd, or-shifted-r}
-use lib.Pow.{pow-pos, pow-mono, mod-pow-add, split, shr-lt, shl-exact}
-use Rattle.memory.specs.declared.Sizes.{Sizes}
-use Rattle.memory.specs.Bits.{Bytes, number, bytesOf, fieldAt, putAt}
-use Rattle.memory.specs.Image.{imageBytes, streamBytes, streamBits, pageAt, streamOf, streamNumber, withStream, putIn}
-use Rattle.memory.specs.Answers.{streamIndex}
-use Rattle.memory.proofs.FieldLaws.{field-lt, low-lt, put-same, put-after, put-put, put-in, put-lt}
-use Rattle.memory.proofs.Digits.{bytes-set, bytes-length, bytes-number, number-bytes, number-lt, number-at, number-set}
-use Rattle.memory.proofs.Streams.{stream-length, stream-bytes, stream-set, index-check}
-use Rattle.memory.proofs.Written.{Put, put-is, put-whole, put-bytes, put-stream, put-checks}
+use Rattle.stream.proofs.Names.{_≡_, refl, sym, ap, ap₂, _∙_, List, ℕ, zero, suc, _+_, _-_, _*_, _/_, _%_, _^_, _≤_, _<_, mod-lt, mod-one, mod-eq-of-lt, div-eq-of-lt, lt-of-lt-of-le, zero-mul, add-one, arith}
+use Rattle.stream.proofs.Names.{length, getD, set, length-set, getD-set-other, lit<, bitOr, bitAnd, or-shifted-r, pow-pos, pow-mono, mod-pow-add, split, shr-lt, shl-exact, Sizes, Bytes, number, bytesOf, fieldAt}
+use Rattle.stream.proofs.Names.{putAt, imageBytes, streamBytes, streamBits, pageAt, streamOf, streamNumber, withStream, putIn, streamIndex, field-lt, low-lt, put-same, put-after, put-put, put-in, put-lt}
+use Rattle.stream.proofs.Names.{bytes-set, bytes-length, bytes-number, number-bytes, number-lt, number-at, number-set, stream-length, stream-bytes, stream-set, index-check, Put, put-is, put-whole, put-bytes}
+use Rattle.stream.proofs.Names.{put-stream, put-checks}
 use Rattle.stream.proofs.Words.{low-bits}
 use Rattle.stream.proofs.Runs.{Side, side-stream, index-at, run-field, run-bits, eight-in}
 

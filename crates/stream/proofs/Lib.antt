@@ -1,3 +1,4 @@
+mod Names
 pub mod Words
 pub mod Runs
 pub mod Laying

@@ -1,23 +1,8 @@
 -- A field put, and the check bytes of its pages made right.
-use mathlib.Core.Path.{_≡_, sym, ap, ap₂, _∙_}
-use mathlib.Core.Logic.{_⊎_, inl, inr}
-use mathlib.Core.List.{List}
-use Prim.Native.Nat.{ℕ, zero, suc, _+_, _-_, _*_, _^_, _≤_, _<_}
-use native.Mathlib.Omega.{arith}
-use native.Mathlib.Decide.{decLt, ℕ-discrete}
-use lib.ListN.{length, take, drop, getD, length-drop}
-use lib.Seq.{length-take-le}
-use Rattle.memory.specs.declared.Sizes.{Sizes}
-use Rattle.memory.specs.Bits.{Bytes, number, fieldAt, putAt}
-use Rattle.memory.specs.Image.{imageBytes, streamBytes, streamBits, pageAt, pageOf, pageSum, SumsRight, streamOf, streamNumber, imageOf, sealed, putIn}
-use Rattle.stream.specs.Answers.{InStream}
-use Rattle.memory.proofs.FieldLaws.{put-after, put-before}
-use Rattle.memory.proofs.Digits.{bytes-take, bytes-drop, number-part, number-ext}
-use Rattle.memory.proofs.Streams.{stream-length, stream-bytes}
-use Rattle.memory.proofs.Written.{put-whole, put-bytes, put-stream, put-checks}
-use Rattle.memory.proofs.SumLaws.{streamPart, sum-same}
-use Rattle.memory.proofs.Images.{image-is}
-use Rattle.memory.proofs.Sealing.{seal-length, seal-bytes, seal-number, seal-sum, seal-other, seal-others}
+use Rattle.stream.proofs.Names.{_≡_, sym, ap, ap₂, _∙_, _⊎_, inl, inr, List, ℕ, zero, suc, _+_, _-_, _*_, _^_, _≤_, _<_, arith, decLt, ℕ-discrete, length, take, drop, getD, length-drop, length-take-le, Sizes}
+use Rattle.stream.proofs.Names.{Bytes, number, fieldAt, putAt, imageBytes, streamBytes, streamBits, pageAt, pageOf, pageSum, SumsRight, streamOf, streamNumber, imageOf, sealed, putIn, InStream, put-after}
+use Rattle.stream.proofs.Names.{put-before, bytes-take, bytes-drop, number-part, number-ext, stream-length, stream-bytes, put-whole, put-bytes, put-stream, put-checks, streamPart, sum-same, image-is, seal-length}
+use Rattle.stream.proofs.Names.{seal-bytes, seal-number, seal-sum, seal-other, seal-others}
 
 -- A part of two streams with the same field there is the same.
 same-part : (l k : List ℕ) (S i n : ℕ) → length l ≡ S → length k ≡ S → Bytes l → Bytes k → i + n ≤ S

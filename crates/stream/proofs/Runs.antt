@@ -1,24 +1,7 @@
 -- Where bits of the stream stand in an image, and its bytes as words of eight.
-use mathlib.Core.Path.{_≡_, sym, ap, ap₂, _∙_}
-use mathlib.Core.List.{List}
-use Prim.Native.Nat.{ℕ, zero, suc, _+_, _-_, _*_, _/_, _%_, _^_, _≤_, _<_}
-use native.Mathlib.Nat.{mod-one, mod-lt, mod-eq-of-lt, lt-of-le-of-lt}
-use native.Mathlib.Omega.{arith}
-use native.Mathlib.Decide.{decLt}
-use mir.Syntax.{w64}
-use mir.Val.{Fits}
-use lib.ListN.{length, getD}
-use lib.Dec.{lit<}
-use lib.Bits.{bitOr, bitAnd, or-shifted-r}
-use lib.Pow.{pow-pos, high, low, mod-pow-add, shr-shr, shr-lt, shr-le, shl-exact}
-use Rattle.memory.specs.declared.Sizes.{Sizes}
-use Rattle.memory.specs.Bits.{Bytes, number, fieldAt}
-use Rattle.memory.specs.Image.{imageBytes, streamBytes, streamBits, streamOf, streamNumber}
-use Rattle.memory.specs.Answers.{Whole, streamIndex}
-use Rattle.stream.specs.Answers.{InStream}
-use Rattle.memory.proofs.FieldLaws.{field-lt, field-add, field-field}
-use Rattle.memory.proofs.Digits.{number-lt, number-at}
-use Rattle.memory.proofs.Streams.{index-register, index-page, index-lt, stream-length, stream-at, stream-bytes}
+use Rattle.stream.proofs.Names.{_≡_, sym, ap, ap₂, _∙_, List, ℕ, zero, suc, _+_, _-_, _*_, _/_, _%_, _^_, _≤_, _<_, mod-one, mod-lt, mod-eq-of-lt, lt-of-le-of-lt, arith, decLt, w64, Fits, length, getD, lit<}
+use Rattle.stream.proofs.Names.{bitOr, bitAnd, or-shifted-r, pow-pos, high, low, mod-pow-add, shr-shr, shr-lt, shr-le, shl-exact, Sizes, Bytes, number, fieldAt, imageBytes, streamBytes, streamBits, streamOf}
+use Rattle.stream.proofs.Names.{streamNumber, Whole, streamIndex, InStream, field-lt, field-add, field-field, number-lt, number-at, index-register, index-page, index-lt, stream-length, stream-at, stream-bytes}
 use Rattle.stream.proofs.Words.{low-bits}
 
 -- ---- eight bytes as one word

@@ -1,16 +1,6 @@
 -- Every page sealed, one after the other.
-use mathlib.Core.Path.{_≡_, refl, ap, _∙_}
-use mathlib.Core.List.{List}
-use Prim.Native.Nat.{ℕ, _+_, _≤_, _<_}
-use native.Mathlib.Decide.{ℕ-discrete}
-use native.Mathlib.Omega.{arith}
-use lib.ListN.{length}
-use Rattle.memory.specs.declared.Sizes.{Sizes}
-use Rattle.memory.specs.Bits.{Bytes}
-use Rattle.memory.specs.Image.{imageBytes, pageSum, streamNumber, imageOf, sealed}
-use Rattle.memory.specs.Answers.{Whole}
-use Rattle.memory.proofs.Images.{image-is}
-use Rattle.memory.proofs.Sealing.{seal-length, seal-bytes, seal-number, seal-sum, seal-others}
+use Rattle.stream.proofs.Names.{_≡_, refl, ap, _∙_, List, ℕ, _+_, _≤_, _<_, ℕ-discrete, arith, length, Sizes, Bytes, imageBytes, pageSum, streamNumber, imageOf, sealed, Whole, image-is, seal-length, seal-bytes}
+use Rattle.stream.proofs.Names.{seal-number, seal-sum, seal-others}
 
 -- The first n pages of `before` sealed.
 pub record Sealed (z : Sizes) (before : List ℕ) (n : ℕ) (image : List ℕ) : Type 0 where

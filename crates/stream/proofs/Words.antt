@@ -1,13 +1,7 @@
 -- The code's shifts and masks.
-use mathlib.Core.Path.{_≡_, sym, ap, ap₂, _∙_}
-use Prim.Native.Nat.{ℕ, _+_, _-_, _*_, _/_, _%_, _^_, _≤_, _<_}
-use native.Mathlib.Nat.{mod-lt, le-refl, one-mul, lt-trans, lt-of-le-of-lt, lt-of-lt-of-le, div-mul-le-self, mul-assoc, add-comm}
-use native.Mathlib.Omega.{arith}
-use lib.Dec.{lit<}
-use lib.Bits.{bitOr, bitAnd, or-shifted-r, or-zero-r, or-block, and-mask, and-high, and-block}
-use lib.Pow.{pow-pos, pow-mono, pow-add, split, mod-mod-pow, ones-lt, ones-split, shr-shr, shr-lt, shr-le, shr-mod, shl-lt, shl-exact}
-use Rattle.memory.specs.Bits.{putAt}
-use Rattle.memory.proofs.FieldLaws.{low-lt}
+use Rattle.stream.proofs.Names.{_≡_, sym, ap, ap₂, _∙_, ℕ, _+_, _-_, _*_, _/_, _%_, _^_, _≤_, _<_, mod-lt, le-refl, one-mul, lt-trans, lt-of-le-of-lt, lt-of-lt-of-le, div-mul-le-self, mul-assoc, add-comm, arith}
+use Rattle.stream.proofs.Names.{lit<, bitOr, bitAnd, or-shifted-r, or-zero-r, or-block, and-mask, and-high, and-block, pow-pos, pow-mono, pow-add, split, mod-mod-pow, ones-lt, ones-split, shr-shr, shr-lt, shr-le}
+use Rattle.stream.proofs.Names.{shr-mod, shl-lt, shl-exact, putAt, low-lt}
 
 -- `1 << width`
 pub one-shl : (width : ℕ) → width < 64 → 1 * 2 ^ width % 2 ^ 64 ≡ 2 ^ width

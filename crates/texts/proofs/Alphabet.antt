@@ -1,16 +1,7 @@
 -- Laws of letter codes: the 32 letters differ, and so do the texts of different codes.
 -- Assumes nothing.
-use mathlib.Core.Path.{_≡_, refl, sym, ap, subst}
-use mathlib.Core.Bool.{Bool, true, false, not, _||_}
-use mathlib.Core.List.{List}
-use Prim.Native.Nat.{ℕ, zero, suc, _+_, _*_, _/_, _%_, _^_, _-_, _<_, _≤_}
-use native.Mathlib.Nat.{pow-suc, one-le-pow}
-use native.Mathlib.Omega.{arith}
-use lib.Dec.{T, eqb, eqb→eq, lit<}
-use lib.ListN.{length, getD, drop}
-use borrow.Author.Tests.{eq-eqb}
-use Rattle.texts.specs.Letters.{letters, lettersText}
-use Rattle.texts.specs.Whose.{OnlyCode}
+use Rattle.texts.proofs.Names.{_≡_, refl, sym, ap, subst, Bool, true, false, not, _||_, List, ℕ, zero, suc, _+_, _*_, _/_, _%_, _^_, _-_, _<_, _≤_, pow-suc, one-le-pow, arith, T, eqb, eqb→eq, lit<, length, getD}
+use Rattle.texts.proofs.Names.{drop, eq-eqb, letters, lettersText, OnlyCode}
 use Rattle.texts.proofs.Below.{below, at}
 
 -- where two numbers have one letter, they are one number

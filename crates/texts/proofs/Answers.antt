@@ -1,20 +1,7 @@
 -- What a text's answer says of it.
 -- Assumes nothing.
-use mathlib.Core.Path.{_≡_, refl, sym, ap, subst, _∙_}
-use mathlib.Core.Bool.{Bool, cond}
-use mathlib.Core.List.{List}
-use Prim.Native.Nat.{ℕ, _≤_, _-_}
-use native.Mathlib.Omega.{arith}
-use lib.ListN.{length, take, replicate, length-append}
-use lib.Seq.{take-append-seam}
-use Rattle.refusal.specs.Outcome.{Outcome, good, refused}
-use Rattle.refusal.specs.Rows.{outOfRange}
-use Rattle.refusal.specs.declared.Refusal.{Refusal}
-use Rattle.refusal.proofs.Outcomes.{chosen}
-use Rattle.texts.specs.declared.Text.{Text}
-use Rattle.texts.specs.declared.TextAnswer.the-variants.{Length, Refused}
-use Rattle.texts.specs.Text.{textOf, textSaid, same}
-use Rattle.texts.specs.Whose.{codeIfShown}
+use Rattle.texts.proofs.Names.{_≡_, refl, sym, ap, subst, _∙_, Bool, cond, List, ℕ, _≤_, _-_, arith, length, take, replicate, length-append, take-append-seam, Outcome, good, refused, outOfRange, Refusal, chosen}
+use Rattle.texts.proofs.Names.{Text, Length, Refused, textOf, textSaid, same, codeIfShown}
 
 -- a refusal, and zeros
 pub no-text : {t : Text} {x r : Refusal} {o : Outcome (List ℕ)} → t ≡ textSaid (refused x) → x ≡ r → o ≡ refused r → t ≡ textSaid o

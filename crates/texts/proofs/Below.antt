@@ -1,11 +1,6 @@
 -- A rule at each number below n, by one test that antt computes.
 -- Assumes nothing.
-use mathlib.Core.Path.{sym, subst}
-use mathlib.Core.Logic.{⊎-elim}
-use mathlib.Core.Bool.{Bool, true, false, _&&_}
-use Prim.Native.Nat.{ℕ, zero, suc, _<_}
-use native.Mathlib.Nat.{eq-or-lt-of-le, le-of-suc-le-suc, not-suc-le-zero}
-use lib.Dec.{T}
+use Rattle.texts.proofs.Names.{sym, subst, ⊎-elim, Bool, true, false, _&&_, ℕ, zero, suc, _<_, eq-or-lt-of-le, le-of-suc-le-suc, not-suc-le-zero, T}
 
 abbrev pub below : (ℕ → Bool) → ℕ → Bool
 below f zero = true

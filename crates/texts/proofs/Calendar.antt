@@ -1,12 +1,7 @@
 -- Laws of the calendar: a real date is the date of the days before it, counted by years and months.
 -- Assumes nothing.
-use mathlib.Core.Path.{_≡_, refl, ap, subst, _∙_}
-use mathlib.Core.Bool.{Bool, true, false}
-use Prim.Native.Nat.{ℕ, zero, suc, _+_, _-_, _<_, _≤_, suc-le-suc}
-use native.Mathlib.Omega.{arith}
-use lib.Dec.{T, leb, ltb, leb→le}
-use borrow.Author.Tests.{ltb-true, ltb-false}
-use Rattle.texts.specs.Dates.{Date, monthLength, next, dateOf, daysOfYears, daysBeforeYear, daysBeforeMonth}
+use Rattle.texts.proofs.Names.{_≡_, refl, ap, subst, _∙_, Bool, true, false, ℕ, zero, suc, _+_, _-_, _<_, _≤_, suc-le-suc, arith, T, leb, ltb, leb→le, ltb-true, ltb-false, Date, monthLength, next, dateOf}
+use Rattle.texts.proofs.Names.{daysOfYears, daysBeforeYear, daysBeforeMonth}
 use Rattle.texts.proofs.Rising.{risen, one-place}
 use Rattle.texts.proofs.Months.{month-range, month-suc, months-rise, year-suc, years-rise}
 

@@ -1,12 +1,6 @@
 -- The digits of a date read back.
 -- Assumes nothing.
-use mathlib.Core.Path.{_≡_, refl, sym, ap, _∙_}
-use mathlib.Core.List.{List}
-use Prim.Native.Nat.{ℕ, _+_, _-_, _*_, _/_, _%_, _<_, _≤_}
-use native.Mathlib.Nat.{div-div-eq-div-mul}
-use native.Mathlib.Omega.{arith}
-use lib.ListN.{length, getD}
-use Rattle.texts.specs.Dates.{dateOf, dateText}
+use Rattle.texts.proofs.Names.{_≡_, refl, sym, ap, _∙_, List, ℕ, _+_, _-_, _*_, _/_, _%_, _<_, _≤_, div-div-eq-div-mul, arith, length, getD, dateOf, dateText}
 use Rattle.texts.proofs.Calendar.{count, counted}
 use Rattle.texts.proofs.Finding.{ranged}
 

@@ -1,11 +1,6 @@
 -- What the search for a date, and for its code, meets on the way.
 -- Assumes nothing.
-use mathlib.Core.Path.{_≡_, subst}
-use Prim.Native.Nat.{ℕ, _+_, _-_, _<_, _≤_}
-use native.Mathlib.Nat.{le-of-suc-le-suc}
-use native.Mathlib.Numerals.{add-one}
-use native.Mathlib.Omega.{arith, by-contra}
-use Rattle.texts.specs.Dates.{Date, monthLength, dateOf, daysOfYear, daysBeforeYear, daysBeforeMonth}
+use Rattle.texts.proofs.Names.{_≡_, subst, ℕ, _+_, _-_, _<_, _≤_, le-of-suc-le-suc, add-one, arith, by-contra, Date, monthLength, dateOf, daysOfYear, daysBeforeYear, daysBeforeMonth}
 use Rattle.texts.proofs.Rising.{risen}
 use Rattle.texts.proofs.Months.{month-range, month-suc, months-rise, year-suc, year-range, years-range}
 use Rattle.texts.proofs.Calendar.{dated, Real, count, counted, real-date}

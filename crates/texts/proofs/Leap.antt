@@ -1,13 +1,7 @@
 -- The days before a year, by 365 a year and a count of leap years, for any year.
 -- Assumes nothing.
-use mathlib.Core.Path.{_≡_, refl}
-use mathlib.Core.Bool.{Bool, true, false, not, _&&_, _||_, cond}
-use Prim.Native.Nat.{ℕ, zero, suc, _+_, _-_, _*_, _/_, _%_, _<_, _≤_}
-use native.Mathlib.Nat.{mod-lt, suc-mul, div-add-mod', le-div-iff-mul-le, div-lt-iff-lt-mul}
-use native.Mathlib.Omega.{arith}
-use lib.Dec.{eqb, lit<}
-use borrow.Author.Tests.{eqb-true, eqb-false}
-use Rattle.texts.specs.Dates.{daysOfYears, daysBeforeYear}
+use Rattle.texts.proofs.Names.{_≡_, refl, Bool, true, false, not, _&&_, _||_, cond, ℕ, zero, suc, _+_, _-_, _*_, _/_, _%_, _<_, _≤_, mod-lt, suc-mul, div-add-mod', le-div-iff-mul-le, div-lt-iff-lt-mul, arith, eqb}
+use Rattle.texts.proofs.Names.{lit<, eqb-true, eqb-false, daysOfYears, daysBeforeYear}
 use Rattle.texts.proofs.Months.{year-days}
 
 -- ---- a quotient grows by one at each multiple of the divisor

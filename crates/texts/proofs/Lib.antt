@@ -1,3 +1,4 @@
+mod Names
 pub mod Below
 pub mod Rising
 pub mod Same

@@ -1,13 +1,7 @@
 -- Laws of months and years, for any year.
 -- Assumes nothing.
-use mathlib.Core.Path.{_≡_, refl, sym, ap, subst, _∙_}
-use mathlib.Core.Bool.{Bool, true, false, _&&_, cond}
-use mathlib.Core.List.{List, [], _∷_, foldr}
-use Prim.Native.Nat.{ℕ, zero, suc, _+_, _-_, _*_, _≤_, zero-le, suc-le-suc}
-use native.Mathlib.Omega.{arith}
-use lib.Dec.{T, leb, leb→le}
-use lib.ListN.{getD, take}
-use Rattle.texts.specs.Dates.{leap, monthLengths, monthLength, daysOfYear, daysOfYears, daysBeforeYear, daysBeforeMonth}
+use Rattle.texts.proofs.Names.{_≡_, refl, sym, ap, subst, _∙_, Bool, true, false, _&&_, cond, List, [], _∷_, foldr, ℕ, zero, suc, _+_, _-_, _*_, _≤_, zero-le, suc-le-suc, arith, T, leb, leb→le, getD, take, leap}
+use Rattle.texts.proofs.Names.{monthLengths, monthLength, daysOfYear, daysOfYears, daysBeforeYear, daysBeforeMonth}
 use Rattle.texts.proofs.Below.{below, at, first, second}
 use Rattle.texts.proofs.Rising.{risen}
 

@@ -1,10 +1,6 @@
 -- What rises passes a number once: one law for the days before a year and for the days before a month.
 -- Assumes nothing.
-use mathlib.Core.Path.{_≡_, sym, subst}
-use mathlib.Core.Logic.{⊎-elim}
-use Prim.Native.Nat.{ℕ, zero, suc, _<_, _≤_}
-use native.Mathlib.Nat.{le-refl, le-trans, eq-or-lt-of-le, le-of-suc-le-suc}
-use native.Mathlib.Omega.{arith, by-contra}
+use Rattle.texts.proofs.Names.{_≡_, sym, subst, ⊎-elim, ℕ, zero, suc, _<_, _≤_, le-refl, le-trans, eq-or-lt-of-le, le-of-suc-le-suc, arith, by-contra}
 
 module _ (f : ℕ → ℕ) (rises : (k : ℕ) → f k ≤ f (suc k)) where
   pub risen : (a b : ℕ) → a ≤ b → f a ≤ f b

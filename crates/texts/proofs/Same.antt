@@ -1,15 +1,6 @@
 -- Lists that are the same, byte by byte.
 -- Assumes nothing.
-use mathlib.Core.Path.{_≡_, refl, sym, subst}
-use mathlib.Core.Bool.{Bool, true, false}
-use mathlib.Core.List.{List, [], _∷_}
-use Prim.Native.Nat.{ℕ, _+_, _≤_, _<_}
-use native.Mathlib.Numerals.{add-one}
-use lib.Dec.{T, eqb, eqb→eq}
-use lib.ListN.{length, getD, drop, drop-of-length-le}
-use lib.Seq.{drop-cons}
-use borrow.Author.Tests.{eq-eqb, ne-eqb}
-use Rattle.texts.specs.Text.{same}
+use Rattle.texts.proofs.Names.{_≡_, refl, sym, subst, Bool, true, false, List, [], _∷_, ℕ, _+_, _≤_, _<_, add-one, T, eqb, eqb→eq, length, getD, drop, drop-of-length-le, drop-cons, eq-eqb, ne-eqb, same}
 use Rattle.texts.proofs.Below.{first, second}
 
 pub same-refl : (a : List ℕ) → same a a ≡ true

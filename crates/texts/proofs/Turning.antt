@@ -1,26 +1,8 @@
 -- Text and codes turned into each other and back.
 -- Assumes nothing.
-use mathlib.Core.Path.{_≡_, refl, sym, ap, subst, _∙_}
-use mathlib.Core.Logic.{_⊎_, inl, inr, ⊎-elim}
-use mathlib.Core.Bool.{Bool, true, false, not, _&&_, _||_, cond, or-true}
-use mathlib.Core.List.{List}
-use Prim.Native.Nat.{ℕ, _<_, _≤_}
-use native.Mathlib.Omega.{arith}
-use lib.Dec.{eqb, ltb, leb}
-use lib.ListN.{length}
-use lib.IntN.{pos}
-use borrow.Author.Tests.{leb-false, eq-eqb, ne-eqb, eqb-true, eqb-false, ltb-false, lt-ltb, le-ltb}
-use Rattle.refusal.specs.Outcome.{Outcome, good, refused, _>>_, _>>=_, refuse_if_}
-use Rattle.refusal.specs.Rows.{noSuch, wrongSort, outOfRange}
-use Rattle.refusal.specs.declared.Refusal.{Refusal}
-use Rattle.refusal.proofs.Outcomes.{no-value, neither}
-use Rattle.fields.specs.declared.Value.the-variants.{Whole}
-use Rattle.fields.specs.declared.Rule.the-variants.{Plain}
-use Rattle.fields.specs.Rules.{allOnes, encode}
-use Rattle.texts.specs.Letters.{lettersText}
-use Rattle.texts.specs.Dates.{dateText}
-use Rattle.texts.specs.Text.{texted, textOf, same, whoseText, codeOf}
-use Rattle.texts.specs.Whose.{OnlyCode, codeIfShown}
+use Rattle.texts.proofs.Names.{_≡_, refl, sym, ap, subst, _∙_, _⊎_, inl, inr, ⊎-elim, Bool, true, false, not, _&&_, _||_, cond, or-true, List, ℕ, _<_, _≤_, arith, eqb, ltb, leb, length, pos, leb-false, eq-eqb}
+use Rattle.texts.proofs.Names.{ne-eqb, eqb-true, eqb-false, ltb-false, lt-ltb, le-ltb, Outcome, good, refused, _>>_, _>>=_, refuse_if_, noSuch, wrongSort, outOfRange, Refusal, no-value, neither, Whole, Plain}
+use Rattle.texts.proofs.Names.{allOnes, encode, lettersText, dateText, texted, textOf, same, whoseText, codeOf, OnlyCode, codeIfShown}
 use Rattle.texts.proofs.Same.{same-refl}
 use Rattle.texts.proofs.Alphabet.{letters-length, letters-differ}
 use Rattle.texts.proofs.Digits.{date-length, dates-differ}

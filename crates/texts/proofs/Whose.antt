@@ -1,19 +1,7 @@
 -- The code whose text it is, where only one can have it.
 -- Assumes nothing.
-use mathlib.Core.Path.{_≡_, refl, sym, ap, subst, _∙_}
-use mathlib.Core.Logic.{⊎-elim}
-use mathlib.Core.Bool.{Bool, true, false, _&&_, cond}
-use mathlib.Core.List.{List}
-use Prim.Native.Nat.{ℕ, zero, suc, _≤_, zero-le}
-use native.Mathlib.Nat.{le-refl, le-of-suc-le-suc, eq-or-lt-of-le}
-use native.Mathlib.Omega.{arith}
-use lib.Dec.{T, leb}
-use borrow.Author.Tests.{leb-true, leb-false}
-use Rattle.refusal.specs.Outcome.{Outcome, good, refused}
-use Rattle.refusal.specs.declared.Refusal.{Refusal}
-use Rattle.refusal.proofs.Outcomes.{no-value}
-use Rattle.texts.specs.Text.{same, whoseText}
-use Rattle.texts.specs.Whose.{OnlyCode}
+use Rattle.texts.proofs.Names.{_≡_, refl, sym, ap, subst, _∙_, ⊎-elim, Bool, true, false, _&&_, cond, List, ℕ, zero, suc, _≤_, zero-le, le-refl, le-of-suc-le-suc, eq-or-lt-of-le, arith, T, leb, leb-true}
+use Rattle.texts.proofs.Names.{leb-false, Outcome, good, refused, Refusal, no-value, same, whoseText, OnlyCode}
 use Rattle.texts.proofs.Same.{same-refl, same-eq, not-same}
 
 module _ (f : ℕ → List ℕ) (text : List ℕ) where

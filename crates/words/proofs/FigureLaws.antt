@@ -1,21 +1,8 @@
 -- Decimal numbers, digit by digit.
-use mathlib.Core.Path.{_≡_, refl, sym, ap, _∙_}
-use mathlib.Core.Bool.{Bool, true, false, true≢false, false≢true, _&&_}
-use mathlib.Core.List.{List, [], _∷_}
-use mathlib.Core.Option.{Option, none, some, Option·some-injective, Option·some-ne-none, Option·none-ne-some}
-use Prim.Native.Nat.{ℕ, zero, suc, _+_, _-_, _*_, _^_, _≤_, _<_}
-use native.Mathlib.Nat.{sub-zero}
-use native.Mathlib.Numerals.{add-one}
-use native.Mathlib.Omega.{arith}
-use borrow.Author.Tests.{eq-eqb, ne-eqb, le-leb, lt-leb, lt-ltb, le-ltb, ltb-true, ltb-false}
-use lib.Dec.{ltb}
-use lib.IntN.{ℤ, pos, negℤ, subℕ}
-use lib.ListN.{length, getD, drop, drop-of-length-le}
-use lib.Seq.{drop-cons}
-use Rattle.words.specs.declared.Number.{Number}
+use Rattle.words.proofs.Names.{_≡_, refl, sym, ap, _∙_, Bool, true, false, true≢false, false≢true, _&&_, List, [], _∷_, Option, none, some, Option·some-injective, Option·some-ne-none, Option·none-ne-some, ℕ, zero}
+use Rattle.words.proofs.Names.{suc, _+_, _-_, _*_, _^_, _≤_, _<_, sub-zero, add-one, arith, eq-eqb, ne-eqb, le-leb, lt-leb, lt-ltb, le-ltb, ltb-true, ltb-false, ltb, ℤ, pos, negℤ, subℕ, length, getD, drop}
+use Rattle.words.proofs.Names.{drop-of-length-le, drop-cons, Number, says_if_, numberSaid, isDigit, longer, allDigits, spelling, number, above, below, figure}
 use Rattle.words.specs.declared.Number.the-variants.{Is, Not}
-use Rattle.words.specs.Said.{says_if_, numberSaid}
-use Rattle.words.specs.Figures.{isDigit, longer, allDigits, spelling, number, above, below, figure}
 
 -- ---- tests
 

@@ -1,17 +1,7 @@
 -- A lent buffer that is filled element by element.
-use mathlib.Core.Path.{_≡_, refl, sym, ap, _∙_}
-use mathlib.Core.Bool.{Bool, true, false, cond, true≢false, false≢true}
-use mathlib.Core.List.{List, [], _∷_, _++_, append-assoc, append-nil, map}
-use mathlib.Core.Option.{Option, none, some, Option·some-injective, Option·none-ne-some}
-use Prim.Native.Nat.{ℕ, suc, _+_, _-_, _≤_, _<_}
-use native.Mathlib.Nat.{sub-zero}
-use native.Mathlib.Numerals.{add-one}
-use native.Mathlib.Omega.{arith}
-use lib.ListN.{length, getD, take, drop, set, length-set, take-append-drop, drop-of-length-le}
-use lib.Seq.{take-suc-set, drop-cons, drop-set-lt, take-all}
-use Rattle.words.specs.declared.Filled.{Filled}
-use Rattle.words.specs.declared.Filled.the-variants.{To, Not}
-use Rattle.words.specs.Said.{says_if_, Held, one, every, written, isWhole, filled, begun, fits, counted, countSaid, filledSaid}
+use Rattle.words.proofs.Names.{_≡_, refl, sym, ap, _∙_, Bool, true, false, cond, true≢false, false≢true, List, [], _∷_, _++_, append-assoc, append-nil, map, Option, none, some, Option·some-injective}
+use Rattle.words.proofs.Names.{Option·none-ne-some, ℕ, suc, _+_, _-_, _≤_, _<_, sub-zero, add-one, arith, length, getD, take, drop, set, length-set, take-append-drop, drop-of-length-le, take-suc-set, drop-cons}
+use Rattle.words.proofs.Names.{drop-set-lt, take-all, Filled, To, Not, says_if_, Held, one, every, written, isWhole, filled, begun, fits, counted, countSaid}
 
 says-true : {B : Type 0} (b : B) (t : Bool) (c : B) → some c ≡ (says b if t) → t ≡ true
 says-true b true c e = refl

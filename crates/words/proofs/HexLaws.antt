@@ -1,17 +1,6 @@
 -- The bytes that hexadecimal digits spell, one after the other.
-use mathlib.Core.Path.{_≡_, refl, sym, ap, _∙_}
-use mathlib.Core.Bool.{true, false, false≢true}
-use mathlib.Core.List.{List, [], _∷_}
-use mathlib.Core.Option.{none}
-use Prim.Native.Nat.{ℕ, zero, suc, _+_, _-_, _*_, _/_, _%_, _≤_, _<_}
-use native.Mathlib.Numerals.{add-one}
-use native.Mathlib.Omega.{arith}
-use borrow.Author.Tests.{le-leb, lt-leb, lt-ltb, le-ltb}
-use lib.ListN.{length, getD, drop, drop-of-length-le}
-use lib.Seq.{drop-cons}
-use Rattle.words.specs.Words.{isMinus}
-use Rattle.words.specs.Said.{byteSaid}
-use Rattle.words.specs.Hexadecimal.{counts, digitOf, byteOf, paired, bytes, digits, spelt}
+use Rattle.words.proofs.Names.{_≡_, refl, sym, ap, _∙_, true, false, false≢true, List, [], _∷_, none, ℕ, zero, suc, _+_, _-_, _*_, _/_, _%_, _≤_, _<_, add-one, arith, le-leb, lt-leb, lt-ltb, le-ltb, length, getD}
+use Rattle.words.proofs.Names.{drop, drop-of-length-le, drop-cons, isMinus, byteSaid, counts, digitOf, byteOf, paired, bytes, digits, spelt}
 use Rattle.words.proofs.FigureLaws.{and-false}
 
 -- ---- a digit

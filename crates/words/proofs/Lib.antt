@@ -1,3 +1,4 @@
+mod Names
 pub mod WordLaws
 pub mod FigureLaws
 pub mod FilledLaws

@@ -1,17 +1,6 @@
 -- A word's figures, one after the other.
-use mathlib.Core.Path.{_≡_, ap}
-use mathlib.Core.Bool.{true, false}
-use mathlib.Core.List.{List, [], _∷_, map}
-use mathlib.Core.Option.{Option, none, some}
-use Prim.Native.Nat.{ℕ, _+_, _≤_, _<_}
-use native.Mathlib.Omega.{arith}
-use lib.IntN.{ℤ}
-use lib.ListN.{length, drop, length-map}
-use Rattle.words.specs.declared.Figure.{Figure}
-use Rattle.words.specs.declared.Figure.the-variants.{Is, Not}
-use Rattle.words.specs.Words.{upTo, isMinus, pieces}
-use Rattle.words.specs.Said.{figureSaid}
-use Rattle.words.specs.Figures.{figure, figures}
+use Rattle.words.proofs.Names.{_≡_, ap, true, false, List, [], _∷_, map, Option, none, some, ℕ, _+_, _≤_, _<_, arith, ℤ, length, drop, length-map, Figure, Is, upTo, isMinus, pieces, figureSaid, figure, figures}
+use Rattle.words.specs.declared.Figure.the-variants.{Not}
 use Rattle.words.proofs.WordLaws.{pieces-split, some-piece, last-from, first-from}
 
 -- The figures that are still to come, from a place on.

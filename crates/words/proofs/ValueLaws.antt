@@ -1,27 +1,7 @@
 -- The value of a field, as a word says it.
-use mathlib.Core.Path.{_≡_, refl, sym, ap, subst, _∙_}
-use mathlib.Core.Bool.{true, false}
-use mathlib.Core.List.{List, [], _∷_}
-use mathlib.Core.Option.{Option, none, some, Option·map}
-use Prim.Native.Nat.{ℕ, _-_, _%_, _<_}
-use native.Mathlib.Omega.{arith}
-use borrow.Author.Tests.{lt-ltb, eq-eqb, ne-eqb}
-use lib.Dec.{T}
-use lib.IntN.{ℤ}
-use lib.ListN.{length, getD, take, drop, length-drop}
-use lib.Seq.{take-all, length-take-le}
-use lib.Ieee.{Float, nan, inf, fin, isNan, ofBits, ofFields, odd, div, binary32}
-use lib.Ieee.Bits.{nanBits-is, nanBits-above}
-use Rattle.fields.specs.declared.Value.{Value}
-use Rattle.fields.specs.declared.Value.the-variants.{Whole, Single, Missing}
-use Rattle.words.specs.declared.Figure.{Figure}
-use Rattle.words.specs.declared.Figure.the-variants.{Is, Not as NoFigure}
-use Rattle.words.specs.declared.Filled.{Filled}
-use Rattle.words.specs.declared.Filled.the-variants.{To, Not}
-use Rattle.words.specs.Said.{every, written, isWhole, Held, figureSaid, filled, filledSaid}
-use Rattle.words.specs.Figures.{figure}
-use Rattle.words.specs.Hexadecimal.{bytes}
-use Rattle.words.specs.Values.{highFirst, single, value}
+use Rattle.words.proofs.Names.{_≡_, refl, sym, ap, subst, _∙_, true, false, List, [], _∷_, Option, none, some, Option·map, ℕ, _-_, _%_, _<_, arith, lt-ltb, eq-eqb, ne-eqb, T, ℤ, length, getD, take, drop}
+use Rattle.words.proofs.Names.{length-drop, take-all, length-take-le, Float, nan, inf, fin, isNan, ofBits, ofFields, odd, div, binary32, nanBits-is, nanBits-above, Value, Whole, Single, Missing, Figure, Is}
+use Rattle.words.proofs.Names.{NoFigure, Filled, To, Not, every, written, isWhole, Held, figureSaid, filled, filledSaid, figure, bytes, highFirst, single, value}
 use Rattle.words.proofs.FigureLaws.{says-is, says-not}
 use Rattle.words.proofs.FilledLaws.{filled-count, filled-whole, written-long, whole-room, whole-said, not-whole}
 

@@ -1,15 +1,6 @@
 -- The pieces of a line, one after the other.
-use mathlib.Core.Path.{_≡_, refl, sym, ap, _∙_}
-use mathlib.Core.Bool.{Bool, true, false, cond}
-use mathlib.Core.List.{List, [], _∷_}
-use Prim.Native.Nat.{ℕ, zero, suc, _+_, _-_, _≤_, _<_}
-use native.Mathlib.Numerals.{add-one}
-use native.Mathlib.Omega.{arith}
-use borrow.Author.Tests.{eq-eqb, ne-eqb}
-use lib.Dec.{eqb}
-use lib.ListN.{length, getD, take, drop, drop-of-length-le, length-drop}
-use lib.Seq.{drop-cons, drop-drop, drop-length, take-all}
-use Rattle.words.specs.Words.{upTo, isMinus, before, pieces, pieceCount, pieceAt}
+use Rattle.words.proofs.Names.{_≡_, refl, sym, ap, _∙_, Bool, true, false, cond, List, [], _∷_, ℕ, zero, suc, _+_, _-_, _≤_, _<_, add-one, arith, eq-eqb, ne-eqb, eqb, length, getD, take, drop, drop-of-length-le}
+use Rattle.words.proofs.Names.{length-drop, drop-cons, drop-drop, drop-length, take-all, upTo, isMinus, before, pieces, pieceCount, pieceAt}
 
 -- ---- up to a separator
 

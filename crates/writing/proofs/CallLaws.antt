@@ -1,26 +1,6 @@
 -- What an answered call says of its images.
-use mathlib.Core.Path.{_≡_, sym, _∙_}
-use mathlib.Core.Bool.{not}
-use mathlib.Core.List.{List}
-use Prim.Native.Nat.{ℕ, zero, suc, _%_, _≤_}
-use native.Mathlib.Omega.{arith}
-use lib.Dec.{eqb}
-use lib.ListN.{length}
-use Rattle.refusal.specs.declared.Refusal.{Refusal}
-use Rattle.refusal.specs.Outcome.{good, refused}
-use Rattle.refusal.specs.Rows.{wrongImage}
-use Rattle.refusal.proofs.Outcomes.{good-same, no-value, good-bind, passed, bind-good, bind-refused}
-use Rattle.memory.specs.declared.Sizes.{Sizes}
-use Rattle.memory.specs.Image.{sizesOf, imageBytes, imageSizes, SumsRight}
-use Rattle.memory.proofs.Chips.{sizes-chip}
-use Rattle.memory.proofs.SumLaws.{sums-right}
-use Rattle.layout.specs.Contents.{Contents}
-use Rattle.layout.specs.Image.{contents}
-use Rattle.layout.proofs.Accepted.{contents-accepted}
-use Rattle.sheet.specs.declared.Summary.{Summary}
-use Rattle.sheet.specs.Check.{check, summary}
-use Rattle.writing.specs.Steps.{Step, step, nextRow}
-use Rattle.writing.specs.Answers.{Fits}
+use Rattle.writing.proofs.Names.{_≡_, sym, _∙_, not, List, ℕ, zero, suc, _%_, _≤_, arith, eqb, length, Refusal, good, refused, wrongImage, good-same, no-value, good-bind, passed, bind-good, bind-refused, Sizes}
+use Rattle.writing.proofs.Names.{sizesOf, imageBytes, imageSizes, SumsRight, sizes-chip, sums-right, Contents, contents, contents-accepted, Summary, check, summary, Step, step, nextRow, Fits}
 
 -- A kind has one size.
 kind-sizes : (kind bytes : ℕ) (z : Sizes) → imageSizes kind bytes ≡ good z → sizesOf kind ≡ good z

@@ -1,22 +1,8 @@
 -- What the code does, in the terms of the definitions.
-use mathlib.Core.Path.{_≡_, refl, sym, ap, _∙_}
-use mathlib.Core.Bool.{Bool, true, false, not, _&&_, cond, true≢false}
-use mathlib.Core.List.{List, [], _∷_, _++_}
-use Prim.Native.Nat.{ℕ, zero, suc, _+_, _-_, _*_, _/_, _%_, _≤_, _<_}
-use native.Mathlib.Omega.{arith}
-use native.Mathlib.Numerals.{add-one}
-use native.Mathlib.Decide.{ℕ-discrete}
-use lib.Dec.{eqb, ltb}
-use lib.ListN.{length, take, drop, getD, set, length-drop}
-use lib.Seq.{length-take-le, getD-take, getD-drop, ext-getD, take-all, take-set-lt, drop-set-add}
-use borrow.Author.Tests.{eq-eqb, ne-eqb}
-use Rattle.memory.specs.declared.Sizes.{Sizes}
-use Rattle.memory.specs.Image.{imageBytes, total, pageSum}
-use Rattle.memory.proofs.SumLaws.{total-append}
-use Rattle.writing.specs.Numbers.{count, last}
-use Rattle.writing.specs.Steps.{row, rows, checkRow, coveredRows, written, same, differing, lastRow, lastOther, raised, done, writeRow, addsUp, raiseBy, sumAhead, onePage, unsealed, invalidateFirst, severalPages}
-use Rattle.writing.specs.declared.rows.Tally.{Tally}
-use Rattle.writing.specs.Answers.{tallyTo, tallied, behindLast}
+use Rattle.writing.proofs.Names.{_≡_, refl, sym, ap, _∙_, Bool, true, false, not, _&&_, cond, true≢false, List, [], _∷_, _++_, ℕ, zero, suc, _+_, _-_, _*_, _/_, _%_, _≤_, _<_, arith, add-one, ℕ-discrete, eqb, ltb}
+use Rattle.writing.proofs.Names.{length, take, drop, getD, set, length-drop, length-take-le, getD-take, getD-drop, ext-getD, take-all, take-set-lt, drop-set-add, eq-eqb, ne-eqb, Sizes, imageBytes, total, pageSum}
+use Rattle.writing.proofs.Names.{total-append, count, last, row, rows, checkRow, coveredRows, written, same, differing, lastRow, lastOther, raised, done, writeRow, addsUp, raiseBy, sumAhead, onePage, unsealed}
+use Rattle.writing.proofs.Names.{invalidateFirst, severalPages, Tally, tallyTo, tallied, behindLast}
 use Rattle.writing.proofs.NumberLaws.{count-false, count-none}
 use Rattle.writing.proofs.RowLaws.{same-to}
 use Rattle.writing.proofs.PageLaws.{raised-length, raised-other, whole-row}

@@ -1,3 +1,4 @@
+mod Names
 pub mod NumberLaws
 pub mod RowLaws
 pub mod PageLaws

@@ -1,13 +1,5 @@
 -- The numbers below n that a test holds of.
-use mathlib.Core.Path.{_≡_, refl, sym, ap, _∙_}
-use mathlib.Core.Bool.{Bool, true, false, not, _&&_, cond, true≢false}
-use mathlib.Core.Logic.{_⊎_, inl, inr}
-use Prim.Native.Nat.{ℕ, zero, suc, _+_, _≤_, _<_}
-use native.Mathlib.Omega.{arith}
-use native.Mathlib.Decide.{ℕ-discrete, decLt}
-use lib.Dec.{eqb}
-use borrow.Author.Tests.{eq-eqb, ne-eqb}
-use Rattle.writing.specs.Numbers.{count, last}
+use Rattle.writing.proofs.Names.{_≡_, refl, sym, ap, _∙_, Bool, true, false, not, _&&_, cond, true≢false, _⊎_, inl, inr, ℕ, zero, suc, _+_, _≤_, _<_, arith, ℕ-discrete, decLt, eqb, eq-eqb, ne-eqb, count, last}
 
 abbrev pub None : (ℕ → Bool) → ℕ → Type 0
 None test n = (k : ℕ) → k < n → test k ≡ false

@@ -1,23 +1,7 @@
 -- A step of one page: what the chip holds after it, and how many are left.
-use mathlib.Core.Path.{_≡_, refl, sym, ap, _∙_}
-use mathlib.Core.Bool.{Bool, true, false, not, _&&_, cond, true≢false}
-use mathlib.Core.List.{List}
-use mathlib.Core.Logic.{_⊎_, inl, inr}
-use Prim.Native.Nat.{ℕ, _+_, _-_, _*_, _/_, _%_, _≤_, _<_}
-use native.Mathlib.Omega.{arith}
-use native.Mathlib.Decide.{ℕ-discrete}
-use lib.Dec.{eqb, ltb}
-use lib.ListN.{length, getD}
-use lib.Seq.{ext-getD}
-use borrow.Author.Tests.{ltb-true, eqb-true, eqb-false, eq-eqb, ne-eqb, not-true, le-ltb}
-use Rattle.refusal.proofs.Outcomes.{both, neither}
-use Rattle.memory.specs.declared.Sizes.{Sizes}
-use Rattle.memory.specs.Bits.{Bytes}
-use Rattle.memory.specs.Image.{pageSum}
-use Rattle.writing.specs.Numbers.{count}
-use Rattle.writing.specs.Steps.{row, rows, checkRow, written, differs, differing, lastRow, lastOther, raised, Step, done, write, writeRow, addsUp, raiseBy, sumAhead, onePage}
-use Rattle.writing.specs.Chip.{after, Changes}
-use Rattle.writing.specs.Answers.{Fits}
+use Rattle.writing.proofs.Names.{_≡_, refl, sym, ap, _∙_, Bool, true, false, not, _&&_, cond, true≢false, List, _⊎_, inl, inr, ℕ, _+_, _-_, _*_, _/_, _%_, _≤_, _<_, arith, ℕ-discrete, eqb, ltb, length, getD}
+use Rattle.writing.proofs.Names.{ext-getD, ltb-true, eqb-true, eqb-false, eq-eqb, ne-eqb, not-true, le-ltb, both, neither, Sizes, Bytes, pageSum, count, row, rows, checkRow, written, differs, differing, lastRow}
+use Rattle.writing.proofs.Names.{lastOther, raised, Step, done, write, writeRow, addsUp, raiseBy, sumAhead, onePage, after, Changes, Fits}
 use Rattle.writing.proofs.NumberLaws.{Last, last-is, last-same, count-same, count-near, count-less, count-false, count-one}
 use Rattle.writing.proofs.RowLaws.{row-length, over-length, over-in, over-out, row-byte, alike, differs-not, differs-same}
 use Rattle.writing.proofs.PageLaws.{raised-length, raised-other, raised-at, raised-sum, raised-bytes, written-bytes, whole-row, same-none, alike-length, row-below, row-room, check-below, none-differs, refit}

@@ -1,19 +1,7 @@
 -- A byte raised, the sums of pages 0 and 1, and the rows of images that fit.
-use mathlib.Core.Path.{_≡_, refl, sym, ap, _∙_}
-use mathlib.Core.List.{List}
-use Prim.Native.Nat.{ℕ, _+_, _-_, _*_, _/_, _%_, _≤_, _<_}
-use native.Mathlib.Omega.{arith}
-use native.Mathlib.Decide.{ℕ-discrete, decLt}
-use lib.ListN.{length, take, drop, getD, set, length-set, length-drop, List·getD-eq-default}
-use lib.Seq.{length-take-le, ext-getD, getD-take, getD-drop, getD-set-same, getD-set-other}
-use Rattle.refusal.specs.Outcome.{Outcome, good, refused}
-use Rattle.memory.specs.declared.Sizes.{Sizes}
-use Rattle.memory.specs.Bits.{Bytes}
-use Rattle.memory.specs.Image.{imageBytes, pageAt, total, pageSum, sums}
-use Rattle.memory.proofs.SumLaws.{sums-right}
-use Rattle.writing.specs.Steps.{row, rows, checkRow, written, differs, differing, raised}
-use Rattle.writing.specs.Chip.{Refuses}
-use Rattle.writing.specs.Answers.{Fits}
+use Rattle.writing.proofs.Names.{_≡_, refl, sym, ap, _∙_, List, ℕ, _+_, _-_, _*_, _/_, _%_, _≤_, _<_, arith, ℕ-discrete, decLt, length, take, drop, getD, set, length-set, length-drop, List·getD-eq-default}
+use Rattle.writing.proofs.Names.{length-take-le, ext-getD, getD-take, getD-drop, getD-set-same, getD-set-other, Outcome, good, refused, Sizes, Bytes, imageBytes, pageAt, total, pageSum, sums, sums-right, row}
+use Rattle.writing.proofs.Names.{rows, checkRow, written, differs, differing, raised, Refuses, Fits}
 use Rattle.writing.proofs.NumberLaws.{count-false, count-none}
 use Rattle.writing.proofs.RowLaws.{over-length, over-in, over-out, alike, differs-not, total-set}
 

@@ -1,19 +1,7 @@
 -- Rows: the bytes of an image with a row written, and which rows differ.
-use mathlib.Core.Path.{_≡_, refl, sym, ap, _∙_}
-use mathlib.Core.Bool.{true, false, not}
-use mathlib.Core.List.{List, [], _∷_, _++_}
-use Prim.Native.Nat.{ℕ, zero, suc, _+_, _-_, _*_, _/_, _%_, _≤_, _<_}
-use native.Mathlib.Omega.{arith}
-use native.Mathlib.Decide.{ℕ-discrete, decLt}
-use lib.Dec.{eqb}
-use lib.ListN.{length, take, drop, getD, set, length-append, length-drop, length-take}
-use lib.Seq.{length-take-le, getD-take, getD-drop, ext-getD}
-use borrow.Author.Tests.{eqb-true, eq-eqb, not-false}
-use Rattle.refusal.proofs.Outcomes.{both}
-use Rattle.memory.specs.declared.Sizes.{Sizes}
-use Rattle.memory.specs.Image.{total, pageSum}
-use Rattle.memory.proofs.Streams.{getD-front, getD-past}
-use Rattle.writing.specs.Steps.{row, written, same, differs}
+use Rattle.writing.proofs.Names.{_≡_, refl, sym, ap, _∙_, true, false, not, List, [], _∷_, _++_, ℕ, zero, suc, _+_, _-_, _*_, _/_, _%_, _≤_, _<_, arith, ℕ-discrete, decLt, eqb, length, take, drop, getD, set}
+use Rattle.writing.proofs.Names.{length-append, length-drop, length-take, length-take-le, getD-take, getD-drop, ext-getD, eqb-true, eq-eqb, not-false, both, Sizes, total, pageSum, getD-front, getD-past, row}
+use Rattle.writing.proofs.Names.{written, same, differs}
 
 -- ---- a row written
 

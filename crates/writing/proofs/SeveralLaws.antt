@@ -1,22 +1,7 @@
 -- A severalPages step: what the chip holds after it, torn or whole, and how many are left.
-use mathlib.Core.Path.{_≡_, refl, sym, ap, _∙_}
-use mathlib.Core.Bool.{Bool, true, false, not, _&&_, cond, true≢false}
-use mathlib.Core.List.{List}
-use mathlib.Core.Logic.{_⊎_, inl, inr}
-use Prim.Native.Nat.{ℕ, _+_, _-_, _*_, _/_, _%_, _≤_, _<_}
-use native.Mathlib.Omega.{arith}
-use native.Mathlib.Decide.{ℕ-discrete}
-use lib.Dec.{eqb, ltb}
-use lib.ListN.{length, getD}
-use lib.Seq.{ext-getD}
-use borrow.Author.Tests.{ltb-true, ltb-false, lt-ltb, eqb-true, eqb-false, eq-eqb, ne-eqb}
-use Rattle.refusal.proofs.Outcomes.{both}
-use Rattle.memory.specs.declared.Sizes.{Sizes}
-use Rattle.memory.specs.Bits.{Bytes}
-use Rattle.memory.specs.Image.{imageBytes, pageAt, pageSum, SumsRight}
-use Rattle.writing.specs.Steps.{row, rows, checkRow, written, differs, differing, coveredRows, raised, Step, done, write, writeRow, lastRow, unsealed, invalidateFirst, severalPages}
-use Rattle.writing.specs.Chip.{after, Changes, Torn, Refuses, WantedOrRefused}
-use Rattle.writing.specs.Answers.{Fits}
+use Rattle.writing.proofs.Names.{_≡_, refl, sym, ap, _∙_, Bool, true, false, not, _&&_, cond, true≢false, List, _⊎_, inl, inr, ℕ, _+_, _-_, _*_, _/_, _%_, _≤_, _<_, arith, ℕ-discrete, eqb, ltb, length, getD}
+use Rattle.writing.proofs.Names.{ext-getD, ltb-true, ltb-false, lt-ltb, eqb-true, eqb-false, eq-eqb, ne-eqb, both, Sizes, Bytes, imageBytes, pageAt, pageSum, SumsRight, row, rows, checkRow, written, differs}
+use Rattle.writing.proofs.Names.{differing, coveredRows, raised, Step, done, write, writeRow, lastRow, unsealed, invalidateFirst, severalPages, after, Changes, Torn, Refuses, WantedOrRefused, Fits}
 use Rattle.writing.proofs.NumberLaws.{Last, last-is, last-below, count-near, count-less, count-false}
 use Rattle.writing.proofs.RowLaws.{row-length, over-length, over-in, over-out, row-byte, alike, differs-not, differs-same, differs-to, first-same}
 use Rattle.writing.proofs.PageLaws.{But, first-told, second-told, second-same, refused-by, raised-length, raised-other, raised-differs, raised-sum, raised-bytes, written-bytes, but-same, whole-row, same-none, alike-length, row-below, row-room, check-below, none-differs, not-yet}

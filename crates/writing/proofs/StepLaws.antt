@@ -1,19 +1,6 @@
 -- A step, by the number of pages.
-use mathlib.Core.Path.{_≡_, refl}
-use mathlib.Core.Bool.{Bool, true, false, cond}
-use mathlib.Core.List.{List}
-use mathlib.Core.Logic.{_⊎_, inl, inr}
-use Prim.Native.Nat.{ℕ, _+_, _-_, _*_, _≤_}
-use native.Mathlib.Omega.{arith}
-use lib.Dec.{ltb}
-use lib.ListN.{length}
-use borrow.Author.Tests.{ltb-false, le-ltb}
-use Rattle.memory.specs.declared.Sizes.{Sizes}
-use Rattle.memory.specs.Bits.{Bytes}
-use Rattle.memory.specs.Image.{pageSum, SumsRight}
-use Rattle.writing.specs.Steps.{differing, done, onePage, severalPages, step}
-use Rattle.writing.specs.Chip.{after, Changes, Torn, WantedOrRefused}
-use Rattle.writing.specs.Answers.{Fits}
+use Rattle.writing.proofs.Names.{_≡_, refl, Bool, true, false, cond, List, _⊎_, inl, inr, ℕ, _+_, _-_, _*_, _≤_, arith, ltb, length, ltb-false, le-ltb, Sizes, Bytes, pageSum, SumsRight, differing, done, onePage}
+use Rattle.writing.proofs.Names.{severalPages, step, after, Changes, Torn, WantedOrRefused, Fits}
 use Rattle.writing.proofs.PageLaws.{refused-by, refit}
 use Rattle.writing.proofs.OnePageLaws.{onePageLeft, one-page-safe, one-page-long, one-page-bytes, one-page-none, one-page-left-most, one-page-nearer, one-page-there, one-page-done, one-page-changes}
 use Rattle.writing.proofs.SeveralLaws.{severalLeft, several-safe, several-whole, several-long, several-bytes, several-left-none, several-left-most, several-nearer, several-there, several-done, several-changes}

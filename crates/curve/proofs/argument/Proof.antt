@@ -1,6 +1,4 @@
-use borrow.Author.Needs.{needs}
-use mir.Facts.{toZ-ofZ}
-use Rattle.curve.specs.Curve.{argument}
+use Rattle.curve.proofs.Names.{needs, toZ-ofZ, argument}
 use Rattle.curve.proofs.NestedLaws.{ten-million-is}
 use Rattle.curve.proofs.argument.Statement.{statement}
 use Rattle.curve.proofs.argument.Tie as tie

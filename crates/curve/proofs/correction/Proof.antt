@@ -1,9 +1,4 @@
-use borrow.Author.Needs.{needs}
-use mathlib.Core.Path.{_≡_}
-use Prim.Native.Nat.{_-_, _≤_}
-use native.Mathlib.Omega.{arith}
-use lib.ListN.{take, drop, length}
-use Rattle.curve.specs.Curve.{nested}
+use Rattle.curve.proofs.Names.{needs, _≡_, _-_, _≤_, arith, take, drop, length, nested}
 use Rattle.curve.proofs.NestedLaws.{nested-first, nested-turn, nested-end, zero-is}
 use Rattle.curve.proofs.correction.Statement.{statement}
 use Rattle.curve.proofs.correction.Tie as tie

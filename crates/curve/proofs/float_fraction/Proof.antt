@@ -1,6 +1,4 @@
-use borrow.Author.Needs.{needs}
-use mir.Facts.{toZ-ofZ}
-use Rattle.curve.specs.Curve.{fractionBy}
+use Rattle.curve.proofs.Names.{needs, toZ-ofZ, fractionBy}
 use Rattle.curve.proofs.NestedLaws.{hundred-is}
 use Rattle.curve.proofs.float_fraction.Statement.{statement}
 use Rattle.curve.proofs.float_fraction.Tie as tie

@@ -1,11 +1,6 @@
 -- `dartelm_build` meets its contract.
 -- Assumes nothing.
-use borrow.Author.Needs.{needs}
-use mathlib.Core.Path.{ap₂}
-use Rattle.fields.specs.declared.Domain.{Domain}
-use Rattle.build.specs.declared.Sheet.{Sheet}
-use Rattle.build.specs.Build.{build}
-use Rattle.dartelm.specs.Values.{levelOf}
+use Rattle.dartelm.proofs.Names.{needs, ap₂, Domain, Sheet, build, levelOf}
 use Rattle.dartelm.proofs.Telling.{tells-written}
 use Rattle.dartelm.proofs.Handing.{handed-sheet}
 use Rattle.dartelm.proofs.dartelm_build.Statement.{statement}

@@ -1,11 +1,6 @@
 -- `dartelm_build_curve` meets its contract.
 -- Assumes nothing.
-use borrow.Author.Needs.{needs}
-use mathlib.Core.Path.{ap₂}
-use Rattle.fields.specs.declared.Curve.{Curve}
-use Rattle.build.specs.declared.Sheet.{Sheet}
-use Rattle.build.specs.Build.{buildCurve}
-use Rattle.dartelm.specs.Values.{levelOf}
+use Rattle.dartelm.proofs.Names.{needs, ap₂, Curve, Sheet, buildCurve, levelOf}
 use Rattle.dartelm.proofs.Telling.{tells-written}
 use Rattle.dartelm.proofs.Handing.{handed-sheet}
 use Rattle.dartelm.proofs.dartelm_build_curve.Statement.{statement}

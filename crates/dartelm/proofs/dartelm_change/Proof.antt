@@ -1,10 +1,6 @@
 -- `dartelm_change` meets its contract.
 -- Assumes nothing.
-use borrow.Author.Needs.{needs}
-use mathlib.Core.Path.{ap₂}
-use Rattle.fields.specs.declared.Value.{Value}
-use Rattle.fields.specs.declared.Level.{Level}
-use Rattle.change.specs.Change.{change}
+use Rattle.dartelm.proofs.Names.{needs, ap₂, Value, Level, change}
 use Rattle.dartelm.proofs.Telling.{tells-written}
 use Rattle.dartelm.proofs.dartelm_change.Statement.{statement}
 use Rattle.dartelm.proofs.dartelm_change.Tie as tie

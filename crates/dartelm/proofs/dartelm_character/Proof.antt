@@ -1,8 +1,6 @@
 -- `dartelm_character` meets its contract.
 -- Assumes nothing.
-use borrow.Author.Needs.{needs}
-use Rattle.sheet.specs.Check.{characterSaid}
-use Rattle.dartelm.specs.Answers.{told, characterAnswer}
+use Rattle.dartelm.proofs.Names.{needs, characterSaid, told, characterAnswer}
 use Rattle.dartelm.proofs.Telling.{tells}
 use Rattle.dartelm.proofs.dartelm_character.Statement.{statement}
 use Rattle.dartelm.proofs.dartelm_character.Tie as tie

@@ -1,9 +1,5 @@
 -- `dartelm_check` meets its contract.
-use borrow.Author.Needs.{needs}
-use native.Mathlib.Omega.{arith}
-use Rattle.build.proofs.BuiltIn.{end-byte}
-use Rattle.sheet.specs.Check.{checkSaid}
-use Rattle.dartelm.specs.Answers.{toldAs, numbers, noNumbers, checkAnswer}
+use Rattle.dartelm.proofs.Names.{needs, arith, end-byte, checkSaid, toldAs, numbers, noNumbers, checkAnswer}
 use Rattle.dartelm.proofs.Telling.{tells}
 use Rattle.dartelm.proofs.Handing.{number-small}
 use Rattle.dartelm.proofs.dartelm_check.Statement.{statement}

@@ -1,8 +1,6 @@
 -- `dartelm_code` meets its contract.
 -- Assumes nothing.
-use borrow.Author.Needs.{needs}
-use Rattle.texts.specs.Text.{codeSaid}
-use Rattle.dartelm.specs.Answers.{told, codeAnswer}
+use Rattle.dartelm.proofs.Names.{needs, codeSaid, told, codeAnswer}
 use Rattle.dartelm.proofs.Telling.{tells}
 use Rattle.dartelm.proofs.dartelm_code.Statement.{statement}
 use Rattle.dartelm.proofs.dartelm_code.Tie as tie

@@ -1,8 +1,5 @@
 -- `dartelm_commit` meets its contract.
-use borrow.Author.Needs.{needs}
-use mathlib.Core.Path.{ap}
-use Rattle.fields.specs.declared.Level.{Level}
-use Rattle.change.specs.Change.{commit}
+use Rattle.dartelm.proofs.Names.{needs, ap, Level, commit}
 use Rattle.dartelm.proofs.Telling.{tells-written}
 use Rattle.dartelm.proofs.dartelm_commit.Statement.{statement}
 use Rattle.dartelm.proofs.dartelm_commit.Tie as tie

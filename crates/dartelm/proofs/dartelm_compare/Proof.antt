@@ -1,8 +1,6 @@
 -- `dartelm_compare` meets its contract.
 -- Assumes nothing.
-use borrow.Author.Needs.{needs}
-use Rattle.recordings.specs.Recordings.{comparedSaid}
-use Rattle.dartelm.specs.Answers.{told, comparedAnswer, noComparison}
+use Rattle.dartelm.proofs.Names.{needs, comparedSaid, told, comparedAnswer, noComparison}
 use Rattle.dartelm.proofs.Telling.{tells}
 use Rattle.dartelm.proofs.dartelm_compare.Statement.{statement}
 use Rattle.dartelm.proofs.dartelm_compare.Tie as tie

@@ -1,8 +1,6 @@
 -- `dartelm_conformity` meets its contract.
 -- Assumes nothing.
-use borrow.Author.Needs.{needs}
-use Rattle.conformity.specs.Conformity.{conformitySaid}
-use Rattle.dartelm.specs.Answers.{told, conformityAnswer, noConformity}
+use Rattle.dartelm.proofs.Names.{needs, conformitySaid, told, conformityAnswer, noConformity}
 use Rattle.dartelm.proofs.Telling.{tells}
 use Rattle.dartelm.proofs.dartelm_conformity.Statement.{statement}
 use Rattle.dartelm.proofs.dartelm_conformity.Tie as tie

@@ -1,8 +1,6 @@
 -- `dartelm_distance` meets its contract.
 -- Assumes nothing.
-use borrow.Author.Needs.{needs}
-use Rattle.distance.specs.Distance.{distanceSaid}
-use Rattle.dartelm.specs.Answers.{told, distanceAnswer, noDistance}
+use Rattle.dartelm.proofs.Names.{needs, distanceSaid, told, distanceAnswer, noDistance}
 use Rattle.dartelm.proofs.Telling.{tells}
 use Rattle.dartelm.proofs.dartelm_distance.Statement.{statement}
 use Rattle.dartelm.proofs.dartelm_distance.Tie as tie

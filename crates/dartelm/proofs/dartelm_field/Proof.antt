@@ -1,10 +1,6 @@
 -- `dartelm_field` meets its contract.
 -- Assumes nothing.
-use borrow.Author.Needs.{needs}
-use mathlib.Core.Path.{ap, _∙_}
-use lib.IntN.{pos}
-use Rattle.fields.specs.declared.Value.the-variants.{Whole}
-use Rattle.dartelm.specs.Answers.{told, fieldAnswer}
+use Rattle.dartelm.proofs.Names.{needs, ap, _∙_, pos, Whole, told, fieldAnswer}
 use Rattle.dartelm.proofs.dartelm_field.Statement.{statement}
 use Rattle.dartelm.proofs.dartelm_field.Tie as tie
 

@@ -1,7 +1,6 @@
 -- `dartelm_index` meets its contract.
 -- Assumes nothing.
-use borrow.Author.Needs.{needs}
-use mathlib.Core.Path.{refl}
+use Rattle.dartelm.proofs.Names.{needs, refl}
 use Rattle.dartelm.proofs.Telling.{tells-written}
 use Rattle.dartelm.proofs.dartelm_index.Statement.{statement}
 use Rattle.dartelm.proofs.dartelm_index.Tie as tie

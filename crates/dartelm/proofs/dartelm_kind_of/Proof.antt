@@ -1,8 +1,6 @@
 -- `dartelm_kind_of` meets its contract.
 -- Assumes nothing.
-use borrow.Author.Tests.{ne-eqb}
-use Rattle.memory.specs.Image.{imageSizes}
-use Rattle.dartelm.specs.Calls.{kindOf}
+use Rattle.dartelm.proofs.Names.{ne-eqb, imageSizes, kindOf}
 use Rattle.dartelm.proofs.dartelm_kind_of.Statement.{statement}
 use Rattle.dartelm.proofs.dartelm_kind_of.Tie as tie
 

@@ -1,7 +1,6 @@
 -- `dartelm_next_row` meets its contract.
 -- Assumes nothing.
-use borrow.Author.Needs.{needs}
-use Rattle.writing.specs.Steps.{nextRow}
+use Rattle.dartelm.proofs.Names.{needs, nextRow}
 use Rattle.dartelm.proofs.NextRows.{row-refused, row-done, row-written}
 use Rattle.dartelm.proofs.dartelm_next_row.Statement.{statement}
 use Rattle.dartelm.proofs.dartelm_next_row.Tie as tie

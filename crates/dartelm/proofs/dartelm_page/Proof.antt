@@ -1,6 +1,6 @@
 -- `dartelm_page` meets its contract.
 -- Assumes nothing.
-use borrow.Author.Needs.{needs}
+use Rattle.dartelm.proofs.Names.{needs}
 use Rattle.dartelm.proofs.Padding.{page-short, page-told}
 use Rattle.dartelm.proofs.dartelm_page.Statement.{statement}
 use Rattle.dartelm.proofs.dartelm_page.Tie as tie

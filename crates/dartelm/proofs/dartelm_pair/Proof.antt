@@ -1,10 +1,6 @@
 -- `dartelm_pair` meets its contract.
 -- Assumes nothing.
-use borrow.Author.Needs.{needs}
-use mir.Facts.{toZ-ofZ}
-use mir.Syntax.{w64}
-use Rattle.sheet.specs.Check.{pairSaid}
-use Rattle.dartelm.specs.Answers.{told, pairAnswer, noPair}
+use Rattle.dartelm.proofs.Names.{needs, toZ-ofZ, w64, pairSaid, told, pairAnswer, noPair}
 use Rattle.dartelm.proofs.Telling.{tells}
 use Rattle.dartelm.proofs.dartelm_pair.Statement.{statement}
 use Rattle.dartelm.proofs.dartelm_pair.Tie as tie

@@ -1,10 +1,5 @@
 -- `dartelm_propose` meets its contract.
-use borrow.Author.Needs.{needs}
-use mathlib.Core.Path.{ap₂, _∙_}
-use Rattle.fields.specs.declared.Value.{Value}
-use Rattle.fields.specs.declared.Level.{Level}
-use Rattle.change.specs.Change.{propose, proposalSaid}
-use Rattle.dartelm.specs.Answers.{told, proposalAnswer, noProposal}
+use Rattle.dartelm.proofs.Names.{needs, ap₂, _∙_, Value, Level, propose, proposalSaid, told, proposalAnswer, noProposal}
 use Rattle.dartelm.proofs.Telling.{tells}
 use Rattle.dartelm.proofs.dartelm_propose.Statement.{statement}
 use Rattle.dartelm.proofs.dartelm_propose.Tie as tie

@@ -1,10 +1,6 @@
 -- `dartelm_reading` meets its contract.
 -- Assumes nothing.
-use borrow.Author.Needs.{needs}
-use mir.Facts.{toZ-ofZ}
-use mir.Syntax.{w64}
-use Rattle.reading.specs.Reading.{readingSaid}
-use Rattle.dartelm.specs.Answers.{told, readingAnswer, noReading}
+use Rattle.dartelm.proofs.Names.{needs, toZ-ofZ, w64, readingSaid, told, readingAnswer, noReading}
 use Rattle.dartelm.proofs.Telling.{tells}
 use Rattle.dartelm.proofs.dartelm_reading.Statement.{statement}
 use Rattle.dartelm.proofs.dartelm_reading.Tie as tie

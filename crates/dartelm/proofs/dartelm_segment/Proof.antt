@@ -1,10 +1,6 @@
 -- `dartelm_segment` meets its contract.
 -- Assumes nothing.
-use borrow.Author.Needs.{needs}
-use mir.Facts.{toZ-ofZ}
-use mir.Syntax.{w64}
-use Rattle.sheet.specs.Check.{segmentSaid}
-use Rattle.dartelm.specs.Answers.{told, segmentAnswer, noSegment}
+use Rattle.dartelm.proofs.Names.{needs, toZ-ofZ, w64, segmentSaid, told, segmentAnswer, noSegment}
 use Rattle.dartelm.proofs.Telling.{tells}
 use Rattle.dartelm.proofs.dartelm_segment.Statement.{statement}
 use Rattle.dartelm.proofs.dartelm_segment.Tie as tie

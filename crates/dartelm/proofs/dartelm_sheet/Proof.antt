@@ -1,10 +1,6 @@
 -- `dartelm_sheet` meets its contract.
 -- Assumes nothing.
-use borrow.Author.Needs.{needs}
-use mathlib.Core.Path.{sym, ap, _∙_}
-use Rattle.sheet.proofs.OpenLaws.{opens, held, not-opened}
-use Rattle.dartelm.specs.Answers.{toldAs}
-use Rattle.dartelm.specs.Sheets.{sheetAnswer, fieldNumbers, noFields}
+use Rattle.dartelm.proofs.Names.{needs, sym, ap, _∙_, opens, held, not-opened, toldAs, sheetAnswer, fieldNumbers, noFields}
 use Rattle.dartelm.proofs.SheetReads.{sheet-read, sheet-refused}
 use Rattle.dartelm.proofs.dartelm_sheet.Statement.{statement}
 use Rattle.dartelm.proofs.dartelm_sheet.Tie as tie

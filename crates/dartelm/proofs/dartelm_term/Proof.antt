@@ -1,10 +1,6 @@
 -- `dartelm_term` meets its contract.
 -- Assumes nothing.
-use borrow.Author.Needs.{needs}
-use mir.Facts.{toZ-ofZ}
-use mir.Syntax.{w64}
-use Rattle.sheet.specs.Check.{termSaid}
-use Rattle.dartelm.specs.Answers.{told, termAnswer, noTerm}
+use Rattle.dartelm.proofs.Names.{needs, toZ-ofZ, w64, termSaid, told, termAnswer, noTerm}
 use Rattle.dartelm.proofs.Telling.{tells}
 use Rattle.dartelm.proofs.dartelm_term.Statement.{statement}
 use Rattle.dartelm.proofs.dartelm_term.Tie as tie

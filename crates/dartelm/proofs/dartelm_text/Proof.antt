@@ -1,12 +1,6 @@
 -- `dartelm_text` meets its contract.
 -- Assumes nothing.
-use borrow.Author.Needs.{needs}
-use mathlib.Core.Path.{_≡_, sym, ap}
-use mathlib.Core.List.{[]}
-use native.Mathlib.Omega.{arith}
-use lib.ListN.{length}
-use Rattle.texts.specs.Text.{textOf}
-use Rattle.dartelm.specs.Answers.{told, textAnswer}
+use Rattle.dartelm.proofs.Names.{needs, _≡_, sym, ap, [], arith, length, textOf, told, textAnswer}
 use Rattle.dartelm.proofs.Padding.{text-refused, text-told}
 use Rattle.dartelm.proofs.dartelm_text.Statement.{statement}
 use Rattle.dartelm.proofs.dartelm_text.Tie as tie

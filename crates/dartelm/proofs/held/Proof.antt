@@ -1,12 +1,6 @@
 -- `held` meets its contract.
 -- Assumes nothing.
-use borrow.Author.Needs.{needs}
-use mathlib.Core.Path.{sym, ap}
-use lib.IntN.{pos}
-use Rattle.fields.specs.declared.Value.the-variants.{Whole}
-use Rattle.sheet.specs.declared.FieldAnswer.{FieldAnswer}
-use Rattle.sheet.specs.Check.{fieldSaid}
-use Rattle.dartelm.specs.Answers.{told, fieldAnswer}
+use Rattle.dartelm.proofs.Names.{needs, sym, ap, pos, Whole, FieldAnswer, fieldSaid, told, fieldAnswer}
 use Rattle.dartelm.proofs.held.Statement.{statement}
 use Rattle.dartelm.proofs.held.Tie as tie
 

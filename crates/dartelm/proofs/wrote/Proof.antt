@@ -1,12 +1,6 @@
 -- `wrote` meets its contract.
 -- Assumes nothing.
-use borrow.Author.Needs.{needs}
-use mathlib.Core.List.{List, []}
-use Prim.Native.Nat.{ℕ}
-use mathlib.Core.Path.{sym, ap}
-use Rattle.refusal.specs.Written.{writtenSaid}
-use Rattle.refusal.specs.declared.Written.{Written}
-use Rattle.dartelm.specs.Answers.{told, writeAnswer}
+use Rattle.dartelm.proofs.Names.{needs, [], sym, ap, writtenSaid, Written, told, writeAnswer}
 use Rattle.dartelm.proofs.wrote.Statement.{statement}
 use Rattle.dartelm.proofs.wrote.Tie as tie
 

@@ -1,10 +1,6 @@
 -- `texts::code_if_shown` meets its contract: the characters that the code's text has are compared with the text.
 -- Assumes nothing.
-use mathlib.Core.Path.{sym, ap, _∙_}
-use mathlib.Core.Bool.{true, false}
-use lib.Seq.{length-take-le}
-use borrow.Author.Needs.{needs}
-use Rattle.refusal.specs.Outcome.{refused}
+use Rattle.texts.proofs.Names.{sym, ap, _∙_, true, false, length-take-le, needs, refused}
 use Rattle.texts.proofs.Answers.{front-of, not-shown, compared}
 use Rattle.texts.proofs.code_if_shown.Statement.{statement}
 use Rattle.texts.proofs.code_if_shown.Tie as tie

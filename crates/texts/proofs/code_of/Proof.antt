@@ -1,8 +1,6 @@
 -- `texts::code_of` meets its contract: a text of the field's length has the only code that can have it, or none.
 -- Assumes nothing.
-use mathlib.Core.Path.{sym, ap, _∙_}
-use borrow.Author.Needs.{needs}
-use Rattle.refusal.specs.Outcome.{refused}
+use Rattle.texts.proofs.Names.{sym, ap, _∙_, needs, refused}
 use Rattle.texts.proofs.Turning.{letter, date, initials, other, wrong-length, code-shown, no-such-code}
 use Rattle.texts.proofs.code_of.Statement.{statement}
 use Rattle.texts.proofs.code_of.Tie as tie

@@ -1,11 +1,6 @@
 -- `texts::equal` meets its contract: what is left to compare from any place on says the same as the whole.
 -- Assumes nothing.
-use mathlib.Core.Path.{_≡_, refl, sym, ap, _∙_}
-use Prim.Native.Nat.{_≤_, _-_}
-use native.Mathlib.Omega.{arith}
-use lib.ListN.{length, drop}
-use borrow.Author.Needs.{needs}
-use Rattle.texts.specs.Text.{same}
+use Rattle.texts.proofs.Names.{_≡_, refl, sym, ap, _∙_, _≤_, _-_, arith, length, drop, needs, same}
 use Rattle.texts.proofs.Same.{not-same, same-on, same-stop, same-end}
 use Rattle.texts.proofs.equal.Statement.{statement}
 use Rattle.texts.proofs.equal.Tie as tie

@@ -1,11 +1,6 @@
 -- `texts::text_of` meets its contract: each answer is the definition's at its field, out of range or in it.
 -- Assumes nothing.
-use mathlib.Core.Path.{sym, ap}
-use Prim.Native.Nat.{zero-le}
-use borrow.Author.Needs.{needs}
-use Rattle.texts.specs.Letters.{lettersText}
-use Rattle.texts.specs.Dates.{dateText}
-use Rattle.texts.specs.Text.{textSaid}
+use Rattle.texts.proofs.Names.{sym, ap, zero-le, needs, lettersText, dateText, textSaid}
 use Rattle.texts.proofs.Turning.{letter, date, initials, other, too-low, too-high, in-range, no-such-text}
 use Rattle.texts.proofs.Answers.{no-text}
 use Rattle.texts.proofs.text_of.Statement.{statement}

@@ -1,5 +1,4 @@
-use borrow.Author.Needs.{needs}
-use native.Mathlib.Omega.{arith}
+use Rattle.tray_run.proofs.Names.{needs, arith}
 use Rattle.tray_run.proofs.read_step.Statement.{statement}
 use Rattle.tray_run.proofs.read_step.Tie as tie
 

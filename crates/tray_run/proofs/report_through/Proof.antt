@@ -1,10 +1,5 @@
 -- The loop's invariant: the steps so far are a run. The measure is the most steps that are left.
-use mathlib.Core.Path.{_≡_, sym, _∙_}
-use lib.ListN.{length}
-use borrow.Author.Needs.{needs}
-use Rattle.report.specs.Steps.{Ran, stepsLeft}
-use Rattle.report.proofs.LineLaws.{line-long}
-use Rattle.report.proofs.StepLaws.{run-sound, ran-initial, ran-on, ran-out, stepped-fewer}
+use Rattle.tray_run.proofs.Names.{_≡_, sym, _∙_, length, needs, Ran, stepsLeft, line-long, run-sound, ran-initial, ran-on, ran-out, stepped-fewer}
 use Rattle.tray_run.proofs.report_through.Statement.{statement}
 use Rattle.tray_run.proofs.report_through.Tie as tie
 

@@ -1,9 +1,5 @@
 -- `adds_up` meets its contract.
-use borrow.Author.Needs.{needs}
-use mathlib.Core.Path.{sym, ap, _∙_}
-use Prim.Native.Nat.{ℕ}
-use lib.Dec.{eqb}
-use borrow.Author.Tests.{eq-eqb, ne-eqb}
+use Rattle.writing.proofs.Names.{needs, sym, ap, _∙_, ℕ, eqb, eq-eqb, ne-eqb}
 use Rattle.writing.proofs.adds_up.Statement.{statement}
 use Rattle.writing.proofs.adds_up.Tie as tie
 

@@ -1,11 +1,5 @@
 -- `invalidate_first` meets its contract.
-use borrow.Author.Needs.{needs}
-use mathlib.Core.Path.{ap}
-use Prim.Native.Nat.{ℕ}
-use native.Mathlib.Omega.{arith}
-use lib.Dec.{eqb}
-use borrow.Author.Tests.{lt-ltb, le-ltb}
-use Rattle.writing.specs.Steps.{coveredRows}
+use Rattle.writing.proofs.Names.{needs, ap, ℕ, arith, eqb, lt-ltb, le-ltb, coveredRows}
 use Rattle.writing.proofs.invalidate_first.Statement.{statement}
 use Rattle.writing.proofs.invalidate_first.Tie as tie
 

@@ -1,8 +1,5 @@
 -- `next` meets its contract.
-use borrow.Author.Needs.{needs}
-use native.Mathlib.Omega.{arith}
-use borrow.Author.Tests.{lt-ltb, le-ltb}
-use Rattle.writing.specs.Steps.{step}
+use Rattle.writing.proofs.Names.{needs, arith, lt-ltb, le-ltb, step}
 use Rattle.writing.proofs.next.Statement.{statement}
 use Rattle.writing.proofs.next.Tie as tie
 

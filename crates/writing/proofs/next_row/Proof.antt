@@ -1,10 +1,5 @@
 -- `next_row` meets its contract.
-use borrow.Author.Needs.{needs}
-use mathlib.Core.Path.{sym, ap, _∙_}
-use Rattle.refusal.proofs.Outcomes.{told}
-use Rattle.memory.specs.Answers.{sizesSaid}
-use Rattle.sheet.specs.Check.{checkSaid}
-use Rattle.writing.specs.Answers.{answered}
+use Rattle.writing.proofs.Names.{needs, sym, ap, _∙_, told, sizesSaid, checkSaid, answered}
 use Rattle.writing.proofs.CallLaws.{checked-asked, calls, call-refused, call-other-length}
 use Rattle.writing.proofs.next_row.Statement.{statement}
 use Rattle.writing.proofs.next_row.Tie as tie

@@ -1,12 +1,5 @@
 -- `one_page` meets its contract.
-use borrow.Author.Needs.{needs}
-use mathlib.Core.Path.{_≡_, sym, ap, _∙_}
-use mathlib.Core.List.{List}
-use Prim.Native.Nat.{ℕ, _≤_}
-use native.Mathlib.Omega.{arith}
-use Rattle.refusal.specs.Outcome.{good}
-use Rattle.writing.specs.Steps.{row, rows, checkRow, written, differing, raised, write}
-use Rattle.writing.specs.Answers.{answered, tallyTo}
+use Rattle.writing.proofs.Names.{needs, _≡_, sym, ap, _∙_, List, ℕ, _≤_, arith, good, row, rows, checkRow, written, differing, raised, write, answered, tallyTo}
 use Rattle.writing.proofs.RowLaws.{over-length}
 use Rattle.writing.proofs.PageLaws.{alike-length}
 use Rattle.writing.proofs.OnePageLaws.{one-room, r-room}

@@ -1,6 +1,5 @@
 -- `raise_by` meets its contract.
-use borrow.Author.Needs.{needs}
-use mathlib.Core.Path.{sym, _∙_}
+use Rattle.writing.proofs.Names.{needs, sym, _∙_}
 use Rattle.writing.proofs.raise_by.Statement.{statement}
 use Rattle.writing.proofs.raise_by.Tie as tie
 

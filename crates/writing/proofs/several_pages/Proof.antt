@@ -1,14 +1,5 @@
 -- `several_pages` meets its contract.
-use borrow.Author.Needs.{needs}
-use mathlib.Core.Path.{_≡_, sym, ap, _∙_}
-use mathlib.Core.List.{List}
-use Prim.Native.Nat.{ℕ, _-_, _/_}
-use native.Mathlib.Omega.{arith}
-use lib.Dec.{eqb}
-use Rattle.refusal.specs.Outcome.{good}
-use Rattle.writing.specs.Numbers.{count}
-use Rattle.writing.specs.Steps.{rows, checkRow, coveredRows, differs, differing, unsealed, write}
-use Rattle.writing.specs.Answers.{answered, behindLast}
+use Rattle.writing.proofs.Names.{needs, _≡_, sym, ap, _∙_, List, ℕ, _-_, _/_, arith, eqb, good, count, rows, checkRow, coveredRows, differs, differing, unsealed, write, answered, behindLast}
 use Rattle.writing.proofs.SeveralLaws.{several-room}
 use Rattle.writing.proofs.CodeLaws.{behind-none, behind-some, several-done, several-last, several-invalidate, several-on}
 use Rattle.writing.proofs.several_pages.Statement.{statement}

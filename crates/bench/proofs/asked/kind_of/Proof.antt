@@ -1,5 +1,4 @@
-use borrow.Author.Tests.{lt-ltb, le-ltb}
-use borrow.Author.Needs.{needs}
+use Rattle.bench.proofs.Names.{lt-ltb, le-ltb, needs}
 use Rattle.bench.proofs.asked.kind_of.Statement.{statement}
 use Rattle.bench.proofs.asked.kind_of.Tie as tie
 

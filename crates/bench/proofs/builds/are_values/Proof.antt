@@ -1,5 +1,4 @@
-use Prim.Native.Nat.{_-_}
-use borrow.Author.Needs.{needs}
+use Rattle.bench.proofs.Names.{_-_, needs}
 use Rattle.bench.proofs.builds.are_values.Statement.{statement}
 use Rattle.bench.proofs.builds.are_values.Tie as tie
 

@@ -1,7 +1,5 @@
 -- A template has 21 fields at most.
-use native.Mathlib.Omega.{arith}
-use borrow.Author.Needs.{needs}
-use Rattle.fields.proofs.TemplateFacts.{last-most}
+use Rattle.bench.proofs.Names.{arith, needs, last-most}
 use Rattle.bench.proofs.builds.end_bit_word.Statement.{statement}
 use Rattle.bench.proofs.builds.end_bit_word.Tie as tie
 

@@ -1,10 +1,5 @@
 -- What is left of the template's fields is the measure; it has 21 at most.
-use mathlib.Core.Path.{_≡_}
-use Prim.Native.Nat.{_-_, _≤_}
-use lib.ListN.{length}
-use native.Mathlib.Omega.{arith}
-use borrow.Author.Needs.{needs}
-use Rattle.fields.proofs.TemplateFacts.{last-most}
+use Rattle.bench.proofs.Names.{_≡_, _-_, _≤_, length, arith, needs, last-most}
 use Rattle.bench.proofs.builds.sheet_of.Statement.{statement}
 use Rattle.bench.proofs.builds.sheet_of.Tie as tie
 

@@ -1,8 +1,5 @@
 -- What is left of the list is the measure; there is room for it.
-use mathlib.Core.Path.{_≡_}
-use Prim.Native.Nat.{_-_, _≤_}
-use lib.ListN.{length}
-use borrow.Author.Needs.{needs}
+use Rattle.bench.proofs.Names.{_≡_, _-_, _≤_, length, needs}
 use Rattle.bench.proofs.curves.terms_of.Statement.{statement}
 use Rattle.bench.proofs.curves.terms_of.Tie as tie
 

@@ -1,6 +1,5 @@
 -- A float that is no NaN has bits.
-use borrow.Author.Needs.{needs}
-use Rattle.fields.proofs.FloatLaws.{not-nan}
+use Rattle.bench.proofs.Names.{needs, not-nan}
 use Rattle.bench.proofs.printing.double.Statement.{statement}
 use Rattle.bench.proofs.printing.double.Tie as tie
 

@@ -1,9 +1,5 @@
 -- A float that is no NaN has bits.
-use native.Mathlib.Omega.{arith}
-use borrow.Author.Needs.{needs}
-use lib.Ieee.{binary32}
-use lib.Ieee.Bits.{toBits-lt}
-use Rattle.fields.proofs.FloatLaws.{not-nan}
+use Rattle.bench.proofs.Names.{arith, needs, binary32, toBits-lt, not-nan}
 use Rattle.bench.proofs.printing.single.Statement.{statement}
 use Rattle.bench.proofs.printing.single.Tie as tie
 

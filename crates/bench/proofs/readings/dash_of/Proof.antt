@@ -1,5 +1,4 @@
-use mathlib.Core.Path.{sym, _∙_}
-use borrow.Author.Needs.{needs}
+use Rattle.bench.proofs.Names.{sym, _∙_, needs}
 use Rattle.bench.proofs.readings.dash_of.Statement.{statement}
 use Rattle.bench.proofs.readings.dash_of.Tie as tie
 

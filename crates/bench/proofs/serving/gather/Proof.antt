@@ -1,8 +1,5 @@
 -- The line keeps its length, and what is left of the block is the measure.
-use mathlib.Core.Path.{_≡_}
-use Prim.Native.Nat.{_-_}
-use lib.ListN.{length}
-use borrow.Author.Needs.{needs}
+use Rattle.bench.proofs.Names.{_≡_, _-_, length, needs}
 use Rattle.bench.proofs.serving.gather.Statement.{statement}
 use Rattle.bench.proofs.serving.gather.Tie as tie
 

@@ -1,7 +1,5 @@
 -- The line keeps its length, and the turns that are left are the measure.
-use mathlib.Core.Path.{_≡_}
-use lib.ListN.{length}
-use borrow.Author.Needs.{needs}
+use Rattle.bench.proofs.Names.{_≡_, length, needs}
 use Rattle.bench.proofs.serving.serve_lines.Statement.{statement}
 use Rattle.bench.proofs.serving.serve_lines.Tie as tie
 

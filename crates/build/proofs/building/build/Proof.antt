@@ -1,5 +1,5 @@
 -- `building::build` meets its contract.
-use borrow.Author.Needs.{needs}
+use Rattle.build.proofs.Names.{needs}
 use Rattle.build.proofs.Spreading.{spread-sheet}
 use Rattle.build.proofs.building.build.Statement.{statement}
 use Rattle.build.proofs.building.build.Tie as tie

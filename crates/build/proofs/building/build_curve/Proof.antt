@@ -1,5 +1,5 @@
 -- `building::build_curve` meets its contract.
-use borrow.Author.Needs.{needs}
+use Rattle.build.proofs.Names.{needs}
 use Rattle.build.proofs.Spreading.{spread-sheet}
 use Rattle.build.proofs.building.build_curve.Statement.{statement}
 use Rattle.build.proofs.building.build_curve.Tie as tie

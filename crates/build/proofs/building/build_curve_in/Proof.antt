@@ -1,8 +1,5 @@
 -- `building::build_curve_in` meets its contract.
-use mathlib.Core.Path.{refl}
-use borrow.Author.Needs.{needs}
-use Rattle.refusal.proofs.WrittenLaws.{written-refused}
-use Rattle.build.specs.Build.{drawn}
+use Rattle.build.proofs.Names.{refl, needs, written-refused, drawn}
 use Rattle.build.proofs.Tests.{turned-down, accepted}
 use Rattle.build.proofs.Coding.{packed-none}
 use Rattle.build.proofs.Lent.{planned-alike}

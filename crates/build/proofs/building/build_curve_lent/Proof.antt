@@ -1,12 +1,5 @@
 -- `building::build_curve_lent` meets its contract.
-use mathlib.Core.Path.{refl, sym}
-use borrow.Author.Needs.{needs}
-use lib.ListN.{length}
-use Rattle.refusal.proofs.Outcomes.{told}
-use Rattle.refusal.proofs.WrittenLaws.{written-refused}
-use Rattle.memory.specs.Answers.{sizesSaid}
-use Rattle.memory.proofs.Chips.{sizes-chip, sizes-whole}
-use Rattle.build.specs.Build.{drawn}
+use Rattle.build.proofs.Names.{refl, sym, needs, length, told, written-refused, sizesSaid, sizes-chip, sizes-whole, drawn}
 use Rattle.build.proofs.BuiltIn.{build-refused, build-sized}
 use Rattle.build.proofs.building.build_curve_lent.Statement.{statement}
 use Rattle.build.proofs.building.build_curve_lent.Tie as tie

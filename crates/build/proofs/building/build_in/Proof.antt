@@ -1,9 +1,5 @@
 -- `building::build_in` meets its contract.
-use mathlib.Core.Path.{refl, sym, ap, _∙_}
-use borrow.Author.Needs.{needs}
-use Rattle.refusal.specs.declared.Written.the-variants.{Refused}
-use Rattle.refusal.proofs.WrittenLaws.{written-refused}
-use Rattle.build.specs.Build.{listed}
+use Rattle.build.proofs.Names.{refl, sym, ap, _∙_, needs, Refused, written-refused, listed}
 use Rattle.build.proofs.Tests.{turned-down, accepted}
 use Rattle.build.proofs.Coding.{packed-none}
 use Rattle.build.proofs.Lent.{planned-alike}

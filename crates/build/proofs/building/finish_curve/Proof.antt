@@ -1,12 +1,5 @@
 -- `building::finish_curve` meets its contract.
-use mathlib.Core.Path.{sym, ap, _∙_}
-use borrow.Author.Needs.{needs}
-use borrow.Author.Tests.{ltb-true, ltb-false}
-use native.Mathlib.Omega.{arith}
-use Rattle.refusal.proofs.WrittenLaws.{written-refused, written-done}
-use Rattle.refusal.specs.declared.Written.the-variants.{Refused}
-use Rattle.memory.specs.Image.{streamBits}
-use Rattle.build.specs.Tested.{unpacked, codedCurve}
+use Rattle.build.proofs.Names.{sym, ap, _∙_, needs, ltb-true, ltb-false, arith, written-refused, written-done, Refused, streamBits, unpacked, codedCurve}
 use Rattle.build.proofs.BuiltIn.{too-many, inside, fits}
 use Rattle.build.proofs.building.finish_curve.Statement.{statement}
 use Rattle.build.proofs.building.finish_curve.Tie as tie

@@ -1,15 +1,5 @@
 -- `building::finish_table` meets its contract.
-use mathlib.Core.Path.{sym, ap, _∙_}
-use borrow.Author.Needs.{needs}
-use borrow.Author.Tests.{ltb-true, ltb-false}
-use native.Mathlib.Omega.{arith}
-use Rattle.refusal.proofs.WrittenLaws.{written-refused, written-done}
-use Rattle.refusal.specs.declared.Written.the-variants.{Refused}
-use Prim.Native.Nat.{_/_}
-use lib.ListN.{length}
-use Rattle.build.specs.Build.{pairsLent, tablePieces}
-use Rattle.memory.specs.Image.{streamBits}
-use Rattle.build.specs.Tested.{unpacked, piecesOf}
+use Rattle.build.proofs.Names.{sym, ap, _∙_, needs, ltb-true, ltb-false, arith, written-refused, written-done, Refused, _/_, length, pairsLent, tablePieces, streamBits, unpacked, piecesOf}
 use Rattle.build.proofs.PairTurns.{table-bits}
 use Rattle.build.proofs.BuiltIn.{table-few, too-many, inside, fits}
 use Rattle.build.proofs.building.finish_table.Statement.{statement}

@@ -1,5 +1,5 @@
 -- `building::is_too_long` meets its contract.
-use borrow.Author.Needs.{needs}
+use Rattle.build.proofs.Names.{needs}
 use Rattle.build.proofs.building.is_too_long.Statement.{statement}
 use Rattle.build.proofs.building.is_too_long.Tie as tie
 

@@ -1,13 +1,5 @@
 -- `building::spread` meets its contract.
-use mathlib.Core.Path.{sym, ap, _∙_}
-use mathlib.Core.Logic.{⊎-elim}
-use Prim.Native.Nat.{_-_}
-use borrow.Author.Needs.{needs}
-use lib.IntN.{pos}
-use mir.Syntax.{w64}
-use mir.Facts.{toZ-ofZ}
-use Rattle.fields.specs.declared.Value.the-variants.{Whole}
-use Rattle.build.specs.Build.{slot}
+use Rattle.build.proofs.Names.{sym, ap, _∙_, ⊎-elim, _-_, needs, pos, w64, toZ-ofZ, Whole, slot}
 use Rattle.build.proofs.Spreading.{SpreadTo, spread-none, spread-whole, spread-single, spread-missing, spread-all}
 use Rattle.build.proofs.building.spread.Statement.{statement}
 use Rattle.build.proofs.building.spread.Tie as tie

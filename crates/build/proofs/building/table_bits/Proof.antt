@@ -1,5 +1,5 @@
 -- `building::table_bits` meets its contract.
-use borrow.Author.Needs.{needs}
+use Rattle.build.proofs.Names.{needs}
 use Rattle.build.proofs.BuiltIn.{table-more}
 use Rattle.build.proofs.building.table_bits.Statement.{statement}
 use Rattle.build.proofs.building.table_bits.Tie as tie

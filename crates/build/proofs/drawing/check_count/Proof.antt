@@ -1,7 +1,5 @@
 -- `drawing::check_count` meets its contract.
-use mathlib.Core.Path.{sym, _∙_}
-use borrow.Author.Needs.{needs}
-use native.Mathlib.Omega.{arith}
+use Rattle.build.proofs.Names.{sym, _∙_, needs, arith}
 use Rattle.build.proofs.SegmentPlans.{few-terms, count-wrong, count-many, count-right}
 use Rattle.build.proofs.drawing.check_count.Statement.{statement}
 use Rattle.build.proofs.drawing.check_count.Tie as tie

@@ -1,8 +1,5 @@
 -- `drawing::code_segment` meets its contract.
-use mathlib.Core.Path.{sym}
-use borrow.Author.Needs.{needs}
-use Rattle.refusal.proofs.Outcomes.{told}
-use Rattle.fields.specs.Answers.{encodedSaid, earlierSaid}
+use Rattle.build.proofs.Names.{sym, needs, told, encodedSaid, earlierSaid}
 use Rattle.build.proofs.SegmentPlans.{two-down, segment-refused, segment-coded}
 use Rattle.build.proofs.drawing.code_segment.Statement.{statement}
 use Rattle.build.proofs.drawing.code_segment.Tie as tie

@@ -1,9 +1,5 @@
 -- `drawing::code_start` meets its contract.
-use mathlib.Core.Path.{sym, ap, _∙_}
-use borrow.Author.Needs.{needs}
-use Rattle.refusal.proofs.Outcomes.{told}
-use Rattle.fields.specs.Curves.{segmentStart}
-use Rattle.fields.specs.Answers.{encodedSaid, judgedSaid, earlierSaid}
+use Rattle.build.proofs.Names.{sym, _∙_, needs, told, segmentStart, encodedSaid, judgedSaid, earlierSaid}
 use Rattle.build.proofs.Coding.{seen}
 use Rattle.build.proofs.SegmentPlans.{start-refused, start-wrong, start-down, start-good}
 use Rattle.build.proofs.drawing.code_start.Statement.{statement}

@@ -1,11 +1,5 @@
 -- `drawing::code_term` meets its contract.
-use mathlib.Core.Path.{sym, _∙_}
-use borrow.Author.Needs.{needs}
-use Rattle.refusal.proofs.Outcomes.{told}
-use Rattle.fields.specs.declared.Value.the-variants.{Single}
-use Rattle.fields.specs.Curves.{tenthsBefore}
-use Rattle.fields.specs.Stored.{Real}
-use Rattle.fields.specs.Answers.{encodedSaid, earlierSaid}
+use Rattle.build.proofs.Names.{sym, _∙_, needs, told, Single, tenthsBefore, Real, encodedSaid, earlierSaid}
 use Rattle.build.proofs.SegmentPlans.{two-down, seen-exponent, exponent-refused, coefficient-refused, term-coded}
 use Rattle.build.proofs.drawing.code_term.Statement.{statement}
 use Rattle.build.proofs.drawing.code_term.Tie as tie

@@ -1,7 +1,5 @@
 -- `drawing::first_four` meets its contract.
-use mathlib.Core.Path.{refl}
-use borrow.Author.Needs.{needs}
-use Rattle.build.specs.Tested.{firstFour}
+use Rattle.build.proofs.Names.{refl, needs, firstFour}
 use Rattle.build.proofs.drawing.first_four.Statement.{statement}
 use Rattle.build.proofs.drawing.first_four.Tie as tie
 

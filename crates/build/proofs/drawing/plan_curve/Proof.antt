@@ -1,6 +1,5 @@
 -- `drawing::plan_curve` meets its contract.
-use mathlib.Core.Path.{sym, _∙_}
-use borrow.Author.Needs.{needs}
+use Rattle.build.proofs.Names.{sym, _∙_, needs}
 use Rattle.build.proofs.CurveTurns.{curve-wrong}
 use Rattle.build.proofs.drawing.plan_curve.Statement.{statement}
 use Rattle.build.proofs.drawing.plan_curve.Tie as tie

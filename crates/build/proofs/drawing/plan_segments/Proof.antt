@@ -1,14 +1,5 @@
 -- `drawing::plan_segments` meets its contract.
-use mathlib.Core.Path.{_≡_, sym}
-use mathlib.Core.Option.{none}
-use Prim.Native.Nat.{_-_, _≤_}
-use borrow.Author.Needs.{needs}
-use native.Mathlib.Omega.{arith}
-use lib.ListN.{length, length-map}
-use Rattle.refusal.proofs.Outcomes.{told}
-use Rattle.fields.specs.Curves.{tenthsBefore}
-use Rattle.fields.specs.Answers.{earlierSaid}
-use Rattle.build.specs.Tested.{twoSaid}
+use Rattle.build.proofs.Names.{_≡_, sym, none, _-_, _≤_, needs, arith, length, length-map, told, tenthsBefore, earlierSaid, twoSaid}
 use Rattle.build.proofs.SegmentPlans.{segment-few}
 use Rattle.build.proofs.CurveTurns.{few-segments, CurveDone, done-none, done-own, own-begun, own-open, own-closed, segment-down, segment-turn, term-down, term-turn, done-all}
 use Rattle.build.proofs.drawing.plan_segments.Statement.{statement}

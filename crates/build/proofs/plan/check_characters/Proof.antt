@@ -1,10 +1,5 @@
 -- `plan::check_characters` meets its contract.
-use mathlib.Core.Path.{_≡_, refl, sym, _∙_}
-use Prim.Native.Nat.{_≤_, _-_}
-use borrow.Author.Needs.{needs}
-use native.Mathlib.Omega.{arith}
-use lib.ListN.{length, drop}
-use Rattle.build.specs.Build.{unfit}
+use Rattle.build.proofs.Names.{_≡_, refl, sym, _∙_, _≤_, _-_, needs, arith, length, drop, unfit}
 use Rattle.build.proofs.TextTurns.{unfit-zero, unfit-above, unfit-next, unfit-end}
 use Rattle.build.proofs.plan.check_characters.Statement.{statement}
 use Rattle.build.proofs.plan.check_characters.Tie as tie

@@ -1,8 +1,5 @@
 -- `plan::check_ending` meets its contract.
-use borrow.Author.Needs.{needs}
-use native.Mathlib.Numerals.{add-one}
-use native.Mathlib.Omega.{arith}
-use Rattle.fields.proofs.TemplateFacts.{last-most}
+use Rattle.build.proofs.Names.{needs, add-one, arith, last-most}
 use Rattle.build.proofs.TextTurns.{open-ending, shut-ending, no-ending}
 use Rattle.build.proofs.plan.check_ending.Statement.{statement}
 use Rattle.build.proofs.plan.check_ending.Tie as tie

@@ -1,9 +1,5 @@
 -- `plan::check_pair` meets its contract.
-use mathlib.Core.Path.{sym, _∙_}
-use borrow.Author.Needs.{needs}
-use Rattle.refusal.proofs.Outcomes.{told, bind-good, bind-refused, then-good, then-refused}
-use Rattle.fields.specs.Answers.{judgedSaid, previousSaid}
-use Rattle.build.specs.Tested.{codesSaid, pairAt}
+use Rattle.build.proofs.Names.{sym, _∙_, needs, told, bind-good, bind-refused, then-good, then-refused, judgedSaid, previousSaid, codesSaid, pairAt}
 use Rattle.build.proofs.PairTurns.{codes-then}
 use Rattle.build.proofs.plan.check_pair.Statement.{statement}
 use Rattle.build.proofs.plan.check_pair.Tie as tie

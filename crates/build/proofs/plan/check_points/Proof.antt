@@ -1,13 +1,5 @@
 -- `plan::check_points` meets its contract.
-use mathlib.Core.Path.{_≡_, sym, _∙_}
-use Prim.Native.Nat.{_/_, _≤_, _-_}
-use borrow.Author.Needs.{needs}
-use native.Mathlib.Omega.{arith}
-use lib.ListN.{length}
-use Rattle.refusal.proofs.Outcomes.{told}
-use Rattle.fields.specs.Answers.{previousSaid}
-use Rattle.build.specs.Build.{pairsLent, pairPieces, tablePieces}
-use Rattle.build.specs.Tested.{tested, codesSaid}
+use Rattle.build.proofs.Names.{_≡_, sym, _∙_, _/_, _≤_, _-_, needs, arith, length, told, previousSaid, pairsLent, pairPieces, tablePieces, tested, codesSaid}
 use Rattle.build.proofs.PairTurns.{pairsFrom, table-tested, test-refused, test-next, test-end}
 use Rattle.build.proofs.plan.check_points.Statement.{statement}
 use Rattle.build.proofs.plan.check_points.Tie as tie

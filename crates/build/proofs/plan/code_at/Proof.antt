@@ -1,11 +1,5 @@
 -- `plan::code_at` meets its contract.
-use mathlib.Core.Path.{subst}
-use Prim.Native.Nat.{_+_}
-use native.Mathlib.Omega.{arith}
-use borrow.Author.Needs.{needs}
-use Rattle.fields.specs.Lines.{rowOf}
-use Rattle.fields.proofs.TemplateFacts.{last-most}
-use Rattle.build.specs.Tested.{Encodes}
+use Rattle.build.proofs.Names.{subst, _+_, arith, needs, rowOf, last-most, Encodes}
 use Rattle.build.proofs.Coding.{quick-encodes}
 use Rattle.build.proofs.plan.code_at.Statement.{statement}
 use Rattle.build.proofs.plan.code_at.Tie as tie

@@ -1,7 +1,5 @@
 -- `plan::code_field` meets its contract.
-use native.Mathlib.Omega.{arith}
-use borrow.Author.Needs.{needs}
-use Rattle.fields.proofs.TemplateFacts.{last-most}
+use Rattle.build.proofs.Names.{arith, needs, last-most}
 use Rattle.build.proofs.Coding.{coded-fits, turn-room, turn-sound, turn-refused, turn-coded}
 use Rattle.build.proofs.plan.code_field.Statement.{statement}
 use Rattle.build.proofs.plan.code_field.Tie as tie

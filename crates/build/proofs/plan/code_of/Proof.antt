@@ -1,8 +1,5 @@
 -- `plan::code_of` meets its contract.
-use borrow.Author.Needs.{needs}
-use Rattle.fields.specs.Lines.{rowOf}
-use Rattle.fields.proofs.RowLaws.{row-sound}
-use Rattle.coding.proofs.Lent.{lent-real}
+use Rattle.build.proofs.Names.{needs, rowOf, row-sound, lent-real}
 use Rattle.build.proofs.Coding.{encodes}
 use Rattle.build.proofs.plan.code_of.Statement.{statement}
 use Rattle.build.proofs.plan.code_of.Tie as tie

@@ -1,10 +1,5 @@
 -- `plan::code_own` meets its contract.
-use Prim.Native.Nat.{_≤_, _-_}
-use native.Mathlib.Omega.{arith}
-use borrow.Author.Needs.{needs}
-use lib.ListN.{length}
-use Rattle.fields.specs.Lines.{basic}
-use Rattle.build.specs.Tested.{FieldsCoded}
+use Rattle.build.proofs.Names.{_≤_, _-_, arith, needs, length, basic, FieldsCoded}
 use Rattle.build.proofs.Coding.{coded-next, coded-same, coded-up, stopped}
 use Rattle.build.proofs.plan.code_own.Statement.{statement}
 use Rattle.build.proofs.plan.code_own.Tie as tie

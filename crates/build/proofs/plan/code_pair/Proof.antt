@@ -1,15 +1,5 @@
 -- `plan::code_pair` meets its contract.
-use mathlib.Core.Path.{sym, _∙_}
-use Prim.Native.Nat.{_+_, _*_}
-use borrow.Author.Needs.{needs}
-use native.Mathlib.Omega.{arith}
-use lib.IntN.{pos}
-use lib.ListN.{getD}
-use Rattle.refusal.proofs.Outcomes.{told}
-use Rattle.fields.specs.Calibration.{calPoint, calDeviation}
-use Rattle.fields.specs.Answers.{encodedSaid}
-use Rattle.fields.proofs.RowLaws.{point-sound, deviation-sound}
-use Rattle.build.specs.Tested.{pairAt}
+use Rattle.build.proofs.Names.{sym, _∙_, _+_, _*_, needs, arith, pos, getD, told, calPoint, calDeviation, encodedSaid, point-sound, deviation-sound, pairAt}
 use Rattle.build.proofs.Coding.{seen}
 use Rattle.build.proofs.PairTurns.{point-refused, deviation-refused, pair-coded, fitting}
 use Rattle.build.proofs.plan.code_pair.Statement.{statement}

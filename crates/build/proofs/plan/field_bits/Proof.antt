@@ -1,10 +1,5 @@
 -- `plan::field_bits` meets its contract.
-use mathlib.Core.Path.{_≡_, ap, _∙_}
-use Prim.Native.Nat.{_+_, _-_}
-use native.Mathlib.Omega.{arith}
-use borrow.Author.Needs.{needs}
-use Rattle.fields.specs.Lines.{linesOf, lastField, bitsBefore}
-use Rattle.fields.proofs.TemplateFacts.{last-most}
+use Rattle.build.proofs.Names.{_≡_, ap, _∙_, _+_, _-_, arith, needs, linesOf, lastField, bitsBefore, last-most}
 use Rattle.build.proofs.Coding.{bits-small}
 use Rattle.build.proofs.plan.field_bits.Statement.{statement}
 use Rattle.build.proofs.plan.field_bits.Tie as tie

@@ -1,5 +1,5 @@
 -- `plan::is_wrong_list` meets its contract.
-use borrow.Author.Tests.{eq-eqb, ne-eqb}
+use Rattle.build.proofs.Names.{eq-eqb, ne-eqb}
 use Rattle.build.proofs.plan.is_wrong_list.Statement.{statement}
 use Rattle.build.proofs.plan.is_wrong_list.Tie as tie
 

@@ -1,10 +1,5 @@
 -- `plan::packed` meets its contract.
-use mathlib.Core.Path.{ap, _∙_}
-use Prim.Native.Nat.{ℕ, _^_, _<_}
-use native.Mathlib.Omega.{arith}
-use lib.Bits.{bitOr, or-shifted}
-use lib.Pow.{shl-exact}
-use Rattle.fields.proofs.CodeLaws.{below-2^32}
+use Rattle.build.proofs.Names.{ap, _∙_, ℕ, _^_, _<_, arith, bitOr, or-shifted, shl-exact, below-2^32}
 use Rattle.build.proofs.plan.packed.Statement.{statement}
 use Rattle.build.proofs.plan.packed.Tie as tie
 

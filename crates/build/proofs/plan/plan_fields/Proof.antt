@@ -1,5 +1,5 @@
 -- `plan::plan_fields` meets its contract.
-use borrow.Author.Needs.{needs}
+use Rattle.build.proofs.Names.{needs}
 use Rattle.build.proofs.Coding.{coded-none, coded-all, all-refused}
 use Rattle.build.proofs.plan.plan_fields.Statement.{statement}
 use Rattle.build.proofs.plan.plan_fields.Tie as tie

@@ -1,5 +1,5 @@
 -- `plan::precision_behind` meets its contract.
-use borrow.Author.Needs.{needs}
+use Rattle.build.proofs.Names.{needs}
 use Rattle.build.proofs.plan.precision_behind.Statement.{statement}
 use Rattle.build.proofs.plan.precision_behind.Tie as tie
 

@@ -1,7 +1,5 @@
 -- `plan::quick_code` meets its contract.
-use mathlib.Core.Path.{refl, subst}
-use borrow.Author.Needs.{needs}
-use Rattle.coding.specs.Swift.{Told}
+use Rattle.build.proofs.Names.{refl, subst, needs, Told}
 use Rattle.build.proofs.plan.quick_code.Statement.{statement}
 use Rattle.build.proofs.plan.quick_code.Tie as tie
 

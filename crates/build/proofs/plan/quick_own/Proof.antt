@@ -1,9 +1,5 @@
 -- `plan::quick_own` meets its contract.
-use mathlib.Core.Path.{ap}
-use native.Mathlib.Omega.{arith}
-use borrow.Author.Needs.{needs}
-use Rattle.fields.specs.Lines.{lastField}
-use Rattle.fields.proofs.TemplateFacts.{last-most}
+use Rattle.build.proofs.Names.{ap, arith, needs, lastField, last-most}
 use Rattle.build.proofs.Coding.{quick-asked, quick-here, row-known}
 use Rattle.build.proofs.plan.quick_own.Statement.{statement}
 use Rattle.build.proofs.plan.quick_own.Tie as tie

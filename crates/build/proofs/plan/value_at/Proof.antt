@@ -1,14 +1,5 @@
 -- `plan::value_at` meets its contract.
-use mathlib.Core.Path.{sym, ap, _∙_}
-use native.Mathlib.Omega.{arith}
-use borrow.Author.Needs.{needs}
-use mir.Syntax.{w64}
-use mir.Facts.{toZ-ofZ}
-use lib.IntN.{ℤ, pos}
-use lib.Ieee.{nan}
-use lib.ListN.{getD}
-use Rattle.fields.specs.declared.Value.the-variants.{Whole}
-use Rattle.build.specs.Tested.{bySort}
+use Rattle.build.proofs.Names.{sym, ap, _∙_, arith, needs, w64, toZ-ofZ, ℤ, pos, nan, getD, Whole, bySort}
 use Rattle.build.proofs.Lent.{by-other, sorted-at}
 use Rattle.build.proofs.plan.value_at.Statement.{statement}
 use Rattle.build.proofs.plan.value_at.Tie as tie

@@ -1,12 +1,5 @@
 -- `write::gathered` meets its contract.
-use mathlib.Core.Path.{_≡_, sym, ap, _∙_}
-use Prim.Native.Nat.{ℕ, _-_, _^_, _≤_, _<_}
-use borrow.Author.Needs.{needs}
-use native.Mathlib.Omega.{arith}
-use lib.Bits.{bitOr, or-shifted}
-use lib.ListN.{getD}
-use lib.Pow.{shl-exact}
-use Rattle.memory.specs.Pieces.{pack}
+use Rattle.build.proofs.Names.{_≡_, sym, ap, _∙_, ℕ, _-_, _^_, _≤_, _<_, needs, arith, bitOr, or-shifted, getD, shl-exact, pack}
 use Rattle.build.proofs.TextTurns.{chars, chars-none, chars-more, six-lt}
 use Rattle.build.proofs.write.gathered.Statement.{statement}
 use Rattle.build.proofs.write.gathered.Tie as tie

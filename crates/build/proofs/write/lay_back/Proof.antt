@@ -1,7 +1,5 @@
 -- `write::lay_back` meets its contract.
-use mathlib.Core.Path.{ap, _∙_}
-use borrow.Author.Needs.{needs}
-use Rattle.memory.specs.Image.{imageOf}
+use Rattle.build.proofs.Names.{ap, _∙_, needs, imageOf}
 use Rattle.build.proofs.write.lay_back.Statement.{statement}
 use Rattle.build.proofs.write.lay_back.Tie as tie
 

@@ -1,9 +1,5 @@
 -- `write::lay_block` meets its contract.
-use mathlib.Core.Path.{refl}
-use mathlib.Core.List.{[]}
-use borrow.Author.Needs.{needs}
-use native.Mathlib.Omega.{arith}
-use Rattle.layout.specs.Pieces.{blockPieces}
+use Rattle.build.proofs.Names.{refl, [], needs, arith, blockPieces}
 use Rattle.build.proofs.Filling.{filling-none, joined-inside, joined-more, filled}
 use Rattle.build.proofs.write.lay_block.Statement.{statement}
 use Rattle.build.proofs.write.lay_block.Tie as tie

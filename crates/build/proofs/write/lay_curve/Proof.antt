@@ -1,12 +1,5 @@
 -- `write::lay_curve` meets its contract.
-use mathlib.Core.Path.{_≡_, refl}
-use mathlib.Core.List.{_∷_, map}
-use Prim.Native.Nat.{_+_, _-_, _≤_, _<_}
-use native.Mathlib.Omega.{arith}
-use lib.ListN.{length, getD, take}
-use lib.Seq.{slice}
-use Rattle.build.specs.declared.plan.CodedField.{CodedField}
-use Rattle.build.specs.Tested.{fieldPiece, Fitting}
+use Rattle.build.proofs.Names.{_≡_, refl, _∷_, map, _+_, _-_, _≤_, arith, length, getD, take, slice, CodedField, fieldPiece, Fitting}
 use Rattle.build.proofs.Coding.{fields-left, fields-end}
 use Rattle.build.proofs.Filling.{Gathering, gathering-none, gathering-ready, gathering-put, gathering-empty, gather, gather-next, filled}
 use Rattle.build.proofs.write.lay_curve.Statement.{statement}

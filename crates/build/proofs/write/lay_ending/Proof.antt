@@ -1,13 +1,5 @@
 -- `write::lay_ending` meets its contract.
-use mathlib.Core.Path.{_≡_, refl, sym}
-use mathlib.Core.List.{[], _∷_, append-nil}
-use mathlib.Core.Bool.{Bool}
-use Prim.Native.Nat.{_+_, _*_, _%_, _^_}
-use borrow.Author.Needs.{needs}
-use native.Mathlib.Omega.{arith}
-use lib.Bits.{bitOr}
-use mir.Val.{boolByte}
-use Rattle.memory.specs.Pieces.{piece}
+use Rattle.build.proofs.Names.{_≡_, refl, sym, [], _∷_, append-nil, Bool, _+_, _*_, _%_, _^_, needs, arith, bitOr, boolByte, piece}
 use Rattle.build.proofs.BuiltIn.{end-byte, end-lt}
 use Rattle.build.proofs.Filling.{or-behind, filling-none, filling-more, joined-inside, joined-more, filled}
 use Rattle.build.proofs.write.lay_ending.Statement.{statement}

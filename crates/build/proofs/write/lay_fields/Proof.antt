@@ -1,12 +1,5 @@
 -- `write::lay_fields` meets its contract.
-use mathlib.Core.Path.{_≡_, refl}
-use mathlib.Core.List.{_∷_, map}
-use Prim.Native.Nat.{_+_, _-_, _%_, _^_, _≤_, _<_}
-use native.Mathlib.Omega.{arith}
-use lib.Bits.{bitAnd, and-mask}
-use lib.ListN.{length, getD}
-use lib.Seq.{slice}
-use Rattle.build.specs.Tested.{fieldPiece, unpack, unpacked, Fitting}
+use Rattle.build.proofs.Names.{_≡_, refl, _∷_, map, _+_, _-_, _%_, _^_, _≤_, _<_, arith, bitAnd, and-mask, length, getD, slice, fieldPiece, unpack, unpacked, Fitting}
 use Rattle.build.proofs.Coding.{packed-left, packed-fits, packed-long, fields-end}
 use Rattle.build.proofs.Filling.{Gathering, gathering-none, gathering-ready, gathering-put, gather, gather-next, filled}
 use Rattle.build.proofs.write.lay_fields.Statement.{statement}

@@ -1,12 +1,5 @@
 -- `write::lay_front` meets its contract.
-use mathlib.Core.Path.{_≡_, refl, sym}
-use mathlib.Core.List.{[], append-nil}
-use borrow.Author.Needs.{needs}
-use native.Mathlib.Omega.{arith}
-use lib.ListN.{length}
-use Rattle.fields.specs.Lines.{basic}
-use Rattle.fields.proofs.TemplateFacts.{number-lt, last-most, span-listed}
-use Rattle.build.specs.Tested.{unpacked, codedFields}
+use Rattle.build.proofs.Names.{_≡_, refl, sym, [], append-nil, needs, arith, length, basic, number-lt, last-most, span-listed, unpacked, codedFields}
 use Rattle.build.proofs.Filling.{filling-none, room-first, filling-more, filled, cleared, cleared-room, begun}
 use Rattle.build.proofs.write.lay_front.Statement.{statement}
 use Rattle.build.proofs.write.lay_front.Tie as tie

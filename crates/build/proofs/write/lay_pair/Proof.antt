@@ -1,16 +1,5 @@
 -- `write::lay_pair` meets its contract.
-use mathlib.Core.Path.{_≡_, refl, sym}
-use mathlib.Core.List.{[]}
-use borrow.Author.Needs.{needs}
-use Prim.Native.Nat.{_+_, _*_, _%_, _^_}
-use native.Mathlib.Omega.{arith}
-use lib.Bits.{bitOr}
-use Rattle.refusal.specs.Outcome.{good}
-use Rattle.refusal.proofs.Outcomes.{told}
-use Rattle.fields.specs.Calibration.{calPoint, calDeviation}
-use Rattle.build.specs.Build.{codesFor}
-use Rattle.build.specs.Tested.{codesSaid, Fitting, pairAt}
-use Rattle.build.specs.Filled.{codedPair}
+use Rattle.build.proofs.Names.{_≡_, refl, sym, [], needs, _+_, _*_, _%_, _^_, arith, bitOr, good, told, calPoint, calDeviation, codesFor, codesSaid, Fitting, pairAt, codedPair}
 use Rattle.build.proofs.Filling.{or-behind, Filling, filling-none, joined-inside, joined-more, filled}
 use Rattle.build.proofs.PairTurns.{pair-fits}
 use Rattle.build.proofs.write.lay_pair.Statement.{statement}

@@ -1,11 +1,5 @@
 -- `write::lay_pairs` meets its contract.
-use mathlib.Core.Path.{_≡_, refl}
-use Prim.Native.Nat.{_/_, _≤_, _-_}
-use borrow.Author.Needs.{needs}
-use native.Mathlib.Omega.{arith}
-use lib.ListN.{length}
-use Rattle.build.specs.Build.{pairsLent}
-use Rattle.build.specs.Filled.{codedPairs}
+use Rattle.build.proofs.Names.{_≡_, refl, _/_, _≤_, _-_, needs, arith, length, pairsLent, codedPairs}
 use Rattle.build.proofs.Filling.{Filling, filling-none, room-first, filling-more, filled}
 use Rattle.build.proofs.PairTurns.{pairsFrom, coded-left, coded-end}
 use Rattle.build.proofs.write.lay_pairs.Statement.{statement}

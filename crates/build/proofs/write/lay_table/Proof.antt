@@ -1,17 +1,5 @@
 -- `write::lay_table` meets its contract.
-use mathlib.Core.Path.{_≡_, refl, sym}
-use mathlib.Core.List.{[], _∷_, _++_, append-nil}
-use Prim.Native.Nat.{_+_, _*_, _/_, _%_, _^_}
-use borrow.Author.Needs.{needs}
-use native.Mathlib.Omega.{arith}
-use lib.Bits.{bitOr}
-use lib.ListN.{length}
-use Rattle.memory.specs.Pieces.{piece}
-use Rattle.fields.proofs.CalibrationLaws.{domain-most}
-use Rattle.layout.specs.Pieces.{blockPieces}
-use Rattle.build.specs.Build.{pairsLent, tablePieces}
-use Rattle.build.specs.Tested.{piecesOf}
-use Rattle.build.specs.Filled.{codedPairs}
+use Rattle.build.proofs.Names.{_≡_, refl, sym, [], _∷_, _++_, append-nil, _+_, _*_, _/_, _%_, _^_, needs, arith, bitOr, length, piece, domain-most, blockPieces, pairsLent, tablePieces, piecesOf, codedPairs}
 use Rattle.build.proofs.Filling.{or-behind, filling-none, room-first, filling-more, joined-inside, joined-more, filled}
 use Rattle.build.proofs.PairTurns.{table-none, table-some}
 use Rattle.build.proofs.write.lay_table.Statement.{statement}

@@ -1,11 +1,5 @@
 -- `write::lay_text` meets its contract.
-use mathlib.Core.Path.{_≡_, refl}
-use mathlib.Core.List.{map}
-use Prim.Native.Nat.{_-_, _≤_}
-use borrow.Author.Needs.{needs}
-use native.Mathlib.Omega.{arith}
-use lib.ListN.{length, drop}
-use Rattle.memory.specs.Pieces.{piece}
+use Rattle.build.proofs.Names.{_≡_, refl, map, _-_, _≤_, needs, arith, length, drop, piece}
 use Rattle.build.proofs.Filling.{Filling, filling-none, joined-inside, joined-more, filled}
 use Rattle.build.proofs.TextTurns.{chars, chars-bits, chars-fit, chars-left, chars-lt, chars-end}
 use Rattle.build.proofs.write.lay_text.Statement.{statement}

@@ -1,11 +1,5 @@
 -- `write::write_curve` meets its contract.
-use mathlib.Core.Path.{refl, ap, _∙_}
-use mathlib.Core.List.{List, _++_}
-use borrow.Author.Needs.{needs}
-use Rattle.memory.specs.Image.{imageOf}
-use Rattle.memory.specs.Pieces.{Piece}
-use Rattle.build.specs.Tested.{unpacked, codedCurve}
-use Rattle.build.specs.Filled.{codedEnding}
+use Rattle.build.proofs.Names.{refl, ap, _∙_, List, _++_, needs, imageOf, Piece, unpacked, codedCurve, codedEnding}
 use Rattle.build.proofs.BuiltIn.{front-inside}
 use Rattle.build.proofs.Filling.{filling-none, room-first, filling-more, begun-room, begun-all}
 use Rattle.build.proofs.write.write_curve.Statement.{statement}

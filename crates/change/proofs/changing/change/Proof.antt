@@ -1,14 +1,5 @@
 -- `changing::change` meets its contract.
-use mathlib.Core.Path.{refl, sym, ap, subst}
-use native.Mathlib.Omega.{arith}
-use borrow.Author.Needs.{needs}
-use Rattle.refusal.proofs.Outcomes.{told}
-use Rattle.refusal.proofs.WrittenLaws.{written-refused, written-done}
-use Rattle.fields.specs.Answers.{encodedSaid}
-use Rattle.fields.specs.Stored.{Sound}
-use Rattle.fields.proofs.RowLaws.{row-sound}
-use Rattle.sheet.proofs.OpenLaws.{opens, not-opened}
-use Rattle.change.specs.Parts.{allowedSaid}
+use Rattle.change.proofs.Names.{refl, sym, ap, subst, arith, needs, told, written-refused, written-done, encodedSaid, Sound, row-sound, opens, not-opened, allowedSaid}
 use Rattle.change.proofs.Recoding.{change-unread}
 use Rattle.change.proofs.PartLaws.{allowed-known, code-refused, code-by, lent-real, change-refused, change-stored, change-place, opened-right}
 use Rattle.change.proofs.changing.change.Statement.{statement}

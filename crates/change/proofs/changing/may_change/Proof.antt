@@ -1,6 +1,4 @@
-use mathlib.Core.Path.{sym, ap, _∙_}
-use borrow.Author.Needs.{needs}
-use Rattle.refusal.specs.Outcome.{refused}
+use Rattle.change.proofs.Names.{sym, ap, _∙_, needs, refused}
 use Rattle.change.proofs.PartLaws.{allowed-none, allowed-past, allowed-choice, allowed-by-level}
 use Rattle.change.proofs.changing.may_change.Statement.{statement}
 use Rattle.change.proofs.changing.may_change.Tie as tie

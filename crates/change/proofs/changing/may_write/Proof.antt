@@ -1,8 +1,4 @@
-use mathlib.Core.Path.{sym, ap, _∙_}
-use borrow.Author.Needs.{needs}
-use borrow.Author.Tests.{not-true, not-false}
-use Rattle.refusal.specs.Outcome.{refused}
-use Rattle.fields.specs.Levels.{mayWrite}
+use Rattle.change.proofs.Names.{sym, ap, _∙_, needs, not-true, not-false, refused, mayWrite}
 use Rattle.change.proofs.PartLaws.{writable-by}
 use Rattle.change.proofs.changing.may_write.Statement.{statement}
 use Rattle.change.proofs.changing.may_write.Tie as tie

@@ -1,12 +1,5 @@
 -- `committing::commit` meets its contract.
-use borrow.Author.Needs.{needs}
-use mathlib.Core.Path.{refl, sym, ap}
-use native.Mathlib.Omega.{arith}
-use Rattle.refusal.proofs.Outcomes.{told}
-use Rattle.refusal.proofs.WrittenLaws.{written-refused, written-done}
-use Rattle.fields.specs.declared.Value.the-variants.{Missing}
-use Rattle.fields.specs.Answers.{judgedSaid}
-use Rattle.sheet.proofs.OpenLaws.{opens, held, not-opened}
+use Rattle.change.proofs.Names.{needs, refl, sym, ap, arith, told, written-refused, written-done, Missing, judgedSaid, opens, held, not-opened}
 use Rattle.change.proofs.PartLaws.{opened-right}
 use Rattle.change.proofs.CommitLaws.{commit-unread, commit-refused, commit-known, commit-stored, commit-place}
 use Rattle.change.proofs.committing.commit.Statement.{statement}

@@ -1,10 +1,5 @@
 -- `committing::may_commit` meets its contract.
-use borrow.Author.Needs.{needs}
-use mathlib.Core.Path.{sym, ap₂, _∙_, subst}
-use Rattle.refusal.proofs.Outcomes.{told}
-use Rattle.fields.specs.Stored.{Sound}
-use Rattle.fields.proofs.RowLaws.{row-sound}
-use Rattle.change.specs.Parts.{allowedSaid, mayFollow}
+use Rattle.change.proofs.Names.{needs, sym, ap₂, _∙_, subst, told, Sound, row-sound, allowedSaid, mayFollow}
 use Rattle.change.proofs.PartLaws.{allowed-known}
 use Rattle.change.proofs.CommitLaws.{commit-not-free, commit-free}
 use Rattle.change.proofs.committing.may_commit.Statement.{statement}

@@ -1,8 +1,5 @@
 -- `committing::may_follow` meets its contract.
-use borrow.Author.Needs.{needs}
-use mathlib.Core.Path.{sym, ap, _∙_}
-use borrow.Author.Tests.{not-true, not-false}
-use Rattle.refusal.specs.Outcome.{refused}
+use Rattle.change.proofs.Names.{needs, sym, ap, _∙_, not-true, not-false, refused}
 use Rattle.change.proofs.CommitLaws.{follow-other, follow-by}
 use Rattle.change.proofs.committing.may_follow.Statement.{statement}
 use Rattle.change.proofs.committing.may_follow.Tie as tie

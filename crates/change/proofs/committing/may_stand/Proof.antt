@@ -1,8 +1,5 @@
 -- `committing::may_stand` meets its contract.
-use borrow.Author.Needs.{needs}
-use native.Mathlib.Omega.{arith}
-use Rattle.refusal.proofs.Outcomes.{told}
-use Rattle.fields.specs.Answers.{judgedSaid}
+use Rattle.change.proofs.Names.{needs, arith, told, judgedSaid}
 use Rattle.change.proofs.CommitLaws.{stands-not, stands-by, taken-judged}
 use Rattle.change.proofs.committing.may_stand.Statement.{statement}
 use Rattle.change.proofs.committing.may_stand.Tie as tie

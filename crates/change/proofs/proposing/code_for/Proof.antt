@@ -1,6 +1,4 @@
-use borrow.Author.Needs.{needs}
-use Rattle.refusal.proofs.Outcomes.{told}
-use Rattle.change.specs.Parts.{allowedSaid}
+use Rattle.change.proofs.Names.{needs, told, allowedSaid}
 use Rattle.change.proofs.PartLaws.{allowed-known, code-refused, code-allowed}
 use Rattle.change.proofs.proposing.code_for.Statement.{statement}
 use Rattle.change.proofs.proposing.code_for.Tie as tie

@@ -1,12 +1,5 @@
 -- `proposing::propose` meets its contract.
-use borrow.Author.Needs.{needs}
-use mathlib.Core.Path.{sym, _∙_}
-use Rattle.refusal.proofs.Outcomes.{told}
-use Rattle.fields.specs.Answers.{encodedSaid}
-use Rattle.fields.specs.Lines.{rowOf}
-use Rattle.fields.proofs.RowLaws.{row-sound}
-use Rattle.fields.proofs.StoredLaws.{reads-back}
-use Rattle.sheet.proofs.OpenLaws.{opens, held, not-opened}
+use Rattle.change.proofs.Names.{needs, sym, _∙_, told, encodedSaid, rowOf, row-sound, reads-back, opens, held, not-opened}
 use Rattle.change.proofs.PartLaws.{code-known, lent-real}
 use Rattle.change.proofs.CommitLaws.{propose-unread, propose-refused, propose-coded}
 use Rattle.change.proofs.proposing.propose.Statement.{statement}

@@ -1,13 +1,5 @@
 -- `proposing::proposed` meets its contract.
-use borrow.Author.Needs.{needs}
-use mathlib.Core.Path.{sym, ap₂, _∙_, subst}
-use Prim.Native.Nat.{_^_, _<_}
-use native.Mathlib.Omega.{arith}
-use Rattle.refusal.proofs.Outcomes.{told, bind-good, bind-refused}
-use Rattle.fields.specs.Answers.{decodedSaid}
-use Rattle.fields.specs.Rules.{decode}
-use Rattle.fields.specs.Stored.{Sound}
-use Rattle.fields.proofs.RowLaws.{row-sound}
+use Rattle.change.proofs.Names.{needs, sym, ap₂, _∙_, subst, _^_, _<_, arith, told, bind-good, bind-refused, decodedSaid, decode, Sound, row-sound}
 use Rattle.change.proofs.proposing.proposed.Statement.{statement}
 use Rattle.change.proofs.proposing.proposed.Tie as tie
 

@@ -1,11 +1,5 @@
 -- `standing::code_in` meets its contract.
-use borrow.Author.Needs.{needs}
-use mathlib.Core.Path.{ap, _∙_}
-use native.Mathlib.Omega.{arith}
-use Rattle.refusal.proofs.Outcomes.{good-same, no-value}
-use Rattle.fields.proofs.RowLaws.{row-sound}
-use Rattle.sheet.proofs.Steps.{got, past}
-use Rattle.sheet.proofs.HeldLaws.{held-whole}
+use Rattle.change.proofs.Names.{needs, ap, _∙_, arith, good-same, no-value, row-sound, got, past, held-whole}
 use Rattle.change.proofs.CommitLaws.{field-taken}
 use Rattle.change.proofs.standing.code_in.Statement.{statement}
 use Rattle.change.proofs.standing.code_in.Tie as tie

@@ -1,6 +1,4 @@
-use borrow.Author.Needs.{needs}
-use native.Mathlib.Omega.{arith}
-use Rattle.fields.proofs.CalibrationLaws.{sum-falls, sum-climbs}
+use Rattle.coding.proofs.Names.{needs, arith, sum-falls, sum-climbs}
 use Rattle.coding.proofs.calibration.climbs.Statement.{statement}
 use Rattle.coding.proofs.calibration.climbs.Tie as tie
 

@@ -1,5 +1,4 @@
-use borrow.Author.Needs.{needs}
-use Rattle.fields.proofs.CalibrationLaws.{domain-other}
+use Rattle.coding.proofs.Names.{needs, domain-other}
 use Rattle.coding.proofs.calibration.domain_of.Statement.{statement}
 use Rattle.coding.proofs.calibration.domain_of.Tie as tie
 

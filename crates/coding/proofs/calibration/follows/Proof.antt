@@ -1,6 +1,4 @@
-use borrow.Author.Needs.{needs}
-use borrow.Author.Tests.{le-leb, lt-leb}
-use Rattle.fields.specs.Calibration.{follows}
+use Rattle.coding.proofs.Names.{needs, le-leb, lt-leb, follows}
 use Rattle.coding.proofs.calibration.follows.Statement.{statement}
 use Rattle.coding.proofs.calibration.follows.Tie as tie
 

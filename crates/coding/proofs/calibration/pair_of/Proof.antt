@@ -1,17 +1,6 @@
 -- `calibration::pair_of` meets its contract.
-use borrow.Author.Needs.{needs}
-use mathlib.Core.Path.{_≡_, sym, ap, ap₂, _∙_}
-use Prim.Native.Nat.{ℕ, _+_, _*_, _/_, _%_, _^_, _<_}
-use native.Mathlib.Nat.{zero-add}
-use native.Mathlib.Omega.{arith}
-use lib.Bits.{and-mask}
-use lib.IntN.{ℤ, pos, negsuc, _+ℤ_}
-use mir.Syntax.{w64}
-use mir.Val.{SFits, toZ}
-use mir.Facts.{toZ-ofZ, toZ-pos}
-use Rattle.integers.specs.Parts.{up, dn}
-use Rattle.integers.proofs.PartLaws.{add-parts}
-use Rattle.fields.specs.Calibration.{D, R, leastDeviation}
+use Rattle.coding.proofs.Names.{needs, _≡_, sym, ap, ap₂, _∙_, ℕ, _+_, _*_, _/_, _%_, _^_, _<_, zero-add, arith, and-mask, ℤ, pos, negsuc, _+ℤ_, w64, SFits, toZ, toZ-ofZ, toZ-pos, up, dn, add-parts, D, R}
+use Rattle.coding.proofs.Names.{leastDeviation}
 use Rattle.coding.proofs.calibration.pair_of.Statement.{statement}
 use Rattle.coding.proofs.calibration.pair_of.Tie as tie
 

@@ -1,5 +1,4 @@
-use borrow.Author.Needs.{needs}
-use Rattle.fields.specs.Rules.{encode}
+use Rattle.coding.proofs.Names.{needs, encode}
 use Rattle.coding.proofs.curves.encode_coefficient.Statement.{statement}
 use Rattle.coding.proofs.curves.encode_coefficient.Tie as tie
 

@@ -1,16 +1,5 @@
-use mathlib.Core.Path.{_≡_, sym, ap, _∙_}
-use mathlib.Core.Option.{Option}
-use Prim.Native.Nat.{ℕ, _+_, _*_, _≤_}
-use native.Mathlib.Omega.{arith}
-use lib.IntN.{ℤ, pos, _*ℤ_}
-use Rattle.integers.specs.Parts.{up}
-use Rattle.refusal.specs.Outcome.{good}
-use Rattle.fields.specs.Curves.{exponentFollows, tenthsOf, tenthsBefore}
-use Rattle.fields.specs.Answers.{earlierSaid}
-use borrow.Author.Needs.{needs}
-use mir.Facts.{toZ-ofZ}
-use Rattle.integers.proofs.Bridge.{seen}
-use Rattle.fields.proofs.CurveLaws.{below-zero, above-five, between, follows-none, exponent-refused, exponent-taken, exponent-turned}
+use Rattle.coding.proofs.Names.{_≡_, sym, ap, _∙_, Option, ℕ, _+_, _*_, _≤_, arith, ℤ, pos, _*ℤ_, up, good, exponentFollows, tenthsOf, tenthsBefore, earlierSaid, needs, toZ-ofZ, seen, below-zero, above-five}
+use Rattle.coding.proofs.Names.{between, follows-none, exponent-refused, exponent-taken, exponent-turned}
 use Rattle.coding.proofs.curves.encode_exponent.Statement.{statement}
 use Rattle.coding.proofs.curves.encode_exponent.Tie as tie
 

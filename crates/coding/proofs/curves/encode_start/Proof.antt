@@ -1,6 +1,4 @@
-use borrow.Author.Needs.{needs}
-use mir.Facts.{toZ-ofZ}
-use Rattle.fields.specs.Rules.{encode}
+use Rattle.coding.proofs.Names.{needs, toZ-ofZ, encode}
 use Rattle.coding.proofs.curves.encode_start.Statement.{statement}
 use Rattle.coding.proofs.curves.encode_start.Tie as tie
 

@@ -1,8 +1,4 @@
-use mathlib.Core.Path.{sym, _∙_}
-use borrow.Author.Needs.{needs}
-use Rattle.fields.specs.Curves.{tenthsOf, tenthsBefore}
-use Rattle.fields.specs.Answers.{earlierSaid}
-use Rattle.fields.proofs.CurveLaws.{tenths-order, follows-none}
+use Rattle.coding.proofs.Names.{sym, _∙_, needs, tenthsOf, tenthsBefore, earlierSaid, tenths-order, follows-none}
 use Rattle.coding.proofs.curves.exponent_follows.Statement.{statement}
 use Rattle.coding.proofs.curves.exponent_follows.Tie as tie
 

@@ -1,12 +1,4 @@
-use mathlib.Core.Path.{ap, _∙_}
-use native.Mathlib.Omega.{arith}
-use borrow.Author.Needs.{needs}
-use Prim.Native.Nat.{ℕ, _+_, _/_}
-use lib.IntN.{pos}
-use mir.Syntax.{w64}
-use mir.Facts.{toZ-pos}
-use Rattle.integers.proofs.Bridge.{seen}
-use Rattle.integers.proofs.PartLaws.{abs-parts}
+use Rattle.coding.proofs.Names.{ap, _∙_, arith, needs, ℕ, _+_, _/_, pos, w64, toZ-pos, seen, abs-parts}
 use Rattle.coding.proofs.curves.exponent_of.Statement.{statement}
 use Rattle.coding.proofs.curves.exponent_of.Tie as tie
 

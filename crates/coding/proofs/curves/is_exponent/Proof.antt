@@ -1,5 +1,4 @@
-use mathlib.Core.Path.{sym}
-use Rattle.fields.proofs.CurveLaws.{low-code, high-code, inner-code}
+use Rattle.coding.proofs.Names.{sym, low-code, high-code, inner-code}
 use Rattle.coding.proofs.curves.is_exponent.Statement.{statement}
 use Rattle.coding.proofs.curves.is_exponent.Tie as tie
 

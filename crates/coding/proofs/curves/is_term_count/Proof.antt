@@ -1,4 +1,4 @@
-use borrow.Author.Tests.{le-leb, lt-leb}
+use Rattle.coding.proofs.Names.{le-leb, lt-leb}
 use Rattle.coding.proofs.curves.is_term_count.Statement.{statement}
 use Rattle.coding.proofs.curves.is_term_count.Tie as tie
 

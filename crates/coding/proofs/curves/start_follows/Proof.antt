@@ -1,4 +1,4 @@
-use borrow.Author.Needs.{needs}
+use Rattle.coding.proofs.Names.{needs}
 use Rattle.coding.proofs.curves.start_follows.Statement.{statement}
 use Rattle.coding.proofs.curves.start_follows.Tie as tie
 

@@ -1,6 +1,4 @@
-use borrow.Author.Needs.{needs}
-use Rattle.fields.specs.Rules.{decode}
-use Rattle.fields.proofs.RowLaws.{sound-rule}
+use Rattle.coding.proofs.Names.{needs, decode, sound-rule}
 use Rattle.coding.proofs.decoding.decode.Statement.{statement}
 use Rattle.coding.proofs.decoding.decode.Tie as tie
 

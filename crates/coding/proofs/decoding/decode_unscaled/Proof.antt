@@ -1,11 +1,4 @@
-use borrow.Author.Needs.{needs}
-use mathlib.Core.Path.{subst}
-use mir.Syntax.{w64}
-use mir.Facts.{toZ-ofZ}
-use Rattle.fields.specs.Rules.{decode}
-use Rattle.fields.proofs.RowLaws.{sound-rule}
-use Rattle.fields.proofs.CodeLaws.{below-2^32, product}
-use Rattle.coding.specs.Unscaled.{Unscaled}
+use Rattle.coding.proofs.Names.{needs, subst, w64, toZ-ofZ, decode, sound-rule, below-2^32, product, Unscaled}
 use Rattle.coding.proofs.decoding.decode_unscaled.Statement.{statement}
 use Rattle.coding.proofs.decoding.decode_unscaled.Tie as tie
 

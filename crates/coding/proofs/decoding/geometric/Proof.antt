@@ -1,13 +1,4 @@
-use mathlib.Core.Path.{_∙_, ap}
-use borrow.Author.Needs.{needs}
-use borrow.Author.Tests.{ltb-false}
-use lib.Dec.{ltb}
-use lib.IntN.{ℤ}
-use Rattle.refusal.specs.Outcome.{good}
-use Rattle.fields.specs.Rules.{topCode}
-use Rattle.fields.specs.declared.Value.the-variants.{Whole}
-use Rattle.fields.proofs.EncodeLaws.{handed-on}
-use Rattle.fields.proofs.DecodeLaws.{turned, stood, untouched}
+use Rattle.coding.proofs.Names.{_∙_, ap, needs, ltb-false, ltb, ℤ, good, topCode, Whole, handed-on, turned, stood, untouched}
 use Rattle.coding.proofs.decoding.geometric.Statement.{statement}
 use Rattle.coding.proofs.decoding.geometric.Tie as tie
 

@@ -1,8 +1,4 @@
-use borrow.Author.Needs.{needs}
-use native.Mathlib.Omega.{arith}
-use mir.Syntax.{w64}
-use mir.Facts.{toZ-pos}
-use Rattle.fields.proofs.DecodeLaws.{turned, stood}
+use Rattle.coding.proofs.Names.{needs, arith, w64, toZ-pos, turned, stood}
 use Rattle.coding.proofs.decoding.plain.Statement.{statement}
 use Rattle.coding.proofs.decoding.plain.Tie as tie
 

@@ -1,10 +1,4 @@
-use borrow.Author.Needs.{needs}
-use mathlib.Core.Path.{_∙_}
-use lib.Ieee.{binary32, ofBits}
-use Rattle.refusal.specs.Outcome.{good}
-use Rattle.fields.specs.declared.Value.the-variants.{Single}
-use Rattle.fields.proofs.FloatLaws.{pattern-no-nan}
-use Rattle.fields.proofs.DecodeLaws.{turned, stood, single-means, single-stands}
+use Rattle.coding.proofs.Names.{needs, _∙_, binary32, ofBits, good, Single, pattern-no-nan, turned, stood, single-means, single-stands}
 use Rattle.coding.proofs.decoding.single.Statement.{statement}
 use Rattle.coding.proofs.decoding.single.Tie as tie
 

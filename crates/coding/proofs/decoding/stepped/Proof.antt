@@ -1,10 +1,4 @@
-use borrow.Author.Needs.{needs}
-use mathlib.Core.Path.{_∙_, ap}
-use lib.IntN.{ℤ}
-use mir.Facts.{toZ-ofZ}
-use Rattle.refusal.specs.Outcome.{good}
-use Rattle.fields.specs.declared.Value.the-variants.{Whole}
-use Rattle.fields.proofs.DecodeLaws.{turned, stood}
+use Rattle.coding.proofs.Names.{needs, _∙_, ap, ℤ, toZ-ofZ, good, Whole, turned, stood}
 use Rattle.coding.proofs.decoding.stepped.Statement.{statement}
 use Rattle.coding.proofs.decoding.stepped.Tie as tie
 

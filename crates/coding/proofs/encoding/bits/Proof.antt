@@ -1,8 +1,4 @@
-use native.Mathlib.Omega.{arith}
-use borrow.Author.Needs.{needs}
-use lib.Ieee.{binary32}
-use lib.Ieee.Bits.{toBits-lt}
-use Rattle.fields.proofs.FloatLaws.{nan-is, not-nan, finite-single, not-finite-single}
+use Rattle.coding.proofs.Names.{arith, needs, binary32, toBits-lt, nan-is, not-nan, finite-single, not-finite-single}
 use Rattle.coding.proofs.encoding.bits.Statement.{statement}
 use Rattle.coding.proofs.encoding.bits.Tie as tie
 

@@ -1,6 +1,5 @@
 -- `encoding::code_or_none` meets its contract.
-use native.Mathlib.Omega.{arith}
-use borrow.Author.Needs.{needs}
+use Rattle.coding.proofs.Names.{arith, needs}
 use Rattle.coding.proofs.encoding.code_or_none.Statement.{statement}
 use Rattle.coding.proofs.encoding.code_or_none.Tie as tie
 

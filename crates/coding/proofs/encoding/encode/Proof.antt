@@ -1,5 +1,4 @@
-use borrow.Author.Needs.{needs}
-use Rattle.fields.proofs.RowLaws.{row-sound}
+use Rattle.coding.proofs.Names.{needs, row-sound}
 use Rattle.coding.proofs.encoding.encode.Statement.{statement}
 use Rattle.coding.proofs.encoding.encode.Tie as tie
 

@@ -1,8 +1,4 @@
-use borrow.Author.Needs.{needs}
-use mir.Syntax.{w64}
-use mir.Facts.{toZ-ofZ}
-use Rattle.fields.specs.Rules.{encode}
-use Rattle.fields.proofs.RowLaws.{sound-rule}
+use Rattle.coding.proofs.Names.{needs, w64, toZ-ofZ, encode, sound-rule}
 use Rattle.coding.proofs.encoding.encode_geometric.Statement.{statement}
 use Rattle.coding.proofs.encoding.encode_geometric.Tie as tie
 

@@ -1,8 +1,4 @@
-use borrow.Author.Needs.{needs}
-use mir.Syntax.{w64}
-use mir.Facts.{toZ-ofZ}
-use Rattle.fields.specs.Rules.{encode}
-use Rattle.fields.proofs.RowLaws.{plain-small}
+use Rattle.coding.proofs.Names.{needs, w64, toZ-ofZ, encode, plain-small}
 use Rattle.coding.proofs.encoding.encode_plain.Statement.{statement}
 use Rattle.coding.proofs.encoding.encode_plain.Tie as tie
 

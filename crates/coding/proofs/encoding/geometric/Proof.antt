@@ -1,12 +1,4 @@
-use mathlib.Core.Path.{_≡_, sym, ap, _∙_}
-use Prim.Native.Nat.{_≤_}
-use borrow.Author.Needs.{needs}
-use lib.IntN.{pos, natAbs}
-use mir.Facts.{toZ-ofZ}
-use Rattle.integers.proofs.Bridge.{seen}
-use Rattle.refusal.specs.Outcome.{good}
-use Rattle.fields.specs.Rules.{topCode, progression, geometricValue, outside}
-use Rattle.fields.proofs.EncodeLaws.{same-range, handed-on, in-range}
+use Rattle.coding.proofs.Names.{_≡_, sym, ap, _∙_, _≤_, needs, pos, natAbs, toZ-ofZ, seen, good, topCode, progression, geometricValue, outside, same-range, handed-on, in-range}
 use Rattle.coding.proofs.encoding.geometric.Statement.{statement}
 use Rattle.coding.proofs.encoding.geometric.Tie as tie
 

@@ -1,7 +1,5 @@
 -- `encoding::highest` meets its contract.
-use native.Mathlib.Nat.{le-refl}
-use borrow.Author.Needs.{needs}
-use Rattle.fields.proofs.EncodeLaws.{handed-on}
+use Rattle.coding.proofs.Names.{le-refl, needs, handed-on}
 use Rattle.coding.proofs.encoding.highest.Statement.{statement}
 use Rattle.coding.proofs.encoding.highest.Tie as tie
 

@@ -1,4 +1,4 @@
-use mir.Facts.{toZ-ofZ}
+use Rattle.coding.proofs.Names.{toZ-ofZ}
 use Rattle.coding.proofs.encoding.is_outside.Statement.{statement}
 use Rattle.coding.proofs.encoding.is_outside.Tie as tie
 

@@ -1,13 +1,4 @@
-use mathlib.Core.Path.{_≡_, sym, ap, _∙_}
-use native.Mathlib.Omega.{arith}
-use borrow.Author.Needs.{needs}
-use lib.IntN.{pos}
-use mir.Syntax.{w64}
-use mir.Facts.{toZ-pos, toZ-ofZ}
-use Rattle.integers.proofs.Bridge.{seen}
-use Rattle.refusal.specs.Outcome.{good}
-use Rattle.fields.specs.Rules.{outside}
-use Rattle.fields.proofs.EncodeLaws.{same-range, in-range}
+use Rattle.coding.proofs.Names.{_≡_, sym, ap, _∙_, arith, needs, pos, w64, toZ-pos, toZ-ofZ, seen, good, outside, same-range, in-range}
 use Rattle.coding.proofs.encoding.plain.Statement.{statement}
 use Rattle.coding.proofs.encoding.plain.Tie as tie
 

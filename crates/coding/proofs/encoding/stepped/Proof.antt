@@ -1,12 +1,4 @@
-use mathlib.Core.Path.{_≡_, sym, ap, _∙_}
-use borrow.Author.Needs.{needs}
-use lib.Signed.{ltZ}
-use mir.Facts.{toZ-ofZ}
-use Rattle.refusal.specs.Outcome.{good}
-use Rattle.refusal.proofs.Outcomes.{neither}
-use Rattle.fields.specs.Rules.{topCode, steppedValue, outside}
-use Rattle.fields.proofs.EncodeLaws.{same-range, handed-on}
-use Rattle.fields.proofs.CodeLaws.{top-below, product}
+use Rattle.coding.proofs.Names.{_≡_, sym, ap, _∙_, needs, ltZ, toZ-ofZ, good, neither, topCode, steppedValue, outside, same-range, handed-on, top-below, product}
 use Rattle.coding.proofs.encoding.stepped.Statement.{statement}
 use Rattle.coding.proofs.encoding.stepped.Tie as tie
 

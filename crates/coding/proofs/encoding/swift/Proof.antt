@@ -1,7 +1,5 @@
 -- `encoding::swift` meets its contract.
-use borrow.Author.Needs.{needs}
-use mir.Syntax.{w64}
-use mir.Facts.{toZ-ofZ}
+use Rattle.coding.proofs.Names.{needs, w64, toZ-ofZ}
 use Rattle.coding.proofs.encoding.swift.Statement.{statement}
 use Rattle.coding.proofs.encoding.swift.Tie as tie
 

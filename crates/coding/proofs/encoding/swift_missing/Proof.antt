@@ -1,5 +1,5 @@
 -- `encoding::swift_missing` meets its contract.
-use borrow.Author.Needs.{needs}
+use Rattle.coding.proofs.Names.{needs}
 use Rattle.coding.proofs.Told.{tells}
 use Rattle.coding.proofs.encoding.swift_missing.Statement.{statement}
 use Rattle.coding.proofs.encoding.swift_missing.Tie as tie

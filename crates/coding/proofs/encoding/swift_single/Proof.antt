@@ -1,8 +1,5 @@
 -- `encoding::swift_single` meets its contract.
-use native.Mathlib.Omega.{arith}
-use borrow.Author.Needs.{needs}
-use Rattle.fields.specs.Rules.{encode}
-use Rattle.fields.specs.declared.Value.the-variants.{Single}
+use Rattle.coding.proofs.Names.{arith, needs, encode, Single}
 use Rattle.coding.proofs.Told.{tells}
 use Rattle.coding.proofs.encoding.swift_single.Statement.{statement}
 use Rattle.coding.proofs.encoding.swift_single.Tie as tie

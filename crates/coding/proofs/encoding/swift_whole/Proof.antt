@@ -1,11 +1,5 @@
 -- `encoding::swift_whole` meets its contract.
-use native.Mathlib.Omega.{arith}
-use borrow.Author.Needs.{needs}
-use mir.Syntax.{w64}
-use mir.Facts.{toZ-ofZ}
-use Rattle.fields.specs.Rules.{encode}
-use Rattle.fields.specs.declared.Value.the-variants.{Whole}
-use Rattle.fields.proofs.RowLaws.{sound-rule, plain-small}
+use Rattle.coding.proofs.Names.{arith, needs, w64, toZ-ofZ, encode, Whole, sound-rule, plain-small}
 use Rattle.coding.proofs.Told.{tells}
 use Rattle.coding.proofs.encoding.swift_whole.Statement.{statement}
 use Rattle.coding.proofs.encoding.swift_whole.Tie as tie

@@ -1,8 +1,5 @@
 -- `judging::by_rule` meets its contract: each rule's own test, with the value left out.
-use mathlib.Core.Path.{_∙_}
-use borrow.Author.Needs.{needs}
-use Rattle.fields.proofs.RowLaws.{sound-rule}
-use Rattle.fields.proofs.DecodeLaws.{left-out, single-by-rule}
+use Rattle.coding.proofs.Names.{_∙_, needs, sound-rule, left-out, single-by-rule}
 use Rattle.coding.proofs.judging.by_rule.Statement.{statement}
 use Rattle.coding.proofs.judging.by_rule.Tie as tie
 

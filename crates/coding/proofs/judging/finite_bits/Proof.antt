@@ -1,8 +1,4 @@
-use borrow.Author.Needs.{needs}
-use borrow.Author.Tests.{eq-eqb, ne-eqb}
-use native.Mathlib.Omega.{arith}
-use lib.Bits.{and-mask}
-use Rattle.fields.proofs.FloatLaws.{finite-bits, not-finite-bits}
+use Rattle.coding.proofs.Names.{needs, eq-eqb, ne-eqb, arith, and-mask, finite-bits, not-finite-bits}
 use Rattle.coding.proofs.judging.finite_bits.Statement.{statement}
 use Rattle.coding.proofs.judging.finite_bits.Tie as tie
 

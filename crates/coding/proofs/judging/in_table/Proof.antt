@@ -1,5 +1,4 @@
-use borrow.Author.Needs.{needs}
-use borrow.Author.Tests.{lt-ltb, le-ltb}
+use Rattle.coding.proofs.Names.{needs, lt-ltb, le-ltb}
 use Rattle.coding.proofs.judging.in_table.Statement.{statement}
 use Rattle.coding.proofs.judging.in_table.Tie as tie
 

@@ -1,4 +1,4 @@
-use borrow.Author.Needs.{needs}
+use Rattle.coding.proofs.Names.{needs}
 use Rattle.coding.proofs.judging.is_missing.Statement.{statement}
 use Rattle.coding.proofs.judging.is_missing.Tie as tie
 

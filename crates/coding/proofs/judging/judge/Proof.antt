@@ -1,9 +1,5 @@
 -- `judging::judge` meets its contract: a code that its rule turns down may still be missing.
-use mathlib.Core.Path.{ap, sym, _∙_}
-use borrow.Author.Needs.{needs}
-use Rattle.fields.specs.Rules.{decode}
-use Rattle.fields.specs.Answers.{judgedSaid}
-use Rattle.fields.proofs.DecodeLaws.{stands-by-rule}
+use Rattle.coding.proofs.Names.{ap, sym, _∙_, needs, decode, judgedSaid, stands-by-rule}
 use Rattle.coding.proofs.judging.judge.Statement.{statement}
 use Rattle.coding.proofs.judging.judge.Tie as tie
 

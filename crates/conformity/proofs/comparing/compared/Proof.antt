@@ -1,17 +1,5 @@
 -- `comparing::compared` meets its contract.
-use mathlib.Core.Path.{_≡_, sym, ap, _∙_, subst}
-use Prim.Native.Nat.{ℕ, _*_, _≤_}
-use borrow.Author.Needs.{needs}
-use native.Mathlib.Omega.{arith}
-use lib.ListN.{take}
-use lib.Seq.{length-take-le}
-use Rattle.build.specs.Build.{pairsLent}
-use Rattle.layout.specs.Contents.{Contents}
-use Rattle.layout.specs.Image.{points}
-use Rattle.line.specs.Ranges.{Table}
-use Rattle.sheet.specs.Opened.{Opens}
-use Rattle.sheet.proofs.HeldLaws.{points-are}
-use Rattle.reading.proofs.Opening.{opened-table}
+use Rattle.conformity.proofs.Names.{_≡_, sym, ap, _∙_, subst, ℕ, _*_, _≤_, needs, arith, take, length-take-le, pairsLent, Contents, points, Table, Opens, points-are, opened-table}
 use Rattle.conformity.proofs.Filling.{points-few}
 use Rattle.conformity.proofs.Greatest.{compared-is}
 use Rattle.conformity.proofs.comparing.compared.Statement.{statement}

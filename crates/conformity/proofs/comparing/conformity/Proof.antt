@@ -1,6 +1,5 @@
 -- `comparing::conformity` meets its contract.
-use borrow.Author.Needs.{needs}
-use Rattle.sheet.proofs.OpenLaws.{opens, held, not-opened}
+use Rattle.conformity.proofs.Names.{needs, opens, held, not-opened}
 use Rattle.conformity.proofs.Orders.{compares-refused}
 use Rattle.conformity.proofs.comparing.conformity.Statement.{statement}
 use Rattle.conformity.proofs.comparing.conformity.Tie as tie

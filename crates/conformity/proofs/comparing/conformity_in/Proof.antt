@@ -1,10 +1,5 @@
 -- `comparing::conformity_in` meets its contract.
-use mathlib.Core.Path.{sym, ap, _∙_}
-use borrow.Author.Needs.{needs}
-use Rattle.refusal.proofs.Outcomes.{told}
-use Rattle.distance.specs.Distance.{distanceSaid}
-use Rattle.reading.specs.Reading.{isResistance}
-use Rattle.reading.proofs.Spans.{resistance-is}
+use Rattle.conformity.proofs.Names.{sym, ap, _∙_, needs, told, distanceSaid, isResistance, resistance-is}
 use Rattle.conformity.proofs.Orders.{compares-none, compares-no-list}
 use Rattle.conformity.proofs.comparing.conformity_in.Statement.{statement}
 use Rattle.conformity.proofs.comparing.conformity_in.Tie as tie

@@ -1,12 +1,5 @@
 -- `comparing::conformity_to` meets its contract.
-use mathlib.Core.Path.{sym, ap, _∙_}
-use mathlib.Core.Option.{some}
-use borrow.Author.Needs.{needs}
-use Rattle.refusal.specs.Outcome.{good}
-use Rattle.build.specs.Build.{pairsLent}
-use Rattle.distance.proofs.Accepted.{taking}
-use Rattle.reading.proofs.Spans.{resistance-is}
-use Rattle.conformity.specs.Conformity.{compared}
+use Rattle.conformity.proofs.Names.{sym, ap, _∙_, some, needs, good, pairsLent, taking, resistance-is, compared}
 use Rattle.conformity.proofs.Orders.{compares, opened-straight, opened-bent}
 use Rattle.conformity.proofs.comparing.conformity_to.Statement.{statement}
 use Rattle.conformity.proofs.comparing.conformity_to.Tie as tie

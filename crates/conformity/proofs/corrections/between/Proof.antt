@@ -1,11 +1,5 @@
 -- `corrections::between` meets its contract.
-use mathlib.Core.Path.{_≡_, refl, ap₂, _∙_}
-use Prim.Native.Nat.{ℕ, _+_, _*_}
-use borrow.Author.Needs.{needs, sfits-of}
-use native.Mathlib.Omega.{arith}
-use lib.IntN.{pos, _-ℤ_}
-use Rattle.line.proofs.Distances.{less}
-use Rattle.line.proofs.Told.{told-up, told-dn, told-≤, told-gap, deviation-parts, Gaps, gaps}
+use Rattle.conformity.proofs.Names.{_≡_, refl, ap₂, _∙_, ℕ, _+_, _*_, needs, sfits-of, arith, pos, _-ℤ_, less, told-up, told-dn, told-≤, told-gap, deviation-parts, Gaps, gaps}
 use Rattle.conformity.proofs.Exacts.{exact-between}
 use Rattle.conformity.proofs.corrections.between.Statement.{statement}
 use Rattle.conformity.proofs.corrections.between.Tie as tie

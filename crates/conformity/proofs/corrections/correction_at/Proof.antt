@@ -1,11 +1,5 @@
 -- `corrections::correction_at` meets its contract.
-use mathlib.Core.Path.{refl, subst}
-use borrow.Author.Needs.{needs}
-use native.Mathlib.Omega.{arith}
-use mir.Facts.{toZ-ofZ}
-use Rattle.build.specs.Build.{pairsLent}
-use Rattle.build.proofs.PairPlans.{pairs-length}
-use Rattle.conformity.specs.Steps.{Exact}
+use Rattle.conformity.proofs.Names.{refl, subst, needs, arith, toZ-ofZ, pairsLent, pairs-length, Exact}
 use Rattle.conformity.proofs.Exacts.{exact-none, deviation-at, first-at, last-at, between-at, next-at}
 use Rattle.conformity.proofs.corrections.correction_at.Statement.{statement}
 use Rattle.conformity.proofs.corrections.correction_at.Tie as tie

@@ -1,7 +1,5 @@
 -- `corrections::held` meets its contract.
-use mathlib.Core.Path.{refl}
-use borrow.Author.Needs.{needs, sfits-of}
-use Rattle.line.proofs.Told.{told-up, told-dn}
+use Rattle.conformity.proofs.Names.{refl, needs, sfits-of, told-up, told-dn}
 use Rattle.conformity.proofs.Exacts.{exact-held}
 use Rattle.conformity.proofs.corrections.held.Statement.{statement}
 use Rattle.conformity.proofs.corrections.held.Tie as tie

@@ -1,7 +1,5 @@
 -- `differences::apart` meets its contract.
-use mathlib.Core.Logic.{inl, inr}
-use borrow.Author.Needs.{needs}
-use native.Mathlib.Omega.{arith}
+use Rattle.conformity.proofs.Names.{inl, inr, needs, arith}
 use Rattle.conformity.proofs.differences.apart.Statement.{statement}
 use Rattle.conformity.proofs.differences.apart.Tie as tie
 

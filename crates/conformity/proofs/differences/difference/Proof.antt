@@ -1,11 +1,5 @@
 -- `differences::difference` meets its contract.
-use mathlib.Core.Path.{_∙_}
-use Prim.Native.Nat.{_*_, _^_, _≤_}
-use borrow.Author.Needs.{needs}
-use native.Mathlib.Nat.{mul-le-mul-right}
-use native.Mathlib.Omega.{arith}
-use Rattle.integers.proofs.PartLaws.{abs-parts}
-use Rattle.line.proofs.Told.{told-up, told-dn}
+use Rattle.conformity.proofs.Names.{_∙_, _*_, _^_, _≤_, needs, mul-le-mul-right, arith, abs-parts, told-up, told-dn}
 use Rattle.conformity.proofs.Greatest.{exact-difference, apart-most}
 use Rattle.conformity.proofs.differences.difference.Statement.{statement}
 use Rattle.conformity.proofs.differences.difference.Tie as tie

@@ -1,16 +1,5 @@
 -- `differences::greatest` meets its contract. The loop's invariant: the greatest so far and the greatest of the points left.
-use mathlib.Core.Path.{_≡_, refl, _∙_}
-use Prim.Native.Nat.{max, _-_, _/_, _^_, _≤_, _<_}
-use borrow.Author.Needs.{needs}
-use native.Mathlib.Omega.{arith}
-use lib.ListN.{length}
-use mir.Syntax.{w64}
-use mir.Val.{SFits}
-use mir.Facts.{toZ-ofZ}
-use Rattle.build.specs.Build.{pairsLent}
-use Rattle.build.specs.Tested.{pairAt}
-use Rattle.build.proofs.PairTurns.{pairsFrom}
-use Rattle.conformity.specs.Conformity.{differenceAt, greatestOver}
+use Rattle.conformity.proofs.Names.{_≡_, refl, _∙_, max, _-_, _/_, _^_, _≤_, _<_, needs, arith, length, w64, SFits, toZ-ofZ, pairsLent, pairAt, pairsFrom, differenceAt, greatestOver}
 use Rattle.conformity.proofs.Exacts.{deviation-at}
 use Rattle.conformity.proofs.Greatest.{greatest-end, greatest-next, own-at, Follows, follows-on}
 use Rattle.conformity.proofs.differences.greatest.Statement.{statement}

@@ -1,12 +1,5 @@
 -- `differences::passed` meets its contract. The loop's invariant: the last of the points passed lies before p.
-use Prim.Native.Nat.{_*_, _-_, _/_}
-use borrow.Author.Needs.{needs}
-use native.Mathlib.Omega.{arith}
-use lib.IntN.{pos}
-use lib.ListN.{length, getD}
-use mir.Syntax.{w64}
-use mir.Val.{SFits, toZ}
-use mir.Facts.{toZ-ofZ}
+use Rattle.conformity.proofs.Names.{_*_, _-_, _/_, needs, arith, pos, length, getD, w64, SFits, toZ, toZ-ofZ}
 use Rattle.conformity.proofs.Exacts.{Passed, passed-stops, passed-all, passed-one}
 use Rattle.conformity.proofs.differences.passed.Statement.{statement}
 use Rattle.conformity.proofs.differences.passed.Tie as tie

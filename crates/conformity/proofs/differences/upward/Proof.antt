@@ -1,7 +1,5 @@
 -- `differences::upward` meets its contract.
-use Prim.Native.Nat.{_^_}
-use borrow.Author.Needs.{needs}
-use native.Mathlib.Omega.{arith}
+use Rattle.conformity.proofs.Names.{_^_, needs, arith}
 use Rattle.conformity.proofs.Ceilings.{rest-less, parts-up, whole-small, rest-up-small}
 use Rattle.conformity.proofs.differences.upward.Statement.{statement}
 use Rattle.conformity.proofs.differences.upward.Tie as tie

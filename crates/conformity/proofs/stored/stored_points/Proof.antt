@@ -1,15 +1,5 @@
 -- `stored::stored_points` meets its contract. The loop's invariant: the pairs so far are the sheet's.
-use mathlib.Core.Path.{_≡_, refl, subst}
-use Prim.Native.Nat.{ℕ, _+_, _*_, _-_, _≤_, _<_}
-use borrow.Author.Needs.{needs, sfits-of}
-use native.Mathlib.Omega.{arith}
-use lib.ListN.{length, length-set}
-use mir.Syntax.{w64}
-use mir.Facts.{toZ-ofZ}
-use Rattle.layout.specs.Contents.{Contents}
-use Rattle.layout.specs.Image.{points}
-use Rattle.sheet.specs.Opened.{Opens}
-use Rattle.sheet.proofs.HeldLaws.{points-are}
+use Rattle.conformity.proofs.Names.{_≡_, refl, subst, ℕ, _+_, _*_, _-_, _≤_, _<_, needs, sfits-of, arith, length, length-set, w64, toZ-ofZ, Contents, points, Opens, points-are}
 use Rattle.conformity.proofs.Filling.{points-few, Filled, filled-next, filled-all}
 use Rattle.conformity.proofs.stored.stored_points.Statement.{statement}
 use Rattle.conformity.proofs.stored.stored_points.Tie as tie

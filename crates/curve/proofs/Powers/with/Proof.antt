@@ -1,7 +1,4 @@
-use borrow.Author.Needs.{needs}
-use borrow.Author.Tests.{lt-ltb, le-ltb}
-use native.Mathlib.Numerals.{add-one}
-use Rattle.curve.specs.Powers.{withPower}
+use Rattle.curve.proofs.Names.{needs, lt-ltb, le-ltb, add-one, withPower}
 use Rattle.curve.proofs.Powers.with.Statement.{statement}
 use Rattle.curve.proofs.Powers.with.Tie as tie
 

@@ -1,6 +1,6 @@
 -- `sheets::no_sheet` meets its contract.
 -- Assumes nothing.
-use borrow.Author.Needs.{needs}
+use Rattle.dartelm.proofs.Names.{needs}
 use Rattle.dartelm.proofs.sheets.no_sheet.Statement.{statement}
 use Rattle.dartelm.proofs.sheets.no_sheet.Tie as tie
 

@@ -1,23 +1,8 @@
 -- `sheets::sheet_in` meets its contract.
 -- Assumes nothing.
-use borrow.Author.Needs.{needs}
-use Prim.Native.Nat.{ℕ, _-_, _≤_}
-use mathlib.Core.Path.{_≡_, sym, ap, _∙_}
-use mathlib.Core.List.{List}
-use lib.ListN.{length}
-use native.Mathlib.Omega.{arith}
-use Rattle.sheet.specs.declared.opening.Opened.{Opened}
-use Rattle.layout.specs.Contents.{Contents}
-use Rattle.sheet.specs.Opened.{Opens}
-use Rattle.dartelm.specs.Values.{templateFlag, byFlags, noValue}
-use Rattle.dartelm.specs.Found.{foundFields}
+use Rattle.dartelm.proofs.Names.{needs, ℕ, _-_, _≤_, _≡_, sym, ap, _∙_, List, length, arith, Opened, Contents, Opens, templateFlag, byFlags, noValue, foundFields, end-byte, Layout, lastField, last-most}
+use Rattle.dartelm.proofs.Names.{fields-count, layout-is, holding}
 use Rattle.dartelm.proofs.Filling.{filled}
-use Rattle.build.proofs.BuiltIn.{end-byte}
-use Rattle.fields.specs.declared.Layout.{Layout}
-use Rattle.fields.specs.Lines.{lastField}
-use Rattle.fields.proofs.TemplateFacts.{last-most}
-use Rattle.layout.proofs.Places.{fields-count}
-use Rattle.sheet.proofs.HeldLaws.{layout-is, holding}
 use Rattle.dartelm.proofs.SheetReads.{one-more, all-told}
 use Rattle.dartelm.proofs.sheets.sheet_in.Statement.{statement}
 use Rattle.dartelm.proofs.sheets.sheet_in.Tie as tie

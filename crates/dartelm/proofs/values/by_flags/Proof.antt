@@ -1,10 +1,6 @@
 -- `values::by_flags` meets its contract.
 -- Assumes nothing.
-use borrow.Author.Needs.{needs}
-use mathlib.Core.Path.{ap, sym, _∙_}
-use mir.Facts.{toZ-ofZ}
-use mir.Syntax.{w64}
-use Rattle.dartelm.specs.Values.{byFlags}
+use Rattle.dartelm.proofs.Names.{needs, ap, sym, toZ-ofZ, w64, byFlags}
 use Rattle.dartelm.proofs.values.by_flags.Statement.{statement}
 use Rattle.dartelm.proofs.values.by_flags.Tie as tie
 

@@ -1,6 +1,6 @@
 -- `values::curve_of` meets its contract.
 -- Assumes nothing.
-use borrow.Author.Needs.{needs}
+use Rattle.dartelm.proofs.Names.{needs}
 use Rattle.dartelm.proofs.values.curve_of.Statement.{statement}
 use Rattle.dartelm.proofs.values.curve_of.Tie as tie
 

@@ -1,4 +1,4 @@
-use borrow.Author.Tests.{eq-eqb, ne-eqb}
+use Rattle.dartelm.proofs.Names.{eq-eqb, ne-eqb}
 use Rattle.dartelm.proofs.values.dash_of.Statement.{statement}
 use Rattle.dartelm.proofs.values.dash_of.Tie as tie
 

@@ -1,6 +1,6 @@
 -- `values::is_yes` meets its contract.
 -- Assumes nothing.
-use borrow.Author.Needs.{needs}
+use Rattle.dartelm.proofs.Names.{needs}
 use Rattle.dartelm.proofs.values.is_yes.Statement.{statement}
 use Rattle.dartelm.proofs.values.is_yes.Tie as tie
 

@@ -1,8 +1,4 @@
-use mathlib.Core.Path.{_≡_, refl}
-use Prim.Native.Nat.{ℕ, zero, suc}
-use borrow.Author.Needs.{needs}
-use Rattle.fields.specs.declared.Level.the-variants.{Owner}
-use Rattle.dartelm.specs.Values.{levelOf}
+use Rattle.dartelm.proofs.Names.{_≡_, refl, ℕ, zero, suc, needs, Owner, levelOf}
 use Rattle.dartelm.proofs.values.level_of.Statement.{statement}
 use Rattle.dartelm.proofs.values.level_of.Tie as tie
 

@@ -1,12 +1,6 @@
 -- `values::segments_of` meets its contract.
 -- Assumes nothing.
-use borrow.Author.Needs.{needs}
-use Prim.Native.Nat.{_-_, _≤_}
-use mathlib.Core.Path.{_≡_, refl}
-use native.Mathlib.Omega.{arith}
-use lib.ListN.{length, length-map}
-use Rattle.dartelm.specs.Values.{segmentOf}
-use Rattle.dartelm.specs.Answers.{noSegment}
+use Rattle.dartelm.proofs.Names.{needs, _-_, _≤_, _≡_, refl, arith, length, segmentOf, noSegment}
 use Rattle.dartelm.proofs.Filling.{filled, filled-more, filled-full}
 use Rattle.dartelm.proofs.values.segments_of.Statement.{statement}
 use Rattle.dartelm.proofs.values.segments_of.Tie as tie

@@ -1,19 +1,7 @@
 -- `values::spread` meets its contract.
 -- Assumes nothing.
-use mathlib.Core.Path.{_≡_, refl, sym, ap, _∙_}
-use mathlib.Core.Logic.{⊎-elim}
-use mathlib.Core.List.{List, [], _∷_, map}
-use Prim.Native.Nat.{ℕ, zero, suc, _-_, _<_}
-use native.Mathlib.Omega.{arith}
-use borrow.Author.Needs.{needs}
-use borrow.Author.Tests.{eq-eqb, ne-eqb}
-use lib.ListN.{length, getD, length-map}
-use mir.Syntax.{w64}
-use mir.Facts.{toZ-ofZ}
-use Rattle.fields.specs.declared.Value.the-variants.{Whole, Single, Missing}
-use Rattle.build.proofs.Spreading.{SpreadTo, spread-none, spread-whole, spread-single, spread-missing, spread-all}
-use Rattle.dartelm.specs.declared.values.DartelmValue.{DartelmValue}
-use Rattle.dartelm.specs.Values.{valueOf, noValue, slotOf}
+use Rattle.dartelm.proofs.Names.{_≡_, refl, sym, ap, _∙_, ⊎-elim, List, [], _∷_, map, ℕ, zero, suc, _-_, _<_, arith, needs, eq-eqb, ne-eqb, length, getD, length-map, w64, toZ-ofZ, Whole, Single, Missing, SpreadTo}
+use Rattle.dartelm.proofs.Names.{spread-none, spread-whole, spread-single, spread-missing, spread-all, DartelmValue, valueOf, noValue, slotOf}
 use Rattle.dartelm.proofs.values.spread.Statement.{statement}
 use Rattle.dartelm.proofs.values.spread.Tie as tie
 use Rattle.dartelm.proofs.values.spread.Reads as reads

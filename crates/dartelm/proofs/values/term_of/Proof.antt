@@ -1,8 +1,6 @@
 -- `values::term_of` meets its contract.
 -- Assumes nothing.
-use borrow.Author.Needs.{needs}
-use mir.Facts.{toZ-ofZ}
-use mir.Syntax.{w64}
+use Rattle.dartelm.proofs.Names.{needs, toZ-ofZ, w64}
 use Rattle.dartelm.proofs.values.term_of.Statement.{statement}
 use Rattle.dartelm.proofs.values.term_of.Tie as tie
 

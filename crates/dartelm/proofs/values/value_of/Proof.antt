@@ -1,10 +1,6 @@
 -- `values::value_of` meets its contract.
 -- Assumes nothing.
-use borrow.Author.Needs.{needs}
-use borrow.Author.Tests.{eq-eqb, ne-eqb}
-use mathlib.Core.Path.{ap}
-use mir.Facts.{toZ-ofZ}
-use Rattle.fields.specs.declared.Value.the-variants.{Whole}
+use Rattle.dartelm.proofs.Names.{needs, eq-eqb, ne-eqb, ap, toZ-ofZ, Whole}
 use Rattle.dartelm.proofs.values.value_of.Statement.{statement}
 use Rattle.dartelm.proofs.values.value_of.Tie as tie
 

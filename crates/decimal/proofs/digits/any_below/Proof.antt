@@ -1,11 +1,5 @@
 -- The loop's invariant: each digit passed is 0.
-use mathlib.Core.Path.{_≡_, refl, sym}
-use Prim.Native.Nat.{_-_, _≤_}
-use native.Mathlib.Omega.{arith}
-use borrow.Author.Tests.{lt-ltb}
-use borrow.Author.Needs.{needs}
-use lib.ListN.{take}
-use Rattle.decimal.specs.Digits.{number}
+use Rattle.decimal.proofs.Names.{_≡_, refl, sym, _-_, _≤_, arith, lt-ltb, needs, take, number}
 use Rattle.decimal.proofs.RoundLaws.{some-below, still-none}
 use Rattle.decimal.proofs.digits.any_below.Statement.{statement}
 use Rattle.decimal.proofs.digits.any_below.Tie as tie

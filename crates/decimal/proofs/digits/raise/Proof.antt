@@ -1,9 +1,5 @@
 -- The loop's invariant: the number times `by` for each turn left is what it will be.
-use mathlib.Core.Path.{refl}
-use Prim.Native.Nat.{_*_, _^_}
-use native.Mathlib.Omega.{arith}
-use borrow.Author.Needs.{needs}
-use Rattle.decimal.specs.Digits.{number}
+use Rattle.decimal.proofs.Names.{refl, _*_, _^_, arith, needs, number}
 use Rattle.decimal.proofs.DigitLaws.{Raised, raise-turn, raised}
 use Rattle.decimal.proofs.digits.raise.Statement.{statement}
 use Rattle.decimal.proofs.digits.raise.Tie as tie

@@ -1,9 +1,5 @@
 -- The loop's invariant: what is done and what the rest and the carry will come to are the whole.
-use mathlib.Core.Path.{refl}
-use Prim.Native.Nat.{_-_}
-use native.Mathlib.Omega.{arith}
-use borrow.Author.Needs.{needs}
-use lib.ListN.{length}
+use Rattle.decimal.proofs.Names.{refl, _-_, arith, needs, length}
 use Rattle.decimal.proofs.DigitLaws.{product-small, Turned, turn, turned}
 use Rattle.decimal.proofs.digits.scale.Statement.{statement}
 use Rattle.decimal.proofs.digits.scale.Tie as tie

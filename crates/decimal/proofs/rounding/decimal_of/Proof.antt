@@ -1,6 +1,5 @@
 -- The slice holds the digits of m, then times 2s, then times 5s.
-use native.Mathlib.Omega.{arith}
-use borrow.Author.Needs.{needs}
+use Rattle.decimal.proofs.Names.{arith, needs}
 use Rattle.decimal.proofs.RoundLaws.{digits-of}
 use Rattle.decimal.proofs.rounding.decimal_of.Statement.{statement}
 use Rattle.decimal.proofs.rounding.decimal_of.Tie as tie

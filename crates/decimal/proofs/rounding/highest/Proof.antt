@@ -1,11 +1,5 @@
 -- The loop's invariant: n is the number of the digits from `at` on.
-use mathlib.Core.Path.{_≡_, refl, sym, ap, _∙_}
-use Prim.Native.Nat.{_-_, _<_, _≤_}
-use native.Mathlib.Omega.{arith}
-use borrow.Author.Needs.{needs}
-use lib.ListN.{length, drop}
-use lib.Seq.{drop-length}
-use Rattle.decimal.specs.Digits.{number}
+use Rattle.decimal.proofs.Names.{_≡_, refl, sym, ap, _∙_, _-_, _<_, _≤_, arith, needs, length, drop, drop-length, number}
 use Rattle.decimal.proofs.RoundLaws.{digit-below}
 use Rattle.decimal.proofs.rounding.highest.Statement.{statement}
 use Rattle.decimal.proofs.rounding.highest.Tie as tie

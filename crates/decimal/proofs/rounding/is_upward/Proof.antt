@@ -1,7 +1,5 @@
 -- By the digit below n, and by the others where it is a 5.
-use mathlib.Core.Path.{_≡_, refl, sym, _∙_}
-use native.Mathlib.Omega.{arith}
-use borrow.Author.Needs.{needs}
+use Rattle.decimal.proofs.Names.{_≡_, refl, sym, _∙_, arith, needs}
 use Rattle.decimal.proofs.RoundLaws.{not-five, five-and-more, five-alone}
 use Rattle.decimal.proofs.rounding.is_upward.Statement.{statement}
 use Rattle.decimal.proofs.rounding.is_upward.Tie as tie

@@ -1,7 +1,4 @@
-use mathlib.Core.Path.{_∙_, sym}
-use mathlib.Core.Bool.{true, false}
-use native.Mathlib.Omega.{arith}
-use borrow.Author.Needs.{needs}
+use Rattle.decimal.proofs.Names.{_∙_, sym, true, false, arith, needs}
 use Rattle.decimal.proofs.RoundLaws.{rounds}
 use Rattle.decimal.proofs.rounding.round.Statement.{statement}
 use Rattle.decimal.proofs.rounding.round.Tie as tie

@@ -1,8 +1,5 @@
 -- The loop's invariant: n × 10^up stays what it was.
-use mathlib.Core.Path.{_≡_, _∙_}
-use Prim.Native.Nat.{_+_, _*_, _^_, _≤_}
-use native.Mathlib.Omega.{arith}
-use borrow.Author.Needs.{needs}
+use Rattle.decimal.proofs.Names.{_≡_, _∙_, _+_, _*_, _^_, _≤_, arith, needs}
 use Rattle.decimal.proofs.RoundLaws.{one-up}
 use Rattle.decimal.proofs.rounding.shortest.Statement.{statement}
 use Rattle.decimal.proofs.rounding.shortest.Tie as tie

@@ -1,6 +1,5 @@
 -- `telling::apart` meets its contract.
-use borrow.Author.Needs.{needs}
-use Rattle.line.proofs.Told.{told-up, told-dn}
+use Rattle.distance.proofs.Names.{needs, told-up, told-dn}
 use Rattle.distance.proofs.Apart.{above, below}
 use Rattle.distance.proofs.telling.apart.Statement.{statement}
 use Rattle.distance.proofs.telling.apart.Tie as tie

@@ -1,11 +1,5 @@
 -- `telling::distance` meets its contract.
-use mathlib.Core.Path.{_≡_, sym, _∙_}
-use borrow.Author.Needs.{needs}
-use Rattle.refusal.specs.Outcome.{good}
-use Rattle.fields.specs.declared.Domain.the-variants.{Electrical}
-use Rattle.build.specs.Build.{pairsLent, tablePieces}
-use Rattle.build.specs.Tested.{piecesOf}
-use Rattle.build.proofs.Tests.{turned-down, accepted}
+use Rattle.distance.proofs.Names.{_≡_, sym, _∙_, needs, good, Electrical, pairsLent, tablePieces, piecesOf, turned-down, accepted}
 use Rattle.distance.proofs.Accepted.{table-steps, distance-list, distance-refused, distance-told}
 use Rattle.distance.proofs.telling.distance.Statement.{statement}
 use Rattle.distance.proofs.telling.distance.Tie as tie

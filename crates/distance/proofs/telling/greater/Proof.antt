@@ -1,5 +1,5 @@
 -- `telling::greater` meets its contract.
-use native.Mathlib.Omega.{arith}
+use Rattle.distance.proofs.Names.{arith}
 use Rattle.distance.proofs.telling.greater.Statement.{statement}
 use Rattle.distance.proofs.telling.greater.Tie as tie
 

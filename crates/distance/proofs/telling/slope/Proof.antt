@@ -1,7 +1,5 @@
 -- `telling::slope` meets its contract.
-use Prim.Native.Nat.{_*_}
-use borrow.Author.Needs.{needs}
-use native.Mathlib.Omega.{arith}
+use Rattle.distance.proofs.Names.{_*_, needs, arith}
 use Rattle.distance.proofs.Apart.{ceiling-small}
 use Rattle.distance.proofs.telling.slope.Statement.{statement}
 use Rattle.distance.proofs.telling.slope.Tie as tie

@@ -1,11 +1,5 @@
 -- `telling::slope_at` meets its contract.
-use mathlib.Core.Path.{_≡_}
-use Prim.Native.Nat.{_+_, _*_}
-use borrow.Author.Needs.{needs}
-use native.Mathlib.Omega.{arith}
-use lib.IntN.{pos, natAbs, _-ℤ_}
-use lib.ListN.{getD}
-use Rattle.build.specs.Tested.{pairAt}
+use Rattle.distance.proofs.Names.{_≡_, _+_, _*_, needs, arith, pos, natAbs, _-ℤ_, getD, pairAt}
 use Rattle.distance.proofs.Apart.{seen}
 use Rattle.distance.proofs.telling.slope_at.Statement.{statement}
 use Rattle.distance.proofs.telling.slope_at.Tie as tie

@@ -1,14 +1,5 @@
 -- `telling::steepest` meets its contract.
-use mathlib.Core.Path.{_≡_}
-use Prim.Native.Nat.{max, _+_, _/_, _-_, _^_, _≤_, _<_}
-use borrow.Author.Needs.{needs}
-use native.Mathlib.Omega.{arith}
-use lib.ListN.{length}
-use Rattle.build.specs.Build.{pairsLent}
-use Rattle.build.proofs.PairTurns.{pairsFrom}
-use Rattle.line.specs.Certificate.{Neighbours}
-use Rattle.distance.specs.Distance.{steepest}
-use Rattle.distance.specs.Steps.{Step}
+use Rattle.distance.proofs.Names.{_≡_, max, _+_, _/_, _-_, _^_, _≤_, _<_, needs, arith, length, pairsLent, pairsFrom, Neighbours, steepest, Step}
 use Rattle.distance.proofs.Slopes.{step-at, slopes-next, slopes-end}
 use Rattle.distance.proofs.telling.steepest.Statement.{statement}
 use Rattle.distance.proofs.telling.steepest.Tie as tie

@@ -1,5 +1,4 @@
-use mir.Facts.{toZ-ofZ}
-use Rattle.fields.specs.Figure.{floatFraction}
+use Rattle.fields.proofs.Names.{toZ-ofZ, floatFraction}
 use Rattle.fields.proofs.FloatLaws.{in-float, billion-is}
 use Rattle.fields.proofs.figure.float_fraction.Statement.{statement}
 use Rattle.fields.proofs.figure.float_fraction.Tie as tie

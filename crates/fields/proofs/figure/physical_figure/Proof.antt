@@ -1,6 +1,4 @@
-use borrow.Author.Needs.{needs}
-use mathlib.Core.Path.{refl}
-use Rattle.fields.specs.Figure.{physicalFigure}
+use Rattle.fields.proofs.Names.{needs, refl, physicalFigure}
 use Rattle.fields.proofs.figure.physical_figure.Statement.{statement}
 use Rattle.fields.proofs.figure.physical_figure.Tie as tie
 

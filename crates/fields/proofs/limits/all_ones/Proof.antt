@@ -1,4 +1,4 @@
-use borrow.Author.Needs.{needs}
+use Rattle.fields.proofs.Names.{needs}
 use Rattle.fields.proofs.CodeLaws.{shifted, one-code}
 use Rattle.fields.proofs.limits.all_ones.Statement.{statement}
 use Rattle.fields.proofs.limits.all_ones.Tie as tie

@@ -1,4 +1,4 @@
-use borrow.Author.Needs.{needs}
+use Rattle.fields.proofs.Names.{needs}
 use Rattle.fields.proofs.CodeLaws.{shifted, two-codes}
 use Rattle.fields.proofs.limits.top_code.Statement.{statement}
 use Rattle.fields.proofs.limits.top_code.Tie as tie

@@ -1,4 +1,4 @@
-use borrow.Author.Needs.{needs}
+use Rattle.fields.proofs.Names.{needs}
 use Rattle.fields.proofs.rows.any.Statement.{statement}
 use Rattle.fields.proofs.rows.any.Tie as tie
 

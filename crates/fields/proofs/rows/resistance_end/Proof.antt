@@ -1,5 +1,4 @@
-use mathlib.Core.Path.{_∙_}
-use borrow.Author.Needs.{needs}
+use Rattle.fields.proofs.Names.{_∙_, needs}
 use Rattle.fields.proofs.RowLaws.{resistance-single}
 use Rattle.fields.proofs.rows.resistance_end.Statement.{statement}
 use Rattle.fields.proofs.rows.resistance_end.Tie as tie

@@ -1,6 +1,5 @@
 -- `templates::basic_closed` meets its contract: the fields behind the third are open, by one computed test.
-use native.Mathlib.Omega.{arith}
-use Rattle.fields.specs.Lines.{basic, linesOf}
+use Rattle.fields.proofs.Names.{arith, basic, linesOf}
 use Rattle.fields.proofs.OpenLaws.{open-in}
 use Rattle.fields.proofs.templates.basic_closed.Statement.{statement}
 use Rattle.fields.proofs.templates.basic_closed.Tie as tie

@@ -1,5 +1,4 @@
-use mathlib.Core.Path.{refl}
-use Rattle.fields.specs.Lines.{basic}
+use Rattle.fields.proofs.Names.{refl, basic}
 use Rattle.fields.proofs.templates.basic_fields.Statement.{statement}
 use Rattle.fields.proofs.templates.basic_fields.Tie as tie
 

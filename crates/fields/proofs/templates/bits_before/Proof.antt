@@ -1,9 +1,5 @@
 -- `templates::bits_before` meets its contract: of each template the bits of the electrical values are added to the others.
-use mathlib.Core.Path.{_≡_}
-use Prim.Native.Nat.{ℕ, _+_, _*_}
-use borrow.Author.Needs.{needs}
-use Rattle.fields.specs.declared.Row.{Row}
-use Rattle.fields.specs.Lines.{basic, template33, template32, linesOf}
+use Rattle.fields.proofs.Names.{_≡_, ℕ, _+_, _*_, needs, Row, basic, template33, template32, linesOf}
 use Rattle.fields.proofs.RowLaws.{bridge-sound, resistance-sound}
 use Rattle.fields.proofs.templates.bits_before.Statement.{statement}
 use Rattle.fields.proofs.templates.bits_before.Tie as tie

@@ -1,7 +1,5 @@
 -- `templates::bridge_bits` meets its contract: at each number the bits compute, and the last is what is left.
-use mathlib.Core.Path.{_≡_}
-use native.Mathlib.Omega.{arith}
-use Rattle.fields.specs.Lines.{basic, template33, linesOf}
+use Rattle.fields.proofs.Names.{_≡_, arith, basic, template33, linesOf}
 use Rattle.fields.proofs.RowLaws.{past}
 use Rattle.fields.proofs.templates.bridge_bits.Statement.{statement}
 use Rattle.fields.proofs.templates.bridge_bits.Tie as tie

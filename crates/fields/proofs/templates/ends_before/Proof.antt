@@ -1,7 +1,4 @@
-use mathlib.Core.Path.{_≡_}
-use Prim.Native.Nat.{min, _-_}
-use native.Mathlib.Omega.{arith}
-use borrow.Author.Needs.{needs}
+use Rattle.fields.proofs.Names.{_≡_, min, _-_, arith, needs}
 use Rattle.fields.proofs.templates.ends_before.Statement.{statement}
 use Rattle.fields.proofs.templates.ends_before.Tie as tie
 

@@ -1,4 +1,4 @@
-use borrow.Author.Needs.{needs}
+use Rattle.fields.proofs.Names.{needs}
 use Rattle.fields.proofs.RowLaws.{sets-at}
 use Rattle.fields.proofs.templates.is_choice.Statement.{statement}
 use Rattle.fields.proofs.templates.is_choice.Tie as tie

@@ -1,8 +1,5 @@
 -- `templates::last_closed` meets its contract: the fields behind the twelfth or the eleventh are open, by one computed test.
-use borrow.Author.Needs.{needs}
-use native.Mathlib.Omega.{arith}
-use Rattle.fields.specs.declared.Template.the-variants.{Bridge, Resistance}
-use Rattle.fields.specs.Lines.{basic, template33, template32, linesOf}
+use Rattle.fields.proofs.Names.{needs, arith, Bridge, Resistance, basic, template33, template32, linesOf}
 use Rattle.fields.proofs.OpenLaws.{open-in}
 use Rattle.fields.proofs.templates.last_closed.Statement.{statement}
 use Rattle.fields.proofs.templates.last_closed.Tie as tie

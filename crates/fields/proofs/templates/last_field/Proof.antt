@@ -1,5 +1,4 @@
-use borrow.Author.Needs.{needs}
-use Rattle.fields.specs.Lines.{basic, template33, template32, linesOf}
+use Rattle.fields.proofs.Names.{needs, basic, template33, template32, linesOf}
 use Rattle.fields.proofs.templates.last_field.Statement.{statement}
 use Rattle.fields.proofs.templates.last_field.Tie as tie
 

@@ -1,5 +1,4 @@
-use borrow.Author.Needs.{needs}
-use Rattle.fields.specs.Lines.{basic, template33, template32, linesOf}
+use Rattle.fields.proofs.Names.{needs, basic, template33, template32, linesOf}
 use Rattle.fields.proofs.templates.mark_of.Statement.{statement}
 use Rattle.fields.proofs.templates.mark_of.Tie as tie
 

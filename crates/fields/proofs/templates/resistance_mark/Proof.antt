@@ -1,8 +1,5 @@
 -- `templates::resistance_mark` meets its contract: each run of fields has its mark.
-use native.Mathlib.Omega.{arith}
-use Rattle.fields.specs.declared.Mark.the-variants.{Id, Cal, Usr}
-use Rattle.fields.specs.declared.Template.the-variants.{Resistance}
-use Rattle.fields.specs.Lines.{basic, template32, linesOf}
+use Rattle.fields.proofs.Names.{arith, Id, Cal, Usr, Resistance, basic, template32, linesOf}
 use Rattle.fields.proofs.MarkLaws.{mark-in}
 use Rattle.fields.proofs.templates.resistance_mark.Statement.{statement}
 use Rattle.fields.proofs.templates.resistance_mark.Tie as tie

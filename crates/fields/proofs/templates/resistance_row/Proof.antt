@@ -1,8 +1,5 @@
 -- `templates::resistance_row` meets its contract: at each number the row computes, and the last is what is left.
-use mathlib.Core.Path.{_≡_}
-use native.Mathlib.Omega.{arith}
-use borrow.Author.Needs.{needs}
-use Rattle.fields.specs.Lines.{basic, template32, linesOf}
+use Rattle.fields.proofs.Names.{_≡_, arith, needs, basic, template32, linesOf}
 use Rattle.fields.proofs.RowLaws.{past}
 use Rattle.fields.proofs.templates.resistance_row.Statement.{statement}
 use Rattle.fields.proofs.templates.resistance_row.Tie as tie

@@ -1,6 +1,4 @@
-use native.Mathlib.Omega.{arith}
-use borrow.Author.Needs.{needs}
-use Rattle.fields.specs.Lines.{basic, template33, template32, linesOf}
+use Rattle.fields.proofs.Names.{arith, needs, basic, template33, template32, linesOf}
 use Rattle.fields.proofs.templates.row_of.Statement.{statement}
 use Rattle.fields.proofs.templates.row_of.Tie as tie
 

@@ -1,6 +1,4 @@
-use mathlib.Core.Path.{sym, _∙_}
-use borrow.Author.Needs.{needs}
-use borrow.Author.Tests.{eq-eqb, ne-eqb}
+use Rattle.fields.proofs.Names.{sym, _∙_, needs, eq-eqb, ne-eqb}
 use Rattle.fields.proofs.templates.template_of.Statement.{statement}
 use Rattle.fields.proofs.templates.template_of.Tie as tie
 

@@ -1,5 +1,5 @@
 -- `entries::byte` meets its contract.
-use lib.Bits.{and-mask, mask-lt}
+use Rattle.index.proofs.Names.{and-mask, mask-lt}
 use Rattle.index.proofs.entries.byte.Statement.{statement}
 use Rattle.index.proofs.entries.byte.Tie as tie
 

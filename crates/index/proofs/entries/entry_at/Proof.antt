@@ -1,12 +1,5 @@
 -- `entries::entry_at` meets its contract.
-use borrow.Author.Needs.{needs}
-use mathlib.Core.Path.{_≡_, ap, ap₂, _∙_}
-use mathlib.Core.List.{[], _∷_}
-use Prim.Native.Nat.{ℕ, _+_, _*_}
-use native.Mathlib.Omega.{arith}
-use lib.ListN.{getD}
-use Rattle.memory.specs.Bits.{number}
-use Rattle.index.specs.Index.{entry}
+use Rattle.index.proofs.Names.{needs, _≡_, ap, ap₂, _∙_, [], _∷_, ℕ, _+_, _*_, arith, getD, number, entry}
 use Rattle.index.proofs.entries.entry_at.Statement.{statement}
 use Rattle.index.proofs.entries.entry_at.Tie as tie
 

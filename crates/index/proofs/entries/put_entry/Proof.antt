@@ -1,11 +1,5 @@
 -- `entries::put_entry` meets its contract.
-use borrow.Author.Needs.{needs}
-use mathlib.Core.Path.{ap, _∙_}
-use mathlib.Core.List.{List}
-use Prim.Native.Nat.{ℕ, _+_}
-use native.Mathlib.Omega.{arith}
-use Rattle.memory.specs.Bits.{bytesOf}
-use Rattle.index.specs.Laid.{laid}
+use Rattle.index.proofs.Names.{needs, ap, _∙_, List, ℕ, _+_, arith, bytesOf, laid}
 use Rattle.index.proofs.Laying.{laid-more}
 use Rattle.index.proofs.entries.put_entry.Statement.{statement}
 use Rattle.index.proofs.entries.put_entry.Tie as tie

@@ -1,7 +1,5 @@
 -- `entries::put_two` meets its contract.
-use borrow.Author.Needs.{needs}
-use native.Mathlib.Omega.{arith}
-use lib.ListN.{length-set}
+use Rattle.index.proofs.Names.{needs, arith, length-set}
 use Rattle.index.proofs.Laying.{two-laid}
 use Rattle.index.proofs.entries.put_two.Statement.{statement}
 use Rattle.index.proofs.entries.put_two.Tie as tie

@@ -1,8 +1,4 @@
-use borrow.Author.Needs.{needs}
-use mathlib.Core.Path.{ap, _∙_}
-use native.Mathlib.Omega.{arith}
-use lib.Bits.{bitOr, or-shifted-r}
-use lib.Pow.{shl-exact}
+use Rattle.index.proofs.Names.{needs, ap, _∙_, arith, bitOr, or-shifted-r, shl-exact}
 use Rattle.index.proofs.entries.two.Statement.{statement}
 use Rattle.index.proofs.entries.two.Tie as tie
 

@@ -1,9 +1,5 @@
 -- `fetching::bits_at` meets its contract.
-use borrow.Author.Needs.{needs}
-use mathlib.Core.Path.{ap, _∙_}
-use Rattle.refusal.specs.Outcome.{refused}
-use Rattle.refusal.proofs.Outcomes.{told}
-use Rattle.fields.specs.Answers.{decodedSaid}
+use Rattle.index.proofs.Names.{needs, ap, _∙_, refused, told, decodedSaid}
 use Rattle.index.proofs.FetchLaws.{bits-past, bits-fit, bits-decoded}
 use Rattle.index.proofs.fetching.bits_at.Statement.{statement}
 use Rattle.index.proofs.fetching.bits_at.Tie as tie

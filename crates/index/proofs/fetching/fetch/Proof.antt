@@ -1,11 +1,5 @@
 -- `fetching::fetch` meets its contract.
-use borrow.Author.Needs.{needs}
-use mathlib.Core.Path.{sym, ap, _∙_}
-use Rattle.refusal.specs.Outcome.{refused}
-use Rattle.refusal.proofs.Outcomes.{told}
-use Rattle.memory.specs.Answers.{sizesSaid, sumsSaid}
-use Rattle.memory.proofs.Chips.{sizes-chip}
-use Rattle.sheet.proofs.OpenLaws.{sized}
+use Rattle.index.proofs.Names.{needs, sym, ap, _∙_, refused, told, sizesSaid, sumsSaid, sizes-chip, sized}
 use Rattle.index.proofs.FetchLaws.{fetch-unsized, fetch-turned, fetch-right}
 use Rattle.index.proofs.fetching.fetch.Statement.{statement}
 use Rattle.index.proofs.fetching.fetch.Tie as tie

@@ -1,16 +1,5 @@
 -- `fetching::fetch_in` meets its contract.
-use borrow.Author.Needs.{needs}
-use mathlib.Core.Path.{sym, ap, _∙_}
-use Prim.Native.Nat.{ℕ, _*_}
-use native.Mathlib.Omega.{arith}
-use Rattle.refusal.specs.Outcome.{refused}
-use Rattle.refusal.specs.Rows.{shortIndex}
-use Rattle.refusal.proofs.Outcomes.{told}
-use Rattle.memory.specs.Image.{streamNumber}
-use Rattle.fields.specs.Lines.{lastField}
-use Rattle.fields.proofs.TemplateFacts.{last-most}
-use Rattle.index.specs.Index.{templateAt}
-use Rattle.index.specs.Laid.{rowSaid}
+use Rattle.index.proofs.Names.{needs, sym, ap, _∙_, ℕ, _*_, arith, refused, shortIndex, told, streamNumber, lastField, last-most, templateAt, rowSaid}
 use Rattle.index.proofs.FetchLaws.{length-sound, in-none, in-past, in-short, in-refused, in-bits}
 use Rattle.index.proofs.fetching.fetch_in.Statement.{statement}
 use Rattle.index.proofs.fetching.fetch_in.Tie as tie

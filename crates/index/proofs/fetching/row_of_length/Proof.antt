@@ -1,12 +1,5 @@
 -- `fetching::row_of_length` meets its contract. The loop's invariant: what the choices that are left say is what all say.
-use borrow.Author.Needs.{needs}
-use mathlib.Core.Path.{_≡_, refl, sym, ap, _∙_}
-use Prim.Native.Nat.{_-_, _≤_}
-use native.Mathlib.Numerals.{add-one}
-use native.Mathlib.Omega.{arith}
-use Rattle.refusal.specs.Outcome.{good, refused}
-use Rattle.fields.specs.Lines.{lineOf}
-use Rattle.index.specs.Index.{rowOfLength}
+use Rattle.index.proofs.Names.{needs, _≡_, refl, sym, ap, _∙_, _-_, _≤_, add-one, arith, good, refused, lineOf, rowOfLength}
 use Rattle.index.proofs.FetchLaws.{lengthFrom, length-found, length-next, length-none}
 use Rattle.index.proofs.fetching.row_of_length.Statement.{statement}
 use Rattle.index.proofs.fetching.row_of_length.Tie as tie

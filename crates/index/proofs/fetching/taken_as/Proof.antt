@@ -1,6 +1,4 @@
-use borrow.Author.Needs.{needs}
-use borrow.Author.Tests.{eq-eqb, ne-eqb}
-use mathlib.Core.Path.{sym, _∙_}
+use Rattle.index.proofs.Names.{needs, eq-eqb, ne-eqb, sym, _∙_}
 use Rattle.index.proofs.fetching.taken_as.Statement.{statement}
 use Rattle.index.proofs.fetching.taken_as.Tie as tie
 

@@ -1,10 +1,5 @@
 -- `fetching::template_at` meets its contract: a stream of one page or more has the number's bits.
-use borrow.Author.Needs.{needs}
-use borrow.Author.Tests.{ltb-true}
-use mathlib.Core.Path.{ap, _∙_}
-use native.Mathlib.Omega.{arith}
-use Rattle.memory.specs.Image.{streamBits}
-use Rattle.index.specs.Index.{takenAs, templateAt}
+use Rattle.index.proofs.Names.{needs, ltb-true, ap, _∙_, arith, streamBits, takenAs, templateAt}
 use Rattle.index.proofs.FetchLaws.{took, missed}
 use Rattle.index.proofs.fetching.template_at.Statement.{statement}
 use Rattle.index.proofs.fetching.template_at.Tie as tie

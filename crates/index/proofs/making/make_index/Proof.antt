@@ -1,11 +1,5 @@
 -- `making::make_index` meets its contract.
-use borrow.Author.Needs.{needs}
-use mathlib.Core.Path.{refl, sym, ap, _∙_}
-use native.Mathlib.Omega.{arith}
-use Rattle.refusal.specs.Outcome.{refused}
-use Rattle.refusal.proofs.WrittenLaws.{written-refused, written-done}
-use Rattle.sheet.proofs.OpenLaws.{opens, not-opened}
-use Rattle.sheet.proofs.HeldLaws.{behind-is}
+use Rattle.index.proofs.Names.{needs, refl, sym, ap, _∙_, arith, refused, written-refused, written-done, opens, not-opened, behind-is}
 use Rattle.index.proofs.IndexLaws.{index-unread, opened-few, opened-made, opened-short}
 use Rattle.index.proofs.making.make_index.Statement.{statement}
 use Rattle.index.proofs.making.make_index.Tie as tie

@@ -1,18 +1,6 @@
 -- `making::write_basic` meets its contract. The loop's invariant: the first entries, behind them the buffer as it was, and the bits before the next.
-use borrow.Author.Needs.{needs}
-use mathlib.Core.Path.{_≡_, refl, ap, _∙_}
-use Prim.Native.Nat.{ℕ, _+_, _-_, _≤_, _<_}
-use native.Mathlib.Omega.{arith}
-use lib.ListN.{length}
-use Rattle.fields.specs.declared.Template.the-variants.{Bridge}
-use Rattle.fields.specs.declared.Layout.{Layout}
-use Rattle.fields.specs.Lines.{basic, linesOf, bitsBefore}
-use Rattle.sheet.specs.Walk.{layoutAt}
-use Rattle.layout.proofs.PlaceSteps.{place-few}
-use Rattle.sheet.proofs.WalkSteps.{basic-most}
-use Rattle.fields.proofs.TemplateFacts.{last-most}
-use Rattle.index.specs.Index.{entryBytes}
-use Rattle.index.specs.Laid.{laid, firstEntries}
+use Rattle.index.proofs.Names.{needs, _≡_, refl, ap, _∙_, ℕ, _+_, _-_, _≤_, _<_, arith, length, Bridge, Layout, basic, linesOf, bitsBefore, layoutAt, place-few, basic-most, last-most, entryBytes, laid}
+use Rattle.index.proofs.Names.{firstEntries}
 use Rattle.index.proofs.Laying.{first-more}
 use Rattle.index.proofs.EntryLaws.{none-before, field-next, basic-entry}
 use Rattle.index.proofs.making.write_basic.Statement.{statement}

@@ -1,14 +1,5 @@
 -- `making::write_entries` meets its contract: what each call writes begins with what the one before it wrote.
-use borrow.Author.Needs.{needs}
-use mathlib.Core.Path.{ap, _∙_}
-use mathlib.Core.List.{List}
-use Prim.Native.Nat.{ℕ}
-use native.Mathlib.Omega.{arith}
-use lib.ListN.{length}
-use Rattle.fields.specs.Lines.{basic, lastField}
-use Rattle.sheet.proofs.WalkSteps.{basic-most}
-use Rattle.index.specs.Index.{entryBytes}
-use Rattle.index.specs.Laid.{laid, firstEntries}
+use Rattle.index.proofs.Names.{needs, ap, _∙_, List, ℕ, arith, length, basic, lastField, basic-most, entryBytes, laid, firstEntries}
 use Rattle.index.proofs.Laying.{first-over, first-begun}
 use Rattle.index.proofs.making.write_entries.Statement.{statement}
 use Rattle.index.proofs.making.write_entries.Tie as tie

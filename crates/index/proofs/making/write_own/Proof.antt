@@ -1,12 +1,5 @@
 -- `making::write_own` meets its contract.
-use borrow.Author.Needs.{needs}
-use mathlib.Core.Path.{_≡_, sym, ap, _∙_, subst}
-use Prim.Native.Nat.{_*_, _≤_}
-use lib.ListN.{length}
-use Rattle.fields.specs.Lines.{basic, lastField}
-use Rattle.sheet.specs.Walk.{layoutAt}
-use Rattle.index.specs.Index.{entryBytes}
-use Rattle.index.specs.Laid.{laid, firstEntries}
+use Rattle.index.proofs.Names.{needs, _≡_, sym, ap, _∙_, subst, _*_, _≤_, length, basic, lastField, layoutAt, entryBytes, laid, firstEntries}
 use Rattle.index.proofs.making.write_own.Statement.{statement}
 use Rattle.index.proofs.making.write_own.Tie as tie
 

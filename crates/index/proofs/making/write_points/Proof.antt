@@ -1,15 +1,5 @@
 -- `making::write_points` meets its contract. The loop's invariant goes by the layouts whose points begin where it did.
-use borrow.Author.Needs.{needs}
-use mathlib.Core.Path.{_≡_, refl, sym, ap, _∙_}
-use Prim.Native.Nat.{ℕ, _+_, _-_, _*_, _≤_}
-use native.Mathlib.Omega.{arith}
-use lib.ListN.{length}
-use Rattle.fields.specs.declared.Layout.{Layout}
-use Rattle.fields.specs.Lines.{lastField}
-use Rattle.layout.specs.Places.{pairPlace}
-use Rattle.layout.proofs.PlaceSteps.{end-few}
-use Rattle.index.specs.Index.{entryBytes}
-use Rattle.index.specs.Laid.{laid, firstEntries}
+use Rattle.index.proofs.Names.{needs, _≡_, refl, sym, ap, _∙_, ℕ, _+_, _-_, _*_, _≤_, arith, length, Layout, lastField, pairPlace, end-few, entryBytes, laid, firstEntries}
 use Rattle.index.proofs.Laying.{first-more}
 use Rattle.index.proofs.EntryLaws.{pair-entry}
 use Rattle.index.proofs.making.write_points.Statement.{statement}

@@ -1,17 +1,6 @@
 -- `making::write_resistance` meets its contract, as `write_bridge` does.
-use borrow.Author.Needs.{needs}
-use mathlib.Core.Path.{_≡_, refl, sym, ap, _∙_}
-use Prim.Native.Nat.{ℕ, _+_, _-_, _≤_, _<_}
-use native.Mathlib.Omega.{arith}
-use lib.ListN.{length}
-use Rattle.fields.specs.declared.Template.the-variants.{Resistance}
-use Rattle.fields.specs.Lines.{basic, linesOf, lastField, bitsBefore}
-use Rattle.fields.proofs.TemplateFacts.{last-most}
-use Rattle.sheet.specs.Walk.{layoutAt}
-use Rattle.layout.proofs.PlaceSteps.{place-few}
-use Rattle.sheet.proofs.WalkSteps.{basic-most}
-use Rattle.index.specs.Index.{entryBytes}
-use Rattle.index.specs.Laid.{laid, firstEntries}
+use Rattle.index.proofs.Names.{needs, _≡_, refl, sym, ap, _∙_, ℕ, _+_, _-_, _≤_, _<_, arith, length, Resistance, basic, linesOf, lastField, bitsBefore, last-most, layoutAt, place-few, basic-most, entryBytes, laid}
+use Rattle.index.proofs.Names.{firstEntries}
 use Rattle.index.proofs.Laying.{first-more}
 use Rattle.index.proofs.EntryLaws.{field-next, own-entry, own-first}
 use Rattle.index.proofs.making.write_resistance.Statement.{statement}

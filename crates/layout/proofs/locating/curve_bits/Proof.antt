@@ -1,7 +1,4 @@
-use borrow.Author.Needs.{needs}
-use mathlib.Core.Path.{sym, ap}
-use Prim.Native.Nat.{ℕ}
-use Rattle.layout.specs.Places.{curveBits}
+use Rattle.layout.proofs.Names.{needs, sym, ap, ℕ, curveBits}
 use Rattle.layout.proofs.PlaceSteps.{curve-some}
 use Rattle.layout.proofs.locating.curve_bits.Statement.{statement}
 use Rattle.layout.proofs.locating.curve_bits.Tie as tie

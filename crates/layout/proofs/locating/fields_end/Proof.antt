@@ -1,10 +1,4 @@
-use borrow.Author.Needs.{needs}
-use mathlib.Core.Path.{_≡_, ap, _∙_}
-use Prim.Native.Nat.{_+_}
-use native.Mathlib.Omega.{arith}
-use Rattle.fields.specs.Lines.{ending}
-use Rattle.layout.specs.Places.{fieldPlace}
-use Rattle.fields.proofs.TemplateFacts.{last-most}
+use Rattle.layout.proofs.Names.{needs, _≡_, ap, _∙_, _+_, arith, ending, fieldPlace, last-most}
 use Rattle.layout.proofs.locating.fields_end.Statement.{statement}
 use Rattle.layout.proofs.locating.fields_end.Tie as tie
 

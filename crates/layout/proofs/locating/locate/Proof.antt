@@ -1,7 +1,4 @@
-use borrow.Author.Needs.{needs}
-use mathlib.Core.Path.{sym, ap, _∙_}
-use Prim.Native.Nat.{ℕ, _+_, _-_}
-use native.Mathlib.Omega.{arith}
+use Rattle.layout.proofs.Names.{needs, sym, ap, _∙_, ℕ, _+_, _-_, arith}
 use Rattle.layout.proofs.PlaceSteps.{place-few, in-basic, behind-basic}
 use Rattle.layout.proofs.locating.locate.Statement.{statement}
 use Rattle.layout.proofs.locating.locate.Tie as tie

@@ -1,5 +1,4 @@
-use borrow.Author.Needs.{needs}
-use native.Mathlib.Omega.{arith}
+use Rattle.layout.proofs.Names.{needs, arith}
 use Rattle.layout.proofs.PlaceSteps.{table-most, curve-most}
 use Rattle.layout.proofs.locating.locate_character.Statement.{statement}
 use Rattle.layout.proofs.locating.locate_character.Tie as tie

@@ -1,6 +1,4 @@
-use borrow.Author.Needs.{needs}
-use mathlib.Core.Path.{sym, ap}
-use Rattle.layout.specs.Places.{tableBits}
+use Rattle.layout.proofs.Names.{needs, sym, ap, tableBits}
 use Rattle.layout.proofs.PlaceSteps.{table-some}
 use Rattle.layout.proofs.locating.table_bits.Statement.{statement}
 use Rattle.layout.proofs.locating.table_bits.Tie as tie

@@ -1,11 +1,4 @@
-use borrow.Author.Needs.{needs, sfits-of}
-use mathlib.Core.Path.{ap, ap₂, _∙_}
-use native.Mathlib.Omega.{arith}
-use lib.IntN.{pos, _+ℤ_}
-use mir.Syntax.{w64}
-use mir.Val.{SFits}
-use mir.Facts.{toZ-ofZ}
-use Rattle.line.specs.Crossing.{sum}
+use Rattle.line.proofs.Names.{needs, sfits-of, ap, ap₂, _∙_, arith, pos, _+ℤ_, w64, SFits, toZ-ofZ, sum}
 use Rattle.line.proofs.Distances.{less}
 use Rattle.line.proofs.Told.{told-≤, told-gap}
 use Rattle.line.proofs.Sums.{told-small, climbed, Stepped, stepped}

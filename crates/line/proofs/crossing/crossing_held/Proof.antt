@@ -1,5 +1,4 @@
-use borrow.Author.Needs.{sfits-of}
-use native.Mathlib.Omega.{arith}
+use Rattle.line.proofs.Names.{sfits-of, arith}
 use Rattle.line.proofs.Sums.{minus-fits, minus-made}
 use Rattle.line.proofs.crossing.crossing_held.Statement.{statement}
 use Rattle.line.proofs.crossing.crossing_held.Tie as tie

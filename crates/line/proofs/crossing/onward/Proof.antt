@@ -1,6 +1,4 @@
-use borrow.Author.Needs.{needs}
-use native.Mathlib.Omega.{arith}
-use lib.IntN.{pos}
+use Rattle.line.proofs.Names.{needs, arith, pos}
 use Rattle.line.proofs.Sums.{plus-fits, plus-made}
 use Rattle.line.proofs.crossing.onward.Statement.{statement}
 use Rattle.line.proofs.crossing.onward.Tie as tie

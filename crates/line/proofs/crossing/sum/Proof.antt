@@ -1,5 +1,4 @@
-use borrow.Author.Needs.{sfits-of}
-use native.Mathlib.Omega.{arith}
+use Rattle.line.proofs.Names.{sfits-of, arith}
 use Rattle.line.proofs.Sums.{plus-fits, plus-made}
 use Rattle.line.proofs.crossing.sum.Statement.{statement}
 use Rattle.line.proofs.crossing.sum.Tie as tie

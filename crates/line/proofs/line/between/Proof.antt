@@ -1,7 +1,4 @@
-use borrow.Author.Needs.{needs, sfits-of}
-use mathlib.Core.Path.{_∙_}
-use native.Mathlib.Omega.{arith}
-use mir.Facts.{toZ-ofZ}
+use Rattle.line.proofs.Names.{needs, sfits-of, _∙_, arith, toZ-ofZ}
 use Rattle.line.proofs.Distances.{less}
 use Rattle.line.proofs.Told.{told-up, told-dn, told-≤, told-gap, deviation-parts, Gaps, gaps}
 use Rattle.line.proofs.line.between.Statement.{statement}

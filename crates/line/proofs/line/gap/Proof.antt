@@ -1,7 +1,4 @@
-use borrow.Author.Needs.{needs}
-use mathlib.Core.Path.{_≡_}
-use Prim.Native.Nat.{_+_, _-_, _≤_}
-use lib.IntN.{pos, _-ℤ_}
+use Rattle.line.proofs.Names.{needs, _≡_, _+_, _-_, _≤_, pos, _-ℤ_}
 use Rattle.line.proofs.Told.{told-up, told-dn, gap-made}
 use Rattle.line.proofs.line.gap.Statement.{statement}
 use Rattle.line.proofs.line.gap.Tie as tie

@@ -1,4 +1,4 @@
-use native.Mathlib.Omega.{arith}
+use Rattle.line.proofs.Names.{arith}
 use Rattle.line.proofs.Told.{weighed-fits}
 use Rattle.line.proofs.line.weighed.Statement.{statement}
 use Rattle.line.proofs.line.weighed.Tie as tie

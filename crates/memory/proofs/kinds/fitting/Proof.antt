@@ -1,8 +1,5 @@
 -- `kinds::fitting` meets its contract.
-use borrow.Author.Needs.{needs}
-use mathlib.Core.Path.{ap}
-use borrow.Author.Tests.{eq-eqb, ne-eqb}
-use Rattle.refusal.specs.Outcome.{refused}
+use Rattle.memory.proofs.Names.{needs, ap, eq-eqb, ne-eqb, refused}
 use Rattle.memory.proofs.kinds.fitting.Statement.{statement}
 use Rattle.memory.proofs.kinds.fitting.Tie as tie
 

@@ -1,7 +1,5 @@
 -- `kinds::image_sizes` meets its contract.
-use borrow.Author.Needs.{needs}
-use mathlib.Core.Path.{refl, sym, ap, _∙_}
-use Rattle.refusal.specs.Outcome.{refused}
+use Rattle.memory.proofs.Names.{needs, refl, sym, ap, _∙_, refused}
 use Rattle.memory.proofs.Chips.{sizes-kind, sizes-others}
 use Rattle.memory.proofs.kinds.image_sizes.Statement.{statement}
 use Rattle.memory.proofs.kinds.image_sizes.Tie as tie

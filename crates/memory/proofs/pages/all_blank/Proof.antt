@@ -1,11 +1,5 @@
 -- `pages::all_blank` meets its contract. The loop's invariant: whether what is left is blank says whether all is.
-use borrow.Author.Needs.{needs}
-use mathlib.Core.Path.{_≡_, sym, _∙_}
-use Prim.Native.Nat.{_-_, _≤_}
-use native.Mathlib.Nat.{sub-zero}
-use native.Mathlib.Omega.{arith}
-use borrow.Author.Tests.{not-true, not-false}
-use Rattle.memory.specs.Image.{blankFrom}
+use Rattle.memory.proofs.Names.{needs, _≡_, sym, _∙_, _-_, _≤_, sub-zero, arith, not-true, not-false, blankFrom}
 use Rattle.memory.proofs.SumLaws.{turn-blank, turn-written}
 use Rattle.memory.proofs.pages.all_blank.Statement.{statement}
 use Rattle.memory.proofs.pages.all_blank.Tie as tie

@@ -1,16 +1,5 @@
 -- `pages::all_ff` meets its contract. The loop's invariant: whether the rest is all FF says whether the whole is.
-use borrow.Author.Needs.{needs}
-use mathlib.Core.Path.{_≡_, sym, ap, _∙_}
-use mathlib.Core.Bool.{Bool, _&&_}
-use mathlib.Core.List.{List}
-use Prim.Native.Nat.{ℕ, suc, _+_, _-_, _≤_}
-use native.Mathlib.Omega.{arith}
-use native.Mathlib.Numerals.{add-one}
-use lib.ListN.{length, getD, drop}
-use lib.Dec.{eqb}
-use lib.Seq.{drop-cons, drop-length}
-use borrow.Author.Tests.{eq-eqb, ne-eqb}
-use Rattle.memory.specs.Image.{allFF}
+use Rattle.memory.proofs.Names.{needs, _≡_, sym, ap, _∙_, Bool, _&&_, suc, _-_, _≤_, arith, add-one, length, getD, drop, drop-cons, drop-length, eq-eqb, ne-eqb, allFF}
 use Rattle.memory.proofs.pages.all_ff.Statement.{statement}
 use Rattle.memory.proofs.pages.all_ff.Tie as tie
 

@@ -1,10 +1,5 @@
 -- `pages::check_sums` meets its contract.
-use borrow.Author.Needs.{needs}
-use mathlib.Core.Path.{sym, ap, _∙_}
-use mathlib.Core.Bool.{Bool}
-use Rattle.refusal.specs.Outcome.{refuse_if_, _>>_}
-use Rattle.refusal.specs.Rows.{blankChip}
-use Rattle.memory.specs.Image.{sumsFrom}
+use Rattle.memory.proofs.Names.{needs, sym, _∙_, _>>_}
 use Rattle.memory.proofs.pages.check_sums.Statement.{statement}
 use Rattle.memory.proofs.pages.check_sums.Tie as tie
 

@@ -1,7 +1,5 @@
 -- `pages::is_blank` meets its contract.
-use borrow.Author.Needs.{needs}
-use mathlib.Core.Path.{ap, _∙_}
-use Rattle.memory.specs.Image.{allFF}
+use Rattle.memory.proofs.Names.{needs, ap, _∙_, allFF}
 use Rattle.memory.proofs.SumLaws.{page-taken}
 use Rattle.memory.proofs.pages.is_blank.Statement.{statement}
 use Rattle.memory.proofs.pages.is_blank.Tie as tie

@@ -1,6 +1,5 @@
 -- `pages::page_bytes` meets its contract.
-use borrow.Author.Needs.{needs}
-use native.Mathlib.Omega.{arith}
+use Rattle.memory.proofs.Names.{needs, arith}
 use Rattle.memory.proofs.PageParts.{chip, part-none, part-past, part-page}
 use Rattle.memory.proofs.pages.page_bytes.Statement.{statement}
 use Rattle.memory.proofs.pages.page_bytes.Tie as tie

@@ -1,8 +1,5 @@
 -- `pages::page_sum` meets its contract.
-use borrow.Author.Needs.{needs}
-use mathlib.Core.Path.{sym, _∙_}
-use native.Mathlib.Omega.{arith}
-use lib.Seq.{length-take-le}
+use Rattle.memory.proofs.Names.{needs, sym, _∙_, arith, length-take-le}
 use Rattle.memory.proofs.SumLaws.{sum-first, sum-later}
 use Rattle.memory.proofs.pages.page_sum.Statement.{statement}
 use Rattle.memory.proofs.pages.page_sum.Tie as tie

@@ -1,6 +1,5 @@
 -- `pages::seal` meets its contract.
-use borrow.Author.Needs.{needs}
-use native.Mathlib.Omega.{arith}
+use Rattle.memory.proofs.Names.{needs, arith}
 use Rattle.memory.proofs.Sealing.{seal-code}
 use Rattle.memory.proofs.pages.seal.Statement.{statement}
 use Rattle.memory.proofs.pages.seal.Tie as tie

@@ -1,6 +1,5 @@
 -- `pages::test_page` meets its contract.
-use borrow.Author.Needs.{needs}
-use mathlib.Core.Path.{sym, _∙_}
+use Rattle.memory.proofs.Names.{needs, sym, _∙_}
 use Rattle.memory.proofs.SumLaws.{test-blank, test-good, test-wrong}
 use Rattle.memory.proofs.pages.test_page.Statement.{statement}
 use Rattle.memory.proofs.pages.test_page.Tie as tie

@@ -1,11 +1,5 @@
 -- `pages::test_pages` meets its contract. The loop's invariant: what is left to test says what the whole test says.
-use borrow.Author.Needs.{needs}
-use mathlib.Core.Path.{_≡_, sym, ap, _∙_}
-use Prim.Native.Nat.{_-_, _≤_}
-use native.Mathlib.Nat.{sub-zero}
-use native.Mathlib.Omega.{arith}
-use borrow.Author.Tests.{not-true, not-false}
-use Rattle.memory.specs.Image.{isGood, sumsFrom}
+use Rattle.memory.proofs.Names.{needs, _≡_, sym, ap, _∙_, _-_, _≤_, sub-zero, arith, not-true, not-false, isGood, sumsFrom}
 use Rattle.memory.proofs.SumLaws.{turn-good, turn-wrong}
 use Rattle.memory.proofs.pages.test_pages.Statement.{statement}
 use Rattle.memory.proofs.pages.test_pages.Tie as tie

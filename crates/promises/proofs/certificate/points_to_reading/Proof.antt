@@ -1,7 +1,6 @@
 -- `certificate::points_to_reading` meets its contract.
 -- Assumes nothing.
-use borrow.Author.Needs.{needs}
-use mir.Facts.{toZ-ofZ}
+use Rattle.promises.proofs.Names.{needs, toZ-ofZ}
 use Rattle.promises.proofs.Lending.{sheet-lendable}
 use Rattle.promises.proofs.Calling.{answered}
 use Rattle.promises.proofs.certificate.points_to_reading.Statement.{statement}

@@ -1,9 +1,5 @@
 -- The loop's invariant: the image is as those before an index leave it. The measure is what is left of them.
-use mathlib.Core.Path.{_≡_, refl}
-use Prim.Native.Nat.{_-_, _≤_}
-use native.Mathlib.Omega.{arith}
-use lib.ListN.{length}
-use borrow.Author.Needs.{needs}
+use Rattle.promises.proofs.Names.{_≡_, refl, _-_, _≤_, arith, length, needs}
 use Rattle.promises.proofs.LentLaws.{Altered, one-more, all-of-them}
 use Rattle.promises.proofs.lent.alter.Statement.{statement}
 use Rattle.promises.proofs.lent.alter.Tie as tie

@@ -1,4 +1,4 @@
-use borrow.Author.Needs.{needs}
+use Rattle.promises.proofs.Names.{needs}
 use Rattle.promises.proofs.LentLaws.{committed-at, changed-at}
 use Rattle.promises.proofs.lent.alter_at.Statement.{statement}
 use Rattle.promises.proofs.lent.alter_at.Tie as tie

@@ -1,5 +1,4 @@
-use native.Mathlib.Omega.{arith}
-use borrow.Author.Needs.{needs}
+use Rattle.promises.proofs.Names.{arith, needs}
 use Rattle.promises.proofs.LentLaws.{behind}
 use Rattle.promises.proofs.lent.byte_at.Statement.{statement}
 use Rattle.promises.proofs.lent.byte_at.Tie as tie

@@ -1,4 +1,4 @@
-use borrow.Author.Needs.{needs}
+use Rattle.promises.proofs.Names.{needs}
 use Rattle.promises.proofs.LentLaws.{level-other}
 use Rattle.promises.proofs.lent.level_of.Statement.{statement}
 use Rattle.promises.proofs.lent.level_of.Tie as tie

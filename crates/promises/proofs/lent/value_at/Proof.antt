@@ -1,13 +1,4 @@
-use mathlib.Core.Path.{sym, ap, _∙_}
-use native.Mathlib.Omega.{arith}
-use borrow.Author.Needs.{needs}
-use mir.Syntax.{w64}
-use mir.Facts.{toZ-ofZ}
-use lib.IntN.{ℤ, pos}
-use lib.Ieee.{nan}
-use lib.ListN.{getD}
-use Rattle.fields.specs.declared.Value.the-variants.{Whole}
-use Rattle.promises.specs.AlterationsLent.{valueOfSort}
+use Rattle.promises.proofs.Names.{sym, ap, _∙_, arith, needs, w64, toZ-ofZ, ℤ, pos, nan, getD, Whole, valueOfSort}
 use Rattle.promises.proofs.LentLaws.{missing-sort, value-out, value-in}
 use Rattle.promises.proofs.lent.value_at.Statement.{statement}
 use Rattle.promises.proofs.lent.value_at.Tie as tie

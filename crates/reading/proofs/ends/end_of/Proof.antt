@@ -1,6 +1,4 @@
-use borrow.Author.Needs.{needs}
-use mir.Syntax.{w64}
-use mir.Facts.{toZ-ofZ}
+use Rattle.reading.proofs.Names.{needs, w64, toZ-ofZ}
 use Rattle.reading.proofs.ends.end_of.Statement.{statement}
 use Rattle.reading.proofs.ends.end_of.Tie as tie
 

@@ -1,13 +1,4 @@
-use borrow.Author.Needs.{needs, sfits-of}
-use mathlib.Core.Path.{_≡_, sym, ap, _∙_}
-use mathlib.Core.Bool.{false}
-use mir.Syntax.{w64}
-use mir.Val.{toZ, ofZ}
-use mir.Facts.{toZ-ofZ}
-use Rattle.refusal.specs.Outcome.{refused}
-use Rattle.refusal.proofs.Outcomes.{told}
-use Rattle.fields.specs.Answers.{roundedSaid}
-use Rattle.reading.specs.Reading.{electricalFigure, isMissing, isOutside}
+use Rattle.reading.proofs.Names.{needs, sfits-of, _≡_, sym, ap, _∙_, false, w64, toZ, ofZ, toZ-ofZ, refused, told, roundedSaid, electricalFigure, isMissing, isOutside}
 use Rattle.reading.proofs.EndLaws.{turned, given, no-least, no-greatest, least-outside, greatest-outside, crossed, spans}
 use Rattle.reading.proofs.ends.ends_of.Statement.{statement}
 use Rattle.reading.proofs.ends.ends_of.Tie as tie

@@ -1,16 +1,4 @@
-use borrow.Author.Needs.{needs, sfits-of}
-use mathlib.Core.Path.{_≡_, ap, _∙_}
-use Prim.Native.Nat.{_^_, _≤_}
-use native.Mathlib.Omega.{arith}
-use lib.IntN.{ℤ, natAbs, _+ℤ_}
-use mir.Facts.{toZ-ofZ}
-use Rattle.line.specs.Before.{pointOf}
-use Rattle.line.specs.Line.{between}
-use Rattle.line.specs.Crossing.{sum, crossingBetween}
-use Rattle.line.specs.Ranges.{Between}
-use Rattle.line.proofs.Sizes.{between-deviates}
-use Rattle.line.proofs.Places.{rounded}
-use Rattle.line.proofs.Sums.{plus-fits, plus-made}
+use Rattle.reading.proofs.Names.{needs, sfits-of, _≡_, ap, _∙_, _^_, _≤_, arith, ℤ, natAbs, _+ℤ_, toZ-ofZ, pointOf, between, sum, crossingBetween, Between, between-deviates, rounded, plus-fits, plus-made}
 use Rattle.reading.proofs.fraction.between_in.Statement.{statement}
 use Rattle.reading.proofs.fraction.between_in.Tie as tie
 

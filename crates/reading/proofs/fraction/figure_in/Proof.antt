@@ -1,6 +1,4 @@
-use borrow.Author.Needs.{needs, sfits-of}
-use mathlib.Core.Path.{_∙_}
-use mir.Facts.{toZ-ofZ}
+use Rattle.reading.proofs.Names.{needs, sfits-of, _∙_, toZ-ofZ}
 use Rattle.reading.proofs.fraction.figure_in.Statement.{statement}
 use Rattle.reading.proofs.fraction.figure_in.Tie as tie
 

@@ -1,8 +1,4 @@
-use borrow.Author.Needs.{needs, sfits-of}
-use mathlib.Core.Path.{sym, _∙_}
-use mir.Facts.{toZ-ofZ}
-use Rattle.line.proofs.Sums.{told-small}
-use Rattle.sheet.proofs.HeldLaws.{domain-is}
+use Rattle.reading.proofs.Names.{needs, sfits-of, sym, _∙_, toZ-ofZ, told-small, domain-is}
 use Rattle.reading.proofs.Fractions.{table-shows, no-table-shows}
 use Rattle.reading.proofs.fraction.fraction.Statement.{statement}
 use Rattle.reading.proofs.fraction.fraction.Tie as tie

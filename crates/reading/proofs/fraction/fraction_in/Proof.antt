@@ -1,16 +1,4 @@
-use borrow.Author.Needs.{needs, sfits-of}
-use mathlib.Core.Path.{_≡_, _∙_}
-use Prim.Native.Nat.{ℕ}
-use native.Mathlib.Omega.{arith}
-use mir.Facts.{toZ-ofZ}
-use Rattle.layout.specs.Contents.{Contents}
-use Rattle.layout.specs.Image.{points}
-use Rattle.line.specs.Before.{Before}
-use Rattle.line.proofs.Places.{next-between}
-use Rattle.line.proofs.Sums.{told-small}
-use Rattle.sheet.specs.Opened.{Opens}
-use Rattle.sheet.proofs.HeldLaws.{points-are}
-use Rattle.reading.specs.Steps.{figureIn}
+use Rattle.reading.proofs.Names.{needs, sfits-of, _∙_, ℕ, arith, toZ-ofZ, Contents, points, Before, next-between, told-small, Opens, points-are, figureIn}
 use Rattle.reading.proofs.Opening.{opened-table, opened-figures, opened-rises}
 use Rattle.reading.proofs.Fractions.{none-shows, first-shows, last-shows, next-shows}
 use Rattle.reading.proofs.fraction.fraction_in.Statement.{statement}

@@ -1,10 +1,4 @@
-use borrow.Author.Needs.{needs, sfits-of}
-use mathlib.Core.Path.{ap, _∙_}
-use native.Mathlib.Omega.{arith}
-use lib.IntN.{ℤ}
-use mir.Facts.{toZ-ofZ}
-use Rattle.line.specs.Crossing.{crossingHeld}
-use Rattle.line.proofs.Sums.{plus-fits, plus-made, told-small}
+use Rattle.reading.proofs.Names.{needs, sfits-of, ap, _∙_, arith, ℤ, toZ-ofZ, crossingHeld, plus-fits, plus-made, told-small}
 use Rattle.reading.proofs.fraction.held_in.Statement.{statement}
 use Rattle.reading.proofs.fraction.held_in.Tie as tie
 

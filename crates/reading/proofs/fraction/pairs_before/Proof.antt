@@ -1,16 +1,5 @@
 -- `fraction::pairs_before` meets its contract. The loop's invariant: the pair before `low` is below p, and the pair at `high` is not.
-use borrow.Author.Needs.{needs, sfits-of}
-use Prim.Native.Nat.{ℕ, _-_, _≤_}
-use native.Mathlib.Omega.{arith}
-use mir.Syntax.{w64}
-use mir.Val.{SFits, toZ}
-use mir.Facts.{toZ-ofZ}
-use Rattle.layout.specs.Contents.{Contents}
-use Rattle.layout.specs.Image.{points}
-use Rattle.line.proofs.Places.{Search, search-all, search-left, search-right, search-done}
-use Rattle.sheet.specs.Opened.{Opens}
-use Rattle.sheet.proofs.HeldLaws.{points-are}
-use Rattle.reading.specs.Steps.{figureIn}
+use Rattle.reading.proofs.Names.{sfits-of, ℕ, _-_, _≤_, arith, w64, SFits, toZ, toZ-ofZ, Contents, points, Search, search-all, search-left, search-right, search-done, Opens, points-are, figureIn}
 use Rattle.reading.proofs.Opening.{opened-figures}
 use Rattle.reading.proofs.fraction.pairs_before.Statement.{statement}
 use Rattle.reading.proofs.fraction.pairs_before.Tie as tie

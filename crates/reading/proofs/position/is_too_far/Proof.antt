@@ -1,8 +1,4 @@
-use borrow.Author.Needs.{needs}
-use native.Mathlib.Omega.{arith}
-use mir.Syntax.{w64}
-use mir.Val.{toZ, ofZ}
-use mir.Facts.{toZ-ofZ}
+use Rattle.reading.proofs.Names.{needs, arith, w64, toZ, ofZ, toZ-ofZ}
 use Rattle.reading.proofs.Positions.{Inside, Small, offset-small, far-low, far-high}
 use Rattle.reading.proofs.position.is_too_far.Statement.{statement}
 use Rattle.reading.proofs.position.is_too_far.Tie as tie

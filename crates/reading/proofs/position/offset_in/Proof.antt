@@ -1,8 +1,4 @@
-use borrow.Author.Needs.{needs, sfits-of}
-use mathlib.Core.Path.{ap₂}
-use Prim.Native.Nat.{_+_}
-use Rattle.line.proofs.Distances.{less}
-use Rattle.line.proofs.Told.{told-up, told-dn, told-≤, told-gap}
+use Rattle.reading.proofs.Names.{needs, ap₂, _+_, less, told-up, told-dn, told-≤, told-gap}
 use Rattle.reading.proofs.position.offset_in.Statement.{statement}
 use Rattle.reading.proofs.position.offset_in.Tie as tie
 

@@ -1,7 +1,4 @@
-use borrow.Author.Needs.{needs, sfits-of}
-use mathlib.Core.Path.{_∙_}
-use native.Mathlib.Omega.{arith}
-use mir.Facts.{toZ-ofZ}
+use Rattle.reading.proofs.Names.{needs, sfits-of, _∙_, arith, toZ-ofZ}
 use Rattle.reading.proofs.Positions.{Small, offset-small, position-made, near-inside}
 use Rattle.reading.proofs.position.position.Statement.{statement}
 use Rattle.reading.proofs.position.position.Tie as tie

@@ -1,17 +1,5 @@
 -- `share::powers_of` meets its contract. The loop's invariant: what was taken and what is left give all powers.
-use borrow.Author.Needs.{needs}
-use mathlib.Core.Path.{_≡_, refl, _∙_, subst}
-use mathlib.Core.List.{[], _∷_}
-use Prim.Native.Nat.{_+_, _-_, _*_, _≤_}
-use native.Mathlib.Omega.{arith}
-use lib.IntN.{pos, natAbs}
-use mir.Syntax.{w64}
-use mir.Val.{SFits}
-use mir.Facts.{toZ-ofZ}
-use Rattle.layout.specs.Image.{streamIn}
-use Rattle.curve.specs.Powers.{noPowers, withTerm, taken}
-use Rattle.curve.proofs.PowerLaws.{few-powers}
-use Rattle.reading.specs.Steps.{ownTerms}
+use Rattle.reading.proofs.Names.{needs, _≡_, refl, _∙_, subst, [], _∷_, _+_, _-_, _*_, _≤_, arith, pos, natAbs, w64, SFits, toZ-ofZ, streamIn, noPowers, withTerm, taken, few-powers, ownTerms}
 use Rattle.reading.proofs.Terms.{all-left, one-taken, none-left}
 use Rattle.reading.proofs.share.powers_of.Statement.{statement}
 use Rattle.reading.proofs.share.powers_of.Tie as tie

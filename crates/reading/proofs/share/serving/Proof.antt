@@ -1,21 +1,6 @@
 -- `share::serving` meets its contract. The loop's invariant: the last segment that was looked at serves as far as is known.
-use borrow.Author.Needs.{needs}
-use mathlib.Core.Path.{_≡_, sym, ap, subst, _∙_}
-use mathlib.Core.List.{List}
-use Prim.Native.Nat.{ℕ, _+_, _-_, _*_, _^_, _≤_, _<_}
-use native.Mathlib.Omega.{arith}
-use lib.ListN.{length, length-map}
-use mir.Syntax.{w64}
-use mir.Val.{toZ, ofZ}
-use mir.Facts.{toZ-ofZ}
-use Rattle.layout.specs.Contents.{FoundSegment, Contents}
-use Rattle.layout.specs.Image.{streamIn, segmentsIn, segmentIn}
-use Rattle.layout.proofs.CurvePlaces.{CurveStands}
-use Rattle.sheet.specs.declared.opening.Opened.{Opened}
-use Rattle.sheet.specs.Opened.{Opens}
-use Rattle.sheet.specs.Walk.{segmentAt}
-use Rattle.sheet.proofs.HeldLaws.{behind-few, segments-are, segments-few, held-whole, held-curve}
-use Rattle.sheet.proofs.CurvePlaces.{terms-lt}
+use Rattle.reading.proofs.Names.{needs, _≡_, sym, ap, subst, _∙_, List, ℕ, _+_, _-_, _*_, _^_, _≤_, _<_, arith, length, length-map, w64, toZ, ofZ, toZ-ofZ, FoundSegment, Contents, streamIn, segmentsIn, segmentIn}
+use Rattle.reading.proofs.Names.{CurveStands, Opened, Opens, segmentAt, behind-few, segments-are, segments-few, held-whole, held-curve, terms-lt}
 use Rattle.reading.proofs.Serving.{Walked, walked-first, walked-on, served-here, served-last}
 use Rattle.reading.proofs.share.serving.Statement.{statement}
 use Rattle.reading.proofs.share.serving.Tie as tie

@@ -1,15 +1,5 @@
 -- `share::share` meets its contract.
-use borrow.Author.Needs.{needs}
-use mathlib.Core.Path.{_≡_, sym, ap, _∙_}
-use Prim.Native.Nat.{ℕ}
-use native.Mathlib.Omega.{arith}
-use lib.ListN.{length-map}
-use mir.Facts.{toZ-ofZ}
-use Rattle.layout.specs.Contents.{Contents}
-use Rattle.layout.specs.Image.{segmentsIn, segmentIn}
-use Rattle.fields.specs.Figure.{floatFraction}
-use Rattle.sheet.specs.Opened.{Opens}
-use Rattle.sheet.proofs.HeldLaws.{segments-are, held-whole, holding}
+use Rattle.reading.proofs.Names.{sym, ap, _∙_, arith, length-map, toZ-ofZ, segmentsIn, segmentIn, floatFraction, segments-are, held-whole, holding}
 use Rattle.reading.proofs.Terms.{by-curve, by-fraction}
 use Rattle.reading.proofs.share.share.Statement.{statement}
 use Rattle.reading.proofs.share.share.Tie as tie

@@ -1,13 +1,4 @@
-use borrow.Author.Needs.{needs}
-use mathlib.Core.Path.{sym, ap, _∙_}
-use native.Mathlib.Omega.{arith}
-use mir.Syntax.{w64}
-use mir.Facts.{toZ-ofZ}
-use Rattle.refusal.specs.Outcome.{refused}
-use Rattle.refusal.proofs.Outcomes.{told}
-use Rattle.fields.proofs.TemplateFacts.{span-listed}
-use Rattle.sheet.proofs.HeldLaws.{span-unscaled}
-use Rattle.reading.specs.Steps.{endsSaid}
+use Rattle.reading.proofs.Names.{needs, sym, ap, _∙_, arith, w64, toZ-ofZ, refused, told, span-listed, span-unscaled, endsSaid}
 use Rattle.reading.proofs.Opening.{bridge}
 use Rattle.reading.proofs.Spans.{no-low, no-high, by-ends}
 use Rattle.reading.proofs.span.span_in.Statement.{statement}

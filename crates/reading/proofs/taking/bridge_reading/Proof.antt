@@ -1,14 +1,4 @@
-use borrow.Author.Needs.{needs}
-use mathlib.Core.Path.{_≡_, sym, ap, _∙_}
-use Prim.Native.Nat.{ℕ}
-use mir.Facts.{toZ-ofZ}
-use Rattle.refusal.specs.Outcome.{good, refused}
-use Rattle.refusal.proofs.Outcomes.{told}
-use Rattle.layout.specs.Contents.{Contents}
-use Rattle.sheet.specs.Opened.{Opens}
-use Rattle.sheet.proofs.HeldLaws.{points-are}
-use Rattle.reading.specs.Reading.{tooMany, spanOf}
-use Rattle.reading.specs.Steps.{Ready, spanSaid}
+use Rattle.reading.proofs.Names.{needs, _≡_, sym, ap, _∙_, ℕ, toZ-ofZ, good, refused, told, Contents, Opens, points-are, tooMany, spanOf, Ready, spanSaid}
 use Rattle.reading.proofs.Spans.{resistance-is, span-ready}
 use Rattle.reading.proofs.Orders.{takes-no-span, takes-far, takes-shown}
 use Rattle.reading.proofs.taking.bridge_reading.Statement.{statement}

@@ -1,11 +1,5 @@
 -- `taking::dash_reading` meets its contract.
-use borrow.Author.Needs.{needs}
-use mathlib.Core.Path.{sym, ap, _∙_}
-use mir.Facts.{toZ-ofZ}
-use Rattle.refusal.specs.Outcome.{refused}
-use Rattle.refusal.specs.Rows.{tooManyPoints}
-use Rattle.sheet.proofs.HeldLaws.{points-are}
-use Rattle.reading.specs.Reading.{tooMany}
+use Rattle.reading.proofs.Names.{needs, sym, ap, _∙_, toZ-ofZ, refused, tooManyPoints, points-are, tooMany}
 use Rattle.reading.proofs.Spans.{resistance-is}
 use Rattle.reading.proofs.Orders.{takes-many}
 use Rattle.reading.proofs.taking.dash_reading.Statement.{statement}

@@ -1,4 +1,4 @@
-use borrow.Author.Needs.{needs}
+use Rattle.reading.proofs.Names.{needs}
 use Rattle.reading.proofs.taking.is_resistance.Statement.{statement}
 use Rattle.reading.proofs.taking.is_resistance.Tie as tie
 

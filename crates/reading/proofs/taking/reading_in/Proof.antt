@@ -1,6 +1,4 @@
-use borrow.Author.Needs.{needs}
-use mathlib.Core.Path.{sym, _∙_}
-use mir.Facts.{toZ-ofZ}
+use Rattle.reading.proofs.Names.{needs, sym, _∙_, toZ-ofZ}
 use Rattle.reading.proofs.Spans.{resistance-is}
 use Rattle.reading.proofs.Orders.{takes-none}
 use Rattle.reading.proofs.taking.reading_in.Statement.{statement}

@@ -1,13 +1,4 @@
-use borrow.Author.Needs.{needs, sfits-of}
-use mathlib.Core.Path.{_≡_, sym, ap, _∙_}
-use Prim.Native.Nat.{ℕ, _^_, _≤_}
-use native.Mathlib.Omega.{arith}
-use lib.IntN.{ℤ, natAbs}
-use mir.Facts.{toZ-ofZ}
-use Rattle.layout.specs.Contents.{Contents}
-use Rattle.line.proofs.Sums.{told-small}
-use Rattle.sheet.specs.Opened.{Opens}
-use Rattle.reading.specs.Reading.{position, fraction, share}
+use Rattle.reading.proofs.Names.{needs, sfits-of, _≡_, sym, ap, _∙_, ℕ, _^_, _≤_, arith, natAbs, toZ-ofZ, Contents, told-small, Opens, position, fraction, share}
 use Rattle.reading.proofs.Positions.{position-small}
 use Rattle.reading.proofs.Fractions.{fraction-small, reading-made}
 use Rattle.reading.proofs.taking.shown.Statement.{statement}

@@ -1,6 +1,4 @@
-use borrow.Author.Needs.{needs}
-use mir.Facts.{toZ-ofZ}
-use Rattle.sheet.proofs.OpenLaws.{opens, held, not-opened}
+use Rattle.reading.proofs.Names.{needs, toZ-ofZ, opens, held, not-opened}
 use Rattle.reading.proofs.Orders.{takes-refused}
 use Rattle.reading.proofs.taking.take_reading.Statement.{statement}
 use Rattle.reading.proofs.taking.take_reading.Tie as tie

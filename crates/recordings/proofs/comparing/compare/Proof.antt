@@ -1,6 +1,5 @@
 -- `comparing::compare` meets its contract.
-use borrow.Author.Needs.{needs}
-use Rattle.sheet.proofs.OpenLaws.{opens, held, not-opened}
+use Rattle.recordings.proofs.Names.{needs, opens, held, not-opened}
 use Rattle.recordings.proofs.Ticks.{compare-refused}
 use Rattle.recordings.proofs.comparing.compare.Statement.{statement}
 use Rattle.recordings.proofs.comparing.compare.Tie as tie

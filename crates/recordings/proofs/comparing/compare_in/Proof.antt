@@ -1,6 +1,5 @@
 -- `comparing::compare_in` meets its contract.
-use mathlib.Core.Path.{sym, _∙_}
-use borrow.Author.Needs.{needs}
+use Rattle.recordings.proofs.Names.{sym, _∙_, needs}
 use Rattle.recordings.proofs.Ticks.{compare-unlike, compare-like}
 use Rattle.recordings.proofs.comparing.compare_in.Statement.{statement}
 use Rattle.recordings.proofs.comparing.compare_in.Tie as tie

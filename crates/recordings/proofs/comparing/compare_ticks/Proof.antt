@@ -1,14 +1,5 @@
 -- `comparing::compare_ticks` meets its contract.
-use mathlib.Core.Path.{_≡_}
-use mathlib.Core.Bool.{true, false}
-use Prim.Native.Nat.{ℕ, _/_, _-_}
-use borrow.Author.Tests.{not-true, not-false}
-use native.Mathlib.Omega.{arith}
-use lib.ListN.{length}
-use Rattle.layout.specs.Contents.{Contents}
-use Rattle.sheet.specs.Opened.{Opens}
-use Rattle.recordings.specs.Recordings.{refreshes, right, comparedFrom}
-use Rattle.recordings.specs.Ticks.{refreshAt}
+use Rattle.recordings.proofs.Names.{_≡_, true, false, ℕ, _/_, _-_, not-true, not-false, arith, length, Contents, Opens, refreshes, right, comparedFrom, refreshAt}
 use Rattle.recordings.proofs.Ticks.{refreshesFrom, six-times, turn-fails, turn-next, turn-end}
 use Rattle.recordings.proofs.comparing.compare_ticks.Statement.{statement}
 use Rattle.recordings.proofs.comparing.compare_ticks.Tie as tie

@@ -1,12 +1,5 @@
 -- `comparing::is_paired` meets its contract.
-use mathlib.Core.Path.{_≡_}
-use mathlib.Core.Bool.{true, false}
-use Prim.Native.Nat.{_+_, _*_, _/_}
-use borrow.Author.Needs.{needs}
-use lib.IntN.{pos}
-use lib.ListN.{getD}
-use Rattle.recordings.specs.Recordings.{same}
-use Rattle.recordings.specs.Ticks.{refreshAt}
+use Rattle.recordings.proofs.Names.{_≡_, true, false, _+_, _*_, _/_, needs, pos, getD, same, refreshAt}
 use Rattle.recordings.proofs.Ticks.{seen, unpaired, input-differs, input-same}
 use Rattle.recordings.proofs.comparing.is_paired.Statement.{statement}
 use Rattle.recordings.proofs.comparing.is_paired.Tie as tie

@@ -1,7 +1,5 @@
 -- `comparing::is_right` meets its contract.
-use mathlib.Core.Path.{sym, _∙_}
-use borrow.Author.Needs.{needs}
-use Rattle.recordings.specs.Recordings.{right}
+use Rattle.recordings.proofs.Names.{sym, _∙_, needs, right}
 use Rattle.recordings.proofs.comparing.is_right.Statement.{statement}
 use Rattle.recordings.proofs.comparing.is_right.Tie as tie
 

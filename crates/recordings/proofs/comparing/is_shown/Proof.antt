@@ -1,17 +1,5 @@
 -- `comparing::is_shown` meets its contract.
-use mathlib.Core.Path.{_≡_}
-use Prim.Native.Nat.{_+_, _*_}
-use borrow.Author.Needs.{needs}
-use mir.Val.{SFits}
-use mir.Syntax.{w64}
-use mir.Facts.{toZ-ofZ}
-use lib.IntN.{pos}
-use lib.ListN.{getD}
-use Rattle.refusal.specs.Outcome.{good, refused}
-use Rattle.refusal.proofs.Outcomes.{told}
-use Rattle.reading.specs.declared.Dash.the-variants.{Large}
-use Rattle.reading.specs.Reading.{takeReading, readingSaid}
-use Rattle.recordings.specs.Ticks.{refreshAt}
+use Rattle.recordings.proofs.Names.{_≡_, _+_, _*_, needs, SFits, w64, toZ-ofZ, pos, getD, good, refused, told, Large, takeReading, readingSaid, refreshAt}
 use Rattle.recordings.proofs.Ticks.{seen, reading-refused, reading-taken}
 use Rattle.recordings.proofs.comparing.is_shown.Statement.{statement}
 use Rattle.recordings.proofs.comparing.is_shown.Tie as tie

@@ -1,8 +1,5 @@
 -- `comparing::is_unlike` meets its contract.
-use mathlib.Core.Path.{ap}
-use mathlib.Core.Bool.{not}
-use Prim.Native.Nat.{_/_}
-use borrow.Author.Tests.{eq-eqb, ne-eqb}
+use Rattle.recordings.proofs.Names.{ap, not, _/_, eq-eqb, ne-eqb}
 use Rattle.recordings.proofs.Ticks.{not-sixes, sixes}
 use Rattle.recordings.proofs.comparing.is_unlike.Statement.{statement}
 use Rattle.recordings.proofs.comparing.is_unlike.Tie as tie

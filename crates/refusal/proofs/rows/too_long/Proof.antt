@@ -1,7 +1,5 @@
 -- `rows::too_long` meets its contract.
-use mathlib.Core.Path.{ap}
-use native.Mathlib.Omega.{arith}
-use Rattle.refusal.specs.Rows.{returned}
+use Rattle.refusal.proofs.Names.{ap, arith, returned}
 use Rattle.refusal.proofs.rows.too_long.Statement.{statement}
 use Rattle.refusal.proofs.rows.too_long.Tie as tie
 

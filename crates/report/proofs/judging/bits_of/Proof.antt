@@ -1,4 +1,4 @@
-use borrow.Author.Needs.{needs}
+use Rattle.report.proofs.Names.{needs}
 use Rattle.report.proofs.judging.bits_of.Statement.{statement}
 use Rattle.report.proofs.judging.bits_of.Tie as tie
 

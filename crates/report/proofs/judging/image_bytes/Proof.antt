@@ -1,8 +1,4 @@
-use mathlib.Core.Path.{_≡_, refl, sym}
-use Prim.Native.Nat.{ℕ, zero, suc}
-use borrow.Author.Needs.{needs}
-use Rattle.memory.specs.Image.{sizesOf}
-use Rattle.report.specs.Judging.{bytesOf}
+use Rattle.report.proofs.Names.{_≡_, refl, sym, ℕ, zero, suc, needs, sizesOf, bytesOf}
 use Rattle.report.proofs.judging.image_bytes.Statement.{statement}
 use Rattle.report.proofs.judging.image_bytes.Tie as tie
 

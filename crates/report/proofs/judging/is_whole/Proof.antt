@@ -1,7 +1,4 @@
-use mathlib.Core.Path.{sym, ap, _∙_}
-use borrow.Author.Needs.{needs}
-use Rattle.memory.specs.Answers.{sizesSaid}
-use Rattle.report.specs.Judging.{isWhole}
+use Rattle.report.proofs.Names.{sym, ap, _∙_, needs, sizesSaid, isWhole}
 use Rattle.report.proofs.judging.is_whole.Statement.{statement}
 use Rattle.report.proofs.judging.is_whole.Tie as tie
 

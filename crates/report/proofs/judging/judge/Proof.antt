@@ -1,4 +1,4 @@
-use borrow.Author.Needs.{needs}
+use Rattle.report.proofs.Names.{needs}
 use Rattle.report.proofs.JudgeLaws.{bits-fit, judged-as}
 use Rattle.report.proofs.judging.judge.Statement.{statement}
 use Rattle.report.proofs.judging.judge.Tie as tie

@@ -1,4 +1,4 @@
-use borrow.Author.Needs.{needs}
+use Rattle.report.proofs.Names.{needs}
 use Rattle.report.proofs.LineLaws.{longer-more}
 use Rattle.report.proofs.lines.ended.Statement.{statement}
 use Rattle.report.proofs.lines.ended.Tie as tie

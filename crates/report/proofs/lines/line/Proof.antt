@@ -1,6 +1,4 @@
-use mathlib.Core.List.{[], _∷_}
-use borrow.Author.Needs.{needs}
-use Rattle.report.specs.Tray.{decimal}
+use Rattle.report.proofs.Names.{[], _∷_, needs, decimal}
 use Rattle.report.proofs.LineLaws.{line-reads}
 use Rattle.report.proofs.lines.line.Statement.{statement}
 use Rattle.report.proofs.lines.line.Tie as tie

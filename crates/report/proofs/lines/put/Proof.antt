@@ -1,8 +1,4 @@
-use Prim.Native.Nat.{_-_}
-use native.Mathlib.Omega.{arith}
-use borrow.Rule.Slice.PartMut.{mid-len}
-use lib.ListN.{length}
-use borrow.Author.Needs.{needs}
+use Rattle.report.proofs.Names.{_-_, arith, mid-len, length, needs}
 use Rattle.report.proofs.LineLaws.{put-as}
 use Rattle.report.proofs.lines.put.Statement.{statement}
 use Rattle.report.proofs.lines.put.Tie as tie

@@ -1,6 +1,4 @@
-use mathlib.Core.Path.{ap, _∙_}
-use lib.ListN.{take}
-use borrow.Author.Needs.{needs}
+use Rattle.report.proofs.Names.{ap, _∙_, take, needs}
 use Rattle.report.proofs.lines.text.Statement.{statement}
 use Rattle.report.proofs.lines.text.Tie as tie
 

@@ -1,4 +1,4 @@
-use borrow.Author.Needs.{needs}
+use Rattle.report.proofs.Names.{needs}
 use Rattle.report.proofs.LineLaws.{longer-reads}
 use Rattle.report.proofs.lines.total_line.Statement.{statement}
 use Rattle.report.proofs.lines.total_line.Tie as tie

@@ -1,4 +1,4 @@
-use borrow.Author.Needs.{needs}
+use Rattle.report.proofs.Names.{needs}
 use Rattle.report.proofs.LineLaws.{put-longer}
 use Rattle.report.proofs.lines.with.Statement.{statement}
 use Rattle.report.proofs.lines.with.Tie as tie

@@ -1,10 +1,4 @@
-use mathlib.Core.Path.{subst}
-use mathlib.Core.List.{List}
-use Prim.Native.Nat.{ℕ, _≤_}
-use native.Mathlib.Omega.{arith}
-use borrow.Author.Needs.{needs}
-use lib.ListN.{length}
-use Rattle.report.specs.Lines.{Longer}
+use Rattle.report.proofs.Names.{subst, List, ℕ, _≤_, arith, needs, length, Longer}
 use Rattle.report.proofs.DecimalLaws.{spelt-decimal}
 use Rattle.report.proofs.lines.with_number.Statement.{statement}
 use Rattle.report.proofs.lines.with_number.Tie as tie

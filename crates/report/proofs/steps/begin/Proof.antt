@@ -1,7 +1,4 @@
-use mathlib.Core.Path.{ap}
-use borrow.Author.Needs.{needs}
-use Rattle.report.specs.declared.Next.the-variants.{Kind}
-use Rattle.report.specs.Steps.{stateOf}
+use Rattle.report.proofs.Names.{ap, needs, Kind, stateOf}
 use Rattle.report.proofs.steps.begin.Statement.{statement}
 use Rattle.report.proofs.steps.begin.Tie as tie
 

@@ -1,5 +1,4 @@
-use mathlib.Core.Bool.{true, false}
-use borrow.Author.Needs.{needs}
+use Rattle.report.proofs.Names.{true, false, needs}
 use Rattle.report.proofs.StepLaws.{image-judged}
 use Rattle.report.proofs.steps.image_received.Statement.{statement}
 use Rattle.report.proofs.steps.image_received.Tie as tie

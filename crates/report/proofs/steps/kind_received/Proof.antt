@@ -1,6 +1,4 @@
-use native.Mathlib.Omega.{arith}
-use borrow.Author.Needs.{needs}
-use Rattle.report.specs.declared.Next.the-variants.{Kind}
+use Rattle.report.proofs.Names.{arith, needs, Kind}
 use Rattle.report.proofs.StepLaws.{steps-to, kind-first, kind-none}
 use Rattle.report.proofs.steps.kind_received.Statement.{statement}
 use Rattle.report.proofs.steps.kind_received.Tie as tie

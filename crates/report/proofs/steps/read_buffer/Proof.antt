@@ -1,4 +1,4 @@
-use borrow.Author.Needs.{needs}
+use Rattle.report.proofs.Names.{needs}
 use Rattle.report.proofs.StepLaws.{buffer-part}
 use Rattle.report.proofs.steps.read_buffer.Statement.{statement}
 use Rattle.report.proofs.steps.read_buffer.Tie as tie

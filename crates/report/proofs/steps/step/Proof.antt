@@ -1,4 +1,4 @@
-use borrow.Author.Needs.{needs}
+use Rattle.report.proofs.Names.{needs}
 use Rattle.report.proofs.StepLaws.{ongoing-as, step-as, total-step, nothing-step}
 use Rattle.report.proofs.steps.step.Statement.{statement}
 use Rattle.report.proofs.steps.step.Tie as tie

@@ -1,5 +1,4 @@
-use Rattle.fields.specs.declared.Scale.the-variants.{Current}
-use Rattle.fields.proofs.ScaleLaws.{tested}
+use Rattle.scales.proofs.Names.{Current, tested}
 use Rattle.scales.proofs.scales.currents.Statement.{statement}
 use Rattle.scales.proofs.scales.currents.Tie as tie
 

@@ -1,10 +1,4 @@
-use Prim.Native.Nat.{ℕ, _*_, _≤_}
-use native.Mathlib.Nat.{mul-le-mul}
-use native.Mathlib.Omega.{arith}
-use borrow.Author.Needs.{needs}
-use mir.Syntax.{w64}
-use mir.Val.{Fits}
-use Rattle.fields.specs.Rules.{goesUp}
+use Rattle.scales.proofs.Names.{ℕ, _*_, _≤_, mul-le-mul, arith, needs, w64, Fits, goesUp}
 use Rattle.scales.proofs.scales.goes_up.Statement.{statement}
 use Rattle.scales.proofs.scales.goes_up.Tie as tie
 

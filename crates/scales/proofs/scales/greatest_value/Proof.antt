@@ -1,7 +1,5 @@
 -- `scales::greatest_value` meets its contract. The value of the code is computed.
-use borrow.Author.Needs.{needs}
-use Rattle.integers.specs.Nearest.{nearest}
-use Rattle.fields.specs.Rules.{geometricValue}
+use Rattle.scales.proofs.Names.{needs, nearest, geometricValue}
 use Rattle.scales.proofs.scales.greatest_value.Statement.{statement}
 use Rattle.scales.proofs.scales.greatest_value.Tie as tie
 

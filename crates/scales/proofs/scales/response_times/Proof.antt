@@ -1,5 +1,4 @@
-use Rattle.fields.specs.declared.Scale.the-variants.{ResponseTime}
-use Rattle.fields.proofs.ScaleLaws.{tested}
+use Rattle.scales.proofs.Names.{ResponseTime, tested}
 use Rattle.scales.proofs.scales.response_times.Statement.{statement}
 use Rattle.scales.proofs.scales.response_times.Tie as tie
 

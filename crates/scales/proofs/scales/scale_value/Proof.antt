@@ -1,8 +1,4 @@
-use mathlib.Core.Path.{ap, _∙_}
-use native.Mathlib.Omega.{arith}
-use borrow.Author.Needs.{needs}
-use lib.IntN.{pos}
-use Rattle.fields.proofs.EncodeLaws.{handed-on}
+use Rattle.scales.proofs.Names.{ap, _∙_, arith, needs, pos, handed-on}
 use Rattle.scales.proofs.scales.scale_value.Statement.{statement}
 use Rattle.scales.proofs.scales.scale_value.Tie as tie
 

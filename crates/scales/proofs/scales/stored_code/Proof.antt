@@ -1,6 +1,4 @@
-use mathlib.Core.Path.{_∙_}
-use borrow.Author.Needs.{needs}
-use Rattle.fields.proofs.ScaleLaws.{list-rises, within-list, stored-by}
+use Rattle.scales.proofs.Names.{_∙_, needs, list-rises, within-list, stored-by}
 use Rattle.scales.proofs.scales.stored_code.Statement.{statement}
 use Rattle.scales.proofs.scales.stored_code.Tie as tie
 

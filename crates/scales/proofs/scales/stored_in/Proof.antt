@@ -1,13 +1,5 @@
 -- `scales::stored_in` meets its contract. The loop's invariant: the code is from `low` to `high`.
-use mathlib.Core.Path.{sym, _∙_}
-use Prim.Native.Nat.{_+_, _-_, _/_, _≤_}
-use native.Mathlib.Numerals.{add-one}
-use native.Mathlib.Omega.{arith}
-use borrow.Author.Needs.{needs}
-use lib.ListN.{length}
-use Rattle.fields.specs.Rules.{storedAt}
-use Rattle.fields.specs.Tables.{listed}
-use Rattle.fields.proofs.StoringLaws.{inside, reached, not-reached}
+use Rattle.scales.proofs.Names.{sym, _∙_, _+_, _-_, _/_, _≤_, add-one, arith, needs, length, storedAt, listed, inside, reached, not-reached}
 use Rattle.scales.proofs.scales.stored_in.Statement.{statement}
 use Rattle.scales.proofs.scales.stored_in.Tie as tie
 

@@ -1,8 +1,4 @@
-use native.Mathlib.Omega.{arith}
-use borrow.Author.Needs.{needs}
-use mir.Syntax.{w64}
-use mir.Facts.{toZ-pos}
-use Rattle.fields.specs.Tables.{listed}
+use Rattle.scales.proofs.Names.{arith, needs, w64, toZ-pos, listed}
 use Rattle.scales.proofs.scales.value_in.Statement.{statement}
 use Rattle.scales.proofs.scales.value_in.Tie as tie
 

@@ -1,8 +1,4 @@
-use borrow.Author.Needs.{needs, sfits-of}
-use mathlib.Core.Path.{_∙_}
-use native.Mathlib.Omega.{arith}
-use mir.Facts.{toZ-ofZ}
-use Rattle.fields.proofs.SingleRounding.{den-pos, zero-bits, plus-bits, minus-bits}
+use Rattle.scales.proofs.Names.{needs, sfits-of, _∙_, arith, toZ-ofZ, den-pos, zero-bits, plus-bits, minus-bits}
 use Rattle.scales.proofs.singles.from_bits.Statement.{statement}
 use Rattle.scales.proofs.singles.from_bits.Tie as tie
 

@@ -1,9 +1,4 @@
-use borrow.Author.Needs.{needs, sfits-of}
-use lib.Ieee.{binary32}
-use lib.Ieee.Bits.{ofBits-toBits}
-use mir.Facts.{toZ-ofZ}
-use Rattle.fields.proofs.FloatLaws.{nan-is, not-nan}
-use Rattle.fields.proofs.SingleValues.{not-finite-far, far-single, near-single}
+use Rattle.scales.proofs.Names.{needs, sfits-of, binary32, ofBits-toBits, toZ-ofZ, nan-is, not-nan, not-finite-far, far-single, near-single}
 use Rattle.scales.proofs.singles.nanovolts.Statement.{statement}
 use Rattle.scales.proofs.singles.nanovolts.Tie as tie
 

@@ -1,8 +1,4 @@
-use Prim.Native.Nat.{_+_}
-use native.Mathlib.Omega.{arith}
-use borrow.Author.Needs.{needs}
-use Rattle.integers.proofs.Bridge.{seen}
-use Rattle.fields.proofs.StepLaws.{not-below, code-is}
+use Rattle.scales.proofs.Names.{_+_, arith, needs, seen, not-below, code-is}
 use Rattle.scales.proofs.steps.step_code.Statement.{statement}
 use Rattle.scales.proofs.steps.step_code.Tie as tie
 

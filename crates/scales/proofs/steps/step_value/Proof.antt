@@ -1,10 +1,4 @@
-use mathlib.Core.Path.{_∙_}
-use Prim.Native.Nat.{_*_}
-use native.Mathlib.Omega.{arith}
-use borrow.Author.Needs.{needs}
-use mir.Facts.{toZ-ofZ}
-use Rattle.integers.proofs.Bridge.{seen}
-use Rattle.fields.proofs.StepLaws.{reach, made}
+use Rattle.scales.proofs.Names.{_∙_, _*_, arith, needs, toZ-ofZ, seen, reach, made}
 use Rattle.scales.proofs.steps.step_value.Statement.{statement}
 use Rattle.scales.proofs.steps.step_value.Tie as tie
 

@@ -1,7 +1,4 @@
-use borrow.Author.Needs.{needs}
-use mathlib.Core.Path.{ap, _∙_}
-use Rattle.refusal.specs.Outcome.{refused}
-use Rattle.layout.specs.Image.{streamIn}
+use Rattle.sheet.proofs.Names.{needs, ap, _∙_, refused, streamIn}
 use Rattle.sheet.proofs.Steps.{got, past}
 use Rattle.sheet.proofs.BlockSteps.{selector-past, selects-block, selects-end, selects-none}
 use Rattle.sheet.proofs.block.take_calibration.Statement.{statement}

@@ -1,5 +1,4 @@
-use borrow.Author.Needs.{needs}
-use Rattle.layout.specs.Image.{streamIn}
+use Rattle.sheet.proofs.Names.{needs, streamIn}
 use Rattle.sheet.proofs.BlockSteps.{block-halts, last-halts, last-stands}
 use Rattle.sheet.proofs.block.take_only_block.Statement.{statement}
 use Rattle.sheet.proofs.block.take_only_block.Tie as tie

@@ -1,6 +1,4 @@
-use borrow.Author.Needs.{needs}
-use mathlib.Core.Path.{sym, ap, _∙_}
-use Rattle.refusal.specs.Outcome.{good}
+use Rattle.sheet.proofs.Names.{needs, sym, ap, _∙_, good}
 use Rattle.sheet.proofs.OpenLaws.{opens, not-opened}
 use Rattle.sheet.proofs.ReadLaws.{accepted-reads, refused-reads}
 use Rattle.sheet.proofs.calls.check.Statement.{statement}

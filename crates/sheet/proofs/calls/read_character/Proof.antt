@@ -1,9 +1,4 @@
-use borrow.Author.Needs.{needs}
-use mathlib.Core.Path.{sym, ap, _∙_}
-use mathlib.Core.Logic.{⊎-elim}
-use native.Mathlib.Omega.{arith}
-use Rattle.refusal.specs.Outcome.{good, refused}
-use Rattle.sheet.specs.declared.opening.Item.the-variants.{Character}
+use Rattle.sheet.proofs.Names.{needs, sym, ap, _∙_, ⊎-elim, arith, good, refused, Character}
 use Rattle.sheet.proofs.OpenLaws.{item-opens, item-held, item-none}
 use Rattle.sheet.proofs.HeldLaws.{characters-are}
 use Rattle.sheet.proofs.ReadLaws.{accepted-reads, refused-reads}

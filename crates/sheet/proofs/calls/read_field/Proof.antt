@@ -1,9 +1,4 @@
-use borrow.Author.Needs.{needs}
-use mathlib.Core.Path.{sym, ap, _∙_}
-use mathlib.Core.Logic.{inl, inr}
-use native.Mathlib.Omega.{arith}
-use Rattle.refusal.specs.Outcome.{good, refused}
-use Rattle.fields.specs.Lines.{lastField}
+use Rattle.sheet.proofs.Names.{needs, sym, ap, _∙_, inl, inr, arith, good, refused, lastField}
 use Rattle.sheet.proofs.OpenLaws.{opens, held, not-opened}
 use Rattle.sheet.proofs.HeldLaws.{layout-is}
 use Rattle.sheet.proofs.ReadLaws.{accepted-reads, refused-reads}

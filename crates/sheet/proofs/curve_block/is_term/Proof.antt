@@ -1,13 +1,5 @@
 -- `curve_block::is_term` meets its contract: the exponent's code is the lowest bits, the coefficient's those above them.
-use borrow.Author.Needs.{needs}
-use mathlib.Core.Path.{_≡_, sym, _∙_}
-use mathlib.Core.Bool.{true, false}
-use Prim.Native.Nat.{ℕ}
-use native.Mathlib.Omega.{arith}
-use lib.Bits.{and-mask}
-use Rattle.refusal.proofs.Outcomes.{told}
-use Rattle.fields.specs.Answers.{judgedSaid}
-use Rattle.fields.proofs.RowLaws.{exponent-sound, coefficient-sound}
+use Rattle.sheet.proofs.Names.{needs, _≡_, sym, _∙_, true, false, ℕ, arith, and-mask, told, judgedSaid, exponent-sound, coefficient-sound}
 use Rattle.sheet.proofs.curve_block.is_term.Statement.{statement}
 use Rattle.sheet.proofs.curve_block.is_term.Tie as tie
 

@@ -1,6 +1,4 @@
-use borrow.Author.Needs.{needs}
-use mathlib.Core.Path.{ap}
-use Rattle.refusal.specs.Outcome.{refused}
+use Rattle.sheet.proofs.Names.{needs, ap, refused}
 use Rattle.sheet.proofs.curve_block.ruled.Statement.{statement}
 use Rattle.sheet.proofs.curve_block.ruled.Tie as tie
 

@@ -1,10 +1,4 @@
-use borrow.Author.Needs.{needs}
-use mathlib.Core.Path.{_∙_}
-use native.Mathlib.Omega.{arith}
-use Rattle.fields.specs.Curves.{termCount, isTermCount}
-use Rattle.fields.proofs.CurveLaws.{terms-most}
-use Rattle.layout.specs.Image.{streamIn}
-use Rattle.sheet.specs.Walk.{codeSaid}
+use Rattle.sheet.proofs.Names.{needs, _∙_, arith, termCount, isTermCount, terms-most, streamIn, codeSaid}
 use Rattle.sheet.proofs.Steps.{carried}
 use Rattle.sheet.proofs.CurveSteps.{ruled-taken}
 use Rattle.sheet.proofs.curve_block.take_counted.Statement.{statement}

@@ -1,6 +1,4 @@
-use borrow.Author.Needs.{needs}
-use Rattle.fields.proofs.RowLaws.{curve-domain-sound}
-use Rattle.layout.specs.Image.{streamIn}
+use Rattle.sheet.proofs.Names.{needs, curve-domain-sound, streamIn}
 use Rattle.sheet.proofs.CurveSteps.{domain-halts, count-halts, segments-halt, curve-stands}
 use Rattle.sheet.proofs.curve_block.take_curve.Statement.{statement}
 use Rattle.sheet.proofs.curve_block.take_curve.Tie as tie

@@ -1,7 +1,4 @@
-use borrow.Author.Needs.{needs}
-use mathlib.Core.Path.{ap, _∙_}
-use Rattle.refusal.specs.Outcome.{refused}
-use Rattle.layout.specs.Image.{streamIn}
+use Rattle.sheet.proofs.Names.{needs, ap, _∙_, refused, streamIn}
 use Rattle.sheet.proofs.CurveSteps.{too-many, terms-passed}
 use Rattle.sheet.proofs.curve_block.take_own_terms.Statement.{statement}
 use Rattle.sheet.proofs.curve_block.take_own_terms.Tie as tie

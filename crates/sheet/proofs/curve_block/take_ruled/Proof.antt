@@ -1,7 +1,4 @@
-use borrow.Author.Needs.{needs}
-use mathlib.Core.Path.{_∙_}
-use Rattle.coding.specs.CurveRules.{curveRow, curveRule}
-use Rattle.layout.specs.Image.{streamIn}
+use Rattle.sheet.proofs.Names.{needs, _∙_, curveRow, curveRule, streamIn}
 use Rattle.sheet.proofs.CurveSteps.{curve-sound, ruled-halts, ruled-steps}
 use Rattle.sheet.proofs.curve_block.take_ruled.Statement.{statement}
 use Rattle.sheet.proofs.curve_block.take_ruled.Tie as tie

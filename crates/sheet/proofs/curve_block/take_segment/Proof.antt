@@ -1,7 +1,4 @@
-use borrow.Author.Needs.{needs}
-use mathlib.Core.Path.{_∙_}
-use Rattle.layout.specs.Image.{streamIn}
-use Rattle.sheet.specs.Walk.{passed, codeSaid}
+use Rattle.sheet.proofs.Names.{needs, _∙_, streamIn, passed, codeSaid}
 use Rattle.sheet.proofs.Steps.{carried}
 use Rattle.sheet.proofs.CurveSteps.{segment-by}
 use Rattle.sheet.proofs.curve_block.take_segment.Statement.{statement}

@@ -1,11 +1,4 @@
-use borrow.Author.Needs.{needs}
-use mathlib.Core.Path.{_≡_, refl, sym, _∙_}
-use Prim.Native.Nat.{_≤_}
-use native.Mathlib.Omega.{arith}
-use Rattle.refusal.proofs.Outcomes.{told}
-use Rattle.layout.specs.Contents.{segmentOf, behindSegment, nothingPassed, segmentsOf}
-use Rattle.layout.specs.Image.{streamIn}
-use Rattle.sheet.specs.Walk.{passed, segmentStepSaid}
+use Rattle.sheet.proofs.Names.{needs, _≡_, refl, sym, _∙_, _≤_, arith, told, segmentOf, behindSegment, nothingPassed, segmentsOf, streamIn, passed, segmentStepSaid}
 use Rattle.sheet.proofs.CurveSteps.{passedLeft, passed-done, passed-halts, passed-next, total-few}
 use Rattle.sheet.proofs.curve_block.take_segments.Statement.{statement}
 use Rattle.sheet.proofs.curve_block.take_segments.Tie as tie

@@ -1,14 +1,5 @@
 -- `curve_block::take_term` meets its contract: a term of 39 bits that stands, or what its fields one by one come to.
-use borrow.Author.Needs.{needs}
-use mathlib.Core.Path.{ap₂, _∙_}
-use mathlib.Core.Option.{some}
-use Prim.Native.Nat.{ℕ}
-use native.Mathlib.Omega.{arith}
-use lib.Bits.{and-mask}
-use Rattle.refusal.specs.Outcome.{good}
-use Rattle.fields.specs.Answers.{earlierSaid}
-use Rattle.layout.specs.Image.{streamIn}
-use Rattle.layout.proofs.Formats.{parsed}
+use Rattle.sheet.proofs.Names.{needs, ap₂, _∙_, some, ℕ, arith, and-mask, good, earlierSaid, streamIn, parsed}
 use Rattle.sheet.proofs.Steps.{got, bits-here}
 use Rattle.sheet.proofs.CurveSteps.{term-at-once}
 use Rattle.sheet.proofs.curve_block.take_term.Statement.{statement}

@@ -1,7 +1,4 @@
-use borrow.Author.Needs.{needs}
-use Rattle.fields.specs.Answers.{earlierSaid}
-use Rattle.fields.proofs.RowLaws.{coefficient-sound}
-use Rattle.layout.specs.Image.{streamIn}
+use Rattle.sheet.proofs.Names.{needs, earlierSaid, coefficient-sound, streamIn}
 use Rattle.sheet.proofs.CurveSteps.{exponent-halts, coefficient-halts, term-stands}
 use Rattle.sheet.proofs.curve_block.take_term_apart.Statement.{statement}
 use Rattle.sheet.proofs.curve_block.take_term_apart.Tie as tie

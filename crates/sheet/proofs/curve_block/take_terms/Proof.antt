@@ -1,11 +1,4 @@
-use borrow.Author.Needs.{needs}
-use mathlib.Core.Path.{_≡_, refl, sym, _∙_}
-use mathlib.Core.Option.{none}
-use Rattle.refusal.proofs.Outcomes.{told}
-use Rattle.fields.specs.Answers.{earlierSaid}
-use Rattle.layout.specs.Contents.{termOf, behindTerm, termsOf}
-use Rattle.layout.specs.Image.{streamIn}
-use Rattle.sheet.specs.Walk.{earlierStepSaid}
+use Rattle.sheet.proofs.Names.{needs, _≡_, refl, sym, _∙_, none, told, earlierSaid, termOf, behindTerm, termsOf, streamIn, earlierStepSaid}
 use Rattle.sheet.proofs.CurveSteps.{passedLeft, passed-done, passed-halts, passed-next}
 use Rattle.sheet.proofs.curve_block.take_terms.Statement.{statement}
 use Rattle.sheet.proofs.curve_block.take_terms.Tie as tie

@@ -1,6 +1,4 @@
-use borrow.Author.Needs.{needs}
-use native.Mathlib.Omega.{arith}
-use borrow.Author.Tests.{eq-eqb, ne-eqb}
+use Rattle.sheet.proofs.Names.{needs, arith, eq-eqb, ne-eqb}
 use Rattle.sheet.proofs.ending.most_characters.Statement.{statement}
 use Rattle.sheet.proofs.ending.most_characters.Tie as tie
 

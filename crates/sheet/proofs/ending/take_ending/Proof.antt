@@ -1,5 +1,4 @@
-use borrow.Author.Needs.{needs}
-use Rattle.layout.specs.Image.{streamIn}
+use Rattle.sheet.proofs.Names.{needs, streamIn}
 use Rattle.sheet.proofs.Steps.{got, past}
 use Rattle.sheet.proofs.TextSteps.{ending-past, text-halts, text-counts}
 use Rattle.sheet.proofs.ending.take_ending.Statement.{statement}

@@ -1,11 +1,4 @@
-use borrow.Author.Needs.{needs}
-use mathlib.Core.Path.{_≡_, refl, sym, _∙_}
-use Prim.Native.Nat.{_≤_}
-use lib.ListN.{length}
-use Rattle.layout.specs.Format.{parse}
-use Rattle.layout.specs.Contents.{charactersOf}
-use Rattle.layout.specs.Image.{streamIn}
-use Rattle.sheet.specs.Walk.{keeping}
+use Rattle.sheet.proofs.Names.{needs, _≡_, refl, sym, _∙_, _≤_, length, parse, charactersOf, streamIn, keeping}
 use Rattle.sheet.proofs.Steps.{countLeft, count-start, count-done, got, past}
 use Rattle.sheet.proofs.TextSteps.{text-past, text-zero, text-next}
 use Rattle.sheet.proofs.ending.take_text.Statement.{statement}

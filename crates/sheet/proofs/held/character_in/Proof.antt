@@ -1,8 +1,4 @@
-use borrow.Author.Needs.{needs}
-use mathlib.Core.Path.{ap, _∙_}
-use native.Mathlib.Omega.{arith}
-use Rattle.refusal.proofs.Outcomes.{good-same, no-value}
-use Rattle.layout.specs.Image.{streamIn}
+use Rattle.sheet.proofs.Names.{needs, ap, _∙_, arith, good-same, no-value, streamIn}
 use Rattle.sheet.proofs.Steps.{got, past, bits-lt}
 use Rattle.sheet.proofs.HeldLaws.{held-whole, place-few, held-character}
 use Rattle.sheet.proofs.held.character_in.Statement.{statement}

@@ -1,8 +1,4 @@
-use borrow.Author.Needs.{needs}
-use mathlib.Core.Path.{_∙_, sym, ap}
-use mir.Syntax.{w64}
-use mir.Facts.{toZ-ofZ}
-use Rattle.layout.specs.Image.{figure}
+use Rattle.sheet.proofs.Names.{needs, _∙_, sym, ap, w64, toZ-ofZ, figure}
 use Rattle.sheet.proofs.held.figure.Statement.{statement}
 use Rattle.sheet.proofs.held.figure.Tie as tie
 

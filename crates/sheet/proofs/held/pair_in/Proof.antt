@@ -1,10 +1,5 @@
 -- `held::pair_in` meets its contract.
-use borrow.Author.Needs.{needs}
-use mathlib.Core.Path.{ap, _∙_}
-use native.Mathlib.Omega.{arith}
-use Rattle.refusal.proofs.Outcomes.{good-same, no-value}
-use Rattle.layout.specs.Image.{streamIn, pairIn}
-use Rattle.layout.proofs.Rising.{pairFrom}
+use Rattle.sheet.proofs.Names.{needs, ap, _∙_, arith, good-same, no-value, streamIn, pairIn, pairFrom}
 use Rattle.sheet.proofs.Steps.{got, past, bits-lt}
 use Rattle.sheet.proofs.HeldLaws.{held-whole, behind-few, index-few, held-pair}
 use Rattle.sheet.proofs.held.pair_in.Statement.{statement}

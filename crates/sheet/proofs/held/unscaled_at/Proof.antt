@@ -1,6 +1,4 @@
-use borrow.Author.Needs.{needs}
-use mathlib.Core.Path.{ap}
-use Rattle.sheet.specs.Walk.{valueIn}
+use Rattle.sheet.proofs.Names.{needs, ap, valueIn}
 use Rattle.sheet.proofs.Steps.{field-missed, field-lies, value-means, value-refused}
 use Rattle.sheet.proofs.held.unscaled_at.Statement.{statement}
 use Rattle.sheet.proofs.held.unscaled_at.Tie as tie

@@ -1,10 +1,4 @@
-use borrow.Author.Needs.{needs}
-use mathlib.Core.Path.{ap₂, _∙_}
-use Rattle.fields.proofs.RowLaws.{row-sound}
-use Rattle.layout.specs.Format.{parse}
-use Rattle.layout.specs.Contents.{fieldOf}
-use Rattle.layout.specs.Image.{streamIn}
-use Rattle.sheet.specs.Walk.{valueIn}
+use Rattle.sheet.proofs.Names.{needs, ap₂, _∙_, row-sound, parse, fieldOf, streamIn, valueIn}
 use Rattle.sheet.proofs.HeldLaws.{held-whole, held-field}
 use Rattle.sheet.proofs.held.unscaled_in.Statement.{statement}
 use Rattle.sheet.proofs.held.unscaled_in.Tie as tie

@@ -1,6 +1,4 @@
-use borrow.Author.Needs.{needs}
-use mathlib.Core.Path.{ap, _∙_}
-use Rattle.refusal.specs.Outcome.{refused}
+use Rattle.sheet.proofs.Names.{needs, ap, _∙_, refused}
 use Rattle.sheet.proofs.OpenLaws.{sizes-refused, sized, roomy, sums-blank, sums-wrong, sums-right}
 use Rattle.sheet.proofs.opening.open.Statement.{statement}
 use Rattle.sheet.proofs.opening.open.Tie as tie

@@ -1,7 +1,4 @@
-use borrow.Author.Needs.{needs}
-use mathlib.Core.Path.{ap, _∙_}
-use native.Mathlib.Omega.{arith}
-use Rattle.refusal.specs.Outcome.{refused}
+use Rattle.sheet.proofs.Names.{needs, ap, _∙_, arith, refused}
 use Rattle.sheet.proofs.OpenLaws.{item-refused, no-item, an-item}
 use Rattle.sheet.proofs.opening.open_at.Statement.{statement}
 use Rattle.sheet.proofs.opening.open_at.Tie as tie

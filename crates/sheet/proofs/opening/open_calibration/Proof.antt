@@ -1,6 +1,4 @@
-use borrow.Author.Needs.{needs}
-use mathlib.Core.Path.{_∙_}
-use Rattle.sheet.specs.Walk.{blockSaid}
+use Rattle.sheet.proofs.Names.{needs, _∙_, blockSaid}
 use Rattle.sheet.proofs.Steps.{carried}
 use Rattle.sheet.proofs.opening.open_calibration.Statement.{statement}
 use Rattle.sheet.proofs.opening.open_calibration.Tie as tie

@@ -1,6 +1,4 @@
-use borrow.Author.Needs.{needs}
-use Rattle.layout.specs.Image.{streamIn}
-use Rattle.sheet.specs.Walk.{endSaid}
+use Rattle.sheet.proofs.Names.{needs, streamIn, endSaid}
 use Rattle.sheet.proofs.Steps.{carried}
 use Rattle.sheet.proofs.SheetSteps.{sheet-opens}
 use Rattle.sheet.proofs.opening.open_ending.Statement.{statement}

@@ -1,6 +1,4 @@
-use borrow.Author.Needs.{needs}
-use mathlib.Core.Path.{_∙_}
-use Rattle.sheet.specs.Walk.{choiceSaid}
+use Rattle.sheet.proofs.Names.{needs, _∙_, choiceSaid}
 use Rattle.sheet.proofs.Steps.{carried}
 use Rattle.sheet.proofs.opening.open_own.Statement.{statement}
 use Rattle.sheet.proofs.opening.open_own.Tie as tie

@@ -1,7 +1,4 @@
-use borrow.Author.Needs.{needs}
-use mathlib.Core.Path.{_∙_}
-use Rattle.layout.specs.Places.{firstSelector}
-use Rattle.sheet.specs.Walk.{stoodTo}
+use Rattle.sheet.proofs.Names.{needs, _∙_, firstSelector, stoodTo}
 use Rattle.sheet.proofs.Steps.{carried}
 use Rattle.sheet.proofs.SheetSteps.{walked-by}
 use Rattle.sheet.proofs.opening.walk_sheet.Statement.{statement}

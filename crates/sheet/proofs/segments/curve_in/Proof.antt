@@ -1,4 +1,4 @@
-use borrow.Author.Needs.{needs}
+use Rattle.sheet.proofs.Names.{needs}
 use Rattle.sheet.proofs.segments.curve_in.Statement.{statement}
 use Rattle.sheet.proofs.segments.curve_in.Tie as tie
 

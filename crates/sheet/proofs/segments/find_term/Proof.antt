@@ -1,9 +1,4 @@
-use borrow.Author.Needs.{needs}
-use mathlib.Core.Path.{_≡_, refl, sym, ap, _∙_}
-use Prim.Native.Nat.{ℕ, _+_, _-_, _*_, _≤_}
-use native.Mathlib.Omega.{arith}
-use Rattle.layout.specs.Image.{streamIn}
-use Rattle.sheet.specs.Walk.{termPlace}
+use Rattle.sheet.proofs.Names.{needs, _≡_, refl, sym, ap, _∙_, ℕ, _+_, _-_, _*_, _≤_, arith, streamIn, termPlace}
 use Rattle.sheet.proofs.CurvePlaces.{term-in-it, term-behind-it}
 use Rattle.sheet.proofs.segments.find_term.Statement.{statement}
 use Rattle.sheet.proofs.segments.find_term.Tie as tie

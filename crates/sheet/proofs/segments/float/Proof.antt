@@ -1,7 +1,4 @@
-use borrow.Author.Needs.{needs}
-use mathlib.Core.Path.{sym, ap, _∙_}
-use Rattle.layout.specs.Image.{float}
-use Rattle.fields.proofs.FloatLaws.{no-number}
+use Rattle.sheet.proofs.Names.{needs, sym, ap, _∙_, float, no-number}
 use Rattle.sheet.proofs.segments.float.Statement.{statement}
 use Rattle.sheet.proofs.segments.float.Tie as tie
 

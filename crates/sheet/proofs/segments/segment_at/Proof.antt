@@ -1,14 +1,4 @@
-use borrow.Author.Needs.{needs}
-use mathlib.Core.Path.{ap, ap₂, _∙_}
-use Prim.Native.Nat.{ℕ}
-use lib.IntN.{ℤ}
-use mir.Facts.{toZ-ofZ}
-use Rattle.fields.specs.declared.Row.{Row}
-use Rattle.fields.proofs.RowLaws.{start-sound}
-use Rattle.layout.specs.Format.{parse}
-use Rattle.layout.specs.Contents.{fieldOf}
-use Rattle.layout.specs.Image.{streamIn, figure}
-use Rattle.sheet.specs.Walk.{valueIn}
+use Rattle.sheet.proofs.Names.{needs, ap, ap₂, _∙_, ℕ, ℤ, toZ-ofZ, Row, start-sound, parse, fieldOf, streamIn, figure, valueIn}
 use Rattle.sheet.proofs.segments.segment_at.Statement.{statement}
 use Rattle.sheet.proofs.segments.segment_at.Tie as tie
 

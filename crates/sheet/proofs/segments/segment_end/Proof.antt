@@ -1,6 +1,4 @@
-use borrow.Author.Needs.{needs}
-use mathlib.Core.Path.{ap, _∙_}
-use native.Mathlib.Omega.{arith}
+use Rattle.sheet.proofs.Names.{needs, ap, _∙_, arith}
 use Rattle.sheet.proofs.segments.segment_end.Statement.{statement}
 use Rattle.sheet.proofs.segments.segment_end.Tie as tie
 

@@ -1,8 +1,4 @@
-use mathlib.Core.Path.{ap, _∙_}
-use Prim.Native.Nat.{ℕ}
-use native.Mathlib.Omega.{arith}
-use Rattle.layout.specs.Image.{streamIn}
-use Rattle.sheet.specs.Walk.{segmentAt, behindSegments}
+use Rattle.sheet.proofs.Names.{ap, _∙_, ℕ, arith, streamIn, segmentAt, behindSegments}
 use Rattle.sheet.proofs.HeldLaws.{held-whole, behind-few, segments-few, held-segment}
 use Rattle.sheet.proofs.segments.segment_in.Statement.{statement}
 use Rattle.sheet.proofs.segments.segment_in.Tie as tie

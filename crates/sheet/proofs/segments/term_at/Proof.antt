@@ -1,15 +1,4 @@
-use borrow.Author.Needs.{needs}
-use mathlib.Core.Path.{ap, ap₂, _∙_}
-use Prim.Native.Nat.{ℕ, _/_}
-use lib.IntN.{ℤ, pos, natAbs}
-use lib.Ieee.{Float}
-use mir.Facts.{toZ-ofZ}
-use Rattle.fields.specs.declared.Row.{Row}
-use Rattle.fields.proofs.RowLaws.{exponent-sound, coefficient-sound}
-use Rattle.layout.specs.Format.{parse}
-use Rattle.layout.specs.Contents.{fieldOf}
-use Rattle.layout.specs.Image.{streamIn, figure, float}
-use Rattle.sheet.specs.Walk.{valueIn}
+use Rattle.sheet.proofs.Names.{needs, ap, ap₂, _∙_, ℕ, _/_, ℤ, pos, natAbs, Float, toZ-ofZ, Row, exponent-sound, coefficient-sound, parse, fieldOf, streamIn, figure, float, valueIn}
 use Rattle.sheet.proofs.segments.term_at.Statement.{statement}
 use Rattle.sheet.proofs.segments.term_at.Tie as tie
 

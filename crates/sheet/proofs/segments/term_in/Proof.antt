@@ -1,8 +1,4 @@
-use mathlib.Core.Path.{ap, _∙_}
-use Prim.Native.Nat.{ℕ}
-use native.Mathlib.Omega.{arith}
-use Rattle.layout.specs.Image.{streamIn}
-use Rattle.sheet.specs.Walk.{termAt, termPlace}
+use Rattle.sheet.proofs.Names.{ap, _∙_, ℕ, arith, streamIn, termAt, termPlace}
 use Rattle.sheet.proofs.HeldLaws.{held-whole, behind-few, segments-few, held-term}
 use Rattle.sheet.proofs.segments.term_in.Statement.{statement}
 use Rattle.sheet.proofs.segments.term_in.Tie as tie

@@ -1,10 +1,4 @@
-use borrow.Author.Needs.{needs}
-use mathlib.Core.Path.{_≡_, ap, _∙_}
-use native.Mathlib.Omega.{arith}
-use Prim.Native.Nat.{_+_}
-use Rattle.layout.specs.Format.{bits, parse}
-use Rattle.layout.specs.Image.{streamIn}
-use Rattle.sheet.specs.Walk.{numberIn}
+use Rattle.sheet.proofs.Names.{needs, _≡_, ap, _∙_, arith, _+_, bits, parse, streamIn, numberIn}
 use Rattle.sheet.proofs.Steps.{got, past, bits-lt}
 use Rattle.sheet.proofs.segments.terms_at.Statement.{statement}
 use Rattle.sheet.proofs.segments.terms_at.Tie as tie

@@ -1,14 +1,4 @@
-use borrow.Author.Needs.{needs}
-use mathlib.Core.Path.{_≡_, refl, ap, _∙_}
-use mathlib.Core.Bool.{true, false}
-use mathlib.Core.Logic.{⊎-elim}
-use Prim.Native.Nat.{ℕ, _+_, _*_, _≤_}
-use native.Mathlib.Omega.{arith}
-use lib.Bits.{and-mask, mask-lt}
-use Rattle.layout.specs.Image.{streamIn}
-use Rattle.layout.specs.Places.{pairBits}
-use Rattle.layout.proofs.Rising.{not-physical}
-use Rattle.sheet.specs.Walk.{behind}
+use Rattle.sheet.proofs.Names.{needs, _≡_, refl, ap, _∙_, true, false, ⊎-elim, ℕ, _+_, _*_, _≤_, arith, and-mask, mask-lt, streamIn, pairBits, not-physical, behind}
 use Rattle.sheet.proofs.TableSteps.{Risen, risen-start, risen-next, risen-done}
 use Rattle.sheet.proofs.table.all_rise.Statement.{statement}
 use Rattle.sheet.proofs.table.all_rise.Tie as tie

@@ -1,11 +1,4 @@
-use borrow.Author.Needs.{needs}
-use mathlib.Core.Path.{_∙_}
-use native.Mathlib.Omega.{arith}
-use Rattle.fields.specs.Answers.{previousSaid}
-use Rattle.fields.specs.Calibration.{calPoint, calDeviation}
-use Rattle.fields.proofs.DecodeLaws.{turned, stood}
-use Rattle.fields.proofs.RowLaws.{point-sound, deviation-sound}
-use Rattle.layout.specs.Image.{streamIn}
+use Rattle.sheet.proofs.Names.{needs, _∙_, arith, previousSaid, calPoint, calDeviation, turned, stood, point-sound, deviation-sound, streamIn}
 use Rattle.sheet.proofs.Steps.{code-lies}
 use Rattle.sheet.proofs.TableSteps.{point-halts, deviation-halts, pair-follows}
 use Rattle.sheet.proofs.table.take_codes.Statement.{statement}

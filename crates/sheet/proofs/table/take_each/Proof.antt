@@ -1,13 +1,4 @@
-use borrow.Author.Needs.{needs}
-use mathlib.Core.Path.{_≡_, refl, sym, _∙_}
-use mathlib.Core.Option.{none}
-use Prim.Native.Nat.{ℕ, _≤_}
-use lib.ListN.{length}
-use Rattle.fields.specs.Answers.{previousSaid}
-use Rattle.layout.specs.Format.{parse}
-use Rattle.layout.specs.Contents.{pairsOf}
-use Rattle.layout.specs.Image.{streamIn}
-use Rattle.sheet.specs.Walk.{keeping}
+use Rattle.sheet.proofs.Names.{needs, _≡_, refl, sym, _∙_, none, ℕ, _≤_, length, previousSaid, parse, pairsOf, streamIn, keeping}
 use Rattle.sheet.proofs.Steps.{count-start, count-done}
 use Rattle.sheet.proofs.TableSteps.{pairsLeft, pairs-halt, pairs-next}
 use Rattle.sheet.proofs.table.take_each.Statement.{statement}

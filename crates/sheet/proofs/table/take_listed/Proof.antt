@@ -1,5 +1,4 @@
-use borrow.Author.Needs.{needs}
-use Rattle.layout.specs.Image.{streamIn}
+use Rattle.sheet.proofs.Names.{needs, streamIn}
 use Rattle.sheet.proofs.TableSteps.{listed-halts, listed-stands}
 use Rattle.sheet.proofs.table.take_listed.Statement.{statement}
 use Rattle.sheet.proofs.table.take_listed.Tie as tie

@@ -1,4 +1,4 @@
-use borrow.Author.Needs.{needs}
+use Rattle.sheet.proofs.Names.{needs}
 use Rattle.sheet.proofs.table.take_pairs.Statement.{statement}
 use Rattle.sheet.proofs.table.take_pairs.Tie as tie
 

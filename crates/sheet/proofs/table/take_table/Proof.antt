@@ -1,7 +1,4 @@
-use borrow.Author.Needs.{needs}
-use mathlib.Core.Path.{_∙_}
-use Rattle.fields.proofs.RowLaws.{domain-sound, count-sound}
-use Rattle.layout.specs.Image.{streamIn}
+use Rattle.sheet.proofs.Names.{needs, _∙_, domain-sound, count-sound, streamIn}
 use Rattle.sheet.proofs.TableSteps.{domain-halts, count-halts, count-stands}
 use Rattle.sheet.proofs.table.take_table.Statement.{statement}
 use Rattle.sheet.proofs.table.take_table.Tie as tie

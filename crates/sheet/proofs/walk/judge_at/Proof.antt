@@ -1,8 +1,4 @@
-use borrow.Author.Needs.{needs}
-use mathlib.Core.Path.{ap, _∙_}
-use Prim.Native.Nat.{ℕ}
-use native.Mathlib.Omega.{arith}
-use Rattle.fields.specs.Judgement.{judge}
+use Rattle.sheet.proofs.Names.{needs, ap, _∙_, ℕ, arith, judge}
 use Rattle.sheet.proofs.walk.judge_at.Statement.{statement}
 use Rattle.sheet.proofs.walk.judge_at.Tie as tie
 

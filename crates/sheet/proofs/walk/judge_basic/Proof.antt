@@ -1,15 +1,5 @@
 -- `walk::judge_basic` meets its contract: a row that refuses ends the judging, and behind the last that can all is open.
-use borrow.Author.Needs.{needs}
-use Prim.Native.Nat.{suc, _-_, _+_}
-use native.Mathlib.Omega.{arith}
-use lib.ListN.{length}
-use Rattle.fields.specs.declared.Template.the-variants.{Bridge}
-use Rattle.fields.specs.declared.Judged.the-variants.{Stands, Refused as Turned}
-use Rattle.fields.specs.Lines.{basic}
-use Rattle.fields.proofs.TemplateFacts.{last-most}
-use Rattle.layout.specs.Image.{streamIn}
-use Rattle.layout.specs.Judgement.{judged}
-use Rattle.sheet.specs.Walk.{layoutAt}
+use Rattle.sheet.proofs.Names.{needs, suc, _-_, _+_, arith, length, Bridge, Stands, Turned, basic, last-most, streamIn, judged, layoutAt}
 use Rattle.sheet.proofs.WalkSteps.{basic-most, BasicCome, basic-start, basic-turn, judged-all, Turn, basic-stood}
 use Rattle.sheet.proofs.walk.judge_basic.Statement.{statement}
 use Rattle.sheet.proofs.walk.judge_basic.Tie as tie

@@ -1,12 +1,5 @@
 -- `walk::judge_bridge` meets its contract, as `judge_basic` does.
-use borrow.Author.Needs.{needs}
-use Prim.Native.Nat.{suc, _-_, _+_}
-use native.Mathlib.Omega.{arith}
-use Rattle.fields.specs.declared.Template.the-variants.{Bridge}
-use Rattle.fields.specs.Lines.{lastField}
-use Rattle.fields.proofs.TemplateFacts.{last-most}
-use Rattle.layout.specs.Image.{streamIn}
-use Rattle.sheet.specs.Walk.{ownJudged, layoutAt}
+use Rattle.sheet.proofs.Names.{needs, suc, _-_, _+_, arith, Bridge, lastField, last-most, streamIn, ownJudged, layoutAt}
 use Rattle.sheet.proofs.WalkSteps.{basic-most, OwnCome, own-start, own-turn, judged-all, Turn}
 use Rattle.sheet.proofs.walk.judge_bridge.Statement.{statement}
 use Rattle.sheet.proofs.walk.judge_bridge.Tie as tie

@@ -1,8 +1,4 @@
-use borrow.Author.Needs.{needs}
-use mathlib.Core.Path.{_≡_, sym, subst}
-use Rattle.fields.specs.Answers.{judgedSaid}
-use Rattle.layout.specs.Image.{streamIn}
-use Rattle.sheet.specs.Walk.{ownJudged, layoutAt}
+use Rattle.sheet.proofs.Names.{needs, _≡_, sym, subst, judgedSaid, streamIn, ownJudged, layoutAt}
 use Rattle.sheet.proofs.walk.judge_own.Statement.{statement}
 use Rattle.sheet.proofs.walk.judge_own.Tie as tie
 

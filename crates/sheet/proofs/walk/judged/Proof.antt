@@ -1,7 +1,4 @@
-use borrow.Author.Needs.{needs}
-use mathlib.Core.Path.{sym, ap, _∙_}
-use Rattle.fields.proofs.DecodeLaws.{turned, stood}
-use Rattle.sheet.specs.Walk.{judgedAt}
+use Rattle.sheet.proofs.Names.{needs, sym, ap, _∙_, turned, stood, judgedAt}
 use Rattle.sheet.proofs.walk.judged.Statement.{statement}
 use Rattle.sheet.proofs.walk.judged.Tie as tie
 

@@ -1,5 +1,4 @@
-use borrow.Author.Needs.{needs}
-use mathlib.Core.Path.{refl}
+use Rattle.sheet.proofs.Names.{needs, refl}
 use Rattle.sheet.proofs.Steps.{code-judged}
 use Rattle.sheet.proofs.walk.take_code.Statement.{statement}
 use Rattle.sheet.proofs.walk.take_code.Tie as tie

@@ -1,7 +1,4 @@
-use borrow.Author.Needs.{needs}
-use mathlib.Core.Path.{ap, _∙_}
-use Rattle.refusal.specs.Outcome.{refused}
-use Rattle.layout.specs.Image.{streamIn}
+use Rattle.sheet.proofs.Names.{needs, ap, _∙_, refused, streamIn}
 use Rattle.sheet.proofs.Steps.{got, past}
 use Rattle.sheet.proofs.WalkSteps.{mark-past, mark-right, mark-wrong}
 use Rattle.sheet.proofs.walk.take_mark.Statement.{statement}

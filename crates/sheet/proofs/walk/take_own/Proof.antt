@@ -1,15 +1,5 @@
 -- `walk::take_own` meets its contract: behind the fields that were judged only the last may pass the end.
-use borrow.Author.Needs.{needs}
-use mathlib.Core.Path.{_≡_, sym, ap, _∙_}
-use Prim.Native.Nat.{ℕ}
-use native.Mathlib.Omega.{arith}
-use Rattle.refusal.specs.Outcome.{refused}
-use Rattle.memory.specs.Bits.{fieldAt}
-use Rattle.memory.specs.Image.{streamNumber}
-use Rattle.fields.proofs.TemplateFacts.{span-listed}
-use Rattle.layout.specs.Places.{fieldPlace}
-use Rattle.layout.proofs.Judging.{choice-place}
-use Rattle.sheet.specs.Walk.{layoutAt}
+use Rattle.sheet.proofs.Names.{needs, _≡_, sym, ap, _∙_, ℕ, arith, refused, fieldAt, streamNumber, span-listed, fieldPlace, choice-place, layoutAt}
 use Rattle.sheet.proofs.WalkSteps.{stream-holds, own-turned, own-past, own-stands}
 use Rattle.sheet.proofs.walk.take_own.Statement.{statement}
 use Rattle.sheet.proofs.walk.take_own.Tie as tie

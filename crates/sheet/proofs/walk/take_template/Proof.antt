@@ -1,11 +1,4 @@
-use borrow.Author.Needs.{needs}
-use mathlib.Core.Path.{sym, ap, _∙_}
-use native.Mathlib.Omega.{arith}
-use lib.Bits.{and-mask}
-use Rattle.refusal.specs.Outcome.{refused}
-use Rattle.layout.specs.Image.{streamIn}
-use Rattle.layout.specs.Places.{firstSelector}
-use Rattle.layout.proofs.Judging.{wrong-selector, block-named, block-unknown}
+use Rattle.sheet.proofs.Names.{needs, sym, ap, _∙_, arith, and-mask, refused, streamIn, firstSelector, wrong-selector, block-named, block-unknown}
 use Rattle.sheet.proofs.WalkSteps.{stream-holds}
 use Rattle.sheet.proofs.walk.take_template.Statement.{statement}
 use Rattle.sheet.proofs.walk.take_template.Tie as tie

@@ -1,7 +1,5 @@
 -- A template has 21 fields at most.
-use native.Mathlib.Omega.{arith}
-use borrow.Author.Needs.{needs}
-use Rattle.fields.proofs.TemplateFacts.{last-most}
+use Rattle.shown.proofs.Names.{arith, needs, last-most}
 use Rattle.shown.proofs.listing.print_fields.Statement.{statement}
 use Rattle.shown.proofs.listing.print_fields.Tie as tie
 

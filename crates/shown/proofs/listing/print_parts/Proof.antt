@@ -1,5 +1,4 @@
-use Prim.Native.Nat.{_-_}
-use borrow.Author.Needs.{needs}
+use Rattle.shown.proofs.Names.{_-_, needs}
 use Rattle.shown.proofs.listing.print_parts.Statement.{statement}
 use Rattle.shown.proofs.listing.print_parts.Tie as tie
 

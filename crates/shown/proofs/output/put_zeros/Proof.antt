@@ -1,4 +1,4 @@
-use borrow.Author.Needs.{needs}
+use Rattle.shown.proofs.Names.{needs}
 use Rattle.shown.proofs.output.put_zeros.Statement.{statement}
 use Rattle.shown.proofs.output.put_zeros.Tie as tie
 

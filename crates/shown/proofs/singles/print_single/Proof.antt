@@ -1,6 +1,5 @@
 -- A NaN is not asked for its bits.
-use Rattle.fields.proofs.FloatLaws.{not-nan}
-use borrow.Author.Needs.{needs}
+use Rattle.shown.proofs.Names.{not-nan, needs}
 use Rattle.shown.proofs.singles.print_single.Statement.{statement}
 use Rattle.shown.proofs.singles.print_single.Tie as tie
 

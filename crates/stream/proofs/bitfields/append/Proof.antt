@@ -1,6 +1,5 @@
 -- `bitfields::append` meets its contract.
-use native.Mathlib.Nat.{le-refl}
-use native.Mathlib.Omega.{arith}
+use Rattle.stream.proofs.Names.{le-refl, arith}
 use Rattle.stream.proofs.Runs.{side-byte, side-eight, side-run, side-over}
 use Rattle.stream.proofs.Laying.{word-lt, append-near, append-over}
 use Rattle.stream.proofs.bitfields.append.Statement.{statement}

@@ -1,5 +1,5 @@
 -- `bitfields::byte` meets its contract.
-use lib.Bits.{and-mask, mask-lt}
+use Rattle.stream.proofs.Names.{and-mask, mask-lt}
 use Rattle.stream.proofs.bitfields.byte.Statement.{statement}
 use Rattle.stream.proofs.bitfields.byte.Tie as tie
 

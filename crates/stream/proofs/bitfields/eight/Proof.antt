@@ -1,6 +1,5 @@
 -- `bitfields::eight` meets its contract.
-use borrow.Author.Needs.{needs}
-use lib.Dec.{lit<}
+use Rattle.stream.proofs.Names.{needs, lit<}
 use Rattle.stream.proofs.Runs.{eight-in, eight-fits, joined}
 use Rattle.stream.proofs.bitfields.eight.Statement.{statement}
 use Rattle.stream.proofs.bitfields.eight.Tie as tie

@@ -1,7 +1,5 @@
 -- `bitfields::lay_eight` meets its contract.
-use borrow.Author.Needs.{needs}
-use lib.Dec.{lit<}
-use lib.ListN.{length-set}
+use Rattle.stream.proofs.Names.{needs, lit<, length-set}
 use Rattle.stream.proofs.Runs.{eight-in, eight-fits}
 use Rattle.stream.proofs.Laying.{laid-word}
 use Rattle.stream.proofs.bitfields.lay_eight.Statement.{statement}

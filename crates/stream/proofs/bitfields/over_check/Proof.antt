@@ -1,5 +1,5 @@
 -- `bitfields::over_check` meets its contract.
-use native.Mathlib.Omega.{arith}
+use Rattle.stream.proofs.Names.{arith}
 use Rattle.stream.proofs.Words.{one-shl-pos, left-out}
 use Rattle.stream.proofs.bitfields.over_check.Statement.{statement}
 use Rattle.stream.proofs.bitfields.over_check.Tie as tie

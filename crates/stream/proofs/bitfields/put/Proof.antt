@@ -1,7 +1,5 @@
 -- `bitfields::put` meets its contract.
-use borrow.Author.Needs.{needs}
-use mathlib.Core.Path.{refl}
-use native.Mathlib.Omega.{arith}
+use Rattle.stream.proofs.Names.{needs, refl, arith}
 use Rattle.stream.proofs.Words.{one-shl-pos, low-bits-lt, high-bits-lt}
 use Rattle.stream.proofs.Runs.{side-image, side, side-first, side-rest}
 use Rattle.stream.proofs.Laying.{run-put, put-far}

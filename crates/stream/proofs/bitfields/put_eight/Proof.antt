@@ -1,5 +1,5 @@
 -- `bitfields::put_eight` meets its contract.
-use native.Mathlib.Omega.{arith}
+use Rattle.stream.proofs.Names.{arith}
 use Rattle.stream.proofs.Laying.{eight-put}
 use Rattle.stream.proofs.bitfields.put_eight.Statement.{statement}
 use Rattle.stream.proofs.bitfields.put_eight.Tie as tie

@@ -1,5 +1,5 @@
 -- `bitfields::replaced` meets its contract.
-use native.Mathlib.Omega.{arith}
+use Rattle.stream.proofs.Names.{arith}
 use Rattle.stream.proofs.Words.{one-shl-pos, put-word}
 use Rattle.stream.proofs.bitfields.replaced.Statement.{statement}
 use Rattle.stream.proofs.bitfields.replaced.Tie as tie

@@ -1,5 +1,5 @@
 -- `bitfields::take` meets its contract.
-use native.Mathlib.Omega.{arith}
+use Rattle.stream.proofs.Names.{arith}
 use Rattle.stream.proofs.Words.{one-shl-pos}
 use Rattle.stream.proofs.Runs.{side, side-first, side-rest, take-near, take-far}
 use Rattle.stream.proofs.bitfields.take.Statement.{statement}

@@ -1,5 +1,5 @@
 -- `bitfields::window` meets its contract.
-use native.Mathlib.Omega.{arith}
+use Rattle.stream.proofs.Names.{arith}
 use Rattle.stream.proofs.Runs.{window-end}
 use Rattle.stream.proofs.bitfields.window.Statement.{statement}
 use Rattle.stream.proofs.bitfields.window.Tie as tie

@@ -1,5 +1,5 @@
 -- `bitfields::with_check` meets its contract.
-use native.Mathlib.Omega.{arith}
+use Rattle.stream.proofs.Names.{arith}
 use Rattle.stream.proofs.Words.{one-shl-pos, put-between}
 use Rattle.stream.proofs.bitfields.with_check.Statement.{statement}
 use Rattle.stream.proofs.bitfields.with_check.Tie as tie

@@ -1,12 +1,5 @@
 -- `writing::clear` meets its contract. The loop's invariant: zeros up to `i`, and behind them the image as it was.
-use mathlib.Core.Path.{_≡_, refl, ap, _∙_}
-use mathlib.Core.List.{_++_, append-nil}
-use Prim.Native.Nat.{_≤_, _-_}
-use native.Mathlib.Omega.{arith}
-use lib.ListN.{length, drop, set, replicate, length-set}
-use lib.Seq.{drop-length}
-use borrow.Author.Fill.{fill-none, fill-more}
-use borrow.Author.Needs.{needs}
+use Rattle.stream.proofs.Names.{_≡_, refl, ap, _∙_, _++_, append-nil, _≤_, _-_, arith, length, drop, set, replicate, length-set, drop-length, fill-none, fill-more, needs}
 use Rattle.stream.proofs.writing.clear.Statement.{statement}
 use Rattle.stream.proofs.writing.clear.Tie as tie
 

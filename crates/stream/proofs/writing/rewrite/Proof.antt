@@ -1,6 +1,5 @@
 -- `writing::rewrite` meets its contract.
-use borrow.Author.Needs.{needs}
-use native.Mathlib.Omega.{arith}
+use Rattle.stream.proofs.Names.{needs, arith}
 use Rattle.stream.proofs.Mending.{rewritten, rewritten-once}
 use Rattle.stream.proofs.writing.rewrite.Statement.{statement}
 use Rattle.stream.proofs.writing.rewrite.Tie as tie

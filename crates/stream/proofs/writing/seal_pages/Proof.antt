@@ -1,9 +1,5 @@
 -- `writing::seal_pages` meets its contract. The loop's invariant: the pages before `page` are sealed.
-use mathlib.Core.Path.{_≡_, refl}
-use borrow.Author.Needs.{needs}
-use native.Mathlib.Omega.{arith}
-use Prim.Native.Nat.{_≤_, _-_}
-use lib.ListN.{length}
+use Rattle.stream.proofs.Names.{_≡_, refl, needs, arith, _≤_, _-_, length}
 use Rattle.stream.proofs.SealAll.{Sealed, sealed-none, sealed-more, sealed-all}
 use Rattle.stream.proofs.writing.seal_pages.Statement.{statement}
 use Rattle.stream.proofs.writing.seal_pages.Tie as tie

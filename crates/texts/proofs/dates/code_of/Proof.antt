@@ -1,7 +1,6 @@
 -- `texts::dates::code_of` meets its contract: the text of a code reads as its date.
 -- Assumes nothing.
-use native.Mathlib.Omega.{arith}
-use borrow.Author.Needs.{needs}
+use Rattle.texts.proofs.Names.{arith, needs}
 use Rattle.texts.proofs.Digits.{read}
 use Rattle.texts.proofs.dates.code_of.Statement.{statement}
 use Rattle.texts.proofs.dates.code_of.Tie as tie

@@ -1,8 +1,6 @@
 -- `texts::dates::date_of` meets its contract: the year and the month that were found make a real date with that many days before it.
 -- Assumes nothing.
-use mathlib.Core.Path.{sym}
-use native.Mathlib.Omega.{arith}
-use borrow.Author.Needs.{needs}
+use Rattle.texts.proofs.Names.{sym, arith, needs}
 use Rattle.texts.proofs.Finding.{year-near, rest-of-year, found}
 use Rattle.texts.proofs.dates.date_of.Statement.{statement}
 use Rattle.texts.proofs.dates.date_of.Tie as tie

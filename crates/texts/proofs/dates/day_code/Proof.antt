@@ -1,8 +1,6 @@
 -- `texts::dates::day_code` meets its contract: a code's date is within each test, and the days before it are the code.
 -- Assumes nothing.
-use mathlib.Core.Path.{sym}
-use native.Mathlib.Omega.{arith}
-use borrow.Author.Needs.{needs}
+use Rattle.texts.proofs.Names.{sym, arith, needs}
 use Rattle.texts.proofs.Finding.{ranged, few}
 use Rattle.texts.proofs.dates.day_code.Statement.{statement}
 use Rattle.texts.proofs.dates.day_code.Tie as tie

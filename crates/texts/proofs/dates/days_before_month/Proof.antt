@@ -1,17 +1,8 @@
 -- `texts::dates::days_before_month` meets its contract: antt works the table out from the calendar, and tests at once what it gives at each month of
 -- a leap year and of another.
 -- Assumes nothing.
-use mathlib.Core.Path.{_≡_, sym, subst, _∙_}
-use mathlib.Core.Bool.{Bool, true, false, _&&_, cond}
-use mathlib.Core.List.{List, [], _∷_, foldr}
-use Prim.Native.Nat.{ℕ, zero, suc, _+_, _-_, _≤_, _<_, suc-le-suc}
-use native.Mathlib.Omega.{arith}
-use lib.Dec.{T, eqb, ltb, eqb→eq, ltb→lt}
-use lib.ListN.{getD, take}
-use borrow.Author.Needs.{needs}
-use borrow.Author.Tests.{lt-ltb, le-ltb}
-use mir.Facts.{and-yes}
-use Rattle.texts.specs.Dates.{leap, daysBeforeMonth}
+use Rattle.texts.proofs.Names.{_≡_, sym, subst, _∙_, Bool, true, false, _&&_, cond, List, [], _∷_, foldr, ℕ, zero, suc, _+_, _-_, _≤_, _<_, suc-le-suc, arith, T, eqb, ltb, eqb→eq, ltb→lt, getD, take, needs}
+use Rattle.texts.proofs.Names.{lt-ltb, le-ltb, and-yes, leap, daysBeforeMonth}
 use Rattle.texts.proofs.Below.{below, at}
 use Rattle.texts.proofs.Months.{model, like-model}
 use Rattle.texts.proofs.dates.days_before_month.Statement.{statement}

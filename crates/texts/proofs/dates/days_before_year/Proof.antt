@@ -1,7 +1,6 @@
 -- `texts::dates::days_before_year` meets its contract, by the law that counts leap years.
 -- Assumes nothing.
-use native.Mathlib.Omega.{arith}
-use borrow.Author.Needs.{needs}
+use Rattle.texts.proofs.Names.{arith, needs}
 use Rattle.texts.proofs.Leap.{year-formula}
 use Rattle.texts.proofs.dates.days_before_year.Statement.{statement}
 use Rattle.texts.proofs.dates.days_before_year.Tie as tie

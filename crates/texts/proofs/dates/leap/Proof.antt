@@ -1,6 +1,6 @@
 -- `texts::dates::leap` meets its contract: the tests are the definition's.
 -- Assumes nothing.
-use borrow.Author.Tests.{eq-eqb, ne-eqb}
+use Rattle.texts.proofs.Names.{eq-eqb, ne-eqb}
 use Rattle.texts.proofs.dates.leap.Statement.{statement}
 use Rattle.texts.proofs.dates.leap.Tie as tie
 

@@ -1,10 +1,6 @@
 -- `texts::dates::month_of` meets its contract. The loop's invariant: the next month's first day is after the day.
 -- Assumes nothing.
-use mathlib.Core.Path.{sym}
-use Prim.Native.Nat.{_≤_, _<_, _+_}
-use native.Mathlib.Omega.{arith}
-use borrow.Author.Needs.{needs}
-use Rattle.texts.specs.Dates.{daysBeforeMonth}
+use Rattle.texts.proofs.Names.{sym, _≤_, _<_, _+_, arith, needs, daysBeforeMonth}
 use Rattle.texts.proofs.Finding.{month-turn}
 use Rattle.texts.proofs.dates.month_of.Statement.{statement}
 use Rattle.texts.proofs.dates.month_of.Tie as tie

@@ -1,8 +1,6 @@
 -- `texts::dates::text_of` meets its contract.
 -- Assumes nothing.
-use native.Mathlib.Nat.{div-one}
-use borrow.Author.Needs.{needs}
-use Rattle.texts.specs.Dates.{dateText}
+use Rattle.texts.proofs.Names.{div-one, needs, dateText}
 use Rattle.texts.proofs.dates.text_of.Statement.{statement}
 use Rattle.texts.proofs.dates.text_of.Tie as tie
 

@@ -1,8 +1,6 @@
 -- `texts::dates::two_digits` meets its contract.
 -- Assumes nothing.
-use Prim.Native.Nat.{_+_}
-use native.Mathlib.Omega.{arith}
-use borrow.Author.Needs.{needs}
+use Rattle.texts.proofs.Names.{_+_, arith, needs}
 use Rattle.texts.proofs.dates.two_digits.Statement.{statement}
 use Rattle.texts.proofs.dates.two_digits.Tie as tie
 

@@ -1,9 +1,6 @@
 -- `texts::dates::year_of` meets its contract. The loop's invariant: the year's first day is not after the code.
 -- Assumes nothing.
-use Prim.Native.Nat.{_≤_, _-_}
-use native.Mathlib.Omega.{arith}
-use borrow.Author.Needs.{needs}
-use Rattle.texts.specs.Dates.{daysOfYears, daysBeforeYear}
+use Rattle.texts.proofs.Names.{_≤_, _-_, arith, needs, daysOfYears, daysBeforeYear}
 use Rattle.texts.proofs.Finding.{year-near}
 use Rattle.texts.proofs.dates.year_of.Statement.{statement}
 use Rattle.texts.proofs.dates.year_of.Tie as tie

@@ -1,12 +1,6 @@
 -- `texts::letters::letter_code` meets its contract: the letters before the one that is found are others, and no letter stands twice.
 -- Assumes nothing.
-use mathlib.Core.Path.{_≡_, sym, _∙_}
-use Prim.Native.Nat.{ℕ, _≤_, _<_, _-_}
-use native.Mathlib.Omega.{arith}
-use lib.ListN.{getD}
-use borrow.Author.Count.{below-more}
-use borrow.Author.Needs.{needs}
-use Rattle.texts.specs.Letters.{letters}
+use Rattle.texts.proofs.Names.{_≡_, sym, _∙_, ℕ, _≤_, _<_, _-_, arith, getD, below-more, needs, letters}
 use Rattle.texts.proofs.Alphabet.{distinct}
 use Rattle.texts.proofs.letters.letter_code.Statement.{statement}
 use Rattle.texts.proofs.letters.letter_code.Tie as tie

@@ -1,6 +1,6 @@
 -- `texts::letters::one_code` meets its contract.
 -- Assumes nothing.
-use borrow.Author.Needs.{needs}
+use Rattle.texts.proofs.Names.{needs}
 use Rattle.texts.proofs.Alphabet.{only-one}
 use Rattle.texts.proofs.letters.one_code.Statement.{statement}
 use Rattle.texts.proofs.letters.one_code.Tie as tie

@@ -1,7 +1,6 @@
 -- `texts::letters::one_text` meets its contract.
 -- Assumes nothing.
-use borrow.Author.Needs.{needs}
-use Rattle.texts.specs.Letters.{lettersText}
+use Rattle.texts.proofs.Names.{needs, lettersText}
 use Rattle.texts.proofs.letters.one_text.Statement.{statement}
 use Rattle.texts.proofs.letters.one_text.Tie as tie
 

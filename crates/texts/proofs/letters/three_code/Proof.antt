@@ -1,6 +1,6 @@
 -- `texts::letters::three_code` meets its contract: the code's three digits in base 32 are the letters' codes.
 -- Assumes nothing.
-use borrow.Author.Needs.{needs}
+use Rattle.texts.proofs.Names.{needs}
 use Rattle.texts.proofs.Alphabet.{only-three}
 use Rattle.texts.proofs.letters.three_code.Statement.{statement}
 use Rattle.texts.proofs.letters.three_code.Tie as tie

@@ -1,7 +1,4 @@
-use mathlib.Core.Path.{_∙_}
-use native.Mathlib.Omega.{arith}
-use mir.Facts.{toZ-ofZ}
-use borrow.Author.Needs.{needs}
+use Rattle.words.proofs.Names.{_∙_, arith, toZ-ofZ, needs}
 use Rattle.words.proofs.FigureLaws.{above-is, above-not}
 use Rattle.words.proofs.figures.above.Statement.{statement}
 use Rattle.words.proofs.figures.above.Tie as tie

@@ -1,7 +1,4 @@
-use mathlib.Core.Path.{_∙_}
-use native.Mathlib.Omega.{arith}
-use mir.Facts.{toZ-ofZ}
-use borrow.Author.Needs.{needs}
+use Rattle.words.proofs.Names.{_∙_, arith, toZ-ofZ, needs}
 use Rattle.words.proofs.FigureLaws.{below-is, below-not}
 use Rattle.words.proofs.figures.below.Statement.{statement}
 use Rattle.words.proofs.figures.below.Tie as tie

@@ -1,12 +1,7 @@
 -- The loop's invariant: the figures of the pieces passed are counted, and those of the rest are to come.
-use mathlib.Core.Path.{refl, sym, _∙_}
-use Prim.Native.Nat.{_-_, _≤_}
-use native.Mathlib.Omega.{arith}
-use lib.ListN.{length}
-use Rattle.words.specs.Figures.{figures}
+use Rattle.words.proofs.Names.{refl, sym, _∙_, _-_, _≤_, arith, length, figures, needs}
 use Rattle.words.proofs.FilledLaws.{Counting, count-start, count-on, count-end, count-stop, count-full}
 use Rattle.words.proofs.ListLaws.{toCome, list-minus, list-start, list-some, list-stop, list-last, list-on}
-use borrow.Author.Needs.{needs}
 use Rattle.words.proofs.figures.count_figures.Statement.{statement}
 use Rattle.words.proofs.figures.count_figures.Tie as tie
 

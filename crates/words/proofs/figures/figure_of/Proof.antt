@@ -1,6 +1,4 @@
-use mathlib.Core.Path.{_∙_, ap}
-use borrow.Author.Needs.{needs}
-use Rattle.words.specs.Figures.{above, below}
+use Rattle.words.proofs.Names.{_∙_, ap, needs, above, below}
 use Rattle.words.proofs.FigureLaws.{figure-none, figure-minus, figure-plain}
 use Rattle.words.proofs.figures.figure_of.Statement.{statement}
 use Rattle.words.proofs.figures.figure_of.Tie as tie

@@ -1,6 +1,4 @@
-use mathlib.Core.Path.{_∙_}
-use borrow.Author.Needs.{needs}
-use Rattle.words.specs.Figures.{figures}
+use Rattle.words.proofs.Names.{_∙_, needs, figures}
 use Rattle.words.proofs.FilledLaws.{filled-to, filled-not}
 use Rattle.words.proofs.figures.figures_of.Statement.{statement}
 use Rattle.words.proofs.figures.figures_of.Tie as tie

@@ -1,5 +1,4 @@
-use native.Mathlib.Omega.{arith}
-use borrow.Author.Needs.{needs}
+use Rattle.words.proofs.Names.{arith, needs}
 use Rattle.words.proofs.FigureLaws.{no-digit-low, no-digit-high, no-room, with-digit}
 use Rattle.words.proofs.figures.longer.Statement.{statement}
 use Rattle.words.proofs.figures.longer.Tie as tie

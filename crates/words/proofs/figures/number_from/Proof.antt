@@ -1,8 +1,4 @@
-use mathlib.Core.Path.{_≡_, _∙_}
-use Prim.Native.Nat.{_-_, _^_, _<_}
-use lib.ListN.{length, drop}
-use borrow.Author.Needs.{needs}
-use Rattle.words.specs.Figures.{number}
+use Rattle.words.proofs.Names.{_≡_, _∙_, _-_, _^_, _<_, length, drop, needs, number}
 use Rattle.words.proofs.FigureLaws.{readOn, number-starts, number-none, number-on, number-stop, number-end}
 use Rattle.words.proofs.figures.number_from.Statement.{statement}
 use Rattle.words.proofs.figures.number_from.Tie as tie

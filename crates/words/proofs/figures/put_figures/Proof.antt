@@ -1,14 +1,7 @@
 -- The loop's invariant: the figures of the pieces passed are put, and those of the rest are to come.
-use mathlib.Core.Path.{refl, sym, _∙_}
-use Prim.Native.Nat.{_-_, _≤_}
-use native.Mathlib.Omega.{arith}
-use lib.ListN.{length, length-set}
-use mir.Syntax.{w64}
-use mir.Facts.{toZ-ofZ}
-use Rattle.words.specs.Figures.{figures}
+use Rattle.words.proofs.Names.{refl, sym, _∙_, _-_, _≤_, arith, length, length-set, w64, toZ-ofZ, figures, needs}
 use Rattle.words.proofs.FilledLaws.{Filling, fill-start, fill-on, fill-end, fill-stop, fill-full}
 use Rattle.words.proofs.ListLaws.{toCome, list-minus, list-start, list-some, list-stop, list-last, list-on}
-use borrow.Author.Needs.{needs}
 use Rattle.words.proofs.figures.put_figures.Statement.{statement}
 use Rattle.words.proofs.figures.put_figures.Tie as tie
 

@@ -1,5 +1,5 @@
 use Rattle.words.proofs.HexLaws.{pair-odd, pair-high, pair-low, pair-is}
-use borrow.Author.Needs.{needs}
+use Rattle.words.proofs.Names.{needs}
 use Rattle.words.proofs.hexadecimal.byte_at.Statement.{statement}
 use Rattle.words.proofs.hexadecimal.byte_at.Tie as tie
 

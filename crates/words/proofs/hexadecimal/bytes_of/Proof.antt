@@ -1,6 +1,4 @@
-use mathlib.Core.Path.{_∙_}
-use borrow.Author.Needs.{needs}
-use Rattle.words.specs.Hexadecimal.{bytes}
+use Rattle.words.proofs.Names.{_∙_, needs, bytes}
 use Rattle.words.proofs.FilledLaws.{filled-to, filled-not}
 use Rattle.words.proofs.hexadecimal.bytes_of.Statement.{statement}
 use Rattle.words.proofs.hexadecimal.bytes_of.Tie as tie

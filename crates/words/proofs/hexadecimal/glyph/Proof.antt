@@ -1,5 +1,4 @@
-use borrow.Author.Tests.{lt-ltb, le-ltb}
-use borrow.Author.Needs.{needs}
+use Rattle.words.proofs.Names.{lt-ltb, le-ltb, needs}
 use Rattle.words.proofs.hexadecimal.glyph.Statement.{statement}
 use Rattle.words.proofs.hexadecimal.glyph.Tie as tie
 

@@ -1,4 +1,4 @@
-use borrow.Author.Needs.{needs}
+use Rattle.words.proofs.Names.{needs}
 use Rattle.words.proofs.HexLaws.{counts-low, counts-figure, counts-between, counts-high, counts-letter}
 use Rattle.words.proofs.hexadecimal.nibble.Statement.{statement}
 use Rattle.words.proofs.hexadecimal.nibble.Tie as tie

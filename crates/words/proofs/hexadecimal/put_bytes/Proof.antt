@@ -1,13 +1,7 @@
 -- The loop's invariant: the bytes of the digits passed are put, and those of the rest are to come.
-use mathlib.Core.Path.{sym, _∙_}
-use Prim.Native.Nat.{_-_}
-use native.Mathlib.Omega.{arith}
-use borrow.Author.Tests.{lt-ltb, le-ltb}
-use lib.ListN.{length, drop, drop-of-length-le}
-use Rattle.words.specs.Hexadecimal.{paired, bytes}
+use Rattle.words.proofs.Names.{sym, _∙_, _-_, arith, lt-ltb, le-ltb, length, drop, drop-of-length-le, paired, bytes, needs}
 use Rattle.words.proofs.FilledLaws.{Filling, fill-start, fill-on, fill-end, fill-stop, fill-full}
 use Rattle.words.proofs.HexLaws.{bytes-minus, bytes-empty, bytes-paired}
-use borrow.Author.Needs.{needs}
 use Rattle.words.proofs.hexadecimal.put_bytes.Statement.{statement}
 use Rattle.words.proofs.hexadecimal.put_bytes.Tie as tie
 

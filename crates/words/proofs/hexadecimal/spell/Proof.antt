@@ -1,12 +1,6 @@
 -- The loop's invariant: the digits of the indices passed are put, and the others are to come.
-use mathlib.Core.List.{map}
-use mathlib.Core.Option.{Option, some}
-use Prim.Native.Nat.{ℕ, _-_}
-use native.Mathlib.Omega.{arith}
-use lib.ListN.{drop, drop-of-length-le, length-map}
-use Rattle.words.specs.Hexadecimal.{spelt}
+use Rattle.words.proofs.Names.{map, Option, some, ℕ, _-_, arith, drop, drop-of-length-le, length-map, spelt, needs}
 use Rattle.words.proofs.FilledLaws.{Filling, fill-start, fill-on, fill-end, filled-short, begun-filled, drop-some}
-use borrow.Author.Needs.{needs}
 use Rattle.words.proofs.hexadecimal.spell.Statement.{statement}
 use Rattle.words.proofs.hexadecimal.spell.Tie as tie
 

@@ -1,9 +1,5 @@
-use mathlib.Core.Path.{_≡_, ap, _∙_}
-use Prim.Native.Nat.{_/_}
-use native.Mathlib.Omega.{arith}
-use lib.ListN.{length}
+use Rattle.words.proofs.Names.{_≡_, ap, _∙_, _/_, arith, length, needs}
 use Rattle.words.proofs.HexLaws.{spelt-none, spelt-long, spelt-high, spelt-low}
-use borrow.Author.Needs.{needs}
 use Rattle.words.proofs.hexadecimal.spelt_at.Statement.{statement}
 use Rattle.words.proofs.hexadecimal.spelt_at.Tie as tie
 

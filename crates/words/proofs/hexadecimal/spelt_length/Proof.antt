@@ -1,5 +1,5 @@
 use Rattle.words.proofs.HexLaws.{spelt-none, spelt-long}
-use borrow.Author.Needs.{needs}
+use Rattle.words.proofs.Names.{needs}
 use Rattle.words.proofs.hexadecimal.spelt_length.Statement.{statement}
 use Rattle.words.proofs.hexadecimal.spelt_length.Tie as tie
 

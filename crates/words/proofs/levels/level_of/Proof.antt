@@ -1,5 +1,4 @@
-use mathlib.Core.Path.{sym, _∙_}
-use borrow.Author.Needs.{needs}
+use Rattle.words.proofs.Names.{sym, _∙_, needs}
 use Rattle.words.proofs.levels.level_of.Statement.{statement}
 use Rattle.words.proofs.levels.level_of.Tie as tie
 

@@ -1,8 +1,5 @@
 -- The loop's invariant: the piece that is left to find from here is the one that was asked for.
-use mathlib.Core.Path.{_≡_, refl, _∙_}
-use lib.ListN.{drop}
-use borrow.Author.Needs.{needs}
-use Rattle.words.specs.Words.{pieceAt}
+use Rattle.words.proofs.Names.{_≡_, refl, _∙_, drop, needs, pieceAt}
 use Rattle.words.proofs.WordLaws.{piece-on, piece-stop, piece-end}
 use Rattle.words.proofs.parts.beginning.Statement.{statement}
 use Rattle.words.proofs.parts.beginning.Tie as tie

@@ -1,7 +1,4 @@
-use mathlib.Core.Path.{sym}
-use native.Mathlib.Nat.{le-of-lt, sub-zero}
-use lib.Seq.{take-all}
-use borrow.Author.Needs.{needs}
+use Rattle.words.proofs.Names.{sym, le-of-lt, sub-zero, take-all, needs}
 use Rattle.words.proofs.parts.front_figures.Statement.{statement}
 use Rattle.words.proofs.parts.front_figures.Tie as tie
 

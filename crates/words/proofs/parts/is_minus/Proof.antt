@@ -1,4 +1,4 @@
-use borrow.Author.Needs.{needs}
+use Rattle.words.proofs.Names.{needs}
 use Rattle.words.proofs.WordLaws.{no-minus, minus-test}
 use Rattle.words.proofs.parts.is_minus.Statement.{statement}
 use Rattle.words.proofs.parts.is_minus.Tie as tie

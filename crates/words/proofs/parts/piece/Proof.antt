@@ -1,6 +1,4 @@
-use native.Mathlib.Nat.{le-of-lt}
-use lib.ListN.{drop-of-length-le}
-use borrow.Author.Needs.{needs}
+use Rattle.words.proofs.Names.{le-of-lt, drop-of-length-le, needs}
 use Rattle.words.proofs.WordLaws.{reach-within, reach-part}
 use Rattle.words.proofs.parts.piece.Statement.{statement}
 use Rattle.words.proofs.parts.piece.Tie as tie

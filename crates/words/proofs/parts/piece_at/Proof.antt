@@ -1,5 +1,4 @@
-use mathlib.Core.Path.{_∙_}
-use borrow.Author.Needs.{needs}
+use Rattle.words.proofs.Names.{_∙_, needs}
 use Rattle.words.proofs.parts.piece_at.Statement.{statement}
 use Rattle.words.proofs.parts.piece_at.Tie as tie
 

@@ -1,10 +1,4 @@
-use mathlib.Core.Logic.{⊎-elim}
-use mathlib.Core.Path.{_≡_}
-use Prim.Native.Nat.{suc, _+_, _-_, _≤_}
-use native.Mathlib.Omega.{arith}
-use lib.ListN.{length, drop}
-use borrow.Author.Needs.{needs}
-use Rattle.words.specs.Words.{pieceCount}
+use Rattle.words.proofs.Names.{⊎-elim, _≡_, suc, _+_, _-_, _≤_, arith, length, drop, needs, pieceCount}
 use Rattle.words.proofs.WordLaws.{count-separator, count-other, count-end}
 use Rattle.words.proofs.parts.piece_count.Statement.{statement}
 use Rattle.words.proofs.parts.piece_count.Tie as tie

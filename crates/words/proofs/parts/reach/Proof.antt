@@ -1,8 +1,4 @@
-use mathlib.Core.Path.{_≡_, refl, sym, _∙_}
-use Prim.Native.Nat.{_+_, _-_}
-use lib.ListN.{length, drop}
-use borrow.Author.Needs.{needs}
-use Rattle.words.specs.Words.{upTo}
+use Rattle.words.proofs.Names.{_≡_, refl, sym, _∙_, _+_, _-_, length, drop, needs, upTo}
 use Rattle.words.proofs.WordLaws.{reach-on, reach-stop, reach-end}
 use Rattle.words.proofs.parts.reach.Statement.{statement}
 use Rattle.words.proofs.parts.reach.Tie as tie

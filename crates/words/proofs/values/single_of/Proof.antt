@@ -1,7 +1,4 @@
-use mathlib.Core.Path.{refl}
-use lib.Ieee.{binary32}
-use lib.Ieee.Bits.{nanBits-above}
-use borrow.Author.Tests.{le-ltb}
+use Rattle.words.proofs.Names.{refl, binary32, nanBits-above, le-ltb}
 use Rattle.words.proofs.ValueLaws.{nan-pattern}
 use Rattle.words.proofs.values.single_of.Statement.{statement}
 use Rattle.words.proofs.values.single_of.Tie as tie

@@ -1,7 +1,4 @@
-use mathlib.Core.Path.{refl}
-use mathlib.Core.List.{[], _∷_}
-use borrow.Author.Needs.{needs}
-use Rattle.words.specs.Hexadecimal.{bytes}
+use Rattle.words.proofs.Names.{refl, [], _∷_, needs, bytes}
 use Rattle.words.proofs.ValueLaws.{single-not, single-other, single-is}
 use Rattle.words.proofs.values.single_word.Statement.{statement}
 use Rattle.words.proofs.values.single_word.Tie as tie

@@ -1,5 +1,4 @@
-use mathlib.Core.Path.{_∙_}
-use borrow.Author.Needs.{needs}
+use Rattle.words.proofs.Names.{_∙_, needs}
 use Rattle.words.proofs.ValueLaws.{value-empty, value-whole, value-single, value-missing, value-more, value-other}
 use Rattle.words.proofs.values.value_of.Statement.{statement}
 use Rattle.words.proofs.values.value_of.Tie as tie

@@ -1,6 +1,4 @@
-use mir.Syntax.{w64}
-use mir.Facts.{toZ-ofZ}
-use borrow.Author.Needs.{needs}
+use Rattle.words.proofs.Names.{w64, toZ-ofZ, needs}
 use Rattle.words.proofs.ValueLaws.{whole-is, whole-not}
 use Rattle.words.proofs.values.whole_word.Statement.{statement}
 use Rattle.words.proofs.values.whole_word.Tie as tie

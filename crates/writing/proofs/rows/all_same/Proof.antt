@@ -1,12 +1,5 @@
 -- `rows::all_same` meets its contract. The loop's invariant: no row before row i differs.
-use borrow.Author.Needs.{needs}
-use mathlib.Core.Path.{_≡_, sym, ap, _∙_}
-use mathlib.Core.Bool.{false, not}
-use Prim.Native.Nat.{ℕ, _-_, _/_, _≤_, _<_}
-use native.Mathlib.Omega.{arith}
-use lib.ListN.{length}
-use Rattle.writing.specs.Steps.{differs}
-use borrow.Author.Count.{below-more}
+use Rattle.writing.proofs.Names.{needs, _≡_, sym, ap, _∙_, false, not, ℕ, _-_, _/_, _≤_, _<_, arith, length, differs, below-more}
 use Rattle.writing.proofs.CodeLaws.{some-differs, none-differ}
 use Rattle.writing.proofs.rows.all_same.Statement.{statement}
 use Rattle.writing.proofs.rows.all_same.Tie as tie

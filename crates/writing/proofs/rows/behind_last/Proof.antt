@@ -1,11 +1,5 @@
 -- `rows::behind_last` meets its contract. The loop's invariant: no row from row r on differs.
-use borrow.Author.Needs.{needs}
-use mathlib.Core.Path.{_≡_, sym, ap, _∙_}
-use mathlib.Core.Bool.{false, not}
-use Prim.Native.Nat.{ℕ, _+_, _-_, _/_, _≤_, _<_}
-use native.Mathlib.Omega.{arith}
-use lib.ListN.{length}
-use Rattle.writing.specs.Steps.{differs, raised}
+use Rattle.writing.proofs.Names.{needs, _≡_, sym, ap, _∙_, false, not, ℕ, _+_, _-_, _/_, _≤_, _<_, arith, length, differs, raised}
 use Rattle.writing.proofs.CodeLaws.{last-here, last-none, behind-more}
 use Rattle.writing.proofs.rows.behind_last.Statement.{statement}
 use Rattle.writing.proofs.rows.behind_last.Tie as tie

@@ -1,8 +1,5 @@
 -- `rows::first_sum` meets its contract.
-use borrow.Author.Needs.{needs}
-use mathlib.Core.Path.{sym}
-use native.Mathlib.Omega.{arith}
-use lib.Seq.{length-take-le}
+use Rattle.writing.proofs.Names.{needs, sym, arith, length-take-le}
 use Rattle.writing.proofs.rows.first_sum.Statement.{statement}
 use Rattle.writing.proofs.rows.first_sum.Tie as tie
 

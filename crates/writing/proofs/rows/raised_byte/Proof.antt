@@ -1,9 +1,5 @@
 -- `rows::raised_byte` meets its contract.
-use borrow.Author.Needs.{needs}
-use mathlib.Core.Path.{sym, ap, _∙_}
-use Prim.Native.Nat.{ℕ, _+_, _%_}
-use native.Mathlib.Omega.{arith}
-use lib.ListN.{getD}
+use Rattle.writing.proofs.Names.{needs, sym, ap, _∙_, ℕ, _+_, _%_, arith, getD}
 use Rattle.writing.proofs.PageLaws.{raised-at, raised-other}
 use Rattle.writing.proofs.rows.raised_byte.Statement.{statement}
 use Rattle.writing.proofs.rows.raised_byte.Tie as tie

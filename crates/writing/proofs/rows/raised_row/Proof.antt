@@ -1,9 +1,5 @@
 -- `rows::raised_row` meets its contract.
-use borrow.Author.Needs.{needs}
-use mathlib.Core.Path.{ap, _∙_}
-use mathlib.Core.List.{List}
-use Prim.Native.Nat.{ℕ, _+_, _%_}
-use lib.ListN.{getD, set}
+use Rattle.writing.proofs.Names.{needs, ap, _∙_, List, ℕ, _+_, _%_, getD, set}
 use Rattle.writing.proofs.CodeLaws.{raised-in, raised-out}
 use Rattle.writing.proofs.rows.raised_row.Statement.{statement}
 use Rattle.writing.proofs.rows.raised_row.Tie as tie

@@ -1,5 +1,5 @@
 -- `rows::row_of` meets its contract.
-use borrow.Author.Needs.{needs}
+use Rattle.writing.proofs.Names.{needs}
 use Rattle.writing.proofs.CodeLaws.{row-bytes}
 use Rattle.writing.proofs.rows.row_of.Statement.{statement}
 use Rattle.writing.proofs.rows.row_of.Tie as tie

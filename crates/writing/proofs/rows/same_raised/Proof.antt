@@ -1,9 +1,5 @@
 -- `rows::same_raised` meets its contract.
-use borrow.Author.Needs.{needs}
-use mathlib.Core.Path.{_≡_, sym, ap, _∙_}
-use Prim.Native.Nat.{ℕ, _+_, _-_, _*_, _≤_}
-use native.Mathlib.Omega.{arith}
-use Rattle.writing.specs.Steps.{same, raised}
+use Rattle.writing.proofs.Names.{needs, _≡_, sym, ap, _∙_, ℕ, _+_, _-_, _*_, _≤_, arith, same, raised}
 use Rattle.writing.proofs.CodeLaws.{same-turn, same-stop, same-end, same-out}
 use Rattle.writing.proofs.rows.same_raised.Statement.{statement}
 use Rattle.writing.proofs.rows.same_raised.Tie as tie

@@ -1,11 +1,5 @@
 -- `rows::same_row` meets its contract. The loop's invariant: what is alike so far and the rest are the whole row.
-use borrow.Author.Needs.{needs}
-use mathlib.Core.Path.{_≡_, ap}
-use mathlib.Core.Bool.{_&&_}
-use mathlib.Core.Logic.{⊎-elim}
-use Prim.Native.Nat.{ℕ, _+_, _-_, _*_, _≤_}
-use native.Mathlib.Omega.{arith}
-use Rattle.writing.specs.Steps.{same}
+use Rattle.writing.proofs.Names.{needs, _≡_, ap, _&&_, ⊎-elim, ℕ, _+_, _-_, _*_, _≤_, arith, same}
 use Rattle.writing.proofs.CodeLaws.{alike-stop, alike-turn, alike-end}
 use Rattle.writing.proofs.rows.same_row.Statement.{statement}
 use Rattle.writing.proofs.rows.same_row.Tie as tie

@@ -1,12 +1,5 @@
 -- `rows::sum` meets its contract. The loop's invariant: the sum so far and the sum of the rest are the whole sum.
-use borrow.Author.Needs.{needs}
-use mathlib.Core.Path.{_≡_, ap}
-use Prim.Native.Nat.{_+_, _-_, _%_, _≤_, _<_}
-use native.Mathlib.Omega.{arith}
-use native.Mathlib.Numerals.{add-one}
-use lib.ListN.{length, getD, drop}
-use lib.Seq.{drop-cons, drop-length}
-use Rattle.memory.specs.Image.{total}
+use Rattle.writing.proofs.Names.{needs, _≡_, ap, _+_, _-_, _%_, _≤_, _<_, arith, add-one, length, getD, drop, drop-cons, drop-length, total}
 use Rattle.writing.proofs.rows.sum.Statement.{statement}
 use Rattle.writing.proofs.rows.sum.Tie as tie
 

@@ -1,7 +1,5 @@
 -- `rows::sum_with` meets its contract.
-use borrow.Author.Needs.{needs}
-use mathlib.Core.Path.{ap, _∙_}
-use Prim.Native.Nat.{ℕ, _%_}
+use Rattle.writing.proofs.Names.{needs, ap, _∙_, ℕ, _%_}
 use Rattle.writing.proofs.CodeLaws.{sum-row, sum-exchanged, part-row}
 use Rattle.writing.proofs.rows.sum_with.Statement.{statement}
 use Rattle.writing.proofs.rows.sum_with.Tie as tie

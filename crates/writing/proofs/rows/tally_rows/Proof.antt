@@ -1,10 +1,5 @@
 -- `rows::tally_rows` meets its contract.
-use borrow.Author.Needs.{needs}
-use Rattle.writing.specs.Steps.{rows, checkRow, differs}
-use mathlib.Core.Path.{_≡_, refl, ap, _∙_}
-use Prim.Native.Nat.{_-_, _≤_, _/_}
-use native.Mathlib.Omega.{arith}
-use Rattle.writing.specs.Answers.{tallyTo}
+use Rattle.writing.proofs.Names.{needs, rows, checkRow, differs, _≡_, refl, ap, _∙_, _-_, _≤_, _/_, arith, tallyTo}
 use Rattle.writing.proofs.CodeLaws.{count-le, tally-more}
 use Rattle.writing.proofs.rows.tally_rows.Statement.{statement}
 use Rattle.writing.proofs.rows.tally_rows.Tie as tie

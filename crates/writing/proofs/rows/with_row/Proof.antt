@@ -1,7 +1,5 @@
 -- `rows::with_row` meets its contract.
-use borrow.Author.Needs.{needs}
-use native.Mathlib.Nat.{zero-add}
-use borrow.Author.Tests.{eq-eqb, ne-eqb}
+use Rattle.writing.proofs.Names.{needs, zero-add, eq-eqb, ne-eqb}
 use Rattle.writing.proofs.rows.with_row.Statement.{statement}
 use Rattle.writing.proofs.rows.with_row.Tie as tie
 

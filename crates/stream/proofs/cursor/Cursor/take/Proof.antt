@@ -1,6 +1,5 @@
 -- `Cursor::take` meets its contract.
-use borrow.Author.Needs.{needs}
-use native.Mathlib.Omega.{arith}
+use Rattle.stream.proofs.Names.{needs, arith}
 use Rattle.stream.proofs.Taking.{take-inside, take-past}
 use Rattle.stream.proofs.cursor.Cursor.take.Statement.{statement}
 use Rattle.stream.proofs.cursor.Cursor.take.Tie as tie
