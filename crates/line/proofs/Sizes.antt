@@ -79,24 +79,25 @@ between-deviates p a b h =
     let s = between-small (2 ^ 32) (p over 1) a b (h .rise) (h .first .deviation) (h .second .deviation) (whole-at-most (a .point) p (less (a .point) p (h .past))) (whole-at-most p (b .point) (h .left)) in
     nearest-small (2 ^ 32) (between p 1 a b .num over between p 1 a b .run) (s .some) (near-as (omega arith) (omega arith) (s .size))
 
--- The crossing is within 2^32 of p: the line there is at least p, and so it is at p + 2^32.
-pub crossing-small : (points : List Pair) (p : ℤ) → Table points → SumsRise points → natAbs p ≤ 2 ^ 31 → natAbs (crossing points p) ≤ 2 ^ 33
+-- The crossing is within B of p: the line there is at least p, and so it is at p + B.
+pub crossing-within : (B P : ℕ) (points : List Pair) (p : ℤ) → Rises points → SumsRise points → Deviations B points → natAbs p ≤ P → natAbs (crossing points p) ≤ P + B
 unfolding certificateLine
-crossing-small points p t sums small = omega (arith, near-abs {b = 2 ^ 33} 1 q (omega (arith, low, leZ-parts q k (c .is .least k high .le), add-parts p (pos (2 ^ 32)), abs-parts p)))
+crossing-within B P points p rises sums deviations small =
+    omega (arith, near-abs {b = P + B} 1 q (omega (arith, low, leZ-parts q k (c .is .least k high .le), add-parts p (pos B), abs-parts p)))
   where
     c : OneCrossing points p
-    c = crosses points (t .rises) sums p
+    c = crosses points rises sums p
 
     q : ℤ
     q = crossing points p
 
     k : ℤ
-    k = p +ℤ pos (2 ^ 32)
+    k = p +ℤ pos B
 
-    line : (z : ℤ) → Small (2 ^ 32) (z over 1) (correction z 1 points)
-    line z = correction-small (z over 1) points t
+    line : (z : ℤ) → Small B (z over 1) (correction z 1 points)
+    line z = correction-within B (z over 1) points rises deviations
 
-    low : up p + dn q ≤ dn p + up q + 2 ^ 32
+    low : up p + dn q ≤ dn p + up q + B
     low =
         let n = correction q 1 points .run in
         le-of-mul-le-mul-right {k = n}
@@ -107,4 +108,8 @@ crossing-small points p t sums small = omega (arith, near-abs {b = 2 ^ 33} 1 q (
     high =
         let n = correction k 1 points .run in
         parts-≤ℤ (p *ℤ pos (1 * n)) (certificateLine points k 1 .num)
-        (omega (arith, scaled p (1 * n), raised-parts (k over 1) (correction k 1 points), line k .size, ap (λ (z : ℕ). z * n) (add-parts p (pos (2 ^ 32)))))
+        (omega (arith, scaled p (1 * n), raised-parts (k over 1) (correction k 1 points), line k .size, ap (λ (z : ℕ). z * n) (add-parts p (pos B))))
+
+pub crossing-small : (points : List Pair) (p : ℤ) → Table points → SumsRise points → natAbs p ≤ 2 ^ 31 → natAbs (crossing points p) ≤ 2 ^ 33
+crossing-small points p t sums small =
+    omega (arith, crossing-within (2 ^ 32) (2 ^ 31) points p (t .rises) sums (table-deviations points (t .figures)) small)

@@ -1,12 +1,12 @@
--- The greatest fraction that a straight table can give, and the figure's distance told beforehand.
-use Rattle.promises.proofs.Names.{_≡_, refl, sym, ap, _∙_, Bool, true, false, _||_, true≢false, List, [], _∷_, map, Option, none, some, ℕ, _+_, _*_, _≤_, _<_, mul-le-mul-left, mul-le-mul-right, arith, ltb-false}
+-- The greatest fraction that a reading without a curve can have, and the figure's distance told beforehand.
+use Rattle.promises.proofs.Names.{_≡_, refl, ap, Bool, true, false, _||_, true≢false, List, [], _∷_, map, Option, none, some, ℕ, _+_, _*_, _≤_, _<_, mul-le-mul-left, mul-le-mul-right, arith, ltb-false}
 use Rattle.promises.proofs.Names.{ltb, ℤ, pos, natAbs, negℤ, _+ℤ_, _-ℤ_, _*ℤ_, ltZ, _<ℤ_, Float, up, dn, Fraction, _over_, add-parts, sub-parts-ℤ, mul-parts, abs-parts, up-neg, dn-neg, ltZ-parts, nltZ-parts}
 use Rattle.promises.proofs.Names.{is-false, outsideTable, passed, Codes, Domain, Electrical, Physical, R, leastDeviation, calDeviation, billion, topCode, steppedValue, decode, stepped-whole, Found, FoundPair}
-use Rattle.promises.proofs.Names.{Calibration, bare, table, curve, codesIn, figure, pairIn, contents-accepted, FieldAt, PairsAt, CalibrationAt, Is, domainIn, deviation, less, above-parts, near-abs, scaled}
-use Rattle.promises.proofs.Names.{nearest-small, Deviations, deviation-within, least, greatest, tooFar, position, fraction, pairs-table, shown, altered, Straight, leastIn, greatestIn, lineFor, NoCurve}
-use Rattle.promises.proofs.Names.{FigureWithin, lowIn, highIn, StraightTable, greatestFraction, FractionAtMost, DistanceFigure, units}
+use Rattle.promises.proofs.Names.{Calibration, bare, table, curve, codesIn, figure, pairIn, contents-accepted, FieldAt, PairsAt, CalibrationAt, deviation, less, above-parts, near-abs, scaled}
+use Rattle.promises.proofs.Names.{nearest-small, Deviations, deviation-within, crossing-within, calibration-rises, least, greatest, tooFar, position, fraction, pairs-table, shown, altered, leastIn, greatestIn}
+use Rattle.promises.proofs.Names.{lineFor, NoCurve}
+use Rattle.promises.proofs.Names.{FigureWithin, lowIn, highIn, greatestFraction, FractionAtMost, DistanceFigure, units}
 use Rattle.promises.proofs.KeptLent.{kept-lent}
-use Rattle.promises.proofs.Distance.{straight-lent}
 use Rattle.promises.proofs.Beforehand.{distance-holds}
 use Rattle.promises.proofs.Figures.{taken}
 use Rattle.promises.proofs.FigureLines.{figure-strays, no-curve}
@@ -50,19 +50,22 @@ deviations-most domain before at (p ∷ pairs) h = (deviation-most (h .0 .deviat
 sum-most : (p d : ℤ) → natAbs p ≤ 1_100_000_000 → natAbs d ≤ 1_097_150_000 → natAbs (p +ℤ d) ≤ greatestFraction
 sum-most p d hp hd = omega (arith, near-abs {b = greatestFraction} 1 (p +ℤ d) (omega (arith, add-parts p d, abs-parts p, abs-parts d)))
 
-fraction-most : (at : ℕ) (k : Calibration) (p : ℤ) → CalibrationAt at k → StraightTable k → natAbs p ≤ 1_100_000_000 → natAbs (fraction k p) ≤ greatestFraction
+fraction-most : (at : ℕ) (k : Calibration) (p : ℤ) → CalibrationAt at k → NoCurve k → natAbs p ≤ 1_100_000_000 → natAbs (fraction k p) ≤ greatestFraction
 fraction-most at bare p h s l = omega arith
 fraction-most at (table Electrical pairs) p h s l =
     let t = pairs-table Electrical none (at + 18) pairs (h .stand) in
     sum-most p (deviation (map pairIn pairs) p) l (deviation-within 1_097_150_000 (map pairIn pairs) p (t .rises) (deviations-most Electrical none (at + 18) pairs (h .stand)))
-fraction-most at (table Physical pairs) p h s l = absurd s
+fraction-most at (table Physical pairs) p h s l =
+    let t = pairs-table Physical none (at + 18) pairs (h .stand) in
+    crossing-within 1_097_150_000 1_100_000_000 (map pairIn pairs) p (t .rises) (calibration-rises at (table Physical pairs) Physical h refl)
+    (deviations-most Physical none (at + 18) pairs (h .stand)) l
 fraction-most at (curve segments) p h s l = absurd s
 
 pub fraction-at-most : FractionAtMost
-fraction-at-most kind image c v dash r accepted straight e =
+fraction-at-most kind image c v dash r accepted plain e =
     let t = taken kind image c v dash r accepted e in
     rw (t .counts)
-    (fraction-most _ (c .calibration) (position v (least c) (greatest c)) (contents-accepted kind image c accepted .holding .formed .calibrated) straight
+    (fraction-most _ (c .calibration) (position v (least c) (greatest c)) (contents-accepted kind image c accepted .holding .formed .calibrated) plain
     (position-most v (least c) (greatest c) (t .rises) (t .inside)))
 
 -- ---- told beforehand
@@ -73,24 +76,13 @@ more B q Q low high figure line l h =
     let a : 4 * q + 1 ≤ 4 * Q + 1 = omega arith in
     omega (arith, h, mul-le-mul-right (line .den) (mul-le-mul-left s a))
 
-straight-held : (k : Calibration) → NoCurve k → (domainIn k ≡ Is Physical → ⊥) → StraightTable k
-straight-held bare h n = tt
-straight-held (table Electrical pairs) h n = tt
-straight-held (table Physical pairs) h n = n refl
-straight-held (curve segments) h n = h
-
-straight : (points : List ℤ) → Straight Electrical points
-straight [] = tt
-straight (x ∷ points) = tt
-
 pub distance-figure : DistanceFigure
 distance-figure kind buffer sheet text points built alterations readingKind v dash r d told lendable real made e =
     let image : List ℕ = altered built alterations in
     let s = shown readingKind image v dash r e in
     let k = kept-lent kind buffer sheet text Electrical points built alterations readingKind (s .holds) lendable real made (s .accepted) in
     let plain = no-curve _ (s .holds .calibration) (contents-accepted readingKind image (s .holds) (s .accepted) .holding .formed .calibrated) (k .keepsSegments) in
-    let table = straight-held (s .holds .calibration) plain (λ h. straight-lent Electrical points (straight points) (sym (k .keepsDomain) ∙ h)) in
     more (d .bound) (natAbs (r .fraction)) greatestFraction (lowIn readingKind image) (highIn readingKind image) (r .figure) (lineFor points v (leastIn readingKind image) (greatestIn readingKind image))
-    (fraction-at-most readingKind image (s .holds) v dash r (s .accepted) table e)
+    (fraction-at-most readingKind image (s .holds) v dash r (s .accepted) plain e)
     (figure-strays readingKind image (s .holds) v dash r (d .bound) _ (s .accepted) plain e
     (distance-holds kind buffer sheet text points built alterations readingKind v dash r d told lendable real made e))

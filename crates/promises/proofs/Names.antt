@@ -144,7 +144,7 @@ pub use Rattle.line.proofs.Crossings.{crosses}
 pub use Rattle.line.proofs.Distances.{above-parts, less, near-abs, scaled}
 pub use Rattle.line.proofs.Needle.{crossing-never-falls, deviated-never-falls}
 pub use Rattle.line.proofs.Order.{AtMost, at-most, by-order}
-pub use Rattle.line.proofs.Sizes.{Deviations, deviation-within, nearest-small}
+pub use Rattle.line.proofs.Sizes.{Deviations, crossing-within, deviation-within, nearest-small}
 pub use Rattle.line.proofs.Weights.{at, run-some, weights-num, weights-run}
 pub use Rattle.line.specs.Certificate.{Close, Rises, Slopes}
 pub use Rattle.line.specs.Conformity.{WithinOf}
@@ -181,7 +181,7 @@ pub use Rattle.promises.specs.Curves.{AllAbove, LastSegmentServes, Serve
 pub use Rattle.promises.specs.Deviations.{AllWithin, DeviationWithin, FirstHolds, LastHolds}
 pub use Rattle.promises.specs.Edges.{Edges, Examples}
 pub use Rattle.promises.specs.Figure.{CertificateFigure, CurveShownNear, DistanceFigure, FigureStraysAtMost, FigureWithin, FractionAtMost, NoCurve, ShownFinite, ShownFollows, ShownNear, ShownRises}
-pub use Rattle.promises.specs.Figure.{ShownRisesByPhysicalPoint, StraightTable, greatestFraction, high, highIn, low, lowIn, single}
+pub use Rattle.promises.specs.Figure.{ShownRisesByPhysicalPoint, greatestFraction, high, highIn, low, lowIn, single}
 pub use Rattle.promises.specs.Geometric.{EncodedByRatio}
 pub use Rattle.promises.specs.Images.{ImageToStream, StreamSizes, StreamToImage}
 pub use Rattle.promises.specs.Index.{FetchedAfterChanges, FetchedAsRead, IndexFits, IndexKept, IndexSorted, RefusedAlike}

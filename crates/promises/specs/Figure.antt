@@ -99,20 +99,13 @@ CertificateFigure =
     Slopes K (pairsLent points) →
     FigureStraysAtMost (2000 + 1000 * R + K * (D + 1)) (lowIn readingKind image) (highIn readingKind image) r (lineFor points v (leastIn readingKind image) (greatestIn readingKind image))
 
--- No table, or one of domain 0.
-abbrev pub StraightTable : Calibration → Type 0
-StraightTable bare = Unit {0}
-StraightTable (table Electrical pairs) = Unit {0}
-StraightTable (table Physical pairs) = ⊥
-StraightTable (curve segments) = ⊥
-
--- There no accepted reading has a greater |q|: an input reaches a tenth of the span beyond its end, and a deviation 1,097,150,000.
+-- No accepted reading without a curve has a greater |q|, in either domain: an input reaches a tenth of the span beyond its end, and a deviation 1,097,150,000.
 abbrev pub greatestFraction : ℕ
 greatestFraction = 1_100_000_000 + 1_097_150_000
 
 abbrev pub FractionAtMost : Type 0
 FractionAtMost =
-    (kind : ℕ) (image : List ℕ) (c : Contents) (v : ℤ) (dash : Dash) (r : Reading) → contents kind image ≡ good c → StraightTable (c .calibration) →
+    (kind : ℕ) (image : List ℕ) (c : Contents) (v : ℤ) (dash : Dash) (r : Reading) → contents kind image ≡ good c → NoCurve (c .calibration) →
     takeReading kind image v dash ≡ good r → natAbs (r .fraction) ≤ greatestFraction
 
 -- Told beforehand, from the points and the physical ends alone.
