@@ -42,3 +42,4 @@ pub mod BuildOrders
 pub mod Orders
 pub mod LevelRefusals
 pub mod Curves
+pub mod FifthPower

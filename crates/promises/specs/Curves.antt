@@ -1,11 +1,21 @@
--- Document 02, Note 11: the segment that serves is the last one whose start in billionths is at or below p; before the first start the first one serves.
+-- Document 02, Note 11: the segment that serves, and the powers that a curve does not have.
 use mathlib.Core.Path.{_≡_}
 use mathlib.Core.List.{List, [], _∷_, _++_}
+use Prim.Native.Nat.{ℕ, _-_}
 use lib.IntN.{ℤ}
+use lib.ListN.{length, replicate}
+use lib.Ieee.{Float}
 use lib.Signed.{_≤ℤ_, _<ℤ_}
-use Rattle.layout.specs.Contents.{FoundSegment}
-use Rattle.layout.specs.Image.{segmentIn}
-use Rattle.reading.specs.Reading.{serving}
+use Rattle.refusal.specs.Outcome.{good}
+use Rattle.fields.specs.declared.Term.{Term}
+use Rattle.layout.specs.Contents.{FoundSegment, curve, Contents}
+use Rattle.layout.specs.Image.{contents, segmentIn}
+use Rattle.curve.specs.Curve.{zero, coefficients, fractionBy, fractionOf}
+use Rattle.reading.specs.declared.Dash.{Dash}
+use Rattle.reading.specs.declared.Reading.{Reading}
+use Rattle.reading.specs.Reading.{serving, servingTerms, takeReading}
+
+-- The segment that serves is the last one whose start in billionths is at or below p; before the first start the first one serves.
 
 abbrev pub startOf : FoundSegment → ℤ
 startOf s = segmentIn s .start
@@ -32,3 +42,20 @@ pub record Serves (p : ℤ) (first : FoundSegment) (segments : List FoundSegment
 
 abbrev pub LastSegmentServes : Type 0
 LastSegmentServes = (p : ℤ) (first : FoundSegment) (segments : List FoundSegment) → StartsRise (first ∷ segments) → Serves p first segments (serving p first segments)
+
+-- Of every accepted image with a curve.
+abbrev pub CurveStartsRise : Type 0
+CurveStartsRise = (kind : ℕ) (image : List ℕ) (c : Contents) (segments : List FoundSegment) → contents kind image ≡ good c → c .calibration ≡ curve segments → StartsRise segments
+
+-- Absent powers are 0: a coefficient for each power up to the fifth.
+abbrev pub upToTheFifth : List Term → List Float
+upToTheFifth terms = let own = coefficients 0 terms in own ++ replicate (6 - length own) zero
+
+-- So the nested rule from the fifth power gives the float fraction that the rule from the highest gives. (A correction of zero may differ in its sign;
+-- the fraction does not.)
+abbrev pub FromTheFifth : Type 0
+FromTheFifth =
+    (kind : ℕ) (image : List ℕ) (c : Contents) (segments : List FoundSegment) (v : ℤ) (dash : Dash) (r : Reading) → contents kind image ≡ good c → c .calibration ≡ curve segments →
+    takeReading kind image v dash ≡ good r →
+    let terms = servingTerms (r .fraction) segments in
+    fractionBy (upToTheFifth terms) (r .fraction) ≡ fractionOf terms (r .fraction)

@@ -1,12 +1,12 @@
 -- Document 01, "Edges": the small proved set, which is the starred cases, one table and one statement over it. Beside it, under their own names:
--- examples that document 000 prints, and cases that show that demand 3's hypotheses can be met.
+-- an example that document 000 prints, and cases that show that demand 3's hypotheses can be met.
 use mathlib.Core.Path.{_≡_}
 use mathlib.Core.Bool.{false, true}
 use mathlib.Core.List.{List, [], _∷_, _++_, map}
 use Prim.Native.Nat.{ℕ, _+_, _*_, _≤_}
 use lib.ListN.{replicate}
 use lib.IntN.{ℤ, pos, negℤ, natAbs, _-ℤ_, _*ℤ_}
-use lib.Ieee.{binary32, ofInt, ofBits}
+use lib.Ieee.{binary32, binary64, ofInt, ofBits}
 use Rattle.refusal.specs.declared.Refusal.{Refusal}
 use Rattle.refusal.specs.Outcome.{Outcome, good, refused, _>>=_}
 use Rattle.refusal.specs.Rows.{wrongBlock}
@@ -18,16 +18,17 @@ use Rattle.fields.specs.declared.Row.{Row}
 use Rattle.fields.specs.declared.Level.the-variants.{CalibrationRoom, Maker}
 use Rattle.fields.specs.declared.Domain.{Domain}
 use Rattle.fields.specs.declared.Domain.the-variants.{Electrical, Physical}
-use Rattle.fields.specs.declared.Rule.the-variants.{Stepped}
+use Rattle.fields.specs.declared.Curve.{Curve}
 use Rattle.fields.specs.declared.Template.the-variants.{Bridge, Resistance}
 use Rattle.fields.specs.Rules.{Progression, decode, encode, geometricValue}
-use Rattle.fields.specs.Rows.{optional, bridgeEnd, excitation}
+use Rattle.fields.specs.Rows.{bridgeEnd, excitation}
 use Rattle.fields.specs.Lines.{basic}
 use Rattle.texts.specs.Dates.{dateOf}
 use Rattle.layout.specs.Places.{firstSelector}
 use Rattle.build.specs.declared.Sheet.{Sheet}
-use Rattle.build.specs.Build.{slot, linePieces, pairsLent, build}
+use Rattle.build.specs.Build.{slot, linePieces, pairsLent, build, buildCurve}
 use Rattle.line.specs.Line.{deviation}
+use Rattle.reading.specs.declared.Reading.{Reading}
 use Rattle.reading.specs.declared.Dash.the-variants.{Large, Small}
 use Rattle.reading.specs.Reading.{position, takeReading}
 use Rattle.promises.specs.Alterations.{Alteration, changes, commits, altered}
@@ -79,6 +80,8 @@ pub data Case : Type 0 where
   deviates : List ℤ → ℤ → ℤ → Case
   -- A kind and its image's length, a sheet, a domain, points, alterations, v and q: built, altered and read.
   reads : ℕ → ℕ → Sheet → Domain → List ℤ → List Alteration → ℤ → ℤ → Case
+  -- A kind and its image's length, a sheet, a curve, v and a reading: built and read.
+  draws : ℕ → ℕ → Sheet → Curve → ℤ → Reading → Case
   -- A kind and its image's length, a sheet, v and a refusal: built, and its reading turned down.
   unread : ℕ → ℕ → Sheet → ℤ → Refusal → Case
 
@@ -93,6 +96,7 @@ Holds (placed e f v p) = position v e f ≡ p
 Holds (deviates points p d) = deviation (pairsLent points) p ≡ d
 Holds (reads kind bytes sheet domain points alterations v q) =
     (build kind (replicate bytes 0) sheet [] domain points >>= λ image. takeReading kind (altered image alterations) v Small >>= λ r. good (r .fraction)) ≡ good q
+Holds (draws kind bytes sheet curve v r) = (buildCurve kind (replicate bytes 0) sheet [] curve >>= λ image. takeReading kind image v Small) ≡ good r
 Holds (unread kind bytes sheet v r) = (build kind (replicate bytes 0) sheet [] Electrical [] >>= λ image. takeReading kind image v Large) ≡ refused r
 
 -- The cases that document 01 stars.
@@ -114,19 +118,10 @@ starred =
     deviates (pos 0 ∷ pos 0 ∷ pos 400 ∷ pos 200 ∷ []) (pos 1) (pos 1) ∷
     []
 
--- Document 000's examples of ConRes (7.4.5.3.3: the temperature coefficient in thousandths, a signed integer, a granularity of 10^-5) and of ConRelRes (7.4.5.3.4: the quality factor in 10^-9), none of which is a field of the sheet.
-abbrev pub stepped : ℕ → ℕ → ℕ → Row
-stepped width below step = optional width (Stepped (negℤ (pos below)) step)
-
+-- Document 000's example of ConRelRes (7.4.5.3.4: the quality factor in 10^-9), which is no field of the sheet and no call's. Its examples of ConRes are
+-- codes of stepped rows, and run in the program `printed`.
 abbrev pub printed : List Case
-printed =
-    means (stepped 9 500 2) 8 (Whole (negℤ (pos 484))) ∷
-    means (stepped 9 500 2) 510 (Whole (pos 520)) ∷
-    means (stepped 8 128 1) 254 (Whole (pos 126)) ∷
-    means (stepped 8 128 1) 255 Missing ∷
-    means (stepped 25 10_000_000 1) 20_000_000 (Whole (pos 10_000_000)) ∷
-    scaled (record { start = 300_000_000; tolerance = 3; parts = 100 }) 126 463_084_535_408 ∷
-    []
+printed = scaled (record { start = 300_000_000; tolerance = 3; parts = 100 }) 126 463_084_535_408 ∷ []
 
 -- A change of field 11, and one of field 9, which is refused.
 abbrev pub changedTo : ℕ → Value → List Alteration
@@ -177,6 +172,23 @@ met =
     reads 1 128 (sheetAt 0 (pos 0) (pos 2_000_000)) Physical halved (twoChanges 1 (pos 3_000_000)) (pos 300) (pos 200_000) ∷
     []
 
+-- Document 02, Note 11: a curve of two segments, whose second starts at 49.2 % of the span; 0.0625 × 50 − 2 is 1.125 there, so that half of the span shows
+-- 51.125 % of 10: 5.1125, by f64.
+abbrev pub bent : Curve
+bent = record {
+  count = 2;
+  segments = record { start = pos 0; terms = 1 } ∷ record { start = pos 492_000_000; terms = 2 } ∷ [];
+  terms =
+      record { exponent = pos 0; coefficient = ofBits binary32 0x3f80_0000 } ∷
+      record { exponent = pos 0; coefficient = ofBits binary32 0xc000_0000 } ∷
+      record { exponent = pos 1; coefficient = ofBits binary32 0x3d80_0000 } ∷
+      [];
+}
+
+abbrev pub curved : List Case
+curved =
+    draws 1 128 (sheetAt 0 (pos 0) (pos 2_000_000)) bent (pos 1_000_000) (record { fraction = pos 500_000_000; figure = ofBits binary64 0x4014_7333_3333_3333 }) ∷ []
+
 -- Document 02, Note 14: where points plus deviations fall, the needle drops back.
 abbrev pub falling : List ℤ
 falling = pos 0 ∷ pos 100_000 ∷ pos 15_300 ∷ negℤ (pos 100_000) ∷ []
@@ -203,6 +215,6 @@ AllHold (c ∷ cases) = Holds c × AllHold cases
 abbrev pub Edges : Type 0
 Edges = AllHold starred
 
--- Document 000's examples, demand 3 met, a needle that drops back, and readings that are turned down.
+-- Document 000's example, demand 3 met, a curve, a needle that drops back, and readings that are turned down.
 abbrev pub Examples : Type 0
-Examples = AllHold (printed ++ (met ++ (dropped ++ resisted)))
+Examples = AllHold (printed ++ (met ++ (curved ++ (dropped ++ resisted))))
