@@ -19,7 +19,7 @@ class Examples(support.Case):
                         yield line[2:], "".join(other + "\n" for other in below[:end])
 
     def test_each(self):
-        for name in ("bin", "samples"):
+        for name in ("bin", "samples", "include", "examples", "portable"):
             os.symlink(os.path.join(support.HOME, name), self.path(name))
         commands = {page: list(self.blocks(page)) for page in ("BENCH.md", "CONSOLE.md", "TRAY.md", "../README.md")}
         self.assertGreater(min(map(len, commands.values())), 1)
