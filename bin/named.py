@@ -5,7 +5,6 @@ import re
 ROOT = pathlib.Path(__file__).resolve().parent.parent
 CRATES = ROOT / "crates"
 DEFINED = r"^\s*(?:pub |abbrev |unfoldable |record |data )*{}(?= :|\s*\(|\s*\{{|$)"
-DECLARED = r"\b(?:fn|const|struct|enum) {}\b"
 # Names in backquotes, then their file or files in brackets: `a`, `b` (crate/specs/File) or (crate/specs/File, Other).
 NAMED = re.compile(r"((?:`[^`]+`(?:, )?)+) \(((?:[\w-]+/)+[\w./-]+(?:, [\w./-]+)*)\)")
 # The crates, in the order of crates.txt.
@@ -57,5 +56,5 @@ def has_edit(crate, label):
 def has_function(path):
     """Whether a crate declares what a path such as crate::function or crate::Type::method ends in."""
     crate, *_, last = path.split("::")
-    pattern = re.compile(DECLARED.format(re.escape(last)))
+    pattern = re.compile(rf"\bfn {re.escape(last)}\b")
     return any(pattern.search(file.read_text()) for file in (CRATES / crate / "src").glob("*.rt"))
