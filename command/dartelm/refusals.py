@@ -29,31 +29,31 @@ PLACES = {
 LONG = 110
 
 
+SECTION = re.compile(r"^## (\d+) .*?(?=^## |\Z)", re.M | re.S)
+PARAGRAPH = re.compile(r"^\*\*(\w+):\*\* (.+)\.$", re.M)
+
+
 def rows(home=HOME):
-    """Number to meaning and what to do, as the table has them; none where the file is not there."""
-    found = {}
+    """Number to the paragraphs of its section, by who or what each is for; none where the file is not there."""
     try:
         with open(os.path.join(home, "docs", "REFUSALS.md"), encoding="utf-8") as file:
-            for line in file:
-                cells = [cell.strip().replace("`", "") for cell in line.strip().strip("|").split("|")]
-                if len(cells) == 4 and cells[0].isdigit():
-                    found[int(cells[0])] = (cells[2], cells[3])
+            page = file.read().replace("`", "")
     except OSError:
-        pass
-    return found
+        return {}
+    return {int(section[1]): dict(PARAGRAPH.findall(section[0])) for section in SECTION.finditer(page)}
 
 
 ROWS = rows()
 
 
 def meaning(refusal):
-    return ROWS.get(refusal.number, ("", ""))[0]
+    return ROWS.get(refusal.number, {}).get("Means", "")
 
 
 def advice(refusal):
-    """What to do, for the person at the bench: a programmer's part is left out."""
-    said = re.split(r"(?i)\bprogrammer:\s*", ROWS.get(refusal.number, ("", ""))[1])[0]
-    return re.sub(r"^(bench|restorer):\s*", "", said.strip()).rstrip(". ")
+    """What to do, for the person at the bench."""
+    row = ROWS.get(refusal.number, {})
+    return row.get("Bench", row.get("Restorer", ""))
 
 
 def headline(refusal, word=None):

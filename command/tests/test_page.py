@@ -1,4 +1,4 @@
-"""docs/BENCH.md: each example gives what the page says."""
+"""README and docs/BENCH.md, CONSOLE.md and TRAY.md: each example gives what the page says."""
 import os
 import re
 import subprocess
@@ -7,9 +7,9 @@ import support
 
 
 class Examples(support.Case):
-    def blocks(self):
+    def blocks(self, page):
         """Commands and what stands below them."""
-        with open(os.path.join(support.HOME, "docs", "BENCH.md"), encoding="utf-8") as file:
+        with open(os.path.join(support.HOME, "docs", page), encoding="utf-8") as file:
             for block in re.findall(r"(?:^    .*\n)+", file.read(), re.MULTILINE):
                 lines = [line[4:] for line in block.splitlines()]
                 for number, line in enumerate(lines):
@@ -19,11 +19,11 @@ class Examples(support.Case):
                         yield line[2:], "".join(other + "\n" for other in below[:end])
 
     def test_each(self):
-        for name in ("bin", "samples"):
+        for name in ("bin", "samples", "include", "examples", "portable"):
             os.symlink(os.path.join(support.HOME, name), self.path(name))
-        commands = list(self.blocks())
-        self.assertGreater(len(commands), 10)
-        for command, wanted in commands:
+        commands = {page: list(self.blocks(page)) for page in ("BENCH.md", "CONSOLE.md", "TRAY.md", "../README.md")}
+        self.assertGreater(min(map(len, commands.values())), 1)
+        for command, wanted in sum(commands.values(), []):
             done = subprocess.run(command, shell=True, cwd=self.room, capture_output=True, text=True, check=False)
             self.assertEqual(done.stdout, wanted, command + done.stderr)
 
