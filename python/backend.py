@@ -1,7 +1,7 @@
 """Builds the package for pip, with Python's own library and a C compiler alone (PEP 517).
 
 A wheel has the package, the shared library compiled from portable/c/dartelm.c, and the command `dartelm` with its two programs.
-Below the package the command finds what it finds in a release: bin/, command/, docs/, include/ and target/bin/.
+Below the package the command finds what it finds in a release: bin/, docs/, include/ and target/bin/.
 """
 import base64
 import hashlib
@@ -24,7 +24,7 @@ PROGRAMS = ("console", "tray")
 # What the command runs and reads.
 NEEDED = ("bin/built.sh", "bin/console", "bin/tray", "docs/REFUSALS.md", "include/dartelm.h")
 # What a source distribution has.
-SOURCES = ("pyproject.toml", "python", "portable/c", "command/dartelm", "docs/PYTHON.md", *NEEDED)
+SOURCES = ("pyproject.toml", "python", "portable/c", "docs/PYTHON.md", *NEEDED)
 
 
 class Unbuilt(Exception):
@@ -57,8 +57,7 @@ def build_wheel(wheel_directory, config_settings=None, metadata_directory=None):
     files = {**modules(), **compiled()}
     files[f"{info}/METADATA"] = metadata().encode(), 0o644
     files[f"{info}/WHEEL"] = f"Wheel-Version: 1.0\nGenerator: dartelm\nRoot-Is-Purelib: false\nTag: {tag}\n".encode(), 0o644
-    if any(path.startswith("dartelm/command/") for path in files):
-        files[f"{info}/entry_points.txt"] = b"[console_scripts]\ndartelm = dartelm.__main__:main\n", 0o644
+    files[f"{info}/entry_points.txt"] = b"[console_scripts]\ndartelm = dartelm.__main__:main\n", 0o644
     record = "".join(f"{path},sha256={digest(data)},{len(data)}\n" for path, (data, _) in sorted(files.items()))
     files[f"{info}/RECORD"] = f"{record}{info}/RECORD,,\n".encode(), 0o644
     with zipfile.ZipFile(os.path.join(wheel_directory, name), "w", zipfile.ZIP_DEFLATED) as wheel:
@@ -77,17 +76,14 @@ def digest(data):
 def modules():
     """The package's modules, and the command's below it."""
     files = {}
-    package = os.path.join(HOME, "python", "dartelm")
-    for name in sorted(os.listdir(package)):
-        if name.endswith((".py", ".typed")):
-            files[f"dartelm/{name}"] = read(os.path.join(package, name)), 0o644
-    if all(os.path.exists(source(name)) for name in PROGRAMS):
-        for name in sorted(os.listdir(os.path.join(HOME, "command", "dartelm"))):
-            if name.endswith(".py"):
-                files[f"dartelm/command/dartelm/{name}"] = read(os.path.join(HOME, "command", "dartelm", name)), 0o644
-        for name in NEEDED:
-            path = os.path.join(HOME, *name.split("/"))
-            files[f"dartelm/{name}"] = read(path), 0o755 if os.access(path, os.X_OK) else 0o644
+    for folder in ("dartelm", "dartelm/command"):
+        package = os.path.join(HOME, "python", folder)
+        for name in sorted(os.listdir(package)):
+            if name.endswith((".py", ".typed")):
+                files[f"{folder}/{name}"] = read(os.path.join(package, name)), 0o644
+    for name in NEEDED:
+        path = os.path.join(HOME, *name.split("/"))
+        files[f"dartelm/{name}"] = read(path), 0o755 if os.access(path, os.X_OK) else 0o644
     return files
 
 
@@ -99,7 +95,7 @@ def compiled():
         path = os.path.join(room, "libdartelm.so")
         library.compile_to(path, HOME, compiler)
         files["dartelm/libdartelm.so"] = read(path), 0o755
-        for name in PROGRAMS if all(os.path.exists(source(name)) for name in PROGRAMS) else ():
+        for name in PROGRAMS:
             path = os.path.join(room, name)
             words = [*compiler, "-std=c99", "-O2", "-I" + os.path.join(HOME, "include"), source(name), "-o", path]
             if subprocess.run(words, check=False).returncode != 0:

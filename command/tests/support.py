@@ -16,13 +16,13 @@ from unittest import mock
 HERE = os.path.dirname(os.path.realpath(__file__))
 HOME = os.path.dirname(os.path.dirname(HERE))
 sys.dont_write_bytecode = True
-for folder in (os.path.join(HOME, "command"), HERE):
+for folder in (os.path.join(HOME, "python"), HERE):
     if folder not in sys.path:
         sys.path.insert(0, folder)
 
-from dartelm import console as consoles  # noqa: E402
-from dartelm import image as images  # noqa: E402
-from dartelm import main  # noqa: E402
+from dartelm.command import console as consoles  # noqa: E402
+from dartelm.command import image as images  # noqa: E402
+from dartelm.command import main  # noqa: E402
 
 SAMPLES = os.path.join(HOME, "samples")
 REFUSED = ("blank.kind1", "damaged.kind1")
@@ -155,8 +155,8 @@ def other_home(path, console):
     """A home of its own with another console; what `dartelm` to run."""
     os.makedirs(os.path.join(path, "bin"))
     shutil.copytree(
-        os.path.join(HOME, "command", "dartelm"),
-        os.path.join(path, "command", "dartelm"),
+        os.path.join(HOME, "python", "dartelm"),
+        os.path.join(path, "python", "dartelm"),
         ignore=shutil.ignore_patterns("__pycache__"),
     )
     shutil.copy2(os.path.join(HOME, "bin", "dartelm"), os.path.join(path, "bin", "dartelm"))

@@ -1,10 +1,10 @@
 """certificate: a chip against its certificate, in per cent or in the sender's unit, by the proved distance."""
 import support
-from dartelm import certificate, tables
-from dartelm.image import build, read_image, read_sheet
-from dartelm.singles import nearest
-from dartelm.trouble import Refusal
-from dartelm.units import EXACT
+from dartelm.command import certificate, tables
+from dartelm.command.image import build, read_image, read_sheet
+from dartelm.command.singles import nearest
+from dartelm.command.trouble import Refusal
+from dartelm.command.units import EXACT
 from support import ACCEPTED, REFUSED, sample
 
 PERCENT = "point (%),deviation (%)\n0,0\n20,0.015\n40,0.042\n60,0.038\n80,0.009\n100,-0.021\n"

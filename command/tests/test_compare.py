@@ -2,7 +2,7 @@
 import os
 
 import support
-from dartelm.image import read_image
+from dartelm.command.image import read_image
 from support import sample
 
 CELL, TEN, SIXTY = sample("load-cell.kind1"), sample("load-cell.ten"), sample("load-cell.sixty")

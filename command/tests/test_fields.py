@@ -4,9 +4,9 @@ import subprocess
 import unittest
 
 import support
-from dartelm import fields, measurands, singles, units
-from dartelm.fields import FIELDS, Around, field_named
-from dartelm.trouble import Trouble
+from dartelm.command import fields, measurands, singles, units
+from dartelm.command.fields import FIELDS, Around, field_named
+from dartelm.command.trouble import Trouble
 
 
 class Names(support.Case):

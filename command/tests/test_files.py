@@ -7,8 +7,8 @@ import time
 from unittest import mock
 
 import support
-from dartelm import files
-from dartelm.trouble import Trouble
+from dartelm.command import files
+from dartelm.command.trouble import Trouble
 from support import sample
 
 CELL = sample("load-cell.kind1")
@@ -16,7 +16,7 @@ KILLED = """
 import os, signal, sys
 sys.path.insert(0, {command!r})
 sys.dont_write_bytecode = True
-from dartelm import main
+from dartelm.command import main
 os.{call} = lambda *_, **__: os.kill(os.getpid(), signal.{signal})
 sys.exit(main.main(sys.argv[1:]))
 """
@@ -155,7 +155,7 @@ class Write(support.Case):
                 ("set", sample("load-cell.kind1"), "location=1", "-o", self.path("new")),
                 ("make", source, "-o", self.path("new")),
             ):
-                script = KILLED.format(command=os.path.join(support.HOME, "command"), call=call, signal=name)
+                script = KILLED.format(command=os.path.join(support.HOME, "python"), call=call, signal=name)
                 done = subprocess.run([sys.executable, "-c", script, *words], capture_output=True, check=False)
                 self.assertNotEqual(done.returncode, 0)
                 self.assertEqual(os.listdir(self.room), ["sheet"], (call, name, words[0]))
@@ -164,7 +164,7 @@ class Write(support.Case):
         there = self.file("there", "precious")
         words = ("set", sample("load-cell.kind1"), "location=1", "-o", there, "--force")
         for call in ("fsync", "link", "replace"):
-            script = KILLED.format(command=os.path.join(support.HOME, "command"), call=call, signal="SIGKILL")
+            script = KILLED.format(command=os.path.join(support.HOME, "python"), call=call, signal="SIGKILL")
             done = subprocess.run([sys.executable, "-c", script, *words], capture_output=True, check=False)
             self.assertNotEqual(done.returncode, 0)
             self.assertEqual(self.bytes("there"), b"precious")

@@ -6,9 +6,9 @@ import subprocess
 from unittest import mock
 
 import support
-from dartelm import certificate, dumps, image, main, measurands, setting, sheets, units
-from dartelm.image import Image, build, read_image, read_sheet
-from dartelm.trouble import Refusal, Trouble
+from dartelm.command import certificate, dumps, image, main, measurands, setting, sheets, units
+from dartelm.command.image import Image, build, read_image, read_sheet
+from dartelm.command.trouble import Refusal, Trouble
 from support import sample, sample_bytes
 
 CELL = sample("load-cell.kind1")

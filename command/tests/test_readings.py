@@ -3,11 +3,11 @@ import struct
 from fractions import Fraction
 
 import support
-from dartelm import readings
-from dartelm.image import build, read_sheet
-from dartelm.singles import as_float, nearest
-from dartelm.trouble import Refusal
-from dartelm.units import EXACT
+from dartelm.command import readings
+from dartelm.command.image import build, read_sheet
+from dartelm.command.singles import as_float, nearest
+from dartelm.command.trouble import Refusal
+from dartelm.command.units import EXACT
 
 
 def single(text):

@@ -2,8 +2,8 @@
 import os
 
 import support
-from dartelm import export, make, sheets
-from dartelm.image import build, read_sheet
+from dartelm.command import export, make, sheets
+from dartelm.command.image import build, read_sheet
 from support import ACCEPTED, REFUSED, sample, sample_bytes
 
 

@@ -2,8 +2,8 @@
 import os
 
 import support
-from dartelm import fields, storing
-from dartelm.fields import FIELDS, Around
+from dartelm.command import fields, storing
+from dartelm.command.fields import FIELDS, Around
 from support import sample
 
 CELL = sample("load-cell.kind1")

@@ -1,8 +1,8 @@
 """A certificate's table is taken as it is meant, or refused: never another one in its place."""
 import support
-from dartelm import certificate, tables
-from dartelm.image import read_image, read_sheet
-from dartelm.trouble import Trouble
+from dartelm.command import certificate, tables
+from dartelm.command.image import read_image, read_sheet
+from dartelm.command.trouble import Trouble
 from support import sample
 
 # The load cell's certificate in newtons and in per cent of 5000 N, and in billionths of it.

@@ -6,8 +6,8 @@ import time
 
 import bus
 import support
-from dartelm import write
-from dartelm.image import Image, refusal_of
+from dartelm.command import write
+from dartelm.command.image import Image, refusal_of
 from support import run_program, sample, sample_bytes
 
 ONE, TWO = "2D.0123456789AB", "23.00000000BEEF"

@@ -3,9 +3,11 @@ import os
 import struct
 import subprocess
 
+from .. import library
 from .trouble import Refusal, unread
 
-HOME = os.path.dirname(os.path.dirname(os.path.dirname(os.path.realpath(__file__))))
+# Installed, the package has the programs below it.
+HOME = library.PACKAGE if os.path.exists(os.path.join(library.PACKAGE, "bin")) else library.HOME
 
 # What is asked ahead of its answers stays below the room of a pipe, so that neither side waits for the other.
 AHEAD = 40000
