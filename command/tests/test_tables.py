@@ -19,7 +19,7 @@ class Tables(support.Case):
         sheet, _ = self.gives(0, "export", self.cell)
         bare = "".join(line + "\n" for line in sheet.splitlines() if not line.startswith(("point", "domain")))
         self.gives(0, "make", self.file("bare.txt", bare), "-o", self.path("bare"))
-        self.scale = certificate.Scale(support.console(), read_sheet(support.console(), read_image(self.cell)))
+        self.scale = certificate.Scale(read_sheet(read_image(self.cell)))
 
     def points(self, text, **columns):
         table = tables.read_table(self.file("cert", text), tables.Asked(**columns))

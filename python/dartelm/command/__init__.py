@@ -1,5 +1,4 @@
-"""The bench command: what a person asks of the proved programs, in plain words and units (docs/BENCH.md).
+"""The bench command: what a person asks of the proved calls, in plain words and units (docs/BENCH.md).
 
-Every figure comes from the console's line protocol (docs/CONSOLE.md) or from the tray program. What is worked out here stands
-in docs/BENCH.md, "What it works out itself".
+Every figure comes from the package's calls. What is worked out here stands in docs/BENCH.md, "What it works out itself".
 """

@@ -3,7 +3,8 @@ upward."""
 import math
 from fractions import Fraction
 
-from . import fields, refusals, rules, singles
+from .. import calls
+from . import fields, refusals, rules
 from .fields import MISSING
 from .trouble import Refusal, misused, refused
 from .units import EXACT, PERCENT, figure_of, in_unit, split, uncounted
@@ -19,11 +20,11 @@ DIGITS = 2
 class Bound:
     """A distance in billionths of the span, as an exact fraction, beside the span of a sheet."""
 
-    def __init__(self, console, sheet, billionths):
+    def __init__(self, sheet, billionths):
         self.billionths = billionths
-        self.unit = fields.around(console, sheet).unit()
+        self.unit = fields.around(sheet).unit()
         ends = [sheet.values[7], sheet.values[8]]
-        self.ends = None if MISSING in ends else [Fraction(singles.as_float(fields.bits(end))) for end in ends]
+        self.ends = None if MISSING in ends else [Fraction(end) for end in ends]
 
     def percent(self):
         return in_unit(upward(self.billionths / 10**7), PERCENT)
@@ -87,21 +88,21 @@ class Beforehand(Bound):
         return f"{'WITHIN' if self.is_within(tolerance) else 'MORE THAN'} {tolerance.strip()}"
 
 
-def told_beforehand(console, sheet, path, points):
+def told_beforehand(sheet, path, points):
     """The proved distance of points; a list that a build would refuse is refused."""
     try:
-        bound = console.distance(points)[1]
+        bound = calls.distance(points).bound
     except Refusal as refusal:
-        raise refused(f"{path}: {list_rule(console, points, refusal)}") from None
-    return Beforehand(console, sheet, bound * SHARE)
+        raise refused(f"{path}: {list_rule(points, refusal)}") from None
+    return Beforehand(sheet, bound * SHARE)
 
 
-def list_rule(console, points, refusal):
+def list_rule(points, refusal):
     """Why a list of points is refused. A refusal's place is the point's index from 0."""
     if refusal.number == 16:
         return rules.numbered(refusal, rules.points_rule(len(points)))
     if refusal.number == 10:
-        said = rules.point_rule(console, points[refusal.place])
+        said = rules.point_rule(points[refusal.place])
         return f"point {refusal.place + 1}: refused: 10 at place {refusal.place}: {said}"
     name = f"point {refusal.place + 1}: " if refusal.number in (7, 22) else ""
     return name + refusals.headline(refusal)

@@ -2,6 +2,8 @@
 import math
 from fractions import Fraction
 
+from .. import calls
+from ..answers import ReadingAnswer
 from . import bounds, fields, objects, readings, tables
 from .image import build, open_image
 from .readings import WHOLE_SPAN
@@ -17,9 +19,9 @@ MEANING = "AGREES says that the chip holds these points; whether the sender itse
 HEADS = ("point", "at", "input", "certificate", "chip", "difference", "of the span")
 
 
-def run(console, given):
-    image, sheet = open_image(console, given.file)
-    beside = against(console, image, sheet, given.certificate, tables.asked_in(given), given.within)
+def run(given):
+    image, sheet = open_image(given.file)
+    beside = against(image, sheet, given.certificate, tables.asked_in(given), given.within)
     if given.json:
         objects.tell(objects.certificate(given.file, given.certificate, beside))
         return ACCEPTED if beside.agrees() else REFUSED
@@ -34,28 +36,28 @@ def run(console, given):
     return ACCEPTED if beside.agrees() else REFUSED
 
 
-def against(console, image, sheet, path, asked=tables.Asked(), within=None):
+def against(image, sheet, path, asked=tables.Asked(), within=None):
     """The chip beside the certificate in a file."""
-    refusal = readings.why_no_reading(console, sheet, image)
+    refusal = readings.why_no_reading(sheet, image)
     if refusal:
         raise refused(readings.no_reading_text(sheet, refusal))
     table = tables.read_table(path, asked)
-    beside = beside_points(console, image, sheet, path, points_of(table, Scale(console, sheet)), within)
+    beside = beside_points(image, sheet, path, points_of(table, Scale(sheet)), within)
     beside.told = list(table.told())
     return beside
 
 
-def beside_points(console, image, sheet, path, points, within=None):
+def beside_points(image, sheet, path, points, within=None):
     try:
         if sheet.domain == 1:
-            return AgainstTwin(console, image, sheet, points, within)
-        told = bounds.Beforehand(console, sheet, console.distance(points)[1] * bounds.SHARE)
-        bound = console.conformity(image, points)
+            return AgainstTwin(image, sheet, points, within)
+        told = bounds.Beforehand(sheet, calls.distance(points).bound * bounds.SHARE)
+        own = image.ask(calls.conformity, points)
     except Refusal as refusal:
-        raise refused(f"{path}: {bounds.list_rule(console, points, refusal)}") from None
-    if bound is None:
-        return AgainstCurve(console, image, sheet, points, within)
-    return AgainstTable(console, image, sheet, points, within, bounds.Bound(console, sheet, bound * bounds.SHARE), told)
+        raise refused(f"{path}: {bounds.list_rule(points, refusal)}") from None
+    if not own.is_straight:
+        return AgainstCurve(image, sheet, points, within)
+    return AgainstTable(image, sheet, points, within, bounds.Bound(sheet, own.bound * bounds.SHARE), told)
 
 
 def points_of(table, scale):
@@ -72,9 +74,9 @@ def points_of(table, scale):
 class Scale:
     """Figures of a certificate as billionths of the span: per cent by the point, physical figures by proved readings."""
 
-    def __init__(self, console, sheet):
-        self.unit = fields.around(console, sheet).unit()
-        self.ruler = readings.physical_ruler(console, sheet)
+    def __init__(self, sheet):
+        self.unit = fields.around(sheet).unit()
+        self.ruler = readings.physical_ruler(sheet)
 
     def pair(self, point, deviation, turned=False):
         at, figure = self.point(point)
@@ -124,25 +126,25 @@ def line_at(points, x):
 class At:
     """The chip against the certificate at an input: q, what the certificate has there, and the difference, in billionths."""
 
-    def __init__(self, name, place, given, fraction, figure, wanted):
+    def __init__(self, name, place, given, reading, wanted):
         self.name = name
         self.place = place
         self.input = given
-        self.fraction = fraction
-        self.figure = figure
+        self.fraction = reading.fraction
+        self.figure = reading.figure
         self.wanted = wanted
-        self.difference = fraction - wanted
+        self.difference = reading.fraction - wanted
 
 
 class Against:
     """A chip beside its certificate at the points of both, for a person to look at."""
 
-    def __init__(self, console, image, sheet, points, within=None):
+    def __init__(self, image, sheet, points, within=None):
         self.tolerance = None if within is None else bounds.Tolerance(within)
-        self.console, self.image, self.sheet, self.points = console, image, sheet, points
-        self.unit = fields.around(console, sheet).unit()
+        self.image, self.sheet, self.points = image, sheet, points
+        self.unit = fields.around(sheet).unit()
         self.prefix = readings.sheet_prefix(sheet, self.unit)
-        self.ruler = readings.physical_ruler(console, sheet)
+        self.ruler = readings.physical_ruler(sheet)
         self.low, self.high = readings.ends_of(sheet)
         self.at = self.taken((str(number), place) for number, place in enumerate(self.places(points), 1))
         self.own = self.taken(("chip", place) for place in self.places(sheet.points))
@@ -158,12 +160,12 @@ class Against:
         inputs = [self.low + math.floor(Fraction(place * span, WHOLE_SPAN) + Fraction(1, 2)) for _, place in named]
         found = zip(named, inputs, self.fractions(inputs), self.wanted(inputs))
         return [
-            At(*name, given, *reading, wanted) for name, given, reading, wanted in found if not isinstance(reading, Refusal)
+            At(*name, given, reading, wanted) for name, given, reading, wanted in found if not isinstance(reading, Refusal)
         ]
 
     def fractions(self, inputs):
-        """What the chip shows at inputs: fraction and figure, or a refusal."""
-        return self.console.readings(self.image, inputs)
+        """What the chip shows at inputs: a reading, or a refusal."""
+        return readings.of(self.image, inputs)
 
     def wanted(self, inputs):
         """What the certificate has at inputs, in billionths: its line, where a reading says that they lie."""
@@ -249,8 +251,8 @@ class AgainstTable(Against):
     certificate is proved for every input (conformity), and so is what these points allow a chip that is built from them
     (distance)."""
 
-    def __init__(self, console, image, sheet, points, within, own, told):
-        super().__init__(console, image, sheet, points, within)
+    def __init__(self, image, sheet, points, within, own, told):
+        super().__init__(image, sheet, points, within)
         self.own_bound = own
         self.told_bound = told
 
@@ -295,18 +297,18 @@ class AgainstTwin(Against):
     """A table against the physical figure has no proved distance: the chip is held against one that is made from the
     certificate. A point's figure is shown at point plus deviation."""
 
-    def __init__(self, console, image, sheet, points, within=None):
+    def __init__(self, image, sheet, points, within=None):
         twin = sheet.bare()
         twin.domain, twin.points = sheet.domain, points
-        self.twin = build(console, twin, LARGEST)
-        super().__init__(console, image, sheet, points, within)
+        self.twin = build(twin, LARGEST)
+        super().__init__(image, sheet, points, within)
         self.no_tolerance()
 
     def places(self, points):
         return [point + deviation for point, deviation in points]
 
     def wanted(self, inputs):
-        return [0 if isinstance(got, Refusal) else got[0] for got in self.console.readings(self.twin, inputs)]
+        return [0 if isinstance(got, Refusal) else got.fraction for got in readings.of(self.twin, inputs)]
 
     def within(self, one):
         return one.difference == 0
@@ -329,12 +331,12 @@ class AgainstCurve(Against):
 
     def fractions(self, inputs):
         found = super().fractions(inputs)
-        figures = [one[1] for one in found if not isinstance(one, Refusal)]
+        figures = [one.figure for one in found if not isinstance(one, Refusal)]
         places = self.ruler.places([Fraction(figure) for figure in figures]) if all(map(math.isfinite, figures)) else [None]
         if None in places:
             raise refused("the chip's curve gives a figure more than a tenth outside the span")
         left = iter(places)
-        return [one if isinstance(one, Refusal) else (next(left), one[1]) for one in found]
+        return [one if isinstance(one, Refusal) else ReadingAnswer(next(left), one.figure) for one in found]
 
     def within(self, one):
         return True

@@ -4,6 +4,7 @@ import io
 import re
 from fractions import Fraction
 
+from .. import calls
 from . import fields, files, readings, refusals
 from .fields import MISSING
 from .image import open_image
@@ -12,8 +13,6 @@ from .trouble import ACCEPTED, REFUSED, Refusal, Trouble, misused, refused
 from .units import PERCENT, RATIO, figure_of, in_unit, many, percent, split, uncounted
 
 FAST = 6
-# So many slow ticks, with six fast ones each, stay below a line's 32 KiB.
-AT_ONCE = 80
 TIME = {"time", "t", "seconds", "clock"}
 INPUT = {"input", "inputs", "signal", "electrical"}
 SHOWN = {"fraction", "shown", "figure", "reading", "q", "display"}
@@ -23,36 +22,31 @@ ONE_CELL = "\x1f"
 HEADS = "time (s),input (nV/V),fraction (billionths)"
 
 
-def run(console, given):
-    image, sheet = open_image(console, given.file)
+def run(given):
+    image, sheet = open_image(given.file)
     if given.make is not None:
-        return make(console, given, image)
-    scale = Scale(sheet, fields.around(console, sheet).unit())
+        return make(given, image)
+    scale = Scale(sheet, fields.around(sheet).unit())
     slow, fast = (Recording(path, scale) for path in (given.ten, given.sixty))
     if len(fast.ticks) != FAST * len(slow.ticks):
         counts = f"{many(len(slow.ticks), 'tick')} at ten a second, {len(fast.ticks)} at sixty, which is not six times as many"
         raise refused(f"refused: 26 at ticks {len(fast.ticks)}: {counts}")
-    failing = first_failing(console, image, slow, fast)
+    failing = first_failing(image, slow, fast)
     if failing is None:
         print(f"AGREE: {many(len(slow.ticks), 'tick')} at ten a second, {len(fast.ticks)} at sixty; each shows its input's reading")
         return ACCEPTED
-    for line in told(console, given, image, slow, fast, failing):
+    for line in told(given, image, slow, fast, failing):
         print(line)
     return REFUSED
 
 
-def first_failing(console, image, slow, fast):
+def first_failing(image, slow, fast):
     """The first fast tick that fails, by the proved call; None where the recordings agree."""
-    for start in range(0, max(1, len(slow.ticks)), AT_ONCE):
-        parts = (slow.ticks[start : start + AT_ONCE], fast.ticks[FAST * start : FAST * (start + AT_ONCE)])
-        words = (",".join(f"{tick.input},{tick.shown}" for tick in part) or "-" for part in parts)
-        answer = console.ask("compare", image, *words)
-        if answer[0] != "agree":
-            return FAST * start + int(answer[1])
-    return None
+    found = image.ask(calls.compare, *([(tick.input, tick.shown) for tick in one.ticks] for one in (slow, fast)))
+    return None if found.agrees else found.tick
 
 
-def told(console, given, image, slow, fast, number):
+def told(given, image, slow, fast, number):
     """The tick, its time, what each list has and what the chip's reading is."""
     tick = fast.ticks[number]
     at = f"time {tick.time}" if tick.time else f"{number / 60:.4f} s"
@@ -61,11 +55,11 @@ def told(console, given, image, slow, fast, number):
     if number % FAST == 0:
         other = slow.ticks[number // FAST]
         yield f"  at ten:   {other.text()}, tick {number // FAST}, {given.ten}:{other.line}"
-    (reading,) = console.readings(image, [tick.input])
+    (reading,) = readings.of(image, [tick.input])
     if isinstance(reading, Refusal):
         yield f"  reading:  {refusals.headline(reading)}"
     else:
-        yield f"  reading:  {percent(reading[0])} ({reading[0]} billionths) at {in_unit(uncounted(tick.input, -9), RATIO)}"
+        yield f"  reading:  {percent(reading.fraction)} ({reading.fraction} billionths) at {in_unit(uncounted(tick.input, -9), RATIO)}"
 
 
 class Tick:
@@ -87,7 +81,7 @@ class Scale:
     def __init__(self, sheet, unit):
         self.unit = unit
         ends = [sheet.values[7], sheet.values[8]]
-        self.ends = None if MISSING in ends else [Fraction(fields.singles.as_float(fields.bits(end))) for end in ends]
+        self.ends = None if MISSING in ends else [Fraction(end) for end in ends]
 
     def billionths(self, text):
         """A fraction as it is written: billionths, per cent of the span, or the sender's unit."""
@@ -191,19 +185,19 @@ def heads(row, shown):
     return Columns(len(row), found)
 
 
-def make(console, given, image):
+def make(given, image):
     """Writes the recordings that both dashes would make of a list of inputs, one for each fast tick."""
     for path in (given.ten, given.sixty):
         files.must_be_new(path, given.force)
     inputs = [tick.input for tick in Recording(given.make, None, shown=False).ticks]
     if len(inputs) % FAST:
         raise misused(f"{given.make}: {many(len(inputs), 'input')}, which is no multiple of six")
-    found = console.readings(image, inputs)
+    found = readings.of(image, inputs)
     for at, one in enumerate(found):
         if isinstance(one, Refusal):
             shown = in_unit(uncounted(inputs[at], -9), RATIO)
             raise refused(f"nothing is written: input {at + 1}, {shown}: {refusals.headline(one)}")
-    ticks = [(at, one, got[0]) for at, (one, got) in enumerate(zip(inputs, found))]
+    ticks = [(at, one, got.fraction) for at, (one, got) in enumerate(zip(inputs, found))]
     for path, some in ((given.ten, ticks[::FAST]), (given.sixty, ticks)):
         text = "".join(f"{line}\n" for line in (HEADS, *(f"{at / 60:.4f},{one},{shown}" for at, one, shown in some)))
         files.write_new(path, text.encode("ascii"), given.force)

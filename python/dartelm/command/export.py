@@ -8,10 +8,10 @@ from .trouble import ACCEPTED
 REST = "bits behind the sheet's end are not all 0: made again, the image differs there and nowhere else that is judged"
 
 
-def run(console, given):
+def run(given):
     if given.output is not None:
         files.must_be_new(given.output, given.force)
-    text, same = exported(console, *open_image(console, given.file))
+    text, same = exported(*open_image(given.file))
     if given.output:
         files.write_new(given.output, text.encode("utf-8"), given.force)
     else:
@@ -21,10 +21,10 @@ def run(console, given):
     return ACCEPTED
 
 
-def exported(console, image, sheet):
+def exported(image, sheet):
     """The lines, and whether they make the same bytes again."""
-    lines = list(sheets.written(console, sheet))
+    lines = list(sheets.written(sheet))
     text = "\n".join(lines) + "\n"
-    again = build(console, sheets.parsed(console, "export", text).sheet)
+    again = build(sheets.parsed("export", text).sheet)
     same = again.data == image.data
     return ("" if same else f"# {REST}\n") + text, same

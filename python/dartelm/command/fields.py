@@ -1,41 +1,29 @@
 """The fields of a sheet: their names, and their values in words and units and back.
 
-Names are the console's (docs/CONSOLE.md, `show`). A value is the protocol's word: w and a whole number, s and the bits of a
-Single, m for missing.
+Names are the console's (docs/CONSOLE.md, `show`). A value is the package's: a whole number, a Single as a float, None for
+missing.
 """
 import difflib
 import re
 from fractions import Fraction
 
+from .. import calls
 from . import measurands, singles
 from .storing import Reference
 from .trouble import Refusal, misused
 from .units import AMPERE, DAY, EXACT, OHM, RATIO, SECOND, VOLT, figure_of, in_unit, plain, split, uncounted
 
-MISSING = "m"
-
-
-def whole(value):
-    return int(value[1:])
-
-
-def bits(value):
-    return int(value[1:], 16)
-
-
-def from_bits(number):
-    return f"s{number:08x}"
+MISSING = None
 
 
 def is_single(value):
-    return value.startswith("s")
+    return isinstance(value, float)
 
 
 class Around:
-    """What a value goes by beside its own field: the console, for dates and letters, the measurand's unit, the precision."""
+    """What a value goes by beside its own field: the template, the measurand's unit, the precision."""
 
-    def __init__(self, console, template, measurand=None, precision=None):
-        self.console = console
+    def __init__(self, template, measurand=None, precision=None):
         self.template = template
         self.measurand = measurand
         self.precision = precision
@@ -44,7 +32,7 @@ class Around:
     def settled(self, number, count, geometric):
         """The whole number to hand in for a count that is none."""
         if self.precision not in self.references:
-            self.references[self.precision] = Reference(self.console, self.template, self.precision)
+            self.references[self.precision] = Reference(self.template, self.precision)
         return self.references[self.precision].settled(number, count, geometric)
 
     def unit(self):
@@ -53,35 +41,35 @@ class Around:
         return measurands.unit_of(self.measurand)
 
 
-def around(console, sheet):
-    return Around(console, sheet.template, whole(sheet.values[6]), whole(sheet.values[9]))
+def around(sheet):
+    return Around(sheet.template, sheet.values[6], sheet.values[9])
 
 
 class Number:
     """A number without a unit."""
 
     def shown(self, value, _):
-        return str(whole(value))
+        return str(value)
 
     def parsed(self, text, _, what):
         if not re.fullmatch(r"[0-9]{1,18}", text):
             raise misused(f"{what}: '{text}' is no whole number; it has no unit")
-        return "w" + str(int(text))
+        return int(text)
 
 
 class Text:
-    """Letters or a date, which the console turns into a code and back by template 33's number."""
+    """Letters or a date, which calls turn into a code and back by template 33's number."""
 
     def __init__(self, asked, example):
         self.asked = asked
         self.example = example
 
     def shown(self, value, by):
-        return by.console.text(self.asked, whole(value))
+        return calls.text(self.asked, value)
 
     def parsed(self, text, by, what):
         try:
-            return f"w{by.console.code(self.asked, text)}"
+            return calls.code(self.asked, text)
         except Refusal:
             raise misused(f"{what}: '{text}' cannot stand there; write it as {self.example}") from None
 
@@ -104,9 +92,8 @@ class Choice:
         self.names = names
 
     def shown(self, value, by):
-        code = whole(value)
         names = self.cases(by)
-        return f"{names[code]} ({code})" if code < len(names) else str(code)
+        return f"{names[value]} ({value})" if value < len(names) else str(value)
 
     def cases(self, by):
         return self.names[by.template]
@@ -115,14 +102,14 @@ class Choice:
         names = self.cases(by)
         word = re.fullmatch(r"(.*?)\s*\(([0-9]{1,3})\)", text)
         if word and self.code(word.group(1), by) == int(word.group(2)):
-            return f"w{self.code(word.group(1), by)}"
+            return self.code(word.group(1), by)
         if re.fullmatch(r"[0-9]{1,3}", text):
-            return "w" + str(int(text))
+            return int(text)
         code = self.code(text, by)
         if code is None:
             cases = ", ".join(f"{code} {name}" for code, name in enumerate(names))
             raise misused(f"{what}: '{text}' is none of {cases}")
-        return f"w{code}"
+        return code
 
     def code(self, text, by):
         names = [name.lower() for name in self.cases(by)]
@@ -148,7 +135,7 @@ class Measurand(Choice):
         if len(fit) > 1:
             cases = [f"{code} ({measurands.unit_of(code).name})" for code in fit]
             raise misused(f"{what}: '{text}' fits {', '.join(cases[:-1])} and {cases[-1]}")
-        return f"w{fit[0]}" if fit else super().parsed(text, by, what)
+        return fit[0] if fit else super().parsed(text, by, what)
 
 
 class Figure:
@@ -163,7 +150,7 @@ class Figure:
 
     def decimal(self, value):
         """The decimal that a value is shown as."""
-        return singles.digits(bits(value))
+        return singles.digits(value)
 
     def given(self, text, by, what):
         unit = self.unit_by(by)
@@ -190,7 +177,7 @@ class Quantity(Figure):
         return self.unit
 
     def decimal(self, value):
-        return super().decimal(value) if is_single(value) else uncounted(whole(value), self.exponent)
+        return super().decimal(value) if is_single(value) else uncounted(value, self.exponent)
 
     def shown(self, value, _):
         return in_unit(self.decimal(value), self.unit)
@@ -201,7 +188,7 @@ class Quantity(Figure):
         count = Fraction(figure) / Fraction(10) ** self.exponent
         if abs(count) >= 1 << 62:
             raise misused(f"{what}: {in_unit(figure, self.unit)} is far outside what it counts")
-        return f"w{count.numerator}" if count.denominator == 1 else count
+        return count.numerator if count.denominator == 1 else count
 
 
 class Electrical(Quantity):
@@ -213,7 +200,7 @@ class Electrical(Quantity):
 
     def parsed(self, text, by, what):
         if by.precision == self.full:
-            return from_bits(singles.nearest(figure_of(text, self.unit, what)))
+            return singles.nearest(figure_of(text, self.unit, what))
         return super().parsed(text, by, what)
 
 
@@ -224,10 +211,10 @@ class Physical(Figure):
         return by.unit()
 
     def shown(self, value, by):
-        return in_unit(singles.digits(bits(value)), by.unit())
+        return in_unit(singles.digits(value), by.unit())
 
     def parsed(self, text, by, what):
-        return from_bits(singles.nearest(figure_of(text, by.unit(), what)))
+        return singles.nearest(figure_of(text, by.unit(), what))
 
 
 class Field:
@@ -237,12 +224,12 @@ class Field:
         self.form = form
 
     def shown(self, value, by):
-        return "missing" if value == MISSING else self.form.shown(value, by)
+        return "missing" if value is MISSING else self.form.shown(value, by)
 
     def parsed(self, text, by, what=None):
         text = text.strip()
         value = MISSING if text == "missing" else self.form.parsed(text, by, what or self.name)
-        return value if isinstance(value, str) else f"w{by.settled(self.number, value, self.form.geometric)}"
+        return by.settled(self.number, value, self.form.geometric) if isinstance(value, Fraction) else value
 
     def given(self, text, by):
         """A text that is understood, as `shown` would have it."""
@@ -252,7 +239,7 @@ class Field:
 
     def difference(self, text, value, by):
         """Of a figure what is stored minus what was given."""
-        if not isinstance(self.form, Figure) or MISSING in (text.strip(), value):
+        if not isinstance(self.form, Figure) or value is MISSING:
             return ""
         return self.form.difference(text.strip(), value, by, self.name)
 

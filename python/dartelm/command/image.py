@@ -1,16 +1,15 @@
 """A chip's image, and the whole sheet that stands in it, as the proved calls read it."""
-from .console import hexadecimal, listed, parsed, refusal_in
+from .. import calls
+from ..answers import Curve, Fields, SegmentAnswer, TermAnswer
 from .files import read_bytes, write_new
 from .refusals import headline
-from .trouble import refused, unread
+from .trouble import Refusal, refused, tried, unread
 
 BYTES = {0: 40, 1: 128, 2: 512}
 STREAM_BITS = {0: 312, 1: 992, 2: 3968}
 STREAM_BYTES = {39: 0, 124: 1, 496: 2}
 KINDS = {size: kind for kind, size in BYTES.items()}
 LAST_FIELD = {33: 21, 32: 19}
-MOST_SEGMENTS, MOST_TERMS = 20, 30
-ONE = "3f800000"
 
 
 class Image:
@@ -20,8 +19,9 @@ class Image:
         self.data = bytes(data)
         self.kind = KINDS.get(len(self.data), 2) if kind is None else kind
 
-    def __str__(self):
-        return f"{self.kind} {hexadecimal(self.data[:BYTES[2] + 1])}"
+    def ask(self, call, *words):
+        """The answer of one of the package's calls on this image."""
+        return call(self.data, *words, kind=self.kind)
 
 
 def from_stream(stream):
@@ -43,7 +43,7 @@ def read_image(path):
 
 
 class Sheet:
-    """What a chip tells: values as the protocol has them, by their field's number."""
+    """What a chip tells: values as the package has them, by their field's number."""
 
     def __init__(self):
         self.kind = 1
@@ -59,16 +59,9 @@ class Sheet:
     def curve(self):
         return bool(self.segments)
 
-    def build_line(self, kind=None):
-        kind = self.kind if kind is None else kind
-        values = " ".join(self.values[field] for field in range(1, LAST_FIELD[self.template] + 1))
-        ending = "0 -" if self.text is None else f"1 {hexadecimal(self.text)}"
-        if self.curve():
-            # A line takes no more than a curve may have: of more the count is refused, or the terms up to it.
-            behind = f"curve {len(self.segments)} {listed(self.segments[:MOST_SEGMENTS])} {listed(self.terms[:MOST_TERMS])}"
-        else:
-            behind = f"{self.domain or 0} {listed(self.points)}"
-        return f"build {kind} {BYTES[kind]} maker {self.template} {values} {ending} {behind}"
+    def fields(self):
+        values = tuple(self.values[field] for field in range(1, LAST_FIELD[self.template] + 1))
+        return Fields(values, self.text is not None, template_id=self.template)
 
     def bare(self):
         """The same sender without text and correction."""
@@ -85,7 +78,7 @@ class Sheet:
         """The same segments with terms that none is refused for."""
         sheet = self.bare_with_text()
         sheet.segments = self.segments
-        sheet.terms = [(exponent, ONE) for _, count in self.segments for exponent in range(count)]
+        sheet.terms = [(exponent, 1.0) for _, count in self.segments for exponent in range(count)]
         return sheet
 
 
@@ -96,63 +89,66 @@ def plain_sheet(template, precision):
     """A sheet with a value in every field, the least in most, from 0 to 1 of whatever is measured."""
     sheet = Sheet()
     sheet.template = template
-    ends = ["s00000000", "s3f800000"] if precision == FULL_PRECISION[template] else ["w0", "w1000"]
-    values = [f"w{n}" for n in (17, 0, 1, 0, 0, 0)] + ["s00000000", "s3f800000", f"w{precision}"] + ends + ["w0"]
-    values += [f"w{n}" for n in ((10, 100, 1, 1, 1) if template == 33 else (100, 10000, 10000))] + ["w0"] * 4
+    ends = [0.0, 1.0] if precision == FULL_PRECISION[template] else [0, 1000]
+    values = [17, 0, 1, 0, 0, 0, 0.0, 1.0, precision, *ends, 0]
+    values += [10, 100, 1, 1, 1] if template == 33 else [100, 10000, 10000]
+    values += [0] * 4
     sheet.values = dict(enumerate(values, 1))
     return sheet
 
 
-def build(console, sheet, kind=None):
-    answer = parsed(console.ask_all([sheet.build_line(kind)])[0])
-    return Image(bytes.fromhex(answer[1]), sheet.kind if kind is None else kind)
+def build(sheet, kind=None):
+    kind = sheet.kind if kind is None else kind
+    text = sheet.text or b""
+    if not sheet.curve():
+        return Image(calls.build(kind, sheet.fields(), text, sheet.points, sheet.domain or 0), kind)
+    curve = Curve([SegmentAnswer(*one) for one in sheet.segments], [TermAnswer(*one) for one in sheet.terms])
+    return Image(calls.build_curve(kind, sheet.fields(), curve, text), kind)
 
 
-def read_sheet(console, image):
+def read_sheet(image):
     """The sheet in an image that a check accepts; else the check's refusal."""
-    counts = console.ask("check", image)[1:]
-    bits, points, end_bit, characters, template = (int(word) for word in counts[:5])
-    segments, terms = (int(word) for word in counts[6:8])
+    found = image.ask(calls.sheet)
     sheet = Sheet()
-    sheet.kind, sheet.bits, sheet.template = image.kind, bits, template
-    sheet.domain = None if counts[5] == "-" else int(counts[5])
-    fields = range(1, LAST_FIELD[template] + 1)
-    sheet.values = dict(zip(fields, (words[0] for words in each(console, "field", image, fields))))
-    sheet.points = [tuple(map(int, words)) for words in each(console, "pair", image, range(points))]
-    sheet.segments = [tuple(map(int, words)) for words in each(console, "segment", image, range(segments))]
-    sheet.terms = [(int(words[0]), words[1]) for words in each(console, "term", image, range(terms))]
-    if end_bit:
-        sheet.text = bytes(int(words[0]) for words in each(console, "char", image, range(characters)))
+    sheet.kind, sheet.bits, sheet.template = image.kind, found.bits, int(found.fields.template_id)
+    sheet.domain = None if found.domain is None else int(found.domain)
+    sheet.values = dict(enumerate(found.fields.values, 1))
+    sheet.points = [(one.point, one.deviation) for one in each(image, calls.pair, found.points)]
+    sheet.segments = [(one.start, one.terms) for one in each(image, calls.segment, found.segments)]
+    sheet.terms = [(one.exponent, one.coefficient) for one in each(image, calls.term, found.terms)]
+    if found.fields.end_bit:
+        sheet.text = "".join(each(image, calls.character, found.characters)).encode("ascii")
     return sheet
 
 
-def each(console, command, image, indices):
-    return [parsed(answer) for answer in console.ask_all(f"{command} {image} {index}" for index in indices)]
+def each(image, call, count):
+    return [image.ask(call, index) for index in range(count)]
 
 
-def open_image(console, path):
+def open_image(path):
     """An image and its sheet; where it is refused the command ends."""
     image = read_image(path)
-    refusal = refusal_of(console, image)
+    refusal = refusal_of(image)
     if refusal:
         raise refused(f"{path}: {headline(refusal)}; 'dartelm why {path}' tells more")
-    return image, read_sheet(console, image)
+    return image, read_sheet(image)
 
 
-def refusal_of(console, image):
+def refusal_of(image):
     """None where a check accepts the image."""
-    return refusal_in(console.ask_all([f"check {image}"])[0])
+    found = tried(image.ask, calls.check)
+    return found if isinstance(found, Refusal) else None
 
 
 def wrote(path):
     return "standard output: written" if path == "-" else f"{path}: written and read again"
 
 
-def write_image(console, path, image, force):
+def write_image(path, image, force):
     """Writes an image's file and reads it again: what stands in it is what was written, and accepted; standard
     output is not read again. The sheet in it."""
     write_new(path, image.data, force)
     there = image if path == "-" else read_image(path)
-    if there.data != image.data or refusal_of(console, there):
+    if there.data != image.data or refusal_of(there):
         raise unread(f"{path}: what stands in the file is not what was written")
-    return read_sheet(console, there)
+    return read_sheet(there)

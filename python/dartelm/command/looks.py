@@ -1,72 +1,73 @@
 """What is accepted and yet worth a look. None of it is a refusal."""
-from . import fields, readings, rules, singles
-from .fields import DATE, FIELDS, MISSING, PERIOD, whole
+from .. import calls
+from . import fields, readings, rules
+from .fields import DATE, FIELDS, MISSING, PERIOD
 from .image import build
 from .trouble import Refusal
 from .units import percent
 
-# The number by which the console turns dates into text and back, whatever the template.
+# The number by which calls turn dates into text and back, whatever the template.
 DATES = 18
 
 
-def look_lines(console, sheet, today):
-    return [f"look at: {line}" for line in looks(console, sheet, today)]
+def look_lines(sheet, today):
+    return [f"look at: {line}" for line in looks(sheet, today)]
 
 
-def looks(console, sheet, today):
-    yield from dates(console, sheet, console.code(DATES, today))
-    yield from orders(console, sheet)
-    yield from no_reading(console, sheet)
+def looks(sheet, today):
+    yield from dates(sheet, calls.code(DATES, today))
+    yield from orders(sheet)
+    yield from no_reading(sheet)
     yield from sums(sheet)
 
 
 def due_code(sheet):
     date = sheet.values[DATE[sheet.template]]
-    return None if date == MISSING else whole(date) + whole(sheet.values[PERIOD[sheet.template]])
+    return None if date is MISSING else date + sheet.values[PERIOD[sheet.template]]
 
 
-def due_date(console, sheet):
+def due_date(sheet):
     """The day by which it is to be calibrated again, as text."""
     code = due_code(sheet)
     if code is None:
         return None
     try:
-        return console.text(DATES, code)
+        return calls.text(DATES, code)
     except Refusal:
         return "after 2177-06-05"
 
 
-def dates(console, sheet, now):
+def dates(sheet, now):
     date = sheet.values[DATE[sheet.template]]
-    if date == MISSING:
+    if date is MISSING:
         return
-    if whole(date) > now:
-        yield f"the calibration date is still to come: {console.text(DATES, whole(date))}"
+    if date > now:
+        yield f"the calibration date is still to come: {calls.text(DATES, date)}"
     elif due_code(sheet) < now:
-        yield f"calibration is overdue since {due_date(console, sheet)}"
+        yield f"calibration is overdue since {due_date(sheet)}"
 
 
-def orders(console, sheet):
+def orders(sheet):
     """Values that stand in another order than their names say, and a physical span of nothing."""
     values = sheet.values
     for low, high, what in pairs(sheet):
-        if MISSING not in (values[low], values[high]) and order(values[low]) > order(values[high]):
-            ends = f"{shown(console, sheet, low)} is above {shown(console, sheet, high)}"
+        if MISSING not in (values[low], values[high]) and values[low] > values[high]:
+            ends = f"{shown(sheet, low)} is above {shown(sheet, high)}"
             yield f"{what}: {ends} (fields {low} and {high})"
-    if MISSING not in (values[7], values[8]) and order(values[7]) == order(values[8]):
-        yield f"minimum and maximum physical value are both {shown(console, sheet, 7)}: every reading shows it"
+    if MISSING not in (values[7], values[8]) and values[7] == values[8]:
+        yield f"minimum and maximum physical value are both {shown(sheet, 7)}: every reading shows it"
     if sheet.template == 33 and MISSING not in (values[15], values[16], values[17]):
-        low, nominal, high = (whole(values[n]) for n in (16, 15, 17))
+        low, nominal, high = (values[n] for n in (16, 15, 17))
         if low <= high and not low <= nominal <= high:
-            nominal, low, high = (shown(console, sheet, number) for number in (15, 16, 17))
+            nominal, low, high = (shown(sheet, number) for number in (15, 16, 17))
             yield f"the nominal excitation, {nominal}, is not between {low} and {high}"
 
 
-def no_reading(console, sheet):
+def no_reading(sheet):
     """An end that is missing or outside, or ends that do not rise. A resistance sender is read in ohms."""
     if sheet.template == 32:
         return
-    refusal = readings.why_no_reading(console, sheet, build(console, sheet))
+    refusal = readings.why_no_reading(sheet, build(sheet))
     if refusal and refusal.number in (13, 21):
         yield f"no reading is possible: {rules.ends_rule(sheet, refusal)}"
 
@@ -94,9 +95,5 @@ def pairs(sheet):
         yield 14, 15, "nominal above greatest excitation current"
 
 
-def order(value):
-    return singles.as_float(fields.bits(value)) if fields.is_single(value) else whole(value)
-
-
-def shown(console, sheet, number):
-    return FIELDS[sheet.template][number - 1].shown(sheet.values[number], fields.around(console, sheet))
+def shown(sheet, number):
+    return FIELDS[sheet.template][number - 1].shown(sheet.values[number], fields.around(sheet))

@@ -8,8 +8,8 @@ import re
 import signal
 import sys
 
+from .. import calls, library
 from . import files, owserver, version
-from .console import Console, Unknown
 from .refusals import headline
 from .trouble import ACCEPTED, REFUSED, UNREAD, Refusal, Trouble, misused
 
@@ -21,7 +21,7 @@ STATUS = "Ends with 0 if accepted, 1 if refused or different, 2 if it is not und
 def parser():
     about = "A sender's chip at the bench, in plain words and units. " + STATUS
     top = argparse.ArgumentParser(prog="dartelm", description=about, allow_abbrev=False)
-    top.add_argument("--version", action="version", version=version.line())
+    top.add_argument("--version", action=Made, help="say which Dartelm this is, and which build of it answers")
     top.add_argument("--man", action=Made, help="write the manual page, for man -l -")
     top.add_argument("--completion", action=Made, help="write what bash needs to complete words, for eval or source")
     commands = top.add_subparsers(dest="command", metavar="COMMAND", required=True)
@@ -136,14 +136,17 @@ def parser():
 
 
 class Made(argparse.Action):
-    """Writes a text that is made from the same table as the help, and ends."""
+    """Writes the version, or a text that is made from the same table as the help, and ends."""
 
     def __init__(self, **words):
         super().__init__(nargs=0, **words)
 
     def __call__(self, made, *_):
-        manual = importlib.import_module(".manual", __package__)
-        print(manual.page(made) if self.dest == "man" else manual.completion(made), end="")
+        if self.dest == "version":
+            print(version.line())
+        else:
+            manual = importlib.import_module(".manual", __package__)
+            print(manual.page(made) if self.dest == "man" else manual.completion(made), end="")
         made.exit()
 
 
@@ -212,13 +215,13 @@ def answer(words):
     owserver.PLACE = given.server or "localhost"
     for output in outputs_of(given):
         files.must_be_no_input(output, inputs_of(given))
-    with Console() as console, said_elsewhere(given):
+    with said_elsewhere(given):
         if getattr(given, "today", None):
             try:
-                console.code(18, given.today)
+                calls.code(18, given.today)
             except Refusal:
                 raise misused(f"--today: '{given.today}' is no date like 2018-01-02") from None
-        status = module.run(console, given)
+        status = module.run(given)
     sys.stdout.flush()
     return status
 
@@ -253,6 +256,7 @@ def main(words):
     for stream in (sys.stdout, sys.stderr):
         if hasattr(stream, "reconfigure"):
             stream.reconfigure(errors="backslashreplace")
+    library.told = tell
     signal.signal(signal.SIGTERM, lambda *_: sys.exit(128 + signal.SIGTERM))
     try:
         return answer(words)
@@ -260,8 +264,8 @@ def main(words):
         return said(str(trouble), trouble.status)
     except Refusal as refusal:
         return said(headline(refusal), REFUSED)
-    except Unknown as unknown:
-        return said(f"the console that is built here does not know what this asks for: {unknown}".rstrip(": "), UNREAD)
+    except library.NoLibrary as error:
+        return said(str(error), UNREAD)
     except BrokenPipeError:
         # A reader that has seen enough, as head.
         os.dup2(os.open(os.devnull, os.O_WRONLY), 1)
@@ -279,8 +283,12 @@ def said(text, status):
         sys.stdout.flush()
     except (OSError, ValueError, AttributeError):
         pass
+    tell(text)
+    return status
+
+
+def tell(text):
     try:
         print(f"dartelm: {text}", file=sys.stderr)
     except OSError:
         pass
-    return status

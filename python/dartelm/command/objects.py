@@ -3,6 +3,7 @@ import json
 import math
 import re
 
+from .. import calls
 from . import fields, looks, readings, refusals, singles
 from .fields import DATE, FIELDS
 from .image import BYTES
@@ -22,24 +23,24 @@ def refusal(one):
 def field(form, value, by):
     """A figure is a decimal in its unit without a prefix, as text, so that no digit is lost."""
     found = {"number": form.number, "name": form.name, "text": form.shown(value, by), "value": None, "unit": None}
-    if value == fields.MISSING:
+    if value is fields.MISSING:
         return found
     if isinstance(form.form, fields.Figure):
         found["value"], found["unit"] = plain(form.form.decimal(value)), form.form.unit_by(by).name
     elif isinstance(form.form, (fields.Number, fields.Choice)):
-        found["value"] = str(fields.whole(value))
+        found["value"] = str(value)
     else:
         found["value"] = form.form.shown(value, by)
     return found
 
 
-def sheet(console, path, image, one, today):
+def sheet(path, image, one, today):
     """The sheet of an accepted image."""
-    by = fields.around(console, one)
-    taken = {dash: readings.why_no_reading(console, one, image, dash) is None for dash in ("large", "small")}
+    by = fields.around(one)
+    taken = {dash: readings.why_no_reading(one, image, dash) is None for dash in ("large", "small")}
     at, segments = 0, []
     for start, count in one.segments:
-        terms = [{"exponent": exponent, "coefficient": single(bits)} for exponent, bits in one.terms[at : at + count]]
+        terms = [{"exponent": exponent, "coefficient": single(figure)} for exponent, figure in one.terms[at : at + count]]
         segments.append({"start_billionths": start, "terms": terms})
         at += count
     return {
@@ -52,23 +53,23 @@ def sheet(console, path, image, one, today):
         "template": one.template,
         "fields": [field(form, one.values[form.number], by) for form in FIELDS[one.template]],
         "closing_text": None if one.text is None else one.text.decode("ascii"),
-        "calibration_date": date(console, one),
-        "calibration_due": looks.due_date(console, one),
+        "calibration_date": date(one),
+        "calibration_due": looks.due_date(one),
         "domain": (None, "electrical", "physical")[0 if one.domain is None or not one.points else one.domain + 1],
         "points": [{"point_billionths": point, "deviation_billionths": deviation} for point, deviation in one.points],
         "segments": segments,
         "dashes": [dash for dash, is_taken in taken.items() if is_taken],
-        "look_at": list(looks.looks(console, one, today)),
+        "look_at": list(looks.looks(one, today)),
     }
 
 
-def date(console, one):
+def date(one):
     value = one.values[DATE[one.template]]
-    return None if value == fields.MISSING else console.text(looks.DATES, fields.whole(value))
+    return None if value is fields.MISSING else calls.text(looks.DATES, value)
 
 
-def single(bits):
-    return plain(singles.digits(int(bits, 16)))
+def single(figure):
+    return plain(singles.digits(figure))
 
 
 def refused(path, one):

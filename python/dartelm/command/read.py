@@ -7,26 +7,26 @@ from .units import RATIO, counted, figure_of, in_unit, percent, uncounted
 MOST = 10000
 
 
-def run(console, given):
+def run(given):
     if given.table is not None and not 2 <= given.table <= MOST:
         raise misused(f"--table takes 2 to {MOST} inputs")
     if not given.inputs and given.table is None:
         raise misused("read takes an input like 1.0mV/V, or --table N")
-    image, sheet = open_image(console, given.file)
-    refusal = readings.why_no_reading(console, sheet, image, given.dash)
+    image, sheet = open_image(given.file)
+    refusal = readings.why_no_reading(sheet, image, given.dash)
     if refusal:
         raise refused(f"{given.file}: {readings.no_reading_text(sheet, refusal)}")
     asked = [input_of(word) for word in given.inputs]
     if given.table is not None:
         asked += readings.evenly(readings.ends_of(sheet), given.table)
-    taken = readings.take(console, sheet, image, asked, given.dash)
+    taken = readings.take(sheet, image, asked, given.dash)
     if given.json:
-        unit = fields.around(console, sheet).unit()
+        unit = fields.around(sheet).unit()
         found = [objects.reading(at, one, unit) for at, one in zip(asked, taken)]
         objects.tell({"file": given.file, "dash": given.dash, "readings": found})
         return REFUSED if any(one["refusal"] for one in found) else ACCEPTED
     print(f"{given.file}, {given.dash} dash")
-    for line in table(list(cells_of(sheet, fields.around(console, sheet), asked, taken))):
+    for line in table(list(cells_of(sheet, fields.around(sheet), asked, taken))):
         print(line)
     return REFUSED if any(isinstance(one, Refusal) for one in taken) else ACCEPTED
 

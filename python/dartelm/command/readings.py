@@ -2,12 +2,14 @@
 import math
 from fractions import Fraction
 
+from .. import calls
+from ..declared import Dash
 from . import singles
-from .fields import MISSING, bits, from_bits, is_single, whole
+from .fields import MISSING, is_single
 from .image import Sheet, build
 from .refusals import headline
 from .rules import ends_rule, numbered
-from .trouble import Refusal
+from .trouble import Refusal, tried
 from .units import float_text, in_unit, rounded, uncounted
 
 WHOLE_SPAN = 1_000_000_000
@@ -15,21 +17,24 @@ WHOLE_SPAN = 1_000_000_000
 OUTSIDE = WHOLE_SPAN // 10
 
 
+def of(image, inputs, dash="large"):
+    """For each input its reading, or its refusal."""
+    return [tried(image.ask, calls.reading, one, Dash[dash.upper()]) for one in inputs]
+
+
 class Ruler:
     """The straight line between two Singles, by proved readings. It is built with a span of 1 V/V, where an input of n nV/V is
     n billionths of the span."""
 
-    def __init__(self, console, low, high):
+    def __init__(self, low, high):
         sheet = Sheet()
-        values = [f"w{n}" for n in (17, 0, 1, 0, 0, 0)] + [low, high, "w0", "w0", f"w{WHOLE_SPAN}", "w0"]
-        values += [MISSING] * 6 + ["w0"] * 3
+        values = [17, 0, 1, 0, 0, 0, low, high, 0, 0, WHOLE_SPAN, 0] + [MISSING] * 6 + [0] * 3
         sheet.values = dict(enumerate(values, 1))
-        self.console = console
-        self.image = build(console, sheet)
+        self.image = build(sheet)
 
     def figures(self, places):
         """The figure at each place, None where it is more than a tenth outside the span."""
-        return [None if isinstance(got, Refusal) else got[1] for got in self.console.readings(self.image, places)]
+        return [None if isinstance(got, Refusal) else got.figure for got in of(self.image, places)]
 
     def place(self, figure):
         return self.places([figure])[0]
@@ -57,18 +62,18 @@ class Ruler:
         return low if abs(figure - below) <= abs(above - figure) else high
 
 
-def physical_ruler(console, sheet):
+def physical_ruler(sheet):
     """None where an end is missing."""
     low, high = sheet.values[7], sheet.values[8]
-    return None if MISSING in (low, high) else Ruler(console, low, high)
+    return None if MISSING in (low, high) else Ruler(low, high)
 
 
-def electrical_ruler(console, sheet):
+def electrical_ruler(sheet):
     """In ohms or nV/V, at full precision ohms or V/V."""
     ends = [sheet.values[10], sheet.values[11]]
     if MISSING in ends:
         return None
-    return Ruler(console, *(end if is_single(end) else from_bits(singles.nearest(uncounted(whole(end), 0))) for end in ends))
+    return Ruler(*(end if is_single(end) else singles.nearest(uncounted(end, 0)) for end in ends))
 
 
 def ends_of(sheet):
@@ -76,10 +81,7 @@ def ends_of(sheet):
     ends = [sheet.values[10], sheet.values[11]]
     if MISSING in ends:
         return None
-    return tuple(
-        math.floor(Fraction(singles.as_float(bits(end))) * WHOLE_SPAN + Fraction(1, 2)) if is_single(end) else whole(end)
-        for end in ends
-    )
+    return tuple(math.floor(Fraction(end) * WHOLE_SPAN + Fraction(1, 2)) if is_single(end) else end for end in ends)
 
 
 def evenly(ends, count):
@@ -95,18 +97,18 @@ class Taken:
 
     def __init__(self, given, reading, bare):
         self.input = given
-        self.fraction, self.figure = reading
-        self.position, self.straight = bare
+        self.fraction, self.figure = reading.fraction, reading.figure
+        self.position, self.straight = bare.fraction, bare.figure
         self.correction = self.fraction - self.position
 
 
-def take(console, sheet, image, inputs, dash="large"):
+def take(sheet, image, inputs, dash="large"):
     """A Taken for each input, or its refusal."""
     inputs = list(inputs)
-    bare = build(console, sheet.bare())
+    bare = build(sheet.bare())
     return [
         reading if isinstance(reading, Refusal) else Taken(given, reading, straight)
-        for given, reading, straight in zip(inputs, console.readings(image, inputs, dash), console.readings(bare, inputs, dash))
+        for given, reading, straight in zip(inputs, of(image, inputs, dash), of(bare, inputs, dash))
     ]
 
 
@@ -116,10 +118,10 @@ def curve_corrections(taken):
     return [place for place in places if math.isfinite(place[1])]
 
 
-def why_no_reading(console, sheet, image, dash="large"):
+def why_no_reading(sheet, image, dash="large"):
     """The refusal of a reading at the least electrical value; None where one is taken."""
     ends = ends_of(sheet)
-    got = console.readings(image, [ends[0] if ends and abs(ends[0]) < 1 << 62 else 0], dash)[0]
+    got = of(image, [ends[0] if ends and abs(ends[0]) < 1 << 62 else 0], dash)[0]
     return got if isinstance(got, Refusal) else None
 
 
@@ -145,10 +147,10 @@ def curve_text(sheet, one, unit, prefix):
 
 
 def greater_end(sheet):
-    return max(abs(singles.digits(bits(value))) for value in (sheet.values[7], sheet.values[8]) if value != MISSING)
+    return max(abs(singles.digits(value)) for value in (sheet.values[7], sheet.values[8]) if value is not MISSING)
 
 
 def sheet_prefix(sheet, unit):
     """One prefix for all physical figures of a sheet, which suits its greater end."""
-    missing = sheet.values[7] == sheet.values[8] == MISSING
+    missing = sheet.values[7] is sheet.values[8] is MISSING
     return "" if missing else unit.prefix_for(greater_end(sheet))

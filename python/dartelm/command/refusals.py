@@ -1,8 +1,7 @@
 """A refusal in the words of docs/REFUSALS.md."""
-import os
 import re
 
-from .console import HOME
+from ..declared import REFUSALS
 
 # What a place is, where a number has one sort of place alone.
 PLACES = {
@@ -29,30 +28,13 @@ PLACES = {
 LONG = 110
 
 
-def rows(home=HOME):
-    """Number to meaning and what to do, as the table has them; none where the file is not there."""
-    found = {}
-    try:
-        with open(os.path.join(home, "docs", "REFUSALS.md"), encoding="utf-8") as file:
-            for line in file:
-                cells = [cell.strip().replace("`", "") for cell in line.strip().strip("|").split("|")]
-                if len(cells) == 4 and cells[0].isdigit():
-                    found[int(cells[0])] = (cells[2], cells[3])
-    except OSError:
-        pass
-    return found
-
-
-ROWS = rows()
-
-
 def meaning(refusal):
-    return ROWS.get(refusal.number, ("", ""))[0]
+    return REFUSALS[refusal.number][1]
 
 
 def advice(refusal):
     """What to do, for the person at the bench: a programmer's part is left out."""
-    said = re.split(r"(?i)\bprogrammer:\s*", ROWS.get(refusal.number, ("", ""))[1])[0]
+    said = re.split(r"(?i)\bprogrammer:\s*", REFUSALS[refusal.number][2])[0]
     return re.sub(r"^(bench|restorer):\s*", "", said.strip()).rstrip(". ")
 
 
@@ -65,7 +47,7 @@ def headline(refusal, word=None):
 
 def about(value):
     """The word that tells which of a row's cases a refused value is one of."""
-    return {"m": "missing", "s": "Single"}.get(value[0], "figure")
+    return "missing" if value is None else "Single" if isinstance(value, float) else "figure"
 
 
 def shortened(text):

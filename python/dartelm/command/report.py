@@ -68,20 +68,20 @@ footer { margin-top: 1.6em; border-top: 1px solid var(--ink); font-size: .85em; 
 """
 
 
-def run(console, given):
+def run(given):
     files.must_be_new(given.output, given.force)
     data = files.read_bytes(given.file)
     image = Image(data)
-    refusal = refusal_of(console, image)
+    refusal = refusal_of(image)
     against = None
     if refusal:
-        lines = why.told(console, given.file, data)[0]
+        lines = why.told(given.file, data)[0]
         title, body = refused_title(lines), refused_body(lines, refusal)
     else:
-        sheet = read_sheet(console, image)
-        against = compared(console, image, sheet, given)
-        title = "Maker {}, model {}, serial {}".format(*(looks.shown(console, sheet, field) for field in (1, 2, 5)))
-        body = sheet_body(console, given, image, sheet, against)
+        sheet = read_sheet(image)
+        against = compared(image, sheet, given)
+        title = "Maker {}, model {}, serial {}".format(*(looks.shown(sheet, field) for field in (1, 2, 5)))
+        body = sheet_body(given, image, sheet, against)
     page = document(title, [*body, *for_the_job(given), footer(given, data)]).encode("utf-8")
     files.write_new(given.output, page, given.force)
     where = "standard output" if given.output == "-" else given.output
@@ -136,38 +136,38 @@ def refused_body(lines, refusal):
     yield "<pre>" + html.escape("\n".join(lines[1:])) + "</pre>"
 
 
-def compared(console, image, sheet, given):
+def compared(image, sheet, given):
     """The chip beside the certificate; None where there is none."""
     if not given.certificate:
         return None
-    return certificate.against(console, image, sheet, given.certificate, tables.asked_in(given), given.within)
+    return certificate.against(image, sheet, given.certificate, tables.asked_in(given), given.within)
 
 
-def sheet_body(console, given, image, sheet, against):
-    by = fields.around(console, sheet)
+def sheet_body(given, image, sheet, against):
+    by = fields.around(sheet)
     if against:
         yield f'<p class="verdict">Certificate: {text(against.verdict())}</p>'
     yield f'<p class="verdict">ACCEPTED: {text(show.summary(sheet))}</p>'
-    for line in looks.look_lines(console, sheet, given.today):
+    for line in looks.look_lines(sheet, given.today):
         yield f'<p class="look">{text(line[:1].upper() + line[1:])}</p>'
     yield "<h2>Sheet</h2>"
     yield '<div class="fields">' + "".join(
         f"<p><b>{text((number + ' ' + name).strip())}</b><span>{text(value)}</span></p>"
-        for number, name, value in show.rows(console, sheet, by)
+        for number, name, value in show.rows(sheet, by)
     ) + "</div>"
-    dashes = "; ".join(show.dash_lines(console, sheet, image))
+    dashes = "; ".join(show.dash_lines(sheet, image))
     yield f"<p>{text(dashes[:1].upper() + dashes[1:])}</p>"
     yield "<h2>Correction over the span</h2>"
-    yield from correction_figure(console, sheet, image, by)
+    yield from correction_figure(sheet, image, by)
     if against:
         yield "<h2>Chip minus certificate</h2>"
-        yield from certificate_figure(console, sheet, by, against)
+        yield from certificate_figure(sheet, by, against)
     if sheet.points:
         points = many(len(sheet.points), "calibration point")
         yield f"<h2>{points}, {'physical' if sheet.domain else 'electrical'} domain</h2>"
         yield '<div class="points">' + "".join(
             f"<p>{index}: {text(place)}{', ' + text(figure) if figure else ''}: {text(deviation)}</p>"
-            for index, (place, figure, deviation, _) in enumerate(show.point_table(console, sheet, by))
+            for index, (place, figure, deviation, _) in enumerate(show.point_table(sheet, by))
         ) + "</div>"
     if sheet.curve():
         first, *segments = show.segment_lines(sheet)
@@ -175,9 +175,9 @@ def sheet_body(console, given, image, sheet, against):
         yield "".join(f"<p>{text(segment.strip())}</p>" for segment in segments)
 
 
-def feet(console, sheet, by):
+def feet(sheet, by):
     """Quarters of the span with the physical figure at each, where there is one."""
-    ruler = readings.physical_ruler(console, sheet)
+    ruler = readings.physical_ruler(sheet)
     places = (0, 0.25, 0.5, 0.75, 1)
     if ruler is None or sheet.template == 32 and sheet.domain == 0:
         return [(place, "") for place in places]
@@ -186,10 +186,10 @@ def feet(console, sheet, by):
     return [(place, readings.figure_text(figure, by.unit(), prefix)) for place, figure in zip(places, figures)]
 
 
-def correction_figure(console, sheet, image, by):
-    refusal = readings.why_no_reading(console, sheet, image)
+def correction_figure(sheet, image, by):
+    refusal = readings.why_no_reading(sheet, image)
     dots = [(point / WHOLE_SPAN, deviation) for point, deviation in sheet.points]
-    below = feet(console, sheet, by)
+    below = feet(sheet, by)
     if refusal:
         no_reading = f"A reading is {readings.no_reading_text(sheet, refusal)}."
         if not dots:
@@ -198,7 +198,7 @@ def correction_figure(console, sheet, image, by):
         caption = f"Deviation at each stored point, in per cent of the span. {no_reading}"
         yield figure(drawn("Deviation at each stored point", [], dots, percent_label, below), caption)
         return
-    taken = readings.take(console, sheet, image, readings.evenly(readings.ends_of(sheet), SAMPLES))
+    taken = readings.take(sheet, image, readings.evenly(readings.ends_of(sheet), SAMPLES))
     if sheet.curve():
         yield from curve_figure(sheet, by, taken, below)
         return
@@ -223,11 +223,11 @@ def curve_figure(sheet, by, taken, below):
     yield figure(drawing, about)
 
 
-def certificate_figure(console, sheet, by, against):
+def certificate_figure(sheet, by, against):
     line = against.over(SAMPLES)
     dots = [(one.place / WHOLE_SPAN, float(one.difference)) for one in against.at]
     distance = against.distance()
-    below = feet(console, sheet, by)
+    below = feet(sheet, by)
     yield figure(drawn("Chip minus certificate", line, dots, percent_label, below, distance), certificate_caption(against, distance))
     for told in (*against.heading(), *against.told, *([against.meaning()] if against.agrees() else [])):
         yield f"<p>{text(told[:1].upper() + told[1:])}</p>"

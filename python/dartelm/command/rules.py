@@ -1,11 +1,13 @@
 """A refusal in the words of what it is about: the field and its rule, the point and its range, the ends of the span."""
-from .fields import FIELDS, MISSING, is_single, whole
+from . import singles, storing
+from .fields import FIELDS, MISSING, is_single
 from .refusals import PLACES
-from .storing import Billionths, Reference
+from .storing import Reference
+from .trouble import Refusal
 from .units import PERCENT, in_unit, uncounted
 
 MOST_POINTS = 127
-LARGEST_SINGLE = 0x7F7FFFFF
+LARGEST_SINGLE = singles.as_float(singles.INFINITE - 1)
 
 
 def numbered(refusal, said):
@@ -16,7 +18,7 @@ def numbered(refusal, said):
 
 def field_rule(by, field, value, text):
     """Why a value cannot stand in a field: it is missing, or out of range."""
-    if value == MISSING:
+    if value is MISSING:
         return f"{field.name} is missing, and has to have a value"
     least, greatest = field_range(by, field, value)
     return f"{field.name} is {field.given(text, by)}; it has to be {least} to {greatest}"
@@ -25,14 +27,13 @@ def field_rule(by, field, value, text):
 def field_range(by, field, value):
     """The least and the greatest figure that a field takes, by proposals on a plain chip."""
     if is_single(value):
-        return tuple(field.shown(f"s{bits:08x}", by) for bits in (LARGEST_SINGLE | 1 << 31, LARGEST_SINGLE))
-    reference = Reference(by.console, by.template, by.precision)
-    present = by.console.ask("field", reference.image, field.number)[0]
+        return tuple(field.shown(end, by) for end in (-LARGEST_SINGLE, LARGEST_SINGLE))
+    reference = Reference(by.template, by.precision)
 
     def is_taken(count):
-        return not reference.propose(field.number, f"w{count}").startswith("no ")
+        return not isinstance(reference.propose(field.number, count), Refusal)
 
-    return tuple(field.shown(f"w{end}", by) for end in ends_of(whole(present), is_taken))
+    return tuple(field.shown(end, by) for end in ends_of(reference.sheet.values[field.number], is_taken))
 
 
 def ends_of(inside, is_taken):
@@ -50,9 +51,8 @@ def ends_of(inside, is_taken):
     return found
 
 
-def billionths_rule(console, what, count):
-    """Why a point, a deviation or a start is out of range; None where it is not."""
-    stored = getattr(Billionths(console), what)
+def billionths_rule(stored, count):
+    """Why a point or a deviation is out of range; None where it is not."""
     least, greatest = ends_of(0, lambda one: stored([one])[0] is not None)
     shown = in_unit(uncounted(count, -7), PERCENT)
     if count > greatest:
@@ -62,12 +62,12 @@ def billionths_rule(console, what, count):
     return None
 
 
-def point_rule(console, point):
+def point_rule(point):
     """Why one of two figures of a point is out of range."""
-    said = billionths_rule(console, "points", point[0])
+    said = billionths_rule(storing.points, point[0])
     if said:
         return said
-    said = billionths_rule(console, "deviations", point[1])
+    said = billionths_rule(storing.deviations, point[1])
     return f"deviation {said}" if said else "out of range"
 
 
@@ -81,7 +81,7 @@ def ends_rule(sheet, refusal):
     value = sheet.values[refusal.place]
     if refusal.number == 21:
         return f"{named.name} is {named.shown(value, None)}; it has to be -2000 mV/V to 2000 mV/V"
-    if value == MISSING:
+    if value is MISSING:
         return f"{named.name} is missing"
     low, high = (FIELDS[33][n - 1].shown(sheet.values[n], None) for n in (10, 11))
     if low == high:

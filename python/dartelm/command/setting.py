@@ -1,24 +1,24 @@
 """set: a copy of an image with some fields changed, through proposal and commit; all of them or none."""
+from .. import calls
 from . import fields, files, refusals, rules
-from .console import refusal_in
-from .fields import field_named, whole
+from .fields import field_named
 from .image import Image, open_image, write_image, wrote
 from .looks import look_lines
 from .storing import Row, exact_or_nothing, table
-from .trouble import ACCEPTED, REFUSED, Refusal, misused, refused, unread
+from .trouble import ACCEPTED, REFUSED, Refusal, misused, refused, tried, unread
 
 LEVELS = ("owner", "calibration", "maker")
 REBUILD = "; 'dartelm export' the sheet, edit it and 'dartelm make' the image anew"
 WHOLE_SHEET = (["text"], ["closing", "text"], ["point"], ["points"], ["domain"], ["segment"], ["term"], ["kind"], ["template"])
 
 
-def run(console, given):
+def run(given):
     if given.output is not None:
         files.must_be_new(given.output, given.force)
-    image, sheet = open_image(console, given.file)
+    image, sheet = open_image(given.file)
     asked = [assignment(sheet.template, word) for word in given.changes]
     once(asked)
-    changes = Changes(console, image, sheet, given.level)
+    changes = Changes(image, sheet, given.level)
     changes.measure_by(asked)
     for field, text, value in [(field, text, field.parsed(text, changes.by)) for field, text in asked]:
         changes.make(field, text, value, given.dry_run)
@@ -33,17 +33,17 @@ def run(console, given):
         return REFUSED if changes.refused else ACCEPTED
     if given.exact:
         exact_or_nothing(changes.rows)
-    written(console, given, changes)
+    written(given, changes)
     return ACCEPTED
 
 
-def written(console, given, changes):
+def written(given, changes):
     """Writes the image, reads it again, and says what is worth a look and was not before."""
-    again = write_image(console, given.output, changes.image, given.force)
+    again = write_image(given.output, changes.image, given.force)
     if any(again.values[number] != value for number, value in changes.stored.items()):
         raise unread(f"{given.output}: what stands in the file is not what was written")
-    were = look_lines(console, changes.sheet, given.today)
-    for line in look_lines(console, again, given.today):
+    were = look_lines(changes.sheet, given.today)
+    for line in look_lines(again, given.today):
         if line not in were:
             print(line)
     if 6 in changes.stored and not {7, 8} <= set(changes.stored):
@@ -54,22 +54,22 @@ def written(console, given, changes):
 class Changes:
     """An image with the changes made so far, and a row for each."""
 
-    def __init__(self, console, image, sheet, level):
-        self.console, self.image, self.sheet, self.level = console, image, sheet, level
-        self.before, self.by = fields.around(console, sheet), fields.around(console, sheet)
+    def __init__(self, image, sheet, level):
+        self.image, self.sheet, self.level = image, sheet, level
+        self.before, self.by = fields.around(sheet), fields.around(sheet)
         self.rows, self.refused, self.stored = [], [], {}
 
     def measure_by(self, asked):
         """Physical values are in the unit of the measurand that is set with them."""
         for field, text in asked:
-            if field.number == 6 and field.parsed(text, self.by) != fields.MISSING:
-                self.by.measurand = whole(field.parsed(text, self.by))
+            if field.number == 6 and field.parsed(text, self.by) is not fields.MISSING:
+                self.by.measurand = field.parsed(text, self.by)
 
     def make(self, field, text, value, dry):
         """A refusal ends the command; of a dry run it is a row."""
         now, given = field.shown(self.sheet.values[field.number], self.before), field.given(text, self.by)
         try:
-            self.image, kept = changed(self.console, self.image, field, value, self.level)
+            self.image, kept = changed(self.image, field, value, self.level)
         except Refusal as refusal:
             said = self.reason(field, value, text, refusal)
             if not dry:
@@ -88,7 +88,7 @@ class Changes:
         if refusal.number == 12:
             return said + REBUILD
         for higher in LEVELS[LEVELS.index(self.level) + 1 :]:
-            if refusal.number == 20 and refusal_number(self.console, self.image, field, value, higher) != 20:
+            if refusal.number == 20 and refusal_number(self.image, field, value, higher) != 20:
                 return said + f"; --level {higher} may"
         return said
 
@@ -109,14 +109,15 @@ def once(asked):
             raise misused(f"'{field.name}' is given twice")
 
 
-def changed(console, image, field, value, level):
+def changed(image, field, value, level):
     """The image with one field changed, and the value that it reads back."""
-    present, new, stored = console.ask("propose", image, field.number, value, level)
-    committed = console.ask("commit", image, field.number, present, new, level)[1]
-    return Image(bytes.fromhex(committed), image.kind), stored
+    level = LEVELS.index(level)
+    found = image.ask(calls.propose, field.number, value, level)
+    committed = image.ask(calls.commit, field.number, found.present_code, found.new_code, level)
+    return Image(committed, image.kind), found.value
 
 
-def refusal_number(console, image, field, value, level):
+def refusal_number(image, field, value, level):
     """Of a proposal; 0 where it is accepted."""
-    refusal = refusal_in(console.ask_all([f"propose {image} {field.number} {value} {level}"])[0])
-    return refusal.number if refusal else 0
+    found = tried(image.ask, calls.propose, field.number, value, LEVELS.index(level))
+    return found.number if isinstance(found, Refusal) else 0

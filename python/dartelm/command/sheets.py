@@ -2,20 +2,19 @@
 import re
 from fractions import Fraction
 
-from . import fields, singles
-from .fields import FIELDS, Around, field_named, from_bits, whole
+from . import fields, singles, storing
+from .fields import FIELDS, Around, field_named
 from .image import BYTES, LAST_FIELD, Sheet
 from .show import quoted
-from .storing import Billionths
 from .trouble import Trouble, misused
 from .units import PERCENT, figure_of, percent, plain, split
 
 DOMAINS = ("electrical", "physical")
 
 
-def written(console, sheet):
+def written(sheet):
     """The lines of a sheet."""
-    by = fields.around(console, sheet)
+    by = fields.around(sheet)
     yield f"kind = {sheet.kind}"
     yield f"template = {sheet.template}"
     for field in FIELDS[sheet.template]:
@@ -28,7 +27,7 @@ def written(console, sheet):
     for start, count in sheet.segments:
         yield f"segment = {percent(start)}"
         for exponent, coefficient in sheet.terms[at : at + count]:
-            yield f"term = {exponent}, {plain(singles.digits(int(coefficient, 16)))}"
+            yield f"term = {exponent}, {plain(singles.digits(coefficient))}"
         at += count
     if sheet.text is not None:
         yield f"text = {quoted(sheet.text)}"
@@ -59,7 +58,7 @@ class Draft:
         return f"{self.name}:{self.lines[key]}" if key in self.lines else self.name
 
 
-def parsed(console, name, text, kind=None):
+def parsed(name, text, kind=None):
     """The draft that lines give, for the kind that is asked for or the one that they name. Errors name the line."""
     draft = Draft(name)
     for number, line in enumerate(text.splitlines(), 1):
@@ -68,8 +67,8 @@ def parsed(console, name, text, kind=None):
     sheet = draft.sheet
     sheet.kind = numbered(draft, "kind", BYTES) if kind is None else kind
     sheet.template = numbered(draft, "template", LAST_FIELD)
-    values(console, draft)
-    table(console, draft)
+    values(draft)
+    table(draft)
     if "text" in draft.given:
         sheet.text = text_of(draft, draft.given["text"])
     return draft
@@ -107,7 +106,7 @@ def numbered(draft, name, among):
     return int(value)
 
 
-def values(console, draft):
+def values(draft):
     """The fields, each by its line; those that set how others are understood go first."""
     template = draft.sheet.template
     found = {}
@@ -126,20 +125,20 @@ def values(console, draft):
         if field.number not in found:
             raise misused(f"{draft.name}: there is no line '{field.name} = ..'")
         draft.lines[field.number], draft.texts[field.number] = found[field.number]
-    by = Around(console, template)
+    by = Around(template)
     for number in (6, 9, *(n for n in found if n not in (6, 9))):
         draft.sheet.values[number] = value_of(draft, by, FIELDS[template][number - 1], *found[number])
         if number == 6:
             by.measurand = measurand(draft, found[6][0])
         if number == 9:
-            by.precision = whole(draft.sheet.values[9]) if draft.sheet.values[9] != fields.MISSING else None
+            by.precision = draft.sheet.values[9]
 
 
 def measurand(draft, line):
     value = draft.sheet.values[6]
-    if value == fields.MISSING or whole(value) >= len(fields.measurands.CASES):
+    if value is fields.MISSING or value >= len(fields.measurands.CASES):
         raise draft.wrong(line, "the physical measurand is one of 0 to 45")
-    return whole(value)
+    return value
 
 
 def value_of(draft, by, field, line, text):
@@ -149,7 +148,7 @@ def value_of(draft, by, field, line, text):
         raise draft.wrong(line, str(trouble)) from None
 
 
-def table(console, draft):
+def table(draft):
     """The points with their domain, or the curve."""
     sheet = draft.sheet
     if draft.points and draft.segments:
@@ -162,12 +161,11 @@ def table(console, draft):
         sheet.domain = DOMAINS.index(domain)
     elif "domain" in draft.given:
         raise draft.wrong(draft.lines["domain"], "a domain without points")
-    taken = Billionths(console)
-    sheet.points = [point(draft, taken, index, *row) for index, row in enumerate(draft.points)]
+    sheet.points = [point(draft, index, *row) for index, row in enumerate(draft.points)]
     owners = [max((n for n, (start, _) in enumerate(draft.segments) if start < line), default=None) for line, _ in draft.terms]
     if None in owners:
         raise draft.wrong(draft.terms[owners.index(None)][0], "a term before the first segment")
-    starts = [taken.start(billionths(draft, ("segment", n), *row)) for n, row in enumerate(draft.segments)]
+    starts = [storing.settled(billionths(draft, ("segment", n), *row), storing.starts) for n, row in enumerate(draft.segments)]
     sheet.segments = [(start, owners.count(n)) for n, start in enumerate(starts)]
     sheet.terms = [term(draft, line, *two(draft, line, value, "term")) for line, value in draft.terms]
 
@@ -179,10 +177,11 @@ def two(draft, line, text, what):
     return parts
 
 
-def point(draft, taken, index, line, text):
+def point(draft, index, line, text):
     place, deviation = two(draft, line, text, "point")
     place = billionths(draft, ("point", index), line, place)
-    return taken.point(place), taken.deviation(billionths(draft, ("deviation", index), line, deviation))
+    deviation = billionths(draft, ("deviation", index), line, deviation)
+    return storing.settled(place, storing.points), storing.settled(deviation, storing.deviations)
 
 
 def billionths(draft, part, line, text):
@@ -201,7 +200,7 @@ def term(draft, line, exponent, coefficient):
     number = split(coefficient)
     if not re.fullmatch(r"-?[0-9]{1,3}", exponent) or number is None or number[1]:
         raise draft.wrong(line, "a term is an exponent and a coefficient, as 2, -0.015")
-    return int(exponent), from_bits(singles.nearest(number[0]))[1:]
+    return int(exponent), singles.nearest(number[0])
 
 
 def text_of(draft, value):

@@ -11,44 +11,44 @@ FEW = 12
 SENDERS = {33: "a bridge sender", 32: "a resistance sender"}
 
 
-def run(console, given):
+def run(given):
     status = ACCEPTED
     images = [read_image(path) for path in given.files]
     if given.json:
-        found = [one_object(console, path, image, given.today) for path, image in zip(given.files, images)]
+        found = [one_object(path, image, given.today) for path, image in zip(given.files, images)]
         objects.tell(found)
         return ACCEPTED if all(one["accepted"] for one in found) else REFUSED
     for number, (path, image) in enumerate(zip(given.files, images)):
         if number:
             print()
         try:
-            sheet = read_sheet(console, image)
+            sheet = read_sheet(image)
         except Refusal as refusal:
             print(f"{path}: {refusals.headline(refusal)}")
             print(f"  'dartelm why {path}' tells more")
             status = REFUSED
             continue
-        print("\n".join(lines_of(console, path, image, sheet, given)))
+        print("\n".join(lines_of(path, image, sheet, given)))
     return status
 
 
-def one_object(console, path, image, today):
+def one_object(path, image, today):
     try:
-        return objects.sheet(console, path, image, read_sheet(console, image), today)
+        return objects.sheet(path, image, read_sheet(image), today)
     except Refusal as refusal:
         return objects.refused(path, refusal)
 
 
-def lines_of(console, path, image, sheet, given):
-    by = fields.around(console, sheet)
+def lines_of(path, image, sheet, given):
+    by = fields.around(sheet)
     yield f"{path}: accepted, {summary(sheet)}"
-    for number, name, value in rows(console, sheet, by):
+    for number, name, value in rows(sheet, by):
         yield f"{number:>4}  {name:<39}{value}"
-    yield from correction_lines(console, sheet, by, given.points)
+    yield from correction_lines(sheet, by, given.points)
     if given.curve:
-        yield from curve_lines(console, sheet, image, by)
-    yield from dash_lines(console, sheet, image)
-    yield from look_lines(console, sheet, given.today)
+        yield from curve_lines(sheet, image, by)
+    yield from dash_lines(sheet, image)
+    yield from look_lines(sheet, given.today)
 
 
 def summary(sheet):
@@ -58,12 +58,12 @@ def summary(sheet):
     )
 
 
-def rows(console, sheet, by):
+def rows(sheet, by):
     """Number, name and value of each field, and of what stands behind them."""
     for field in FIELDS[sheet.template]:
         value = field.shown(sheet.values[field.number], by)
         if field.number == PERIOD[sheet.template]:
-            due = due_date(console, sheet)
+            due = due_date(sheet)
             value += f", due {due}" if due else ""
         yield str(field.number), field.name, value
     yield "", "closing text", "none" if sheet.text is None else quoted(sheet.text)
@@ -74,14 +74,14 @@ def quoted(text):
     return '"' + "".join(chr(c) if 32 <= c < 127 and chr(c) not in '"\\' else f"\\x{c:02x}" for c in text) + '"'
 
 
-def correction_lines(console, sheet, by, every):
+def correction_lines(sheet, by, every):
     if sheet.curve():
         yield from segment_lines(sheet)
         return
     if not sheet.points:
         yield "no calibration points"
         return
-    table = point_table(console, sheet, by)
+    table = point_table(sheet, by)
     against = "physical" if sheet.domain else "electrical"
     points = many(len(sheet.points), "calibration point")
     yield f"{points} against the {against} figure (domain {sheet.domain}), deviations of the span"
@@ -97,12 +97,12 @@ def correction_lines(console, sheet, by, every):
         yield f"{index:>4}  {place}  {figure}  deviation {deviation}  {then}".rstrip()
 
 
-def point_table(console, sheet, by):
+def point_table(sheet, by):
     """For each point: per cent of the span, the figure there, the deviation, and what it comes to. In domain 0 the point is the
     input's and the chip shows another figure; in domain 1 it is the figure's, and shown at another input."""
     ohms = sheet.template == 32 and sheet.domain == 0
     unit = OHM if ohms else by.unit()
-    ruler = readings.electrical_ruler(console, sheet) if ohms else readings.physical_ruler(console, sheet)
+    ruler = readings.electrical_ruler(sheet) if ohms else readings.physical_ruler(sheet)
     prefix = "" if ohms else readings.sheet_prefix(sheet, unit)
 
     def figures(places):
@@ -132,10 +132,10 @@ def segment_lines(sheet):
 
 
 def term_text(exponent, coefficient):
-    return f"{plain(singles.digits(int(coefficient, 16)))} x^{exponent}"
+    return f"{plain(singles.digits(coefficient))} x^{exponent}"
 
 
-def curve_lines(console, sheet, image, by):
+def curve_lines(sheet, image, by):
     """The correction over the span, by readings; of a resistance sender the points alone."""
     if not sheet.points and not sheet.curve():
         return
@@ -146,11 +146,11 @@ def curve_lines(console, sheet, image, by):
         yield "deviation at each point, of the span (no reading is taken from a resistance sender):"
         yield from text_curve([(point / readings.WHOLE_SPAN, deviation) for point, deviation in sheet.points], tenths)
         return
-    refusal = readings.why_no_reading(console, sheet, image)
+    refusal = readings.why_no_reading(sheet, image)
     if refusal:
         yield f"no curve: {readings.no_reading_text(sheet, refusal)}"
         return
-    taken = readings.take(console, sheet, image, readings.evenly(readings.ends_of(sheet), 61))
+    taken = readings.take(sheet, image, readings.evenly(readings.ends_of(sheet), 61))
     if sheet.curve():
         unit, prefix = by.unit(), readings.sheet_prefix(sheet, by.unit())
         drawn = readings.curve_corrections(taken)
@@ -166,11 +166,11 @@ def tenths(billionths):
     return percent(billionths, True)
 
 
-def dash_lines(console, sheet, image):
+def dash_lines(sheet, image):
     if sheet.template == 32:
         yield "dashes: no reading is taken from a resistance sender"
         return
-    refusal = readings.why_no_reading(console, sheet, image, "small")
+    refusal = readings.why_no_reading(sheet, image, "small")
     if refusal and refusal.number == 23:
         yield "dashes: large only (the small one takes 32 points)"
     elif refusal:

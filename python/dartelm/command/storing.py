@@ -1,9 +1,10 @@
 """What a chip stores for the figures that it is given: the nearest step, by proposals and builds of the proved calls."""
 import math
 
-from .console import parsed, refusal_in
-from .image import Image, build, plain_sheet
-from .trouble import Refusal, refused
+from .. import calls
+from ..declared import Level
+from .image import build, plain_sheet
+from .trouble import Refusal, refused, tried
 
 OUT_OF_RANGE = 10
 HEADS = ("field", "now", "given", "stored", "difference")
@@ -29,75 +30,60 @@ def settled(count, stored, geometric=False):
 
 
 def out_of_range(answer):
-    refusal = refusal_in(answer)
-    return refusal is not None and refusal.number == OUT_OF_RANGE
+    return isinstance(answer, Refusal) and answer.number == OUT_OF_RANGE
 
 
 class Reference:
     """A plain chip of a template and precision, on which any field's figure can be proposed."""
 
-    def __init__(self, console, template, precision):
-        self.console = console
+    def __init__(self, template, precision):
         self.template = template
-        try:
-            self.image = build(console, plain_sheet(template, precision or 0))
-        except Refusal:
-            self.image = build(console, plain_sheet(template, 0))
+        self.sheet = plain_sheet(template, precision or 0)
+        if isinstance(tried(build, self.sheet), Refusal):
+            self.sheet = plain_sheet(template, 0)
+        self.image = build(self.sheet)
 
     def propose(self, number, value):
-        return self.console.ask_all([f"propose {self.image} {number} {value} maker"])[0]
+        """What the field would become, or the refusal."""
+        return tried(self.image.ask, calls.propose, number, value, Level.MAKER)
 
     def settled(self, number, count, geometric):
         def stored(wholes):
-            answers = [self.propose(number, f"w{one}") for one in wholes]
-            return [None if out_of_range(answer) else int(parsed(answer)[2][1:]) for answer in answers]
+            return [self.stored(number, one) for one in wholes]
 
         return settled(count, stored, geometric)
 
+    def stored(self, number, count):
+        """None where it is out of range."""
+        answer = self.propose(number, count)
+        if isinstance(answer, Refusal) and not out_of_range(answer):
+            raise answer
+        return None if out_of_range(answer) else answer.value
 
-class Billionths:
-    """Points, deviations and segment starts, in billionths of the span."""
 
-    def __init__(self, console):
-        self.console = console
+def points(wholes):
+    """What is stored for points, in billionths of the span; None for one that is out of range."""
+    return [read_back({"domain": 0, "points": [(one, 0)]}, calls.pair, 0, "point") for one in wholes]
 
-    def point(self, count):
-        return settled(count, self.points)
 
-    def deviation(self, count):
-        return settled(count, self.deviations)
+def deviations(wholes):
+    return [read_back({"domain": 0, "points": [(0, one)]}, calls.pair, 0, "deviation") for one in wholes]
 
-    def start(self, count):
-        return settled(count, self.starts)
 
-    def points(self, wholes):
-        return [self.of_pair((one, 0), 0) for one in wholes]
+def starts(wholes):
+    """Of segments. One that is stored as the first, 0, is refused beside it."""
+    curves = [{"segments": [(0, 1), (one, 1)], "terms": [(0, 1.0)] * 2} for one in wholes]
+    return [read_back(curve, calls.segment, 1, "start") for curve in curves]
 
-    def deviations(self, wholes):
-        return [self.of_pair((0, one), 1) for one in wholes]
 
-    def starts(self, wholes):
-        """A start that is stored as the first one, 0, is refused beside it."""
-        return [self.of_start(one) for one in wholes]
-
-    def of_pair(self, point, which):
-        sheet = plain_sheet(33, 0)
-        sheet.domain, sheet.points = 0, [point]
-        return self.read(sheet, "pair", 0, which)
-
-    def of_start(self, one):
-        sheet = plain_sheet(33, 0)
-        sheet.segments, sheet.terms = [(0, 1), (one, 1)], [(0, "3f800000")] * 2
-        return self.read(sheet, "segment", 1, 0)
-
-    def read(self, sheet, command, index, which):
-        answer = self.console.ask_all([sheet.build_line()])[0]
-        if out_of_range(answer):
-            return None
-        if refusal_in(answer):
-            return 0
-        image = Image(bytes.fromhex(parsed(answer)[1]), sheet.kind)
-        return int(self.console.ask(command, image, index)[which])
+def read_back(parts, call, index, member):
+    """A figure of a plain chip that is built with these parts."""
+    sheet = plain_sheet(33, 0)
+    vars(sheet).update(parts)
+    image = tried(build, sheet)
+    if isinstance(image, Refusal):
+        return None if out_of_range(image) else 0
+    return getattr(image.ask(call, index), member)
 
 
 class Row:

@@ -1,19 +1,18 @@
-"""tray: a line for each of many chips, by the proved tray program (docs/TRAY.md)."""
+"""tray: a line for each of many chips, by a check of each."""
 import csv
 import os
 import re
-import subprocess
 import sys
 
+from .. import calls
 from . import certificate, files, looks, objects, refusals
-from .console import HOME
 from .files import read_bytes, reason
 from .image import KINDS, Image, read_sheet
 from .looks import due_date, shown
-from .trouble import ACCEPTED, REFUSED, UNREAD, Refusal, Trouble, misused, unread
+from .trouble import ACCEPTED, REFUSED, UNREAD, Refusal, Trouble, misused, tried, unread
 from .units import many
 
-# A tray ends after 1,000 images; fewer let the progress be seen.
+# The progress of more is told.
 AT_ONCE = 200
 ENDINGS = (".kind0", ".kind1", ".kind2", ".bin", ".img")
 CERTIFICATES = (".csv", ".tsv", ".txt")
@@ -45,7 +44,7 @@ class Chip:
         self.status = max(self.status, status)
 
 
-def run(console, given):
+def run(given):
     paths, passed, chips = found(given.files)
     if passed:
         print(f"dartelm: passed over, no image by name or length: {', '.join(passed)}", file=sys.stderr)
@@ -54,13 +53,11 @@ def run(console, given):
         raise misused("there is no image in " + ", ".join(given.files))
     certified = Certificates(given.certificates) if given.certificates else None
     total = 0
-    for start in range(0, len(chips), AT_ONCE):
-        some = chips[start : start + AT_ONCE]
-        total += judged(some)
-        for chip in some:
-            looked_at(console, chip, given.today, certified)
-        if len(chips) > AT_ONCE:
-            print(f"dartelm: {start + len(some)} of {len(chips)} chips", file=sys.stderr)
+    for count, chip in enumerate(chips, 1):
+        total += judged(chip)
+        looked_at(chip, given.today, certified)
+        if len(chips) > AT_ONCE and (count % AT_ONCE == 0 or count == len(chips)):
+            print(f"dartelm: {count} of {len(chips)} chips", file=sys.stderr)
     same_serials(chips)
     tell(chips, total, given)
     if given.strict and any(chip.looks for chip in chips):
@@ -119,48 +116,32 @@ def unreadable(chip, trouble):
     return chip
 
 
-def judged(chips):
-    """Each image's bits, or its refusal's number, and the sum of the bits, as the tray program tells them. An image that no chip
-    has would end the tray: it is told as 1 and not sent."""
-    for chip in chips:
-        try:
-            chip.image = Image(read_bytes(chip.path)) if chip.trouble is None else None
-        except Trouble as trouble:
-            unreadable(chip, trouble)
-    sent = [chip for chip in chips if chip.image and len(chip.image.data) in KINDS]
-    lines = report(b"".join(bytes([chip.image.kind]) + chip.image.data for chip in sent)).splitlines()
-    numbers = [int(line.split(" ")[1]) for line in lines]
-    if len(lines) != len(sent) + 1 or not lines[-1].startswith("total "):
-        raise unread("the tray program did not answer for each image")
-    told = iter(numbers[:-1])
-    for chip in chips:
-        if chip.image:
-            number = next(told) if len(chip.image.data) in KINDS else -1
-            chip.bits, chip.number = (number, None) if number >= 0 else (None, -number)
-            chip.fails(REFUSED if number < 0 else ACCEPTED)
-    return numbers[-1]
-
-
-def report(tray):
-    """The tray program's report on a tray."""
-    program = os.path.join(HOME, "bin", "tray")
+def judged(chip):
+    """An image's bits, or its refusal's number, by a check. The bits are given, 0 where there are none."""
+    if chip.trouble is not None:
+        return 0
     try:
-        done = subprocess.run([program], input=tray, stdout=subprocess.PIPE, check=False)
-    except OSError as error:
-        raise unread(f"cannot run {program}: {reason(error)}") from None
-    if done.returncode not in (0, 1):
-        raise unread("the tray program ended without a report")
-    return done.stdout.decode("ascii")
+        chip.image = Image(read_bytes(chip.path))
+    except Trouble as trouble:
+        unreadable(chip, trouble)
+        return 0
+    found = tried(chip.image.ask, calls.check)
+    if isinstance(found, Refusal):
+        chip.number = found.number
+        chip.fails(REFUSED)
+        return 0
+    chip.bits = found.bits
+    return found.bits
 
 
-def looked_at(console, chip, today, certified):
+def looked_at(chip, today, certified):
     """The sheet of an accepted chip, what is worth a look, and its certificate."""
     if chip.bits is None:
         return
-    chip.sheet = sheet = read_sheet(console, chip.image)
+    chip.sheet = sheet = read_sheet(chip.image)
 
     def text(number):
-        return shown(console, sheet, number)
+        return shown(sheet, number)
 
     chip.names = {
         "manufacturer": text(1),
@@ -169,12 +150,12 @@ def looked_at(console, chip, today, certified):
         "serial": text(5),
         "location": text(LOCATION[sheet.template]),
         "date": text(DATE[sheet.template]),
-        "due": due_date(console, sheet) or "",
+        "due": due_date(sheet) or "",
         "points": str(len(sheet.points)),
     }
-    chip.looks = list(looks.looks(console, sheet, today))
+    chip.looks = list(looks.looks(sheet, today))
     if certified:
-        certified.hold(console, chip)
+        certified.hold(chip)
 
 
 def same_serials(chips):
@@ -204,7 +185,7 @@ class Certificates:
                 for serial in {int(word) for word in SERIAL.findall(files.read_text(path))}:
                     self.by_serial.setdefault(serial, []).append(path)
 
-    def hold(self, console, chip):
+    def hold(self, chip):
         """A chip against the one certificate that names its serial number."""
         named = self.by_serial.get(int(chip.names["serial"]), [])
         if len(named) != 1:
@@ -216,7 +197,7 @@ class Certificates:
             return
         chip.certificate = named[0]
         try:
-            beside = certificate.against(console, chip.image, chip.sheet, named[0])
+            beside = certificate.against(chip.image, chip.sheet, named[0])
             chip.verdict = beside.verdict()
             chip.fails(ACCEPTED if beside.agrees() else REFUSED)
         except Trouble as trouble:

@@ -1,15 +1,15 @@
 """What ends a command early, and the status that it ends with."""
+from ..refusal import Refusal
 
 ACCEPTED, REFUSED, MISUSED, UNREAD = 0, 1, 2, 3
 
 
-class Refusal(Exception):
-    """A proved call's refusal: its number and place."""
-
-    def __init__(self, number, place):
-        super().__init__(f"refused: {number} at {place}")
-        self.number = number
-        self.place = place
+def tried(call, *words):
+    """What a call returns, or its refusal."""
+    try:
+        return call(*words)
+    except Refusal as refusal:
+        return refusal
 
 
 class Trouble(Exception):

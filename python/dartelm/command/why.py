@@ -1,14 +1,15 @@
 """why: each page's verdict, what the whole pages still say, the likely cause, and what to do."""
 import re
+import struct
 import sys
 
+from .. import calls
 from . import dumps, files, objects, refusals
-from .console import refusal_in
-from .fields import FIELDS, Around, whole
+from .fields import FIELDS, Around
 from .files import read_bytes
 from .image import BYTES, KINDS, Image, build, from_stream, plain_sheet, read_sheet, refusal_of, write_image, wrote
 from .show import summary
-from .trouble import ACCEPTED, REFUSED, Refusal, refused
+from .trouble import ACCEPTED, REFUSED, Refusal, refused, tried
 
 PAGE = 32
 REGISTER = 8
@@ -20,20 +21,20 @@ BUILD = ": 'dartelm export' that of a sender like it, edit its lines and 'dartel
 BEHIND_TEMPLATE = 74
 
 
-def run(console, given):
+def run(given):
     if given.output is not None:
         files.must_be_new(given.output, given.force)
     data = read_bytes(given.file)
-    lines, found = told(console, given.file, data)
+    lines, found = told(given.file, data)
     if given.json:
-        objects.tell(objects.why(given.file, lines, bool(found and not found.inside), refusal_of(console, Image(data))))
+        objects.tell(objects.why(given.file, lines, bool(found and not found.inside), refusal_of(Image(data))))
     else:
         print("\n".join(lines))
     if not given.output:
         return ACCEPTED if found and not found.inside else REFUSED
     if not found:
         raise refused(f"nothing is written: there is no accepted image in {given.file}")
-    sheet = write_image(console, given.output, found.image, given.force)
+    sheet = write_image(given.output, found.image, given.force)
     said = f"{wrote(given.output)}, accepted, {summary(sheet)}"
     print(said, file=sys.stderr if given.json else sys.stdout)
     return ACCEPTED
@@ -47,17 +48,17 @@ class Found:
         self.inside = inside
 
 
-def told(console, path, data):
+def told(path, data):
     """What there is to say of a file's bytes, and the accepted image that they are or hold; None where there is none."""
     image = Image(data)
-    refusal = refusal_of(console, image)
+    refusal = refusal_of(image)
     if refusal is None:
-        accepted = f"{path}: accepted, {summary(read_sheet(console, image))}"
-        return [accepted, *page_lines(image, verdicts(console, image)), "nothing is wrong with it"], Found(image, False)
+        accepted = f"{path}: accepted, {summary(read_sheet(image))}"
+        return [accepted, *page_lines(image, verdicts(image)), "nothing is wrong with it"], Found(image, False)
     head = f"{path}: {refusals.headline(refusal)}"
-    dump, other = dumps.bytes_of(data), other_kind(console, data)
+    dump, other = dumps.bytes_of(data), other_kind(data)
     if dump and len(dump) in KINDS:
-        lines, found = dump_told(console, path, Image(dump))
+        lines, found = dump_told(path, Image(dump))
         return [head, *lines], found
     if other:
         size = len(other.data)
@@ -65,27 +66,27 @@ def told(console, path, data):
         return [head, likely, to_write(path, other)], Found(other, True)
     whole = from_stream(dump or data)
     if whole:
-        return stream_told(console, path, head, whole)
+        return stream_told(path, head, whole)
     if dump:
         short = f"likely: a dump in hexadecimal text, of {len(dump)} bytes, which no chip has; {wanted(len(dump))}"
         return [head, short, WHOLE], None
     if dumps.text_of(data) is not None:
         return [head, *text_lines(path, dumps.text_of(data))], None
-    return [head, *(chip_lines(console, image, refusal) if len(data) in KINDS else length_lines(console, data))], None
+    return [head, *(chip_lines(image, refusal) if len(data) in KINDS else length_lines(data))], None
 
 
-def dump_told(console, path, image):
+def dump_told(path, image):
     """The bytes of a dump, judged as an image."""
-    refusal = refusal_of(console, image)
+    refusal = refusal_of(image)
     likely = f"likely: a dump in hexadecimal text, of {len(image.data)} bytes, which is kind {image.kind}; as an image it is "
     if refusal is None:
         return [likely + "accepted", to_write(path, image)], Found(image, True)
-    return [likely + refusals.headline(refusal), *chip_lines(console, image, refusal)], None
+    return [likely + refusals.headline(refusal), *chip_lines(image, refusal)], None
 
 
-def stream_told(console, path, head, image):
+def stream_told(path, head, image):
     """A sheet without check bytes, as a file .ted has it, judged with them."""
-    refusal = refusal_of(console, image)
+    refusal = refusal_of(image)
     count = len(image.data) - BYTES[image.kind] // PAGE
     likely = f"likely: {count} bytes are a chip's stream, without the check bytes: a dump of the sheet alone (.ted); with them it is "
     if refusal is None:
@@ -93,12 +94,12 @@ def stream_told(console, path, head, image):
     return [head, likely + refusals.headline(refusal), WHOLE], None
 
 
-def chip_lines(console, image, refusal):
+def chip_lines(image, refusal):
     """A refused chip: its pages, where the refusal stands, what whole pages say, the cause."""
-    found = verdicts(console, image)
+    found = verdicts(image)
     yield from page_lines(image, found)
-    yield from place_lines(console, image, found, refusal)
-    yield from still_lines(console, image, found)
+    yield from place_lines(image, found, refusal)
+    yield from still_lines(image, found)
     yield from cause_lines(image, found, refusal)
 
 
@@ -130,13 +131,12 @@ def page_bytes(image, page):
     return image.data[PAGE * page : PAGE * (page + 1)]
 
 
-def verdicts(console, image):
+def verdicts(image):
     """What the check's page test says of each page: an image of nothing but that page is asked for."""
     if image.kind == 0:
-        return [verdict(refusal_of(console, image))]
+        return [verdict(refusal_of(image))]
     count = BYTES[image.kind] // PAGE
-    asked = (f"check {Image(page_bytes(image, page) * count, image.kind)}" for page in range(count))
-    return [verdict(refusal_in(answer)) for answer in console.ask_all(asked)]
+    return [verdict(refusal_of(Image(page_bytes(image, page) * count, image.kind))) for page in range(count)]
 
 
 def verdict(refusal):
@@ -156,16 +156,10 @@ def mended(image, found):
 class Places:
     """Where the fields of a template stand, by the index of a sheet that is built for it."""
 
-    def __init__(self, console, template, precision):
+    def __init__(self, template, precision):
         sheet = plain_sheet(template, precision)
-        size = 4 * len(sheet.values)
-        self.index = console.ask("index", build(console, sheet), "00" * size)[1]
-        data = bytes.fromhex(self.index)
-        pairs = [
-            (int.from_bytes(data[n : n + 2], "little"), int.from_bytes(data[n + 2 : n + 4], "little"))
-            for n in range(0, size, 4)
-        ]
-        self.pairs = dict(enumerate(pairs, 1))
+        self.index = build(sheet).ask(calls.index)
+        self.pairs = dict(enumerate(struct.iter_unpack("<HH", self.index), 1))
 
     def end(self):
         return sum(self.pairs[len(self.pairs)])
@@ -181,44 +175,38 @@ def pages_of(image, offset, length):
     return set(range(offset // 8 // (PAGE - 1), (offset + length - 1) // 8 // (PAGE - 1) + 1))
 
 
-def layout(console, image, found):
+def layout(image, found):
     """The template and the places of its fields, as far as whole pages tell; else None. A fetch tells the templates apart by
     the index that it asks for, a check whether the first block is one of them."""
     whole_image = mended(image, found)
-    try:
-        console.ask("fetch", whole_image, "00" * 76, 1)
-        template = 32
-    except Refusal as refusal:
-        template = 33 if refusal.number == 18 else 32
-    refusal = refusal_of(console, whole_image)
+    fetched = tried(whole_image.ask, calls.fetch, bytes(76), 1)
+    template = 33 if isinstance(fetched, Refusal) and fetched.number == 18 else 32
+    refusal = refusal_of(whole_image)
     if refusal and (refusal.number in (1, 2, 17) or refusal.place < BEHIND_TEMPLATE):
         return None
-    first = Places(console, template, 0)
-    try:
-        precision = whole(console.ask("fetch", whole_image, first.index, 9)[0])
-    except Refusal:
+    precision = tried(whole_image.ask, calls.fetch, Places(template, 0).index, 9)
+    if isinstance(precision, Refusal):
         return None
-    return template, Places(console, template, precision), precision
+    return template, Places(template, precision), precision
 
 
-def still_lines(console, image, found):
+def still_lines(image, found):
     """The fields that stand in whole pages. The check refuses the chip all the same: they are for finding out whose it is."""
     if found[0] != GOOD or not any(image.data):
         return
-    known = layout(console, image, found)
-    template, places, precision = known or (33, Places(console, 33, 0), 0)
+    known = layout(image, found)
+    template, places, precision = known or (33, Places(33, 0), 0)
     fields = FIELDS[template] if known else FIELDS[template][:5]
     standing = [field for field in fields if all(found[page] == GOOD for page in pages_of(image, *places.pairs[field.number]))]
-    by = Around(console, template, None, precision)
+    by = Around(template, None, precision)
     lines = []
-    asked = (f"fetch {mended(image, found)} {places.index} {field.number}" for field in standing)
-    for field, answer in zip(standing, console.ask_all(asked)):
-        refusal = refusal_in(answer)
-        if refusal:
-            lines.append(f"    {field.name}: bits that it cannot have ({refusal.number} at bit {refusal.place})")
+    for field in standing:
+        answer = tried(mended(image, found).ask, calls.fetch, places.index, field.number)
+        if isinstance(answer, Refusal):
+            lines.append(f"    {field.name}: bits that it cannot have ({answer.number} at bit {answer.place})")
             continue
         if field.number == 6:
-            by.measurand = whole(answer)
+            by.measurand = answer
         if field.number not in (7, 8) or by.measurand is not None:
             lines.append(f"    {field.name}: {field.shown(answer, by)}")
     if lines:
@@ -226,7 +214,7 @@ def still_lines(console, image, found):
         yield from lines
 
 
-def place_lines(console, image, found, refusal):
+def place_lines(image, found, refusal):
     """A bit of the stream as page, byte and field."""
     if refusal.number not in (3, 4, 5, 6, 7, 22, 24):
         return
@@ -235,8 +223,8 @@ def place_lines(console, image, found, refusal):
         stands = f"register byte {byte}" if byte < REGISTER else f"page 0, byte {byte - REGISTER + 1}"
     else:
         stands = f"page {byte // (PAGE - 1)}, byte {byte % (PAGE - 1) + 1}"
-    known = layout(console, image, found)
-    number = (known[1] if known else Places(console, 33, 0)).field_at(refusal.place)
+    known = layout(image, found)
+    number = (known[1] if known else Places(33, 0)).field_at(refusal.place)
     name = ""
     if number and (known or number <= 5):
         name = f": {FIELDS[known[0] if known else 33][number - 1].name}"
@@ -271,16 +259,16 @@ def bad(found):
     return [page for page, verdict in enumerate(found) if verdict != GOOD]
 
 
-def other_kind(console, data):
+def other_kind(data):
     """An image of another kind that stands at the beginning and is accepted; None where there is none."""
     for kind, size in BYTES.items():
         image = Image(data[:size], kind)
-        if size < len(data) and refusal_of(console, image) is None:
+        if size < len(data) and refusal_of(image) is None:
             return image
     return None
 
 
-def length_lines(console, data):
+def length_lines(data):
     """Bytes of a length that no chip has: cut short, too long, without check bytes."""
     size = len(data)
     if size == 0:
@@ -288,23 +276,23 @@ def length_lines(console, data):
     elif size == PAGE:
         yield "likely: one page: a chip of kind 0 without its register of 8 bytes, or a part of a larger chip"
     elif size < BYTES[2]:
-        yield from cut_lines(console, data)
+        yield from cut_lines(data)
         yield f"likely: cut short, or with bytes too many: {wanted(size)}"
     else:
         yield f"likely: no chip's image: {wanted(size)}"
     yield WHOLE
 
 
-def cut_lines(console, data):
+def cut_lines(data):
     """The pages that are there of a larger chip, with noughts for the others."""
     if len(data) <= BYTES[0]:
         return
     size = min(chip for chip in KINDS if chip > len(data))
     image = Image(data + bytes(size - len(data)), KINDS[size])
-    found = [verdict if PAGE * (page + 1) <= len(data) else CUT for page, verdict in enumerate(verdicts(console, image))]
+    found = [verdict if PAGE * (page + 1) <= len(data) else CUT for page, verdict in enumerate(verdicts(image))]
     yield f"  taken as the beginning of kind {image.kind}:"
     yield from page_lines(image, found)
-    yield from still_lines(console, image, found)
+    yield from still_lines(image, found)
 
 
 def wanted(size):

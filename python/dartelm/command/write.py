@@ -4,8 +4,8 @@ import os
 import sys
 import tempfile
 
+from .. import calls
 from . import files, owserver
-from .console import hexadecimal
 from .fields import FIELDS
 from .image import Image, open_image, read_sheet, refusal_of
 from .looks import shown
@@ -18,8 +18,8 @@ MOST = {1: 20, 2: 68}
 OWN = (1, 2, 3, 4, 5)
 
 
-def run(console, given):
-    wanted, sheet = open_image(console, given.file)
+def run(given):
+    wanted, sheet = open_image(given.file)
     if not given.to.startswith(PREFIX):
         raise misused(f"--to takes a chip like ow:2D.0123456789AB, and '{given.to}' is none")
     chip = Owserver(owserver.PLACE).chip(given.to[len(PREFIX) :])
@@ -30,9 +30,9 @@ def run(console, given):
         if present == wanted.data:
             print(f"ow:{chip.name}: holds it already")
             return ACCEPTED
-        own_sender(console, chip, Image(present, chip.kind), sheet, given.force)
-        keep(console, chip, present, given.keep)
-        Rows(console, chip, wanted).write(present)
+        own_sender(chip, Image(present, chip.kind), sheet, given.force)
+        keep(chip, present, given.keep)
+        Rows(chip, wanted).write(present)
     return ACCEPTED
 
 
@@ -58,23 +58,23 @@ class Lock:
         os.close(self.handle)
 
 
-def own_sender(console, chip, present, sheet, force):
+def own_sender(chip, present, sheet, force):
     """Another sender's accepted sheet is written over only where it is asked for."""
-    if force or refusal_of(console, present):
+    if force or refusal_of(present):
         return
-    there = read_sheet(console, present)
+    there = read_sheet(present)
     other = [number for number in OWN if there.values[number] != sheet.values[number]]
     if other:
-        told = ", ".join(f"{FIELDS[there.template][n - 1].name} {shown(console, there, n)}" for n in other)
+        told = ", ".join(f"{FIELDS[there.template][n - 1].name} {shown(there, n)}" for n in other)
         raise refused(f"ow:{chip.name}: another sender's sheet is on the chip ({told}); --force writes over it")
 
 
-def keep(console, chip, present, asked):
+def keep(chip, present, asked):
     """What was there goes into a file first, which replaces none. Where the chip is refused, as an unfinished one is, a file that
     is there has what was there before, and stays."""
     path = asked or f"{chip.name}-old.kind{chip.kind}"
     if os.path.lexists(path):
-        if refusal_of(console, Image(present, chip.kind)):
+        if refusal_of(Image(present, chip.kind)):
             print(f"{path} is there already, and stays")
         elif files.read_bytes(path) != present:
             raise unread(f"{path} is there already; --keep OLD has to name another file for what is on the chip now")
@@ -86,8 +86,7 @@ def keep(console, chip, present, asked):
 class Rows:
     """The rows of an image, written and read back."""
 
-    def __init__(self, console, chip, wanted):
-        self.console = console
+    def __init__(self, chip, wanted):
         self.chip = chip
         self.wanted = wanted
         self.sent = 0
@@ -111,12 +110,12 @@ class Rows:
 
     def next(self, present):
         """Offset and bytes of the row that comes next; None where all is written."""
-        answer = self.console.ask("next", self.chip.kind, hexadecimal(present), hexadecimal(self.wanted.data))
-        if answer[0] == "done":
+        row = calls.next_row(present, self.wanted.data, kind=self.chip.kind)
+        if row.is_done:
             return None
         if self.sent >= MOST[self.chip.kind]:
             raise unread(f"ow:{self.chip.name}: {self.sent} rows are written, and it asks for more")
-        return int(answer[0]), bytes.fromhex(answer[1])
+        return row.offset, row.bytes
 
     def one(self, present, offset, row):
         """A row is written and the whole chip read back: what holds then."""
