@@ -10,13 +10,11 @@ It is the first of these that there is:
 """
 import ctypes
 import hashlib
+import importlib
 import os
 import platform
 import shlex
-import shutil
-import subprocess
 import sys
-import tempfile
 import threading
 
 from .declared import VERSION
@@ -112,13 +110,10 @@ def compiled(home, folder):
 
 
 def native(home, folder):
-    """The toolchain's archive as a library: proved and built by bin/archive where a source is newer."""
+    """The toolchain's archive as a library."""
     archive = os.path.join(home, "target", "staticlib", "libdartelm.a")
     told("taking the toolchain's build, which is proved first where a source is newer: that can take some minutes")
-    done = subprocess.run([os.path.join(home, "bin", "archive")], stdout=subprocess.DEVNULL, stderr=subprocess.PIPE, check=False)
-    if done.returncode != 0 or not os.path.exists(archive):
-        lacks = "" if shutil.which("rt") else "there is no rt (the Rattle toolchain) on the path to prove it; "
-        raise NoLibrary(f"the archive cannot be built: {lacks}{done.stderr.decode('utf-8', 'replace').strip()}")
+    compiling().archive(home)
     words = ["-shared", "-Wl,-Bsymbolic", "-Wl,--whole-archive", archive, "-Wl,--no-whole-archive"]
     return made(words, (archive,), folder, "linking the toolchain's archive")
 
@@ -126,34 +121,20 @@ def native(home, folder):
 def made(words, sources, folder, said):
     """A library by the compiler and words for it, unless it is there."""
     compiler = shlex.split(os.environ.get("CC") or "cc")
+    key = hashlib.sha256(repr((compiler, FLAGS, platform.machine())).encode())
     try:
-        key = hashlib.sha256(repr((compiler, FLAGS, platform.machine())).encode())
         for name in sources:
             with open(name, "rb") as file:
                 key.update(file.read())
-        found = os.path.join(folder, f"libdartelm-{key.hexdigest()[:16]}.so")
-        if os.path.exists(found):
-            return found
-        told(said)
-        os.makedirs(folder, exist_ok=True)
-        handle, part = tempfile.mkstemp(suffix=".so", dir=folder)
-        os.close(handle)
     except OSError as error:
         raise NoLibrary(f"the library cannot be compiled: {error}") from None
-    try:
-        run_compiler([*compiler, *words, "-o", part])
-        os.chmod(part, 0o755)
-        os.replace(part, found)
-    finally:
-        if os.path.exists(part):
-            os.remove(part)
+    found = os.path.join(folder, f"libdartelm-{key.hexdigest()[:16]}.so")
+    if not os.path.exists(found):
+        told(said)
+        compiling().compile_to(found, [*compiler, *words])
     return found
 
 
-def run_compiler(command):
-    try:
-        done = subprocess.run(command, stdout=subprocess.PIPE, stderr=subprocess.STDOUT, check=False)
-    except OSError as error:
-        raise NoLibrary(f"the library has to be compiled, and there is no C compiler ({command[0]}) to be run: {error.strerror}") from None
-    if done.returncode != 0:
-        raise NoLibrary(f"the library cannot be compiled: {' '.join(command)}\n{done.stdout.decode('utf-8', 'replace')}")
+def compiling():
+    """What is needed once, when there is no library yet."""
+    return importlib.import_module(".compiling", __package__)
