@@ -18,7 +18,7 @@ from dartelm import library  # noqa: E402
 
 HOME = library.HOME
 # What a source distribution has.
-SOURCES = ("pyproject.toml", "python", "portable/c/dartelm.c", "docs/PYTHON.md", "include/dartelm.h")
+SOURCES = ("pyproject.toml", "python/backend.py", "python/dartelm", "portable/c/dartelm.c", "docs/PYTHON.md", "include/dartelm.h")
 
 
 def get_requires_for_build_wheel(config_settings=None):

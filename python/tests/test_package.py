@@ -18,9 +18,10 @@ HERE = os.path.dirname(os.path.realpath(__file__))
 HOME = os.path.dirname(os.path.dirname(HERE))
 sys.dont_write_bytecode = True
 sys.path[:0] = [os.path.join(HOME, "python"), HERE]
+sys.path.append(HOME)
 
-import header  # noqa: E402
 import lines  # noqa: E402
+from portable import header  # noqa: E402
 
 import dartelm  # noqa: E402
 from dartelm import answers, calls, convert, declared, library, native  # noqa: E402
@@ -41,12 +42,12 @@ class Tables(unittest.TestCase):
 
     def test_every_call_has_a_function(self):
         public = {name for name, _ in inspect.getmembers(calls, inspect.isfunction) if not name.startswith("_")} - {"call"}
-        self.assertEqual(public, set(header.Header().calls))
+        self.assertEqual(public, set(header.Header(prefix="dartelm_").calls))
         self.assertLessEqual(public, set(dartelm.__all__))
         self.assertEqual([name for name in dartelm.__all__ if not hasattr(dartelm, name)], [])
 
     def test_the_classes_have_the_structs_members(self):
-        structs = header.Header().structs
+        structs = header.Header(prefix="dartelm_").structs
         for name, sort in inspect.getmembers(answers, dataclasses.is_dataclass):
             struct = "".join("_" + c.lower() if c.isupper() else c for c in name)[1:]
             wanted = {member for member, _, _ in structs[struct]} - {"number", "place"}
@@ -66,7 +67,7 @@ class Tables(unittest.TestCase):
         self.assertEqual(len(re.findall(r"(?m)^\| [0-9]+ \|", page)), len(declared.REFUSALS))
 
     def test_hints(self):
-        for name in set(header.Header().calls):
+        for name in set(header.Header(prefix="dartelm_").calls):
             signature = inspect.signature(getattr(calls, name))
             self.assertNotIn(inspect.Signature.empty, [signature.return_annotation])
             for parameter in signature.parameters.values():
