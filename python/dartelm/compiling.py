@@ -1,6 +1,5 @@
 """Makes the shared library, where there is none yet."""
 import os
-import shutil
 import subprocess
 import tempfile
 
@@ -39,8 +38,6 @@ def run(command):
 
 
 def archive(home):
-    """The toolchain's archive, which bin/archive proves and builds where a source is newer."""
-    done = subprocess.run([os.path.join(home, "bin", "archive")], stdout=subprocess.DEVNULL, stderr=subprocess.PIPE, check=False)
-    if done.returncode != 0:
-        lacks = "" if shutil.which("rt") else "there is no rt (the Rattle toolchain) on the path to prove it; "
-        raise NoLibrary(f"the archive cannot be built: {lacks}{done.stderr.decode('utf-8', 'replace').strip()}")
+    """The toolchain's archive, which bin/archive proves and builds where a source is newer, and says so."""
+    if subprocess.run([os.path.join(home, "bin", "archive")], stdout=subprocess.DEVNULL, check=False).returncode != 0:
+        raise NoLibrary("the toolchain's archive cannot be built")
