@@ -3,7 +3,7 @@ from unittest import mock
 
 import bus
 import support
-from dartelm import owserver
+from dartelm.command import owserver
 from support import sample, sample_bytes
 
 ONE, TWO, OLD, OTHER = "2D.0123456789AB", "23.00000000BEEF", "14.000000000014", "28.0000000000FF"

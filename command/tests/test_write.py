@@ -6,8 +6,8 @@ import time
 
 import bus
 import support
-from dartelm import write
-from dartelm.image import Image, refusal_of
+from dartelm.command import write
+from dartelm.command.image import Image, refusal_of
 from support import run_program, sample, sample_bytes
 
 ONE, TWO = "2D.0123456789AB", "23.00000000BEEF"
@@ -70,7 +70,7 @@ class Write(support.Case):
                 self.assertIn("there is no such chip", err)
                 held = bytes(there.chips[name])
                 if held not in (old, new):
-                    self.assertIsNotNone(refusal_of(support.console(), Image(held)))
+                    self.assertIsNotNone(refusal_of(Image(held)))
                 there.cut, there.pulled = None, set()
                 self.write(0, new, "--force", "--keep", self.path("old"))
                 self.assertEqual(bytes(there.chips[name]), new)
@@ -138,7 +138,7 @@ class Write(support.Case):
             _, err = process.communicate()
         self.assertEqual(process.returncode, 128 + signal.SIGTERM)
         self.assertIn("unfinished: the chip is refused until the same command has finished it", err)
-        self.assertIsNotNone(refusal_of(support.console(), Image(bytes(there.chips[ONE]))))
+        self.assertIsNotNone(refusal_of(Image(bytes(there.chips[ONE]))))
         there.write = slow
         status, out, _ = run_program(*words[1:])
         self.assertEqual((status, bytes(there.chips[ONE])), (0, sample_bytes("load-cell.kind1")), out)
