@@ -41,6 +41,12 @@ def console():
     return _console
 
 
+def console_anew():
+    """In a process that was forked: the console is its parent's."""
+    global _console
+    _console = None
+
+
 class Shared:
     """The console of all tests, which a command does not close."""
 
