@@ -105,7 +105,8 @@ class Pulled(support.Case):
         with multiprocessing.get_context("fork").Pool(AT_ONCE, support.console_anew) as pool:
             found = pool.map(try_pair, pairs, 1)
         cuts, refused = (sum(one[at] for one in found) for at in (0, 1))
-        self.assertEqual([text for *_, failed in found for text in failed], [])
+        failed = [text for *_, texts in found for text in texts]
+        self.assertFalse(failed, "\n".join(failed))
         self.assertGreater(cuts, 300)
         self.assertGreater(cuts - refused, 20)
         print(f"chips: 20 pairs of images, the chip pulled {cuts} times: {refused} times refused, else the old image or the new; all finished")
