@@ -3,10 +3,11 @@ import os
 import signal
 import subprocess
 import tempfile
+from unittest import mock
 
 import bus
 import support
-from dartelm import write
+from dartelm import owserver, write
 from dartelm.image import Image, refusal_of
 from dartelm.trouble import Trouble
 from support import run_program, sample, sample_bytes
@@ -125,6 +126,29 @@ class Write(support.Case):
         self.write(1, sample_bytes("damaged.kind1"), err="refused: 2")
         self.gives(2, "write", sample("load-cell.kind1"), "--to", "chip", err="--to takes a chip like")
         self.gives(2, "write", self.path("new.kind"), err="--to")
+
+    def test_goes_wrong_behind_the_third_row(self):
+        """What is told of the server or the contact comes behind what is told of the chip, and the same command finishes it."""
+        for how, part in (
+            ("silent", "is silent\n"),
+            ("closed", "closed the connection in the middle of an answer\n"),
+            ("short", "127 bytes of 128 were read; check the contact\n"),
+            ("differ", "two reads differ; check the contact\n"),
+        ):
+            there = self.bus(sample_bytes("torque.kind1"))
+
+            def write_row(*given, there=there, how=how):
+                there.how = how if len(there.rows) == 2 else there.how
+                return bus.Bus.write(there, *given)
+
+            there.write = write_row
+            with mock.patch.object(owserver, "SILENCE", 0.3):
+                _, err = self.write(3, sample_bytes("load-cell.kind1"), "--force", err=part)
+            self.assertTrue(err.startswith(f"dartelm: ow:{ONE}: unfinished: the chip is refused now; the same command finishes it\n"), err)
+            there.how = "good"
+            self.write(0, sample_bytes("load-cell.kind1"))
+            self.assertEqual(bytes(there.chips[ONE]), sample_bytes("load-cell.kind1"))
+            self.assertEqual(self.bytes(f"{ONE}-old.kind1"), sample_bytes("torque.kind1"))
 
     def test_two_writers(self):
         self.bus(sample_bytes("load-cell.kind1"))
