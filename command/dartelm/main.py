@@ -21,7 +21,7 @@ STATUS = "Ends with 0 if accepted, 1 if refused or different, 2 if it is not und
 def parser():
     about = "A sender's chip at the bench, in plain words and units. " + STATUS
     top = argparse.ArgumentParser(prog="dartelm", description=about, allow_abbrev=False)
-    top.add_argument("--version", action="version", version=version.line())
+    top.add_argument("--version", action=Made, help="show program's version number and exit")
     top.add_argument("--man", action=Made, help="write the manual page, for man -l -")
     top.add_argument("--completion", action=Made, help="write what bash needs to complete words, for eval or source")
     commands = top.add_subparsers(dest="command", metavar="COMMAND", required=True)
@@ -136,14 +136,17 @@ def parser():
 
 
 class Made(argparse.Action):
-    """Writes a text that is made from the same table as the help, and ends."""
+    """Writes the version, or a text that is made from the same table as the help, and ends."""
 
     def __init__(self, **words):
         super().__init__(nargs=0, **words)
 
     def __call__(self, made, *_):
-        manual = importlib.import_module(".manual", __package__)
-        print(manual.page(made) if self.dest == "man" else manual.completion(made), end="")
+        if self.dest == "version":
+            print(version.line())
+        else:
+            manual = importlib.import_module(".manual", __package__)
+            print(manual.page(made) if self.dest == "man" else manual.completion(made), end="")
         made.exit()
 
 

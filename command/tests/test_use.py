@@ -119,6 +119,16 @@ class Use(support.Case):
         self.assertIn("cannot run", self.ends(3, "show", sample("load-cell.kind1"), program=program)[1])
         self.assertIn("cannot run", self.ends(3, "tray", sample("load-cell.kind1"), program=program)[1])
 
+    def test_the_console_is_run_only_where_it_is_asked(self):
+        """Its first run may compile it."""
+        log = self.path("log")
+        program = support.other_home(self.path("there"), f"#!/bin/sh\necho run $1 >> {log}\nexit 3\n")
+        self.ends(0, "--help", program=program)
+        self.ends(2, "show", program=program)
+        self.assertFalse(os.path.exists(log))
+        self.ends(3, "show", sample("load-cell.kind1"), program=program)
+        self.assertEqual(self.bytes("log"), b"run\n")
+
     def test_as_a_program(self):
         self.ends(0, "show", *map(sample, ACCEPTED), "--curve")
         self.ends(1, "show", sample("damaged.kind1"))
