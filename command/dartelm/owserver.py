@@ -95,7 +95,7 @@ class Owserver:
         try:
             answer = self.ask(LIST, "/")
         except Denied as denied:
-            raise unread(f"the server at {self.where()} does not list its chips: {denied}") from None
+            raise unread(f"the server at {self.where()} does not list its chips: {denied}; check the adapter") from None
         names = answer.rstrip(b"\0").decode("ascii", "replace").split(",")
         return [name.strip("/") for name in names if NAME.fullmatch(name.strip("/"))]
 

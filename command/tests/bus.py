@@ -94,6 +94,8 @@ class Bus:
         name = path.split("/")[1]
         if not path.endswith("/memory") or name not in self.chips:
             return -1, b""
+        if kind == READ and self.how == "unread":
+            return -errno.EIO, b""
         if kind == READ:
             return self.read(name, size, offset)
         if self.how == "read-only":

@@ -70,6 +70,7 @@ class Chips(support.Case):
             ("closed", "closed the connection in the middle of an answer"),
             ("absurd", "is no owserver"),
             ("far", "is no owserver"),
+            ("unread", f"ow:{ONE}: the server answers: Input/output error; check the contact and the adapter\n"),
         ):
             self.bus(how=how)
             out, err = self.gives(3, "show", f"ow:{ONE}", *self.server)
@@ -89,7 +90,7 @@ class Chips(support.Case):
         there.close()
         self.gives(3, "chips", *self.server, err=(f"no owserver at {there.place}: ", "server: usb = all", "/etc/owfs.conf"))
         self.bus(how="unlisted")
-        self.gives(3, "chips", *self.server, err="does not list its chips: Input/output error\n")
+        self.gives(3, "chips", *self.server, err="does not list its chips: Input/output error; check the adapter\n")
         self.gives(3, "chips", "-s", "a..b", err="no owserver at a..b:4304: ")
         for words, part in (
             (("show", "ow:2D"), "a chip's name is like 2D.0123456789AB"),

@@ -55,14 +55,18 @@ class Read(bench.Case):
         server.close()
         self.gives(3, "chips", *self.at, err=(f"no owserver at {server.place}: Connection refused; ", "/etc/owfs.conf"))
 
-    def test_contact_and_adapter(self):
-        server = self.serve("--timeout_serial=1")
+    def test_a_loose_contact(self):
+        self.serve()
         self.small.hold(CELL)
         self.small.loose = True
         self.gives(3, "show", f"ow:{SMALL}", *self.at, err="two reads differ; check the contact\n")
-        self.small.loose = False
+
+    def test_a_silent_adapter(self):
+        """The server says all the while that it is still at it."""
+        server = self.serve("--timeout_serial=1")
+        self.small.hold(CELL)
         server.adapter.speaks.clear()
-        self.gives(3, "show", f"ow:{SMALL}", *self.at, err="check the contact and the adapter\n")
+        self.gives(3, "chips", *self.at, err="does not list its chips: Input/output error; check the adapter\n")
         server.adapter.speaks.set()
         self.gives(0, "show", f"ow:{SMALL}", *self.at)
 
