@@ -111,7 +111,7 @@ def keep(console, chip, present, asked, say):
 
 
 class Rows:
-    """The rows of an image, written and read back. `held` is what was read last, `coming` what holds if the row on its way is taken."""
+    """The rows of an image, written and read back. `held` was read last; `coming` is what holds if the row on its way is taken."""
 
     def __init__(self, console, chip, old, wanted, say):
         self.console = console

@@ -15,6 +15,10 @@ from support import run_program, sample, sample_bytes
 ONE, TWO = "2D.0123456789AB", "23.00000000BEEF"
 
 
+def unfinished(told, name=ONE):
+    return f"dartelm: ow:{name}: unfinished: the chip is {told} now; the same command finishes it\n"
+
+
 class Write(support.Case):
     def setUp(self):
         super().setUp()
@@ -72,7 +76,7 @@ class Write(support.Case):
                 now = "as it was" if cut == 0 else "refused"
                 then = "written" if cut == rows - 1 else "refused"
                 told = now if now == then else f"{now} or {then}"
-                self.assertIn(f"unfinished: the chip is {told} now; the same command finishes it\n", err)
+                self.assertTrue(err.startswith(unfinished(told, name)), err)
                 self.assertIn("there is no such chip", err)
                 held = bytes(there.chips[name])
                 if held not in (old, new):
@@ -144,7 +148,7 @@ class Write(support.Case):
             there.write = write_row
             with mock.patch.object(owserver, "SILENCE", 0.3):
                 _, err = self.write(3, sample_bytes("load-cell.kind1"), "--force", err=part)
-            self.assertTrue(err.startswith(f"dartelm: ow:{ONE}: unfinished: the chip is refused now; the same command finishes it\n"), err)
+            self.assertTrue(err.startswith(unfinished("refused")), err)
             there.how = "good"
             self.write(0, sample_bytes("load-cell.kind1"))
             self.assertEqual(bytes(there.chips[ONE]), sample_bytes("load-cell.kind1"))
@@ -209,7 +213,7 @@ class Write(support.Case):
                 status, out, err = self.stopped(there, words, at, number)
                 self.assertEqual((status, out.count("  row ")), (128 + number, at - 1), err)
                 told = "as it was or refused" if at == 1 else "refused or written" if at == rows else "refused"
-                self.assertTrue(err.startswith(f"dartelm: ow:{ONE}: unfinished: the chip is {told} now; the same command finishes it\n"), err)
+                self.assertTrue(err.startswith(unfinished(told)), err)
                 self.assertEqual(refusal_of(support.console(), Image(bytes(there.chips[ONE]))) is None, at == rows)
                 status, out, err = run_program(*words[1:])
                 self.assertEqual((status, bytes(there.chips[ONE]), err), (0, new, ""), out)

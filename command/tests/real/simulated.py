@@ -33,9 +33,9 @@ def driven(data):
 
 
 class Chip:
-    """`cut` pulls the chip behind so many rows, 0 before the first; `torn` writes the row that comes then by halves: any byte where it
-    changes. `protected` has the pages that keep what they hold. A `loose` chip reads otherwise every other time. `behind` is called with
-    the number of rows behind each."""
+    """`cut` pulls the chip behind so many rows, 0 before the first; with `torn` it is pulled in the row that comes then, which leaves
+    any byte where it changes. `protected` has the pages that keep what they hold. A `loose` chip reads otherwise every other time.
+    `behind` is called behind each row, with the number of rows."""
 
     def __init__(self, name, size=0, pad=8):
         self.name = name
@@ -199,8 +199,8 @@ class Adapter(threading.Thread):
         return self.search(data) if data[0] == 0xF0 and len(data) == 25 else data
 
     def search(self, data):
-        """A search in which the master says each bit it follows: so libow asks whether a chip is there. Of each three bits the chips
-        that are left drive two, 0 before 1: their bit, and its inverse."""
+        """A search in which the master says each bit it follows: so libow asks whether a chip is there. Of each three bits the
+        chips that are left drive two, 0 before 1: their bit, and its inverse."""
         bits = [data[at // 8] >> at % 8 & 1 for at in range(8 * len(data))]
         left = self.there()
         for at in range(64):

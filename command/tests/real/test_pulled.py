@@ -109,7 +109,8 @@ class Pulled(support.Case):
         self.assertFalse(failed, "\n".join(failed))
         self.assertGreater(cuts, 300)
         self.assertGreater(cuts - refused, 20)
-        print(f"chips: 20 pairs of images, the chip pulled {cuts} times: {refused} times refused, else the old image or the new; all finished")
+        told = f"{refused} times refused, else the old image or the new; all finished"
+        print(f"chips: 20 pairs of images, the chip pulled {cuts} times: {told}")
 
 
 if __name__ == "__main__":
