@@ -13,7 +13,9 @@ from support import sample, sample_bytes
 
 CELL = sample("load-cell.kind1")
 PERCENT = "point (%),deviation (%)\n0,0\n20,0.015\n40,0.042\n60,0.038\n80,0.009\n100,-0.021\n"
-# Document 000, Annex A: the cases of the physical measurand in the lines of templates 33 and 32.
+# Document 000: the quantities by the CASE lines of templates 33 and 32 (A.5), the units by Table A.22 and the lines' own last word.
+# Table A.22 has Kg, G, Amperes and Watts where the lines have kg, g, A and W; case 28's line is headed kg/liter, and both its values
+# and Table A.22 have kg/m3.
 CASES = """
 0 temperature, K
 1 temperature, °C
@@ -62,6 +64,18 @@ CASES = """
 44 RMS current, A rms
 45 power, W
 """
+# Document 000, Tables A.10 (template 33) and A.9 (template 32), behind the five fields of Basic TEDS (Table 1).
+BASIC = ("manufacturer ID", "model number", "version letter", "version number", "serial number")
+ENDS = ("physical measurand", "minimum physical value", "maximum physical value", "full-scale electrical value precision")
+ENDS += ("minimum electrical value", "maximum electrical value")
+LAST = ("calibration date", "calibration initials", "calibration period", "measurement location ID")
+BRIDGE = ("bridge type", "bridge element impedance", "response time")
+BRIDGE += ("excitation level, nominal", "excitation level, minimum", "excitation level, maximum")
+RESISTANCE = ("mapping method", "response time", "excitation current, nominal", "excitation current, maximum")
+NAMES = {33: BASIC + ENDS + BRIDGE + LAST, 32: BASIC + ENDS + RESISTANCE + LAST}
+# A.3: BridgeTypeEnum; MapMethEnum, of which two bits reach the first four (written as Table A.9 has them).
+BRIDGES = ("quarter", "half", "full")
+MAPPINGS = ("linear", "inverse m/(x+b)", "inverse b+m/x", "inverse 1/(b+m/x)")
 # Other units, as the field's books have them: a thousand of each in the sender's unit.
 THOUSANDS = (
     (4, "lbf", "4448.2216152605"),
@@ -186,6 +200,52 @@ class Names(support.Case):
         text = text.replace("steps of 1 ohm (2)", "full precision (3)")
         self.gives(0, "make", self.file("sheet", text), "-o", self.path("full"))
         self.assertEqual(support.console().ask("field", "1", self.bytes("full").hex(), "9"), ["w3"])
+
+    def test_fields(self):
+        for name, template in (("load-cell.kind1", 33), ("temperature.kind1", 32)):
+            said, _ = self.gives(0, "show", sample(name))
+            found = re.findall(r"^ {1,3}(\d+)  (\S.*?)  +\S", said.partition("closing text")[0], re.MULTILINE)
+            self.assertEqual(found, [(str(number), one) for number, one in enumerate(NAMES[template], 1)])
+            self.gives(0, "report", sample(name), "-o", self.path("page"), "--force")
+            found = re.findall(r"<p><b>(\d+)\u00a0([^<]*)</b>", self.bytes("page").decode())
+            self.assertEqual(found, [(str(number), one) for number, one in enumerate(NAMES[template], 1)])
+
+    def test_choices(self):
+        for name, words in (("load-cell.kind1", BRIDGES), ("temperature.kind1", MAPPINGS)):
+            for code, word in enumerate(words):
+                for given in (code, word, f"{word} ({code})"):
+                    self.gives(0, "set", sample(name), f"12={given}", "--level", "maker", "-o", self.path("chip"), "--force")
+                    self.assertEqual(support.console().ask("field", "1", self.bytes("chip").hex(), "12"), [f"w{code}"])
+                self.gives(0, "show", self.path("chip"), out=f"12 {NAMES[33 if words == BRIDGES else 32][11]} {word} ({code})\n")
+
+    def test_figures_by_their_codes(self):
+        """ConRes: start plus step times code; ConRelRes: start times (1 + 2 tolerance) to the power of the code; a date is in days
+        since 1998-01-01; a letter is its place in the alphabet (document 000, A.5 and 6.3). The chip's values are in 0.1 ohm, 0.1 V,
+        10 ns and 0.1 nA (document 01)."""
+        words = (
+            ("load-cell.kind1", "bridge element impedance", "ohm", 0.1, lambda code: 1 + 0.1 * code, (0, 3490, 262142)),
+            ("load-cell.kind1", "excitation level, nominal", "V", 0.1, lambda code: 0.1 * (code + 1), (0, 99, 510)),
+            ("load-cell.kind1", "response time", "s", 1e-8, lambda code: 1e-6 * 1.292**code, (0, 1, 20, 61)),
+            ("temperature.kind1", "response time", "s", 1e-8, lambda code: 1e-6 * 1.292**code, (0, 1, 20, 61)),
+            ("temperature.kind1", "excitation current, maximum", "A", 1e-10, lambda code: 1e-6 * 1.0471285480509**code, (0, 100, 253)),
+        )
+        scale = {"u": 1e-6, "m": 1e-3, "k": 1e3, "": 1}
+        for name, field, unit, step, figure, codes in words:
+            for code in codes:
+                given = f"{field}={figure(code):.10f}{unit}"
+                self.gives(0, "set", sample(name), given, "--level", "maker", "-o", self.path("chip"), "--force")
+                said, _ = self.gives(0, "show", self.path("chip"))
+                number, prefix = re.search(rf"{field}  +(\S+) (u|m|k|){unit}\n", said).groups()
+                self.assertAlmostEqual(float(number) * scale[prefix], figure(code), delta=0.51 * step, msg=given)
+        for day, code in (("1998-01-01", 0), ("1998-12-31", 364), ("2000-02-29", 789), ("2025-11-03", 10168)):
+            self.gives(0, "set", CELL, f"date={day}", "--level", "calibration", "-o", self.path("chip"), "--force")
+            self.assertEqual(support.console().ask("field", "1", self.bytes("chip").hex(), "18"), [f"w{code}"])
+            self.gives(0, "show", self.path("chip"), out=f"18 calibration date {day}\n")
+        for code in range(1, 27):
+            letter = chr(ord("A") + code - 1)
+            self.gives(0, "set", CELL, f"version letter={letter}", "--level", "maker", "-o", self.path("chip"), "--force")
+            self.assertEqual(support.console().ask("field", "1", self.bytes("chip").hex(), "3"), [f"w{code}"])
+            self.gives(0, "show", self.path("chip"), out=f"3 version letter {letter}\n")
 
     def test_choices_are_the_consoles(self):
         """The console is another program with its own names: bridge types and mapping methods."""
