@@ -21,7 +21,7 @@ STATUS = "Ends with 0 if accepted, 1 if refused or different, 2 if it is not und
 def parser():
     about = "A sender's chip at the bench, in plain words and units. " + STATUS
     top = argparse.ArgumentParser(prog="dartelm", description=about, allow_abbrev=False)
-    top.add_argument("--version", action="version", version=version.line())
+    top.add_argument("--version", action=Made, help="say which Dartelm this is")
     top.add_argument("--man", action=Made, help="write the manual page, for man -l -")
     top.add_argument("--completion", action=Made, help="write what bash needs to complete words, for eval or source")
     commands = top.add_subparsers(dest="command", metavar="COMMAND", required=True)
@@ -143,7 +143,8 @@ class Made(argparse.Action):
 
     def __call__(self, made, *_):
         manual = importlib.import_module(".manual", __package__)
-        print(manual.page(made) if self.dest == "man" else manual.completion(made), end="")
+        texts = {"man": manual.page, "completion": manual.completion, "version": lambda _: version.line() + "\n"}
+        print(texts[self.dest](made), end="")
         made.exit()
 
 

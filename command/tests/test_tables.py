@@ -155,80 +155,127 @@ class Tables(support.Case):
         ):
             self.gives(0, "certificate", self.path("ratio"), self.file("cert", text), out="AGREES")
 
-    def odd_table(self, chance):
-        """A table as some laboratory writes it: the columns in any order among others, one of some separators and decimal
-        marks, units in heads or cells, thousands with a mark, rows that lack a cell, titles above and remarks below."""
-        mark = chance.choice(",,;;\t")
-        decimal = chance.choice(".,") if mark != "," or chance.random() < 0.4 else "."
-        rows, unit = chance.choice(((NEWTONS, "N"), (PERCENTS, "%"), ([(p / 1000, d) for p, d in NEWTONS], "kN")))
-        other = "N" if unit == "kN" else unit
-        heads, cells = [], []
-        in_cells = chance.random() < 0.2
-
-        def column(head, texts, named):
-            heads.append(head if in_cells or not named else f"{head} ({named})")
-            cells.append([f"{text} {named}" if in_cells and named else text for text in texts])
-
-        def figure(text, digits=None):
-            text = text if digits is None else f"{float(text):.{digits}f}"
-            if chance.random() < 0.03:
-                text = chance.choice(("0" + text, "~" + text, text + "?", "'" + text))
-            if float_of(text) is not None and abs(float_of(text)) >= 1000 and thousands:
-                text = f"{float(text):,}".replace(",", thousands)
-            text = text.replace(".", decimal) if decimal != "." else text
-            return f'"{text}"' if quote and mark in text else text
-
-        thousands = chance.choice(("", "", "", ".", ",", "'", " "))
-        quote = chance.random() < 0.5
-        digits = chance.choice((None, None, 3, 6))
-        columns = [("point", chance.choice(("Point", "Load", "Calibration point", "Applied force")))]
-        columns.append(("deviation", chance.choice(("Deviation", "Correction", "Deviation as left", "Error"))))
-        for extra in chance.sample(("No", "Note", "Uncertainty", "Reading", "Deviation as found", "Load cell"), chance.randrange(4)):
-            columns.append((extra, extra))
-        chance.shuffle(columns)
-        sign = -1 if any(head == "Error" for _, head in columns) else 1
-        for sort, head in columns:
-            if sort == "point":
-                column(head, [figure(str(p), digits) for p, _ in rows], unit)
-            elif sort == "deviation":
-                column(head, [figure(str(sign * float(d)), digits) for _, d in rows], other)
-            elif sort == "No":
-                column(head, [str(n) for n in range(len(rows))], "")
-            elif sort == "Note":
-                column(head, [chance.choice(("", "ok", "15", "015")) for _ in rows], "")
-            else:
-                column(head, [figure(str(chance.choice((0, 0.5, 15)))) for _ in rows], other)
-        lines = [mark.join(heads)] + [mark.join(column[n] for column in cells) for n in range(len(rows))]
-        if chance.random() < 0.1:
-            lines[chance.randrange(1, len(lines))] += mark
-        if chance.random() < 0.1:
-            at = chance.randrange(1, len(lines))
-            lines[at] = lines[at].rpartition(mark)[0]
-        for _ in range(chance.choice((0, 0, 1, 2))):
-            lines.insert(chance.choice((0, len(lines), len(lines), chance.randrange(len(lines)))), chance.choice(REMARKS))
-        return "\n".join(lines) + "\n", sign
-
     def test_odd_tables(self):
-        """The right points or a refusal, of which none makes a chip without the correction agree."""
+        """600 tables: the right points or a refusal. None makes a chip without the correction agree, and the chip that has it
+        agrees with each that is taken whole and in order."""
         chance = support.random.Random(44)
-        taken = 0
-        for number in range(400):
-            text, sign = self.odd_table(chance)
-            columns = {"error": "Error"} if sign < 0 else {}
+        found = [OddTable(chance) for _ in range(600)]
+        self.assertGreater(len({table.text for table in found}), 590)
+        taken = set()
+        for table in found:
+            columns = {"error": "Error"} if table.turned else {}
             try:
-                points = self.points(text, **columns)
+                points = self.points(table.text, **columns)
             except Trouble as trouble:
-                self.assertEqual(trouble.status, 2, text)
+                self.assertEqual(trouble.status, 2, table.text)
                 continue
-            self.assertEqual(points, BILLIONTHS, text)
-            taken += 1
-            if number % 8 == 0:
-                options = ("--error", "Error") if sign < 0 else ()
-                self.gives(1, "certificate", self.path("bare"), self.file("cert", text), *options, out="DIFFERS")
-        self.assertGreater(taken, 60)
+            self.assertEqual(points, table.points, table.text)
+            taken.add(table.text)
+            options = ("--error", "Error") if table.turned else ()
+            status, said, _ = self.run_here("certificate", self.path("bare"), self.file("cert", table.text), *options)
+            self.assertEqual((status, "AGREES" in said), (1, False), table.text)
+            status, said, _ = self.run_here("certificate", self.cell, self.path("cert"), *options)
+            self.assertEqual((status, "AGREES" in said), (0, True) if points == BILLIONTHS else (1, False), table.text)
+        self.assertGreater(len(taken), 150)
 
 
-REMARKS = ("Laboratory,RR-118", "Uncertainty 0.005 %", "", "Calibrated 2025-11-03", "# checked", "signed;J.K", "Temperature;23;C")
+# Heads that hold neither points nor deviations, and figures for them: 0 would let a chip without a correction agree.
+BESIDE = (
+    "No", "Note", "Uncertainty", "Reading", "Deviation as found", "Load cell", "Standard deviation", "Limit of deviation", "Difference",
+)  # fmt: skip
+
+
+class OddTable:
+    """A table as some laboratory writes it: the columns in any order among others, one of some separators and decimal marks, units
+    in heads, in cells or in a row of their own, thousands with a mark, rows that lack a cell or go downward, titles above and
+    remarks below. `points` are the right ones, in the rows' order."""
+
+    def __init__(self, chance):
+        self.chance = chance
+        self.mark = chance.choice(",,;;\t")
+        self.decimal = chance.choice(".,") if self.mark != "," or chance.random() < 0.3 else "."
+        self.thousands = chance.choice(("", "", "", "", "", "", ".", ",", "'", " "))
+        self.quote = chance.random() < 0.5
+        self.digits = chance.choice((None, None, None, 3, 6))
+        self.minus = chance.choice(("-", "-", "-", "\u2212"))
+        self.faults = chance.random() < 0.3
+        self.units = chance.choice(("head", "head", "head", "head", "cell", "row"))
+        rows, self.unit, self.other = chance.choice((
+            (NEWTONS, "N", "N"),
+            (PERCENTS, "%", "%"),
+            ([(p / 1000, d) for p, d in NEWTONS], "kN", "N"),
+            ([(p, f"{float(d) * 1000:g}") for p, d in NEWTONS], "N", "mN"),
+            ([(p, d) for (p, _), (_, d) in zip(NEWTONS, PERCENTS)], "N", "%"),
+            (PERCENTS, "% of span", "% of span"),
+        ))  # fmt: skip
+        order = list(range(len(rows)))
+        if chance.random() < 0.05:
+            order.reverse()
+        self.rows = [rows[n] for n in order]
+        self.points = [BILLIONTHS[n] for n in order]
+        self.columns = self.drawn_columns()
+        self.turned = any(head == "Error" for _, head in self.columns)
+        self.text = self.written()
+
+    def drawn_columns(self):
+        chance = self.chance
+        found = [("point", chance.choice(("Point", "Load", "Calibration point", "Applied force")))]
+        found.append(("deviation", chance.choice(("Deviation", "Deviation", "Correction", "Deviation as left", "Error"))))
+        found += [("beside", head) for head in chance.sample(BESIDE, chance.choice((0, 0, 1, 2)))]
+        chance.shuffle(found)
+        return found
+
+    def figure(self, text):
+        text = text if self.digits is None else f"{float(text):.{self.digits}f}"
+        if self.faults and self.chance.random() < 0.05:
+            text = self.chance.choice(("0" + text, "~" + text, text + "?", "'" + text, f"({text})", text + " ok"))
+        if float_of(text) is not None and abs(float_of(text)) >= 1000 and self.thousands:
+            text = f"{float(text):,}".replace(",", self.thousands)
+        text = text.replace(".", self.decimal) if self.decimal != "." else text
+        text = text.replace("-", self.minus)
+        return f'"{text}"' if self.quote and self.mark in text else text
+
+    def beside(self, head):
+        if head == "No":
+            return [str(n) for n in range(len(self.rows))]
+        if head == "Note":
+            return [self.chance.choice(("", "ok", "15", "015")) for _ in self.rows]
+        return [self.figure(str(self.chance.choice((0, 0, 0.5, 15)))) for _ in self.rows]
+
+    def column(self, sort, head):
+        """The head and the cells below it."""
+        sign = -1 if head == "Error" else 1
+        if sort == "beside":
+            cells, unit = self.beside(head), "" if head in ("No", "Note") else self.other
+        elif sort == "point":
+            cells, unit = [self.figure(str(point)) for point, _ in self.rows], self.unit
+        else:
+            cells, unit = [self.figure(f"{sign * float(deviation):g}") for _, deviation in self.rows], self.other
+        if self.units == "cell":
+            return [head, *(f"{cell} {unit}".strip() for cell in cells)]
+        if self.units == "row":
+            return [head, unit, *cells]
+        return [f"{head} ({unit})" if unit else head, *cells]
+
+    def written(self):
+        chance = self.chance
+        columns = [self.column(*column) for column in self.columns]
+        lines = [self.mark.join(cells) for cells in zip(*columns)]
+        if self.faults and chance.random() < 0.3:
+            lines[chance.randrange(1, len(lines))] += self.mark
+        if self.faults and chance.random() < 0.3:
+            at = chance.randrange(1, len(lines))
+            lines[at] = lines[at].rpartition(self.mark)[0]
+        for _ in range(chance.choice((0, 0, 1, 2))):
+            lines.insert(chance.choice((0, 0, len(lines), len(lines), chance.randrange(len(lines)))), chance.choice(REMARKS))
+        end = chance.choice(("\n", "\n", "\r\n"))
+        return chance.choice(("", "", "", "\ufeff")) + end.join(lines) + end
+
+
+REMARKS = (
+    "Laboratory,RR-118", "Uncertainty 0.005 %", "", "Calibrated 2025-11-03", "# checked", "signed;J.K", "Temperature;23;C",
+    "Page 1 of 1", "k = 2", "Load cell serial 555",
+)  # fmt: skip
 
 
 def float_of(text):
