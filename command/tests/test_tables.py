@@ -76,6 +76,14 @@ class Tables(support.Case):
             out=("taken: point from 'Load (N)', deviation from 'Deviation as left (N)', 6 rows\n", "AGREES"),
         )
 
+    def test_a_deviation_of_another_sort(self):
+        """All of them are 0, as a chip without a correction has it; the sender's is headed by a word that says nothing."""
+        for head in ("Standard deviation", "Std. deviation", "Uncertainty of deviation", "Limit of deviation", "Permissible deviation"):
+            text = f"Load (N),Difference (N),{head} (N)\n" + "".join(f"{point},{deviation},0.0\n" for point, deviation in NEWTONS)
+            self.refused(text, f"cert:1: '{head} (N)' may not be the sender's deviation; --deviation COLUMN takes it as that")
+            self.assertEqual(self.points(text, deviation="Difference"), BILLIONTHS)
+            self.assertEqual([deviation for _, deviation in self.points(text, deviation=f"{head} (N)")], [0] * 6)
+
     def test_errors_have_the_other_sign(self):
         turned = "Load (N),Error (N)\n" + "".join(f"{point},{-float(deviation)}\n" for point, deviation in NEWTONS)
         self.refused(turned, "cert:1: 'Error (N)' is an error", "--error COLUMN")
