@@ -378,6 +378,21 @@ class Verdicts(support.Case):
             self.assertFalse(beside.agrees())
         self.assertEqual([one.place for one in beside.at], [point + deviation for point, deviation in sheet.points])
 
+    def test_a_twin_is_asked_at_the_chips_own_points_too(self):
+        """A table against the physical figure that is right at each point of the certificate, and 1 % off between two of them."""
+        sheet, _ = self.gives(0, "export", sample("torque.kind1"))
+        own = "point = 50.0004 %, +0.065 %\npoint = 60.00048 %, +1.05 %\n"
+        chip = self.made("own", sheet.replace("point = 50.0004 %, +0.065 %\n", own))
+        cert = "point,deviation\n0%,0%\n25.0002%,0.04%\n50.0004%,0.065%\n75.0006%,0.03%\n99.99927%,-0.015%\n"
+        self.against(0, sample("torque.kind1"), cert, "AGREES: at every point it shows what a chip made from the certificate shows\n")
+        self.against(
+            1,
+            chip,
+            cert,
+            "DIFFERS: from a chip made from the certificate at 0 of the certificate's 5 points and at 1 of the chip's own 6 points; "
+            "the worst is at 61.05048 %, a point of the chip's own: -",
+        )
+
     def test_inputs_are_the_nearest_to_the_points(self):
         cell = read_image(CELL)
         found = certificate.against(support.console(), cell, read_sheet(support.console(), cell), sample("load-cell.csv"))
