@@ -449,6 +449,17 @@ class Whole(support.Case):
             self.assertNotIn("physical measurand", said)
             self.assertIn(f"refused: 4 at bit {bit}", said)
 
+    def test_a_measurand_that_is_none(self):
+        """Bits 74 to 79, the first behind the template's number, are bits 2 to 7 of the stream's byte 9: code 63."""
+        data = bytearray(sample_bytes("load-cell.kind1"))
+        data[10] |= 0xFC
+        self.gives(
+            1,
+            "why",
+            self.file("chip", support.sealed(bytes(data))),
+            out=("refused: 5 at bit 74", "bit 74 is bit 2 of page 0, byte 10: physical measurand\n"),
+        )
+
     def test_intel_hex(self):
         good = ":10000000" + "00" * 16 + "F0"
         self.assertEqual(dumps.bytes_of(f"{good}\n:00000001FF\n".encode()), bytes(16))
@@ -473,8 +484,10 @@ class Whole(support.Case):
 
     def test_what_was_written_is_read_again(self):
         """A file that has other bytes than were written, or another value, is told as such."""
+        sheet = self.file("sheet", self.gives(0, "export", CELL)[0])
         with mock.patch.object(image, "read_image", return_value=Image(sample_bytes("torque.kind1"))):
             self.gives(3, "set", CELL, "location=1", "-o", self.path("new"), err="what stands in the file is not what was written")
+            self.gives(3, "make", sheet, "-o", self.path("made"), err="made: what stands in the file is not what was written")
         other = read_sheet(support.console(), read_image(CELL))
         with mock.patch.object(setting, "write_image", return_value=other):
             self.gives(3, "set", CELL, "location=1", "-o", self.path("two"), err="what stands in the file is not what was written")
@@ -503,6 +516,28 @@ class Whole(support.Case):
             self.gives(0, "set", CELL, *changes, "--level", "maker", "-o", self.path("chip"), "--force")
             said, _ = self.gives(0, "show", self.path("chip"), *support.TODAY)
             self.assertEqual("the nominal excitation, 10 V, is not between" in said, odd, changes)
+            self.assertEqual(said.count("look at: "), odd, changes)
+
+    def test_the_day_itself(self):
+        """A date of today is not to come, and a chip that is due today is not overdue: 2025-11-03 and 365 days."""
+        for day, look in (
+            ("2025-11-02", ["the calibration date is still to come: 2025-11-03"]),
+            ("2025-11-03", []),
+            ("2026-11-03", []),
+            ("2026-11-04", ["calibration is overdue since 2026-11-03"]),
+        ):
+            said, _ = self.gives(0, "show", CELL, "--today", day)
+            self.assertEqual([line[9:] for line in said.splitlines() if line.startswith("look at: ")], look, day)
+
+    def test_ends_that_are_equal_are_not_above_each_other(self):
+        for name, changes, looks in (
+            ("load-cell.kind1", ("min phys=5000N",), ["minimum and maximum physical value are both 5000 N: every reading shows it"]),
+            ("temperature.kind1", ("current nom=5.0118723mA",), []),
+            ("temperature.kind1", ("min elec=194ohm",), []),
+        ):
+            self.gives(0, "set", sample(name), *changes, "--level", "maker", "-o", self.path("chip"), "--force", *support.TODAY)
+            said, _ = self.gives(0, "show", self.path("chip"), *support.TODAY)
+            self.assertEqual([line[9:] for line in said.splitlines() if line.startswith("look at: ")], looks)
 
     def test_floats_are_the_protocols(self):
         (found,) = support.console().readings(read_image(CELL), [1000000])

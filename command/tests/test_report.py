@@ -120,7 +120,15 @@ class Report(support.Case):
         self.assertFalse(os.path.exists(self.path("other.html")))
 
     def drawings(self, text):
-        return [Drawing(svg) for svg in re.findall(r"<svg .*?</svg>", text)]
+        """Each picture; the span goes from left to right, and a greater figure stands higher."""
+        found = [Drawing(svg) for svg in re.findall(r"<svg .*?</svg>", text)]
+        for one in found:
+            self.assertLess(one.feet["0 %"], one.feet["100 %"])
+            left = [label for label, y in one.left.items() if y < one.floor()]
+            rising = sorted(left, key=lambda label: float(label.split(" ")[0]))
+            self.assertEqual(rising, sorted(left, key=lambda label: -one.left[label]))
+            self.assertGreater(len(rising), 1)
+        return found
 
     def near(self, found, wanted, room):
         self.assertEqual(len(found), len(wanted))
@@ -164,6 +172,18 @@ class Report(support.Case):
             for x, y in one.line():
                 self.assertAlmostEqual(y, correction(x), delta=0.02)
             self.assertIn(f"from {kilopascals(correction(0))} at 0 %", one.svg)
+
+    def test_a_curve_that_takes_away(self):
+        """-0.004 x + 0.00008 x^2 per cent of 300 kPa up to the middle: least at 25 %, by 0.05 %, which is 0.15 kPa."""
+        sheet, _ = self.gives(0, "export", sample("exhaust-pressure.kind1"))
+        sheet = sheet.replace("term = 1, 0.004\n", "term = 1, -0.004\n").replace("term = 2, -0.00008\n", "term = 2, 0.00008\n")
+        self.gives(0, "make", self.file("sheet", sheet), "-o", self.path("chip"))
+        for one in self.drawings(self.page(0, self.path("chip"))):
+            self.assertIn("least -0.15 kPa at 25 % of the span", one.svg)
+            self.assertIn("-0.1 kPa", one.words)
+            for x, y in one.line():
+                if x < 49:
+                    self.assertAlmostEqual(y, 3 * (-0.004 * x + 0.00008 * x * x), delta=0.004)
 
     def test_ohms_have_no_physical_figures_below(self):
         text = self.page(0, sample("temperature.kind1"))
