@@ -5,6 +5,7 @@ import os
 import re
 
 import support
+from dartelm import panels
 from support import ACCEPTED, REFUSED, sample
 
 PERCENT = "point (%),deviation (%)\n0,0\n20,0.015\n40,0.042\n60,0.038\n80,0.009\n100,-0.021\n"
@@ -184,6 +185,27 @@ class Report(support.Case):
             for x, y in one.line():
                 if x < 49:
                     self.assertAlmostEqual(y, 3 * (-0.004 * x + 0.00008 * x * x), delta=0.004)
+
+    def test_forty_points_have_large_dots(self):
+        for count, size in ((1, "3.5"), (40, "3.5"), (41, "1.5")):
+            panel = panels.Panel("", [0, 1], str)
+            panel.dots([(n / 50, 1) for n in range(count)])
+            self.assertEqual(re.findall(' r="([^"]*)"', panel.svg()), [size] * count)
+
+    def test_round_figures(self):
+        """Four to nine of them, a 1, 2 or 5 apart."""
+        for low, high, wanted in (
+            (0, 8, [0, 1, 2, 3, 4, 5, 6, 7, 8]),
+            (0, 4, [0, 1, 2, 3, 4]),
+            (0, 3.9, [0, 0.5, 1, 1.5, 2, 2.5, 3, 3.5]),
+            (0, 9, [0, 2, 4, 6, 8]),
+            (-0.1, 4.1, [0, 1, 2, 3, 4]),
+            (-1, 16, [0, 5, 10, 15]),
+            (-300, 500, [-300, -200, -100, 0, 100, 200, 300, 400, 500]),
+            (5, 5, [5]),
+        ):
+            found = panels.ticks(low, high)
+            self.assertEqual([round(figure, 6) for figure in found], wanted)
 
     def test_ohms_have_no_physical_figures_below(self):
         text = self.page(0, sample("temperature.kind1"))

@@ -152,6 +152,22 @@ class Tables(support.Case):
         ):
             self.assertEqual(self.points(f"{load},{deviation}\n{points}\n"), BILLIONTHS[1:2], load)
 
+    def test_the_nearest_billionth(self):
+        """A billionth of the span is 0.0000001 %, and 5 millionths of 5000 N; a half goes upward."""
+        for point, deviation, wanted in (
+            ("20.00000004", "0.01500004", (200000000, 150000)),
+            ("20.00000005", "0.01500005", (200000001, 150001)),
+            ("20.00000006", "0.01500006", (200000001, 150001)),
+            ("0", "-0.00000004", (0, 0)),
+            ("0", "-0.00000005", (0, 0)),
+            ("0", "-0.00000006", (0, -1)),
+            ("1000 N", "0.7500024 N", (200000000, 150000)),
+            ("1000 N", "0.7500026 N", (200000000, 150001)),
+            ("1000.0000024 N", "0 N", (200000000, 0)),
+            ("1000.0000026 N", "0 N", (200000001, 0)),
+        ):
+            self.assertEqual(self.points(f"Point (%),Deviation (%)\n{point},{deviation}\n"), [wanted], (point, deviation))
+
     def test_a_sender_whose_unit_is_per_cent(self):
         """Its own per cent, unless the span is named. 0 to 50 %, in which 10 % is a fifth of the span."""
         self.gives(
