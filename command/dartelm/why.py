@@ -191,7 +191,7 @@ def layout(console, image, found):
     except Refusal as refusal:
         template = 33 if refusal.number == 18 else 32
     refusal = refusal_of(console, whole_image)
-    if refusal and (refusal.number in (1, 2, 17) or refusal.place < BEHIND_TEMPLATE):
+    if refusal and refusal.place < BEHIND_TEMPLATE:
         return None
     first = Places(console, template, 0)
     try:

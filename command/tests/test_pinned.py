@@ -271,6 +271,22 @@ class Names(support.Case):
                 self.gives(0, "show", self.path("chip"), out=f" {shown} ({code})\n")
 
 
+    def test_bits_of_a_chip(self):
+        """The register's 8 bytes, and of each page all but its check byte: 8 x 39, 8 x 124 and 8 x 496 bits."""
+        for name, bits in (
+            ("oil-pressure.kind0", "kind 0 (40 bytes), 294 of 312 bits"),
+            ("load-cell.kind1", "kind 1 (128 bytes), 716 of 992 bits"),
+            ("many-points.kind2", "kind 2 (512 bytes), 3967 of 3968 bits"),
+        ):
+            self.gives(0, "show", sample(name), out=f": accepted, {bits}; template 33, a bridge sender\n")
+
+    def test_measurands_that_are_none(self):
+        text, _ = self.gives(0, "export", CELL)
+        for word in ("missing", "46", "63"):
+            sheet = self.file("sheet", text.replace("force/weight, N (4)", word))
+            self.gives(2, "make", sheet, "--dry-run", err="sheet:8: the physical measurand is one of 0 to 45")
+
+
 class Shown(support.Case):
     def test_ohms_of_a_resistance_sender(self):
         """80 to 194 ohm: a point at 26.08344 % is at 80 + 114 x 0.2608344 ohm."""
@@ -472,6 +488,21 @@ class Whole(support.Case):
             self.file("chip", support.sealed(bytes(data))),
             out=("refused: 5 at bit 74", "bit 74 is bit 2 of page 0, byte 10: physical measurand\n"),
         )
+
+    def test_the_first_bit_behind_the_fields(self):
+        """Template 33 at precision 1 has 6 + 32 + 32 + 2 + 19 + 19 + 2 + 18 + 6 + 9 + 9 + 9 + 16 + 15 + 12 + 11 bits behind the first
+        74: bit 291 is bit 3 of the stream's byte 36, the selector of what follows."""
+        data = bytearray(sample_bytes("load-cell.kind1"))
+        for bits in (8, 16, 24):
+            changed = bytearray(data)
+            changed[32 + 6] ^= bits
+            said, _ = self.gives(1, "why", self.file("chip", support.sealed(bytes(changed))))
+            where = "bit 291 is bit 3 of page 1, byte 6, behind the fields: in the calibration points, the curve or the ending\n"
+            self.assertEqual("at bit 291" in said, where in said)
+            if where in said:
+                break
+        else:
+            self.fail("no selector is refused")
 
     def test_intel_hex(self):
         good = ":10000000" + "00" * 16 + "F0"

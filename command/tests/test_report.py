@@ -192,6 +192,17 @@ class Report(support.Case):
             panel.dots([(n / 50, 1) for n in range(count)])
             self.assertEqual(re.findall(' r="([^"]*)"', panel.svg()), [size] * count)
 
+    def test_the_room_of_a_picture(self):
+        """The frame leaves room for the labels: 112 or 100 on the left, 14 on the right and above, 52 below."""
+        for form, frame in (
+            (panels.WIDE, ("0 0 720 220", "112", "14.0", "594", "154.0")),
+            (panels.NARROW, ("0 0 340 240", "100", "14.0", "226", "174.0")),
+        ):
+            panel = panels.Panel("", [0, 1], str, form)
+            panel.axes([(0, "a"), (0.5, "b"), (1, "c")])
+            found = re.search('viewBox="([^"]*)".*class="frame" x="([^"]*)" y="([^"]*)" width="([^"]*)" height="([^"]*)"', panel.svg())
+            self.assertEqual(found.groups(), frame)
+
     def test_round_figures(self):
         """Four to nine of them, a 1, 2 or 5 apart."""
         for low, high, wanted in (
