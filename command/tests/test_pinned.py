@@ -6,7 +6,7 @@ import subprocess
 from unittest import mock
 
 import support
-from dartelm import certificate, dumps, image, main, measurands, setting, sheets, units
+from dartelm import certificate, dumps, image, main, measurands, refusals, setting, sheets, units
 from dartelm.image import Image, build, read_image, read_sheet
 from dartelm.trouble import Refusal, Trouble
 from support import sample, sample_bytes
@@ -164,6 +164,12 @@ class Names(support.Case):
         for code, word, wanted in THOUSANDS:
             found = units.figure_of(f"1000 {word}", measurands.unit_of(code), "figure")
             self.assertAlmostEqual(found / units.EXACT.create_decimal(wanted), 1, delta=1e-30, msg=word)
+
+    def test_digits_of_a_figure_without_an_end(self):
+        """Pounds by square inches do not go into a pascal: such a figure is kept to 200 digits."""
+        found = units.figure_of("1 Pa", measurands.unit_of(13), "figure")
+        self.assertEqual(len(found.as_tuple().digits), 200)
+        self.assertEqual(str(found)[:40], "0.00014503773773020921515424102795119406"[:40])
 
     def test_prefixes(self):
         for text, value in (
@@ -444,6 +450,51 @@ class Verdicts(support.Case):
             PERCENT.replace("20,0.015", "2e1,1.5E-2"),
         ):
             self.against(0, CELL, text, "AGREES")
+
+
+# docs/REFUSALS.md by hand: what the place counts, and the meaning up to its first stop, or its colon where that is far; then the
+# part of a meaning that a value is told by.
+HEADLINES = (
+    (1, "place", "the kind is not 0, 1 or 2, or the image does not have the kind's 40, 128 or 512 bytes"),
+    (2, "page", "the page's bytes do not add up to 0 modulo 256 (kind 0: register and page together)"),
+    (3, "bit", "a field, selector, template number or end bit would lie past the stream's end"),
+    (4, "bit", "a block that is not built here"),
+    (5, "bit", "a code that the field's table has not"),
+    (6, "bit", "a Single that is infinite or no number, and not all ones"),
+    (11, "bits", "the stream has fewer bits than the sheet needs"),
+    (13, "field", "no reading can be taken"),
+    (16, "length", "the list of points is odd or longer than 254"),
+    (17, "place", "every page is 32 bytes of hexadecimal FF, whatever the register holds: nothing has been written to this chip"),
+    (18, "bytes", "the buffer lent for an index is too short for it"),
+    (23, "points", "a reading on the small dash, which takes 32 calibration points at most"),
+    (25, "terms", "a curve of more than 30 terms"),
+    (26, "ticks", "two recordings that cannot be of one run"),
+)
+PARTS = (
+    (9, "missing", "missing where it may not be"),
+    (9, "Single", "a value of the wrong sort (a Single where a whole number belongs)"),
+    (10, "Single", "a Single that is not finite"),
+    (10, "figure", "a figure outside the field's range"),
+)
+
+
+class Refusals(support.Case):
+    def test_headlines(self):
+        for number, place, said in HEADLINES:
+            self.assertEqual(refusals.headline(Refusal(number, 3)), f"refused: {number} at {place} 3: {said}")
+        for number, word, said in PARTS:
+            self.assertEqual(refusals.headline(Refusal(number, 3), word), f"refused: {number} at place 3: {said}")
+
+    def test_what_to_do(self):
+        """For the bench or the restorer; a programmer's part is left out."""
+        for number, said in (
+            (1, "the chip was read short, or is of another kind"),
+            (7, "two points of the certificate fall on one step of the chip, or are listed out of order"),
+            (8, ""),
+            (10, "the certificate has a figure that this field cannot come near; another precision (field 9) may"),
+            (14, "check the wiring before the sheet"),
+        ):
+            self.assertEqual(refusals.advice(Refusal(number, 3)), said)
 
 
 class Whole(support.Case):

@@ -168,6 +168,14 @@ class Tables(support.Case):
         ):
             self.assertEqual(self.points(f"Point (%),Deviation (%)\n{point},{deviation}\n"), [wanted], (point, deviation))
 
+    def test_figures_that_no_line_of_the_console_holds(self):
+        """2^63 - 1 billionths is asked for and refused by its number; 2^63 is not asked for."""
+        for sign, place in (("", "point"), ("-", "point")):
+            for figure, said in (("922337203685.4775807", "refused: 10 at place 1: "), ("922337203685.4775808", "far outside what it counts")):
+                text = f"Point (%),Deviation (%)\n0,0\n{sign}{figure},0\n"
+                status = 1 if figure.endswith("7") else 2
+                self.gives(status, "certificate", self.cell, self.file("cert", text), err=(place, said))
+
     def test_a_sender_whose_unit_is_per_cent(self):
         """Its own per cent, unless the span is named. 0 to 50 %, in which 10 % is a fifth of the span."""
         self.gives(
