@@ -171,6 +171,23 @@ class Names(support.Case):
         self.assertEqual(len(found.as_tuple().digits), 200)
         self.assertEqual(str(found)[:40], "0.00014503773773020921515424102795119397")
 
+    def test_figures_of_forty_characters(self):
+        for count, taken in ((39, True), (40, True), (41, False)):
+            self.assertEqual(units.split("1" * (count - 1) + "N") is not None, taken)
+        self.gives(2, "distance", sample("load-cell.csv"), "--span", "1" * 40, err="is neither a file nor a span")
+        self.gives(3, "distance", sample("load-cell.csv"), "--span", "1" * 41, err="cannot read")
+
+    def test_floats_to_a_power_of_ten(self):
+        """Up to forty digits exactly, as the float has them; one that is longer to ten."""
+        for figure, exponent, wanted in (
+            (2502.0000049, -6, "2502.000005"),
+            (0.1, -3, "0.1"),
+            (-1.0005, -3, "-1.000"),
+            (1e31, -9, "9999999999999999635896294965248"),
+            (1e32, -9, "1E+32"),
+        ):
+            self.assertEqual(units.rounded(figure, exponent), units.EXACT.create_decimal(wanted), figure)
+
     def test_prefixes(self):
         for text, value in (
             ("1MN", "1000000"),
@@ -291,6 +308,15 @@ class Names(support.Case):
         for word in ("missing", "46", "63"):
             sheet = self.file("sheet", text.replace("force/weight, N (4)", word))
             self.gives(2, "make", sheet, "--dry-run", err="sheet:8: the physical measurand is one of 0 to 45")
+
+
+    def test_help_begins_with_what_a_command_does(self):
+        for name, said in (
+            ("show", "The sheet in plain words and units. Ends with 0 if accepted, 1 if refused or different"),
+            ("set", "A copy of an image with some fields changed, all of them or none. Ends with 0"),
+            ("tray", "A line for each of many chips. Ends with 0"),
+        ):
+            self.assertIn(said, " ".join(self.gives(0, name, "--help")[0].split()))
 
 
 class Shown(support.Case):
