@@ -221,9 +221,6 @@ def correction_figure(console, sheet, image, by):
 def curve_figure(sheet, by, taken, below):
     line = readings.curve_corrections(taken)
     unit, prefix = by.unit(), readings.sheet_prefix(sheet, by.unit())
-    if not line:
-        yield "<p>The curve's figures are not finite.</p>"
-        return
     drawing = drawn("Correction over the span", line, [], lambda y: in_unit(float_text(y, 4), unit, prefix, True), below)
     about = f"Line: figure shown minus the figure without the curve, in {unit.named(prefix)}, by {SAMPLES} readings."
     yield figure(drawing, about)

@@ -100,6 +100,12 @@ THOUSANDS = (
     (12, "at", "98066500"),
     (12, "kgf/cm2", "98066500"),
     (12, "N/mm2", "1000000000"),
+    (12, "N/mm\u00b2", "1000000000"),
+    (12, "kgf/cm\u00b2", "98066500"),
+    (12, "kPa", "1000000"),
+    (12, "MPa", "1000000000"),
+    (7, "ft/s\u00b2", "304.8"),
+    (28, "g/cm\u00b3", "1000000"),
     (13, "Pa", "0.145037737730209215154241027951194"),
     (13, "kPa", "145.037737730209215154241027951194"),
     (13, "bar", "14503.7737730209215154241027951194"),
@@ -368,6 +374,13 @@ class Shown(support.Case):
             self.assertAlmostEqual(float(row[6]), float(shift) / 1e7, delta=1.1e-7)
             self.assertAlmostEqual(float(row[2]), float(x + shift) * 5e-6, delta=1e-5)
 
+    def test_inputs_of_a_table(self):
+        for count in (2, 10000):
+            said, _ = self.gives(0, "read", CELL, "--table", count)
+            self.assertEqual(len(said.splitlines()), 2 + count)
+        for count in (1, 10001):
+            self.gives(2, "read", CELL, "--table", count, err="--table takes 2 to 10000 inputs")
+
     def test_the_text_curve(self):
         said, _ = self.gives(0, "show", CELL, "--curve")
         lines = said.splitlines()
@@ -596,6 +609,9 @@ class Whole(support.Case):
             self.assertEqual(dumps.bytes_of("\n".join(lines).encode()), data, form)
             lines[3] = lines[4]
             self.assertNotEqual(dumps.bytes_of("\n".join(lines).encode()), data, form)
+            self.assertNotEqual(len(dumps.bytes_of("\n".join(lines[:3] + lines[4:]).encode()) or b""), 128, form)
+            two = f"{form.format(0, data[:32].hex(' '))}\n{form.format(32, data[32:40].hex(' '))}\n"
+            self.assertEqual(dumps.bytes_of(two.encode()), data[:40], form)
 
     def test_parts_of_a_line(self):
         draft = sheets.Draft("sheet")

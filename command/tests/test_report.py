@@ -203,6 +203,15 @@ class Report(support.Case):
             found = re.search('viewBox="([^"]*)".*class="frame" x="([^"]*)" y="([^"]*)" width="([^"]*)" height="([^"]*)"', panel.svg())
             self.assertEqual(found.groups(), frame)
 
+    def test_where_figures_are_drawn(self):
+        """From edge to edge of the frame, with 8 % of the figures' range above and below them; nought is always among them."""
+        for figures, top, bottom in (([0, 1], 1.08, -0.08), ([-2, -1], 0.16, -2.16), ([3], 3.24, -0.24), ([-1, 3], 3.32, -1.32), ([0, 0], 1, -1)):
+            for form, floor, left, right in ((panels.WIDE, 168, 112, 706), (panels.NARROW, 188, 100, 326)):
+                panel = panels.Panel("", figures, str, form)
+                for found, wanted in ((panel.y(top), 14), (panel.y(bottom), floor), (panel.x(0), left), (panel.x(1), right)):
+                    self.assertAlmostEqual(found, wanted, places=6)
+                self.assertAlmostEqual(panel.y((top + bottom) / 2), (14 + floor) / 2, places=6)
+
     def test_round_figures(self):
         """Four to nine of them, a 1, 2 or 5 apart."""
         for low, high, wanted in (
