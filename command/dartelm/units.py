@@ -48,7 +48,7 @@ class Unit:
 
     def takes(self):
         """The spellings that are understood, for a message."""
-        names = [self.name] + [prefix + self.name for prefix in self.prefixes if ord(prefix) < 128] + list(self.others)[:FEW]
+        names = [self.name] + [prefix + self.name for prefix in self.prefixes if prefix.isascii()] + list(self.others)[:FEW]
         return names[0] if len(names) == 1 else ", ".join(names[:-1]) + " or " + names[-1]
 
 

@@ -3,10 +3,11 @@ import os
 import re
 import struct
 import subprocess
+import types
 from unittest import mock
 
 import support
-from dartelm import certificate, dumps, image, main, measurands, refusals, setting, sheets, units
+from dartelm import certificate, dumps, image, main, measurands, refusals, setting, sheets, units, write
 from dartelm.image import Image, build, read_image, read_sheet
 from dartelm.trouble import Refusal, Trouble
 from support import sample, sample_bytes
@@ -593,6 +594,23 @@ class Whole(support.Case):
                 break
         else:
             self.fail("no selector is refused")
+
+    def test_bytes_of_a_stream(self):
+        """Without a check byte for each page of 32."""
+        for count in (39, 124, 496):
+            self.gives(1, "why", self.file("chip", bytes(count)), out=f"likely: {count} bytes are a chip's stream, without the check bytes")
+
+    def test_rows_have_an_end(self):
+        """A chip of 128 or 512 bytes has 16 or 64 rows of 8; four more are room enough."""
+        for kind, most, name in ((1, 20, "load-cell.kind1"), (2, 68, "many-points.kind2")):
+            wanted = read_image(sample(name))
+            rows = write.Rows(support.console(), types.SimpleNamespace(kind=kind, name="one"), wanted)
+            present = bytes(byte ^ 0xFF for byte in wanted.data)
+            rows.sent = most - 1
+            self.assertEqual(len(rows.next(present)[1]), 8)
+            rows.sent = most
+            self.assertRaises(Trouble, rows.next, present)
+            self.assertIsNone(rows.next(wanted.data))
 
     def test_intel_hex(self):
         good = ":10000000" + "00" * 16 + "F0"

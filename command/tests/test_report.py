@@ -202,6 +202,11 @@ class Report(support.Case):
             panel.axes([(0, "a"), (0.5, "b"), (1, "c")])
             found = re.search('viewBox="([^"]*)".*class="frame" x="([^"]*)" y="([^"]*)" width="([^"]*)" height="([^"]*)"', panel.svg())
             self.assertEqual(found.groups(), frame)
+            left, right = float(frame[1]), float(frame[1]) + float(frame[3])
+            floor = float(frame[2]) + float(frame[4])
+            for kind, x1, x2, y1, y2 in re.findall('class="(zero|grid)" x1="([^"]*)" x2="([^"]*)" y1="([^"]*)" y2="([^"]*)"', panel.svg()):
+                across, up = (float(x1), float(x2)), (float(y1), float(y2))
+                self.assertTrue(across == (left, right) and up[0] == up[1] or up == (14, floor) and across[0] == across[1], (kind, across, up))
 
     def test_where_figures_are_drawn(self):
         """From edge to edge of the frame, with 8 % of the figures' range above and below them; nought is always among them."""
