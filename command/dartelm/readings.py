@@ -141,10 +141,9 @@ def curve_text(sheet, one, unit, prefix):
 
 
 def greater_end(sheet):
-    return max(abs(singles.digits(bits(value))) for value in (sheet.values[7], sheet.values[8]) if value != MISSING)
+    return max(abs(singles.digits(bits(value))) for value in (sheet.values[7], sheet.values[8]))
 
 
 def sheet_prefix(sheet, unit):
-    """One prefix for all physical figures of a sheet, which suits its greater end."""
-    missing = sheet.values[7] == sheet.values[8] == MISSING
-    return "" if missing else unit.prefix_for(greater_end(sheet))
+    """One prefix for all physical figures of a sheet, which suits its greater end. Without both ends there are no such figures."""
+    return "" if MISSING in (sheet.values[7], sheet.values[8]) else unit.prefix_for(greater_end(sheet))

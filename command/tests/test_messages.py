@@ -114,6 +114,25 @@ class Words(support.Case):
         said = "sheet: it has points of its own; leave them out, or --certificate\n"
         self.gives(2, "make", self.sheet("", ""), "--certificate", certificate, "--dry-run", err=said)
 
+    def test_terms_of_a_curve(self):
+        text, _ = self.gives(0, "export", sample("exhaust-pressure.kind1"))
+        for term in ("x, 0.004", "1000, 0.004", "1.0, 0.004", "1, x", "1, 0.004 N", "1, 0.004%"):
+            sheet = self.file("sheet", text.replace("term = 1, 0.004\n", f"term = {term}\n"))
+            self.gives(2, "make", sheet, "--dry-run", err="sheet:25: a term is an exponent and a coefficient, as 2, -0.015\n")
+        for term in ("1", "1, 2, 3"):
+            sheet = self.file("sheet", text.replace("term = 1, 0.004\n", f"term = {term}\n"))
+            self.gives(2, "make", sheet, "--dry-run", err="sheet:25: a term has two parts with a comma between them\n")
+
+    def test_a_sheet_of_which_one_figure_is_refused(self):
+        """The others are told as they would be stored, the precision too, which is not changed alone."""
+        sheet = self.sheet("manufacturer ID = 1451", "manufacturer ID = 0")
+        said = (
+            "manufacturer ID 0 refused it has to be 17 to 16381\n",
+            "full-scale electrical value precision steps of 25 nV/V (1) steps of 25 nV/V (1)\n",
+            "maximum electrical value 2 mV/V 2 mV/V 0 mV/V\n",
+        )
+        self.gives(1, "make", sheet, "--dry-run", out=said)
+
     def test_values(self):
         cell = sample("load-cell.kind1")
         for words, said in (
