@@ -114,6 +114,27 @@ class Words(support.Case):
         said = "sheet: it has points of its own; leave them out, or --certificate\n"
         self.gives(2, "make", self.sheet("", ""), "--certificate", certificate, "--dry-run", err=said)
 
+    def test_closing_texts(self):
+        for text in ('"', "left", '"left', 'left"', ""):
+            sheet = self.sheet('"rolling road 2, left drum"', text)
+            self.gives(2, "make", sheet, "--dry-run", err="sheet:31: ")
+        for text, bad in (('"a"b"', '"'), ('"\\y"', "\\"), ('"\u00e9"', "\u00e9"), ('"\\x4"', "\\")):
+            sheet = self.sheet('"rolling road 2, left drum"', text)
+            self.gives(2, "make", sheet, "--dry-run", err=f"sheet:31: '{bad}' cannot stand in the text; ")
+        for text, shown in (('""', '""'), ('"a"', '"a"'), ('"\\x41\\x22"', '"A\\x22"')):
+            self.gives(0, "make", self.sheet('"rolling road 2, left drum"', text), "-o", self.path("chip"), "--force")
+            self.gives(0, "show", self.path("chip"), out=f"closing text {shown}\n")
+
+    def test_points_far_outside(self):
+        """2^62 billionths of the span."""
+        for figure, status, said in (
+            ("461168601842.7387903", 1, "is more than a chip can hold"),
+            ("461168601842.7387904", 2, "sheet:26: point: '461168601842.7387904 %' is far outside the span\n"),
+            ("-461168601842.7387904", 2, "sheet:26: point: '-461168601842.7387904 %' is far outside the span\n"),
+        ):
+            found, out, err = self.run_here("make", self.sheet("20.00016 %", f"{figure} %"), "--dry-run")
+            self.assertEqual((found, said in out + err), (status, True), (figure, out, err))
+
     def test_terms_of_a_curve(self):
         text, _ = self.gives(0, "export", sample("exhaust-pressure.kind1"))
         for term in ("x, 0.004", "1000, 0.004", "1.0, 0.004", "1, x", "1, 0.004 N", "1, 0.004%"):
