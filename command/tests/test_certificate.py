@@ -42,6 +42,8 @@ class Certificate(support.Case):
             sample("load-cell.csv"),
             out=(
                 "6 points",
+                "2 20 % 0.4 mV/V 1000.75 N 1000.749995 N -0.000005 N -0.0000001 %\n",
+                "6 100 % 2 mV/V 4998.95 N 4998.95 N 0 N 0 %\n",
                 "AGREES: at every input within what storing at the nearest step explains; the worst is at 99.99927 %, a point",
                 "own: -0.0000011 %, -0.000055 N",
                 "AGREES says that the chip holds these points; whether the sender itself is within tolerance, the certificate says",

@@ -79,14 +79,13 @@ class Curves(support.Case):
         self.assertIn("<svg", self.bytes("page.html").decode())
         self.assertIn("from 49.9995", self.bytes("page.html").decode())
 
-    def test_a_curve_that_is_not_finite(self):
+    def test_the_steepest_curve(self):
+        """3 10^38 x^5 at 100 % is 3 10^48 % of the span: its figures are finite, and drawn."""
         self.made(0, CURVE.replace("0.00001", "3e38").replace("term = 2", "term = 5"))
-        for words in (
-            ("show", self.path("new"), "--curve"),
-            ("read", self.path("new"), "--table", "5"),
-            ("report", self.path("new"), "-o", self.path("page.html")),
-        ):
-            self.gives(0, *words)
+        self.gives(0, "show", self.path("new"), "--curve", out="correction over the span, in ")
+        self.gives(0, "read", self.path("new"), "--table", "5", out=" of the span")
+        self.gives(0, "report", self.path("new"), "-o", self.path("page.html"))
+        self.assertEqual(self.bytes("page.html").count(b"<polyline"), 2)
 
 
 if __name__ == "__main__":

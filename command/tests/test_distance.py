@@ -2,6 +2,8 @@
 import os
 
 import support
+from dartelm.command import bounds
+from dartelm.command.image import read_image, read_sheet
 from support import sample, sample_bytes
 
 CELL, CERT = sample("load-cell.kind1"), sample("load-cell.csv")
@@ -30,6 +32,15 @@ class Distance(support.Case):
             self.gives(0, "distance", CERT, "--span", span, out=("6 points\n", "6 rows\n", FARTHEST + figure + "\n"))
         sheet = self.file("sheet", self.gives(0, "export", CELL)[0])
         self.gives(0, "distance", CERT, "--span", sheet, out=FARTHEST + "0.0026 N\n")
+
+    def test_the_part_of_the_float(self):
+        """docs/PROMISES.md: 2^-53 of |least| + |greatest - least| (4 q + 1) / 10^9. The farthest q is 1.1 of the span, and the
+        greatest deviation, 1.09715 of it."""
+        sheet = read_sheet(read_image(sample("many-points.kind2")))
+        for off in (0, 1, 516):
+            wanted = support.Fraction(off * 10000, 10**9)
+            wanted += (5000 + support.Fraction(10000 * (4 * 2197150000 + 1), 10**9)) / 2**53
+            self.assertEqual(bounds.Bound(sheet, support.Fraction(off)).physical(), wanted)
 
     def test_figures_in_the_senders_unit(self):
         cert = self.file("cert", "load (kN),deviation (N)\n0,0\n1,0.75\n2,2.1\n3,1.9\n4,0.45\n5,-1.05\n")

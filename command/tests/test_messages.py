@@ -1,11 +1,12 @@
 """What is said is about the field and its rule, the file, the pipe."""
+import html
 import subprocess
 from unittest import mock
 
 import support
 from dartelm.command import files
 from dartelm.command.trouble import Trouble
-from support import sample
+from support import sample, sample_bytes
 
 CELL = sample("load-cell.kind1")
 
@@ -91,6 +92,105 @@ class Messages(support.Case):
             with self.assertRaises(Trouble) as caught:
                 files.write_new(self.path("new"), b"one", False)
         self.assertIn(f"no room for a temporary file in {self.room}: No space left", str(caught.exception))
+
+
+class Words(support.Case):
+    """Sentences that no other test reads whole."""
+
+    def sheet(self, old, new):
+        return self.file("sheet", self.gives(0, "export", sample("load-cell.kind1"))[0].replace(old, new))
+
+    def test_lines_of_a_sheet(self):
+        for old, new, said in (
+            ("domain = electrical\n", "", "sheet:24: points need a line 'domain = electrical' or 'domain = physical'\n"),
+            ("manufacturer ID = 1451\n", "", "sheet: there is no line 'manufacturer ID = ..'\n"),
+            ("template = 33\n", "", "sheet: there is no line 'template = ..', one of 33, 32\n"),
+            ('"rolling road 2, left drum"', "left", 'sheet:31: the text stands between ", as text = "left drum"\n'),
+            ("20.00016 %, +0.015 %", "20 %", "sheet:26: a point has two parts with a comma between them\n"),
+            ("kind = 1\n", "kind = 1\nserial number = 9\n", "sheet:8: 'serial number' stands in line 2 already\n"),
+        ):
+            self.gives(2, "make", self.sheet(old, new), "--dry-run", err=said)
+        certificate = sample("load-cell.csv")
+        said = "sheet: it has points of its own; leave them out, or --certificate\n"
+        self.gives(2, "make", self.sheet("", ""), "--certificate", certificate, "--dry-run", err=said)
+
+    def test_closing_texts(self):
+        for text in ('"', "left", '"left', 'left"', ""):
+            sheet = self.sheet('"rolling road 2, left drum"', text)
+            self.gives(2, "make", sheet, "--dry-run", err="sheet:31: ")
+        for text, bad in (('"a"b"', '"'), ('"\\y"', "\\"), ('"\u00e9"', "\u00e9"), ('"\\x4"', "\\")):
+            sheet = self.sheet('"rolling road 2, left drum"', text)
+            self.gives(2, "make", sheet, "--dry-run", err=f"sheet:31: '{bad}' cannot stand in the text; ")
+        for text, shown in (('""', '""'), ('"a"', '"a"'), ('"\\x41\\x22"', '"A\\x22"')):
+            self.gives(0, "make", self.sheet('"rolling road 2, left drum"', text), "-o", self.path("chip"), "--force")
+            self.gives(0, "show", self.path("chip"), out=f"closing text {shown}\n")
+
+    def test_points_far_outside(self):
+        """2^62 billionths of the span."""
+        for figure, status, said in (
+            ("461168601842.7387903", 1, "is more than a chip can hold"),
+            ("461168601842.7387904", 2, "sheet:26: point: '461168601842.7387904 %' is far outside the span\n"),
+            ("-461168601842.7387904", 2, "sheet:26: point: '-461168601842.7387904 %' is far outside the span\n"),
+        ):
+            found, out, err = self.run_here("make", self.sheet("20.00016 %", f"{figure} %"), "--dry-run")
+            self.assertEqual((found, said in out + err), (status, True), (figure, out, err))
+
+    def test_terms_of_a_curve(self):
+        text, _ = self.gives(0, "export", sample("exhaust-pressure.kind1"))
+        for term in ("x, 0.004", "1000, 0.004", "1.0, 0.004", "1, x", "1, 0.004 N", "1, 0.004%"):
+            sheet = self.file("sheet", text.replace("term = 1, 0.004\n", f"term = {term}\n"))
+            self.gives(2, "make", sheet, "--dry-run", err="sheet:25: a term is an exponent and a coefficient, as 2, -0.015\n")
+        for term in ("1", "1, 2, 3"):
+            sheet = self.file("sheet", text.replace("term = 1, 0.004\n", f"term = {term}\n"))
+            self.gives(2, "make", sheet, "--dry-run", err="sheet:25: a term has two parts with a comma between them\n")
+
+    def test_a_sheet_of_which_one_figure_is_refused(self):
+        """The others are told as they would be stored, the precision too, which is not changed alone."""
+        sheet = self.sheet("manufacturer ID = 1451", "manufacturer ID = 0")
+        said = (
+            "manufacturer ID 0 refused it has to be 17 to 16381\n",
+            "full-scale electrical value precision steps of 25 nV/V (1) steps of 25 nV/V (1)\n",
+            "maximum electrical value 2 mV/V 2 mV/V 0 mV/V\n",
+        )
+        self.gives(1, "make", sheet, "--dry-run", out=said)
+
+    def test_values(self):
+        cell = sample("load-cell.kind1")
+        for words, said in (
+            (("location=1", "location=2"), "'measurement location ID' is given twice\n"),
+            (("initials=a",), "calibration initials: 'a' cannot stand there; write it as three of A to Z, blank , . / _ @\n"),
+            (("date=1.1.2020",), "'1.1.2020' cannot stand there; write it as 2018-01-02, from 1998-01-01 to 2177-06-05\n"),
+        ):
+            self.gives(2, "set", cell, *words, "--level", "maker", "--dry-run", err=said)
+        self.gives(2, "certificate", cell, sample("load-cell.csv"), "--within=-1N", err="--within: '-1N' is below 0\n")
+        self.gives(1, "set", cell, "serial=1", "--dry-run", out="too low for the field; --level maker may\n")
+        whole = "; 'dartelm export' the sheet, edit it and 'dartelm make' the image anew\n"
+        self.gives(1, "set", cell, "9=0", "--level", "maker", "--dry-run", out=whole)
+
+    def test_likely_causes(self):
+        cell = sample_bytes("load-cell.kind1")
+        odd = bytearray(cell)
+        odd[10] |= 0xFC
+        for data, said in (
+            (cell[:100], ("  taken as the beginning of kind 1:\n", "likely: cut short, or with bytes too many: 100 bytes are 28 fewer than 128\n")),
+            (bytes(600), ("likely: no chip's image: 600 bytes are more than the largest chip's 512\n",)),
+            (support.sealed(bytes(odd)), ("likely: a whole chip whose sheet was written wrongly, or for another device: the pages add up\n",)),
+            (cell[:32] + b"\xff" * 32 + cell[64:], ("page 1: blank (every byte FF)\n",)),
+        ):
+            self.gives(1, "why", self.file("chip", data), out=said)
+        self.gives(1, "show", sample("damaged.kind1"), out=f"  'dartelm why {sample('damaged.kind1')}' tells more\n")
+
+    def test_captions(self):
+        for name, words, said in (
+            ("load-cell.kind1", (sample("load-cell.csv"),), "Circles: the certificate's points."),
+            ("load-cell.kind1", (), "by 241 readings of the large dash. Circles: the stored points.</figcaption>"),
+            ("oil-pressure.kind0", (), "readings of the large dash. There are no calibration points.</figcaption>"),
+            ("torque.kind1", (), "The stored points are against the physical figure, below.</figcaption>"),
+            ("exhaust-pressure.kind1", (), "Line: figure shown minus the figure without the curve, in kPa, by 241 readings.</figcaption>"),
+            ("many-points.kind2", (), "<p>Dashes: large only (the small one takes 32 points)</p>"),
+        ):
+            self.gives(0, "report", sample(name), *words, "-o", self.path("page"), "--force")
+            self.assertTrue(said in html.unescape(self.bytes("page").decode()).replace("\u00a0", " "), said)
 
 
 if __name__ == "__main__":

@@ -3,18 +3,21 @@ import os
 import re
 import struct
 import subprocess
+import types
 from unittest import mock
 
 import support
 from dartelm import calls
-from dartelm.command import certificate, dumps, image, main, measurands, readings, setting, sheets, units
+from dartelm.command import certificate, dumps, image, main, measurands, readings, refusals, setting, sheets, units, write
 from dartelm.command.image import Image, build, read_image, read_sheet
 from dartelm.command.trouble import Refusal, Trouble
 from support import sample, sample_bytes
 
 CELL = sample("load-cell.kind1")
 PERCENT = "point (%),deviation (%)\n0,0\n20,0.015\n40,0.042\n60,0.038\n80,0.009\n100,-0.021\n"
-# Document 000, Annex A: the cases of the physical measurand in the lines of templates 33 and 32.
+# Document 000: the quantities by the CASE lines of templates 33 and 32 (A.5), the units by Table A.22 and the lines' own last word.
+# Table A.22 has Kg, G, Amperes and Watts where the lines have kg, g, A and W; case 28's line is headed kg/liter, and both its values
+# and Table A.22 have kg/m3.
 CASES = """
 0 temperature, K
 1 temperature, °C
@@ -63,6 +66,18 @@ CASES = """
 44 RMS current, A rms
 45 power, W
 """
+# Document 000, Tables A.10 (template 33) and A.9 (template 32), behind the five fields of Basic TEDS (Table 1).
+BASIC = ("manufacturer ID", "model number", "version letter", "version number", "serial number")
+ENDS = ("physical measurand", "minimum physical value", "maximum physical value", "full-scale electrical value precision")
+ENDS += ("minimum electrical value", "maximum electrical value")
+LAST = ("calibration date", "calibration initials", "calibration period", "measurement location ID")
+BRIDGE = ("bridge type", "bridge element impedance", "response time")
+BRIDGE += ("excitation level, nominal", "excitation level, minimum", "excitation level, maximum")
+RESISTANCE = ("mapping method", "response time", "excitation current, nominal", "excitation current, maximum")
+NAMES = {33: BASIC + ENDS + BRIDGE + LAST, 32: BASIC + ENDS + RESISTANCE + LAST}
+# A.3: BridgeTypeEnum; MapMethEnum, of which two bits reach the first four (written as Table A.9 has them).
+BRIDGES = ("quarter", "half", "full")
+MAPPINGS = ("linear", "inverse m/(x+b)", "inverse b+m/x", "inverse 1/(b+m/x)")
 # Other units, as the field's books have them: a thousand of each in the sender's unit.
 THOUSANDS = (
     (4, "lbf", "4448.2216152605"),
@@ -87,6 +102,12 @@ THOUSANDS = (
     (12, "at", "98066500"),
     (12, "kgf/cm2", "98066500"),
     (12, "N/mm2", "1000000000"),
+    (12, "N/mm\u00b2", "1000000000"),
+    (12, "kgf/cm\u00b2", "98066500"),
+    (12, "kPa", "1000000"),
+    (12, "MPa", "1000000000"),
+    (7, "ft/s\u00b2", "304.8"),
+    (28, "g/cm\u00b3", "1000000"),
     (13, "Pa", "0.145037737730209215154241027951194"),
     (13, "kPa", "145.037737730209215154241027951194"),
     (13, "bar", "14503.7737730209215154241027951194"),
@@ -94,18 +115,26 @@ THOUSANDS = (
     (14, "lb", "453.59237"),
     (14, "oz", "28.349523125"),
     (14, "t", "1000000"),
+    (15, "kg", "1000000"),
+    (15, "lb", "453592.37"),
     (16, "mm", "1"),
     (16, "cm", "10"),
     (16, "um", "0.001"),
     (16, "in", "25.4"),
     (16, "ft", "304.8"),
     (16, "km", "1000000"),
+    (17, "m", "1000000"),
+    (17, "in", "25400"),
     (18, "mm", "39.3700787401574803149606299212598"),
     (19, "km/h", "277.777777777777777777777777777778"),
     (19, "mph", "447.04"),
     (19, "fps", "304.8"),
     (20, "km/h", "621.371192237333969617434184363319"),
+    (20, "m/s", "2236.936292054402290622763063707945597709"),
+    (21, "m/s", "3280.839895013123359580052493438320209974"),
+    (21, "ft/s", "1000"),
     (28, "g/l", "1000"),
+    (28, "g/cm3", "1000000"),
     (28, "kg/l", "1000000"),
     (28, "mg/l", "1"),
     (33, "kg/h", "0.277777777777777777777777777777778"),
@@ -113,9 +142,14 @@ THOUSANDS = (
     (33, "kg/min", "16.6666666666666666666666666666667"),
     (34, "l/s", "1"),
     (34, "l/min", "0.0166666666666666666666666666666667"),
+    (34, "m3/hr", "0.277777777777777777777777777777778"),
     (34, "m3/h", "0.277777777777777777777777777777778"),
     (34, "gpm", "0.0630901964"),
     (34, "cfm", "0.4719474432"),
+    (35, "m3/s", "3600000"),
+    (35, "l/s", "3600"),
+    (36, "l/min", "264.1720523581484153798999216091625079593"),
+    (37, "m3/s", "2118880.003289315415026280621240157615923"),
     (38, "gpm", "3785.411784"),
     (45, "hp", "745699.87158227022"),
     (45, "PS", "735498.75"),
@@ -137,6 +171,29 @@ class Names(support.Case):
         for code, word, wanted in THOUSANDS:
             found = units.figure_of(f"1000 {word}", measurands.unit_of(code), "figure")
             self.assertAlmostEqual(found / units.EXACT.create_decimal(wanted), 1, delta=1e-30, msg=word)
+
+    def test_digits_of_a_figure_without_an_end(self):
+        """Pounds by square inches do not go into a pascal: such a figure is kept to 200 digits."""
+        found = units.figure_of("1 Pa", measurands.unit_of(13), "figure")
+        self.assertEqual(len(found.as_tuple().digits), 200)
+        self.assertEqual(str(found)[:40], "0.00014503773773020921515424102795119397")
+
+    def test_figures_of_forty_characters(self):
+        for count, taken in ((39, True), (40, True), (41, False)):
+            self.assertEqual(units.split("1" * (count - 1) + "N") is not None, taken)
+        self.gives(2, "distance", sample("load-cell.csv"), "--span", "1" * 40, err="is neither a file nor a span")
+        self.gives(3, "distance", sample("load-cell.csv"), "--span", "1" * 41, err="cannot read")
+
+    def test_floats_to_a_power_of_ten(self):
+        """Up to forty digits exactly, as the float has them; one that is longer to ten."""
+        for figure, exponent, wanted in (
+            (2502.0000049, -6, "2502.000005"),
+            (0.1, -3, "0.1"),
+            (-1.0005, -3, "-1.000"),
+            (1e31, -9, "9999999999999999635896294965248"),
+            (1e32, -9, "1E+32"),
+        ):
+            self.assertEqual(units.rounded(figure, exponent), units.EXACT.create_decimal(wanted), figure)
 
     def test_prefixes(self):
         for text, value in (
@@ -186,6 +243,52 @@ class Names(support.Case):
         self.gives(0, "make", self.file("sheet", text), "-o", self.path("full"))
         self.assertEqual(calls.field(self.bytes("full"), 9), 3)
 
+    def test_fields(self):
+        for name, template in (("load-cell.kind1", 33), ("temperature.kind1", 32)):
+            said, _ = self.gives(0, "show", sample(name))
+            found = re.findall(r"^ {1,3}(\d+)  (\S.*?)  +\S", said.partition("closing text")[0], re.MULTILINE)
+            self.assertEqual(found, [(str(number), one) for number, one in enumerate(NAMES[template], 1)])
+            self.gives(0, "report", sample(name), "-o", self.path("page"), "--force")
+            found = re.findall(r"<p><b>(\d+)\u00a0([^<]*)</b>", self.bytes("page").decode())
+            self.assertEqual(found, [(str(number), one) for number, one in enumerate(NAMES[template], 1)])
+
+    def test_choices(self):
+        for name, words in (("load-cell.kind1", BRIDGES), ("temperature.kind1", MAPPINGS)):
+            for code, word in enumerate(words):
+                for given in (code, word, f"{word} ({code})"):
+                    self.gives(0, "set", sample(name), f"12={given}", "--level", "maker", "-o", self.path("chip"), "--force")
+                    self.assertEqual(calls.field(self.bytes("chip"), 12), code)
+                self.gives(0, "show", self.path("chip"), out=f"12 {NAMES[33 if words == BRIDGES else 32][11]} {word} ({code})\n")
+
+    def test_figures_by_their_codes(self):
+        """ConRes: start plus step times code; ConRelRes: start times (1 + 2 tolerance) to the power of the code; a date is in days
+        since 1998-01-01; a letter is its place in the alphabet (document 000, A.5 and 6.3). The chip's values are in 0.1 ohm, 0.1 V,
+        10 ns and 0.1 nA (document 01)."""
+        words = (
+            ("load-cell.kind1", "bridge element impedance", "ohm", 0.1, lambda code: 1 + 0.1 * code, (0, 3490, 262142)),
+            ("load-cell.kind1", "excitation level, nominal", "V", 0.1, lambda code: 0.1 * (code + 1), (0, 99, 510)),
+            ("load-cell.kind1", "response time", "s", 1e-8, lambda code: 1e-6 * 1.292**code, (0, 1, 20, 61)),
+            ("temperature.kind1", "response time", "s", 1e-8, lambda code: 1e-6 * 1.292**code, (0, 1, 20, 61)),
+            ("temperature.kind1", "excitation current, maximum", "A", 1e-10, lambda code: 1e-6 * 1.0471285480509**code, (0, 100, 253)),
+        )
+        scale = {"u": 1e-6, "m": 1e-3, "k": 1e3, "": 1}
+        for name, field, unit, step, figure, codes in words:
+            for code in codes:
+                given = f"{field}={figure(code):.10f}{unit}"
+                self.gives(0, "set", sample(name), given, "--level", "maker", "-o", self.path("chip"), "--force")
+                said, _ = self.gives(0, "show", self.path("chip"))
+                number, prefix = re.search(rf"{field}  +(\S+) (u|m|k|){unit}\n", said).groups()
+                self.assertAlmostEqual(float(number) * scale[prefix], figure(code), delta=0.51 * step, msg=given)
+        for day, code in (("1998-01-01", 0), ("1998-12-31", 364), ("2000-02-29", 789), ("2025-11-03", 10168)):
+            self.gives(0, "set", CELL, f"date={day}", "--level", "calibration", "-o", self.path("chip"), "--force")
+            self.assertEqual(calls.field(self.bytes("chip"), 18), code)
+            self.gives(0, "show", self.path("chip"), out=f"18 calibration date {day}\n")
+        for code in range(1, 27):
+            letter = chr(ord("A") + code - 1)
+            self.gives(0, "set", CELL, f"version letter={letter}", "--level", "maker", "-o", self.path("chip"), "--force")
+            self.assertEqual(calls.field(self.bytes("chip"), 3), code)
+            self.gives(0, "show", self.path("chip"), out=f"3 version letter {letter}\n")
+
     def test_choices_are_the_consoles(self):
         """The console is another program with its own names: bridge types and mapping methods."""
         for name, field, count in (("load-cell.kind1", 12, 3), ("temperature.kind1", 12, 4)):
@@ -195,6 +298,31 @@ class Names(support.Case):
                 said = subprocess.run(words, capture_output=True, text=True, check=True).stdout
                 shown = re.search(rf"^12 [^:]*: {code} \((.*)\)$", said, re.MULTILINE).group(1)
                 self.gives(0, "show", self.path("chip"), out=f" {shown} ({code})\n")
+
+
+    def test_bits_of_a_chip(self):
+        """The register's 8 bytes, and of each page all but its check byte: 8 x 39, 8 x 124 and 8 x 496 bits."""
+        for name, bits in (
+            ("oil-pressure.kind0", "kind 0 (40 bytes), 294 of 312 bits"),
+            ("load-cell.kind1", "kind 1 (128 bytes), 716 of 992 bits"),
+            ("many-points.kind2", "kind 2 (512 bytes), 3967 of 3968 bits"),
+        ):
+            self.gives(0, "show", sample(name), out=f": accepted, {bits}; template 33, a bridge sender\n")
+
+    def test_measurands_that_are_none(self):
+        text, _ = self.gives(0, "export", CELL)
+        for word in ("missing", "46", "63"):
+            sheet = self.file("sheet", text.replace("force/weight, N (4)", word))
+            self.gives(2, "make", sheet, "--dry-run", err="sheet:8: the physical measurand is one of 0 to 45")
+
+
+    def test_help_begins_with_what_a_command_does(self):
+        for name, said in (
+            ("show", "The sheet in plain words and units. Ends with 0 if accepted, 1 if refused or different"),
+            ("set", "A copy of an image with some fields changed, all of them or none. Ends with 0"),
+            ("tray", "A line for each of many chips. Ends with 0"),
+        ):
+            self.assertIn(said, " ".join(self.gives(0, name, "--help")[0].split()))
 
 
 class Shown(support.Case):
@@ -245,6 +373,13 @@ class Shown(support.Case):
             self.assertAlmostEqual(float(row[4]), float(x + shift) / 1e7, delta=1.1e-7)
             self.assertAlmostEqual(float(row[6]), float(shift) / 1e7, delta=1.1e-7)
             self.assertAlmostEqual(float(row[2]), float(x + shift) * 5e-6, delta=1e-5)
+
+    def test_inputs_of_a_table(self):
+        for count in (2, 10000):
+            said, _ = self.gives(0, "read", CELL, "--table", count)
+            self.assertEqual(len(said.splitlines()), 2 + count)
+        for count in (1, 10001):
+            self.gives(2, "read", CELL, "--table", count, err="--table takes 2 to 10000 inputs")
 
     def test_the_text_curve(self):
         said, _ = self.gives(0, "show", CELL, "--curve")
@@ -317,6 +452,21 @@ class Verdicts(support.Case):
             self.assertFalse(beside.agrees())
         self.assertEqual([one.place for one in beside.at], [point + deviation for point, deviation in sheet.points])
 
+    def test_a_twin_is_asked_at_the_chips_own_points_too(self):
+        """A table against the physical figure that is right at each point of the certificate, and 1 % off between two of them."""
+        sheet, _ = self.gives(0, "export", sample("torque.kind1"))
+        own = "point = 50.0004 %, +0.065 %\npoint = 60.00048 %, +1.05 %\n"
+        chip = self.made("own", sheet.replace("point = 50.0004 %, +0.065 %\n", own))
+        cert = "point,deviation\n0%,0%\n25.0002%,0.04%\n50.0004%,0.065%\n75.0006%,0.03%\n99.99927%,-0.015%\n"
+        self.against(0, sample("torque.kind1"), cert, "AGREES: at every point it shows what a chip made from the certificate shows\n")
+        self.against(
+            1,
+            chip,
+            cert,
+            "DIFFERS: from a chip made from the certificate at 0 of the certificate's 5 points and at 1 of the chip's own 6 points; "
+            "the worst is at 61.05048 %, a point of the chip's own: -",
+        )
+
     def test_inputs_are_the_nearest_to_the_points(self):
         cell = read_image(CELL)
         found = certificate.against(cell, read_sheet(cell), sample("load-cell.csv"))
@@ -339,6 +489,51 @@ class Verdicts(support.Case):
             PERCENT.replace("20,0.015", "2e1,1.5E-2"),
         ):
             self.against(0, CELL, text, "AGREES")
+
+
+# docs/REFUSALS.md by hand: what the place counts, and the meaning up to its first stop, or its colon where that is far; then the
+# part of a meaning that a value is told by.
+HEADLINES = (
+    (1, "place", "the kind is not 0, 1 or 2, or the image does not have the kind's 40, 128 or 512 bytes"),
+    (2, "page", "the page's bytes do not add up to 0 modulo 256 (kind 0: register and page together)"),
+    (3, "bit", "a field, selector, template number or end bit would lie past the stream's end"),
+    (4, "bit", "a block that is not built here"),
+    (5, "bit", "a code that the field's table has not"),
+    (6, "bit", "a Single that is infinite or no number, and not all ones"),
+    (11, "bits", "the stream has fewer bits than the sheet needs"),
+    (13, "field", "no reading can be taken"),
+    (16, "length", "the list of points is odd or longer than 254"),
+    (17, "place", "every page is 32 bytes of hexadecimal FF, whatever the register holds: nothing has been written to this chip"),
+    (18, "bytes", "the buffer lent for an index is too short for it"),
+    (23, "points", "a reading on the small dash, which takes 32 calibration points at most"),
+    (25, "terms", "a curve of more than 30 terms"),
+    (26, "ticks", "two recordings that cannot be of one run"),
+)
+PARTS = (
+    (9, "missing", "missing where it may not be"),
+    (9, "Single", "a value of the wrong sort (a Single where a whole number belongs)"),
+    (10, "Single", "a Single that is not finite"),
+    (10, "figure", "a figure outside the field's range"),
+)
+
+
+class Refusals(support.Case):
+    def test_headlines(self):
+        for number, place, said in HEADLINES:
+            self.assertEqual(refusals.headline(Refusal(number, 3)), f"refused: {number} at {place} 3: {said}")
+        for number, word, said in PARTS:
+            self.assertEqual(refusals.headline(Refusal(number, 3), word), f"refused: {number} at place 3: {said}")
+
+    def test_what_to_do(self):
+        """For the bench or the restorer; a programmer's part is left out."""
+        for number, said in (
+            (1, "the chip was read short, or is of another kind"),
+            (7, "two points of the certificate fall on one step of the chip, or are listed out of order"),
+            (8, ""),
+            (10, "the certificate has a figure that this field cannot come near; another precision (field 9) may"),
+            (14, "check the wiring before the sheet"),
+        ):
+            self.assertEqual(refusals.advice(Refusal(number, 3)), said)
 
 
 class Whole(support.Case):
@@ -373,6 +568,50 @@ class Whole(support.Case):
             self.assertNotIn("physical measurand", said)
             self.assertIn(f"refused: 4 at bit {bit}", said)
 
+    def test_a_measurand_that_is_none(self):
+        """Bits 74 to 79, the first behind the template's number, are bits 2 to 7 of the stream's byte 9: code 63."""
+        data = bytearray(sample_bytes("load-cell.kind1"))
+        data[10] |= 0xFC
+        self.gives(
+            1,
+            "why",
+            self.file("chip", support.sealed(bytes(data))),
+            out=("refused: 5 at bit 74", "bit 74 is bit 2 of page 0, byte 10: physical measurand\n"),
+        )
+
+    def test_the_first_bit_behind_the_fields(self):
+        """Template 33 at precision 1 has 6 + 32 + 32 + 2 + 19 + 19 + 2 + 18 + 6 + 9 + 9 + 9 + 16 + 15 + 12 + 11 bits behind the first
+        74: bit 291 is bit 3 of the stream's byte 36, the selector of what follows."""
+        data = bytearray(sample_bytes("load-cell.kind1"))
+        for bits in (8, 16, 24):
+            changed = bytearray(data)
+            changed[32 + 6] ^= bits
+            said, _ = self.gives(1, "why", self.file("chip", support.sealed(bytes(changed))))
+            where = "bit 291 is bit 3 of page 1, byte 6, behind the fields: in the calibration points, the curve or the ending\n"
+            self.assertEqual("at bit 291" in said, where in said)
+            if where in said:
+                break
+        else:
+            self.fail("no selector is refused")
+
+    def test_bytes_of_a_stream(self):
+        """Without a check byte for each page of 32."""
+        for count in (39, 124, 496):
+            self.gives(1, "why", self.file("chip", bytes(count)), out=f"likely: {count} bytes are a chip's stream, without the check bytes")
+
+    def test_rows_have_an_end(self):
+        """A chip of 128 or 512 bytes has 16 or 64 rows of 8; four more are room enough."""
+        for kind, most, name in ((1, 20, "load-cell.kind1"), (2, 68, "many-points.kind2")):
+            wanted = read_image(sample(name))
+            present = bytes(byte ^ 0xFF for byte in wanted.data)
+            rows = write.Rows(types.SimpleNamespace(kind=kind, name="one"), present, wanted.data, None)
+            rows.sent = most - 1
+            self.assertEqual(len(next(rows.rows())[1]), 8)
+            rows.sent = most
+            self.assertRaises(Trouble, next, rows.rows())
+            rows.held = wanted.data
+            self.assertEqual(list(rows.rows()), [])
+
     def test_intel_hex(self):
         good = ":10000000" + "00" * 16 + "F0"
         self.assertEqual(dumps.bytes_of(f"{good}\n:00000001FF\n".encode()), bytes(16))
@@ -388,6 +627,9 @@ class Whole(support.Case):
             self.assertEqual(dumps.bytes_of("\n".join(lines).encode()), data, form)
             lines[3] = lines[4]
             self.assertNotEqual(dumps.bytes_of("\n".join(lines).encode()), data, form)
+            self.assertNotEqual(len(dumps.bytes_of("\n".join(lines[:3] + lines[4:]).encode()) or b""), 128, form)
+            two = f"{form.format(0, data[:32].hex(' '))}\n{form.format(32, data[32:40].hex(' '))}\n"
+            self.assertEqual(dumps.bytes_of(two.encode()), data[:40], form)
 
     def test_parts_of_a_line(self):
         draft = sheets.Draft("sheet")
@@ -397,8 +639,10 @@ class Whole(support.Case):
 
     def test_what_was_written_is_read_again(self):
         """A file that has other bytes than were written, or another value, is told as such."""
+        sheet = self.file("sheet", self.gives(0, "export", CELL)[0])
         with mock.patch.object(image, "read_image", return_value=Image(sample_bytes("torque.kind1"))):
             self.gives(3, "set", CELL, "location=1", "-o", self.path("new"), err="what stands in the file is not what was written")
+            self.gives(3, "make", sheet, "-o", self.path("made"), err="made: what stands in the file is not what was written")
         other = read_sheet(read_image(CELL))
         with mock.patch.object(setting, "write_image", return_value=other):
             self.gives(3, "set", CELL, "location=1", "-o", self.path("two"), err="what stands in the file is not what was written")
@@ -422,6 +666,28 @@ class Whole(support.Case):
             self.gives(0, "set", CELL, *changes, "--level", "maker", "-o", self.path("chip"), "--force")
             said, _ = self.gives(0, "show", self.path("chip"), *support.TODAY)
             self.assertEqual("the nominal excitation, 10 V, is not between" in said, odd, changes)
+            self.assertEqual(said.count("look at: "), odd, changes)
+
+    def test_the_day_itself(self):
+        """A date of today is not to come, and a chip that is due today is not overdue: 2025-11-03 and 365 days."""
+        for day, look in (
+            ("2025-11-02", ["the calibration date is still to come: 2025-11-03"]),
+            ("2025-11-03", []),
+            ("2026-11-03", []),
+            ("2026-11-04", ["calibration is overdue since 2026-11-03"]),
+        ):
+            said, _ = self.gives(0, "show", CELL, "--today", day)
+            self.assertEqual([line[9:] for line in said.splitlines() if line.startswith("look at: ")], look, day)
+
+    def test_ends_that_are_equal_are_not_above_each_other(self):
+        for name, changes, looks in (
+            ("load-cell.kind1", ("min phys=5000N",), ["minimum and maximum physical value are both 5000 N: every reading shows it"]),
+            ("temperature.kind1", ("current nom=5.0118723mA",), []),
+            ("temperature.kind1", ("min elec=194ohm",), []),
+        ):
+            self.gives(0, "set", sample(name), *changes, "--level", "maker", "-o", self.path("chip"), "--force", *support.TODAY)
+            said, _ = self.gives(0, "show", self.path("chip"), *support.TODAY)
+            self.assertEqual([line[9:] for line in said.splitlines() if line.startswith("look at: ")], looks)
 
     def test_floats_are_the_protocols(self):
         (found,) = readings.of(read_image(CELL), [1000000])

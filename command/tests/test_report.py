@@ -3,11 +3,10 @@ import hashlib
 import html.parser
 import os
 import re
-import shutil
-import subprocess
 
 import support
 from dartelm import calls
+from dartelm.command import panels
 from support import ACCEPTED, REFUSED, sample
 
 PERCENT = "point (%),deviation (%)\n0,0\n20,0.015\n40,0.042\n60,0.038\n80,0.009\n100,-0.021\n"
@@ -104,7 +103,7 @@ class Report(support.Case):
     def test_with_a_certificate(self):
         cert = self.file("cert", PERCENT)
         text = self.page(0, sample("load-cell.kind1"), cert)
-        for part in ("Certificate: AGREES", 'class="band"', "Chip minus certificate", "0.002585\u00a0N", "SHA-256 of the certificate, " + cert):
+        for part in ("Certificate: AGREES", 'class="band"', "Chip minus certificate", "SHA-256 of the certificate, " + cert):
             self.assertTrue(part in text, part)
         self.assertEqual(text.count("<svg"), 4)
         for name, verdict in (
@@ -123,7 +122,15 @@ class Report(support.Case):
         self.assertFalse(os.path.exists(self.path("other.html")))
 
     def drawings(self, text):
-        return [Drawing(svg) for svg in re.findall(r"<svg .*?</svg>", text)]
+        """Each picture; the span goes from left to right, and a greater figure stands higher."""
+        found = [Drawing(svg) for svg in re.findall(r"<svg .*?</svg>", text)]
+        for one in found:
+            self.assertLess(one.feet["0 %"], one.feet["100 %"])
+            left = [label for label, y in one.left.items() if y < one.floor()]
+            rising = sorted(left, key=lambda label: float(label.split(" ")[0]))
+            self.assertEqual(rising, sorted(left, key=lambda label: -one.left[label]))
+            self.assertGreater(len(rising), 1)
+        return found
 
     def near(self, found, wanted, room):
         self.assertEqual(len(found), len(wanted))
@@ -167,6 +174,64 @@ class Report(support.Case):
                 self.assertAlmostEqual(y, correction(x), delta=0.02)
             self.assertIn(f"from {kilopascals(correction(0))} at 0 %", one.svg)
 
+    def test_a_curve_that_takes_away(self):
+        """-0.004 x + 0.00008 x^2 per cent of 300 kPa up to the middle: least at 25 %, by 0.05 %, which is 0.15 kPa."""
+        sheet, _ = self.gives(0, "export", sample("exhaust-pressure.kind1"))
+        sheet = sheet.replace("term = 1, 0.004\n", "term = 1, -0.004\n").replace("term = 2, -0.00008\n", "term = 2, 0.00008\n")
+        self.gives(0, "make", self.file("sheet", sheet), "-o", self.path("chip"))
+        for one in self.drawings(self.page(0, self.path("chip"))):
+            self.assertIn("least -0.15 kPa at 25 % of the span", one.svg)
+            self.assertIn("-0.1 kPa", one.words)
+            for x, y in one.line():
+                if x < 49:
+                    self.assertAlmostEqual(y, 3 * (-0.004 * x + 0.00008 * x * x), delta=0.004)
+
+    def test_forty_points_have_large_dots(self):
+        for count, size in ((1, "3.5"), (40, "3.5"), (41, "1.5")):
+            panel = panels.Panel("", [0, 1], str)
+            panel.dots([(n / 50, 1) for n in range(count)])
+            self.assertEqual(re.findall(' r="([^"]*)"', panel.svg()), [size] * count)
+
+    def test_the_room_of_a_picture(self):
+        """The frame leaves room for the labels: 112 or 100 on the left, 14 on the right and above, 52 below."""
+        for form, frame in (
+            (panels.WIDE, ("0 0 720 220", "112", "14.0", "594", "154.0")),
+            (panels.NARROW, ("0 0 340 240", "100", "14.0", "226", "174.0")),
+        ):
+            panel = panels.Panel("", [0, 1], str, form)
+            panel.axes([(0, "a"), (0.5, "b"), (1, "c")])
+            found = re.search('viewBox="([^"]*)".*class="frame" x="([^"]*)" y="([^"]*)" width="([^"]*)" height="([^"]*)"', panel.svg())
+            self.assertEqual(found.groups(), frame)
+            left, right = float(frame[1]), float(frame[1]) + float(frame[3])
+            floor = float(frame[2]) + float(frame[4])
+            for kind, x1, x2, y1, y2 in re.findall('class="(zero|grid)" x1="([^"]*)" x2="([^"]*)" y1="([^"]*)" y2="([^"]*)"', panel.svg()):
+                across, up = (float(x1), float(x2)), (float(y1), float(y2))
+                self.assertTrue(across == (left, right) and up[0] == up[1] or up == (14, floor) and across[0] == across[1], (kind, across, up))
+
+    def test_where_figures_are_drawn(self):
+        """From edge to edge of the frame, with 8 % of the figures' range above and below them; nought is always among them."""
+        for figures, top, bottom in (([0, 1], 1.08, -0.08), ([-2, -1], 0.16, -2.16), ([3], 3.24, -0.24), ([-1, 3], 3.32, -1.32), ([0, 0], 1, -1)):
+            for form, floor, left, right in ((panels.WIDE, 168, 112, 706), (panels.NARROW, 188, 100, 326)):
+                panel = panels.Panel("", figures, str, form)
+                for found, wanted in ((panel.y(top), 14), (panel.y(bottom), floor), (panel.x(0), left), (panel.x(1), right)):
+                    self.assertAlmostEqual(found, wanted, places=6)
+                self.assertAlmostEqual(panel.y((top + bottom) / 2), (14 + floor) / 2, places=6)
+
+    def test_round_figures(self):
+        """Four to nine of them, a 1, 2 or 5 apart."""
+        for low, high, wanted in (
+            (0, 8, [0, 1, 2, 3, 4, 5, 6, 7, 8]),
+            (0, 4, [0, 1, 2, 3, 4]),
+            (0, 3.9, [0, 0.5, 1, 1.5, 2, 2.5, 3, 3.5]),
+            (0, 9, [0, 2, 4, 6, 8]),
+            (-0.1, 4.1, [0, 1, 2, 3, 4]),
+            (-1, 16, [0, 5, 10, 15]),
+            (-300, 500, [-300, -200, -100, 0, 100, 200, 300, 400, 500]),
+            (5, 5, [5]),
+        ):
+            found = panels.ticks(low, high)
+            self.assertEqual([round(figure, 6) for figure in found], wanted)
+
     def test_ohms_have_no_physical_figures_below(self):
         text = self.page(0, sample("temperature.kind1"))
         for one in self.drawings(text):
@@ -187,7 +252,7 @@ class Report(support.Case):
                 wanted = -0.004 * max(0, 1 - abs(x - 40) / 20)
                 self.assertAlmostEqual(y, wanted, delta=0.00008)
             self.assertIn("least -0.004 % at 40 % of the span", one.svg)
-            self.assertIn("the proved band is 0.0000517 % either way, and the line leaves it", one.svg)
+            self.assertIn("the proved band is 0.000052 % of the span, 0.0026 N, either way, and the line leaves it", one.svg)
         far = re.findall(r'<tr class="far">(.*?)</tr>', text)
         self.assertEqual(len(far), 2)
         self.assertIn('<td data-name="difference">-0.2 N</td><td data-name="of the span">-0.0040004 % !</td>', far[0])
@@ -195,9 +260,27 @@ class Report(support.Case):
             self.near([(0, figure) for figure in one.band()], [(0, 0.0000517), (0, -0.0000517)], 0.0000004)
             self.assertIn("the line stays in it", one.svg)
 
-    def test_one_unit_for_one_thing(self):
-        text = self.page(0, sample("load-cell.kind1"), self.file("cert", PERCENT))
+    def test_one_figure_and_one_unit_for_one_thing(self):
+        """The band is what the lines below it say a chip built from these points could be off by, rounded alike."""
+        text = self.page(0, sample("load-cell.kind1"), self.file("cert", PERCENT)).replace("\u00a0", " ")
         self.assertFalse("ppm" in text)
+        for part in (
+            "Grey band between broken lines: what a chip built from these points could be off by, 0.000052 % of the span, 0.0026 N, either way.",
+            "<p>A chip built from these points could be off by 0.000052 % of the span, 0.0026 N</p>",
+        ):
+            self.assertTrue(part in text, part)
+        self.assertFalse("0.0000517" in text)
+
+    def test_a_refused_page_has_what_why_says(self):
+        """A line a paragraph, as deep as `why` has it."""
+        text = self.page(1, sample("damaged.kind1")).replace("\u00a0", " ")
+        for part in (
+            '<p class="in1">page 2: does not add up</p>',
+            '<p class="in2">calibration date: <span class="one">2025-11-03</span></p>',
+            '<p class="in0">likely: one page is damaged',
+            '<p class="in0">to do: read the chip again',
+        ):
+            self.assertTrue(part in text, part)
 
     def test_whose_it_is(self):
         cert = self.file("cert", PERCENT)
@@ -214,19 +297,10 @@ class Report(support.Case):
         self.assertTrue("<title>A chip that is refused</title>" in self.page(1, sample("blank.kind1")))
 
     def test_screens(self):
-        """What a phone, a dark screen and paper need; that nothing is wider than the page a browser says, where there is one."""
+        """What a phone, a dark screen and paper need."""
         text = self.page(1, sample("load-cell.kind1"), self.file("cert", PERCENT.replace("0.042", "0.046")))
         for part in ("prefers-color-scheme: dark", "max-width: 40em", "@media print", "svg.narrow { display: none; }"):
             self.assertTrue(part in text, part)
-        browser = next(filter(None, map(shutil.which, ("chromium", "chromium-browser", "google-chrome"))), None)
-        for width in (360, 1200) if browser else ():
-            script = "<script>onerror = e => document.title = 'error ' + e</script>"
-            tell = "<script>document.title += '|' + document.documentElement.scrollWidth + '|' + innerWidth</script>"
-            copy = self.file("copy.html", text.replace("<head>", "<head>" + script).replace("</body>", tell + "</body>"))
-            words = [browser, "--headless", "--no-sandbox", "--disable-gpu", f"--window-size={width},900", "--dump-dom", copy]
-            said = subprocess.run(words, capture_output=True, text=True, check=True, timeout=60).stdout
-            title, wide, room = re.search("<title>(.*?)</title>", said).group(1).split("|")
-            self.assertLessEqual(int(wide), int(room), (title, width))
 
     def test_random_images(self):
         for image in support.built_images(40, 9):

@@ -76,6 +76,14 @@ class Tables(support.Case):
             out=("taken: point from 'Load (N)', deviation from 'Deviation as left (N)', 6 rows\n", "AGREES"),
         )
 
+    def test_a_deviation_of_another_sort(self):
+        """All of them are 0, as a chip without a correction has it; the sender's is headed by a word that says nothing."""
+        for head in ("Standard deviation", "Std. deviation", "Uncertainty of deviation", "Limit of deviation", "Permissible deviation"):
+            text = f"Load (N),Difference (N),{head} (N)\n" + "".join(f"{point},{deviation},0.0\n" for point, deviation in NEWTONS)
+            self.refused(text, f"cert:1: '{head} (N)' may not be the sender's deviation; --deviation COLUMN takes it as that")
+            self.assertEqual(self.points(text, deviation="Difference"), BILLIONTHS)
+            self.assertEqual([deviation for _, deviation in self.points(text, deviation=f"{head} (N)")], [0] * 6)
+
     def test_errors_have_the_other_sign(self):
         turned = "Load (N),Error (N)\n" + "".join(f"{point},{-float(deviation)}\n" for point, deviation in NEWTONS)
         self.refused(turned, "cert:1: 'Error (N)' is an error", "--error COLUMN")
@@ -144,6 +152,30 @@ class Tables(support.Case):
         ):
             self.assertEqual(self.points(f"{load},{deviation}\n{points}\n"), BILLIONTHS[1:2], load)
 
+    def test_the_nearest_billionth(self):
+        """A billionth of the span is 0.0000001 %, and 5 millionths of 5000 N; a half goes upward."""
+        for point, deviation, wanted in (
+            ("20.00000004", "0.01500004", (200000000, 150000)),
+            ("20.00000005", "0.01500005", (200000001, 150001)),
+            ("20.00000006", "0.01500006", (200000001, 150001)),
+            ("0", "-0.00000004", (0, 0)),
+            ("0", "-0.00000005", (0, 0)),
+            ("0", "-0.00000006", (0, -1)),
+            ("1000 N", "0.7500024 N", (200000000, 150000)),
+            ("1000 N", "0.7500026 N", (200000000, 150001)),
+            ("1000.0000024 N", "0 N", (200000000, 0)),
+            ("1000.0000026 N", "0 N", (200000001, 0)),
+        ):
+            self.assertEqual(self.points(f"Point (%),Deviation (%)\n{point},{deviation}\n"), [wanted], (point, deviation))
+
+    def test_figures_that_no_line_of_the_console_holds(self):
+        """2^63 - 1 billionths is asked for and refused by its number; 2^63 is not asked for."""
+        for sign, place in (("", "point"), ("-", "point")):
+            for figure, said in (("922337203685.4775807", "refused: 10 at place 1: "), ("922337203685.4775808", "far outside what it counts")):
+                text = f"Point (%),Deviation (%)\n0,0\n{sign}{figure},0\n"
+                status = 1 if figure.endswith("7") else 2
+                self.gives(status, "certificate", self.cell, self.file("cert", text), err=(place, said))
+
     def test_a_sender_whose_unit_is_per_cent(self):
         """Its own per cent, unless the span is named. 0 to 50 %, in which 10 % is a fifth of the span."""
         self.gives(
@@ -155,80 +187,134 @@ class Tables(support.Case):
         ):
             self.gives(0, "certificate", self.path("ratio"), self.file("cert", text), out="AGREES")
 
-    def odd_table(self, chance):
-        """A table as some laboratory writes it: the columns in any order among others, one of some separators and decimal
-        marks, units in heads or cells, thousands with a mark, rows that lack a cell, titles above and remarks below."""
-        mark = chance.choice(",,;;\t")
-        decimal = chance.choice(".,") if mark != "," or chance.random() < 0.4 else "."
-        rows, unit = chance.choice(((NEWTONS, "N"), (PERCENTS, "%"), ([(p / 1000, d) for p, d in NEWTONS], "kN")))
-        other = "N" if unit == "kN" else unit
-        heads, cells = [], []
-        in_cells = chance.random() < 0.2
-
-        def column(head, texts, named):
-            heads.append(head if in_cells or not named else f"{head} ({named})")
-            cells.append([f"{text} {named}" if in_cells and named else text for text in texts])
-
-        def figure(text, digits=None):
-            text = text if digits is None else f"{float(text):.{digits}f}"
-            if chance.random() < 0.03:
-                text = chance.choice(("0" + text, "~" + text, text + "?", "'" + text))
-            if float_of(text) is not None and abs(float_of(text)) >= 1000 and thousands:
-                text = f"{float(text):,}".replace(",", thousands)
-            text = text.replace(".", decimal) if decimal != "." else text
-            return f'"{text}"' if quote and mark in text else text
-
-        thousands = chance.choice(("", "", "", ".", ",", "'", " "))
-        quote = chance.random() < 0.5
-        digits = chance.choice((None, None, 3, 6))
-        columns = [("point", chance.choice(("Point", "Load", "Calibration point", "Applied force")))]
-        columns.append(("deviation", chance.choice(("Deviation", "Correction", "Deviation as left", "Error"))))
-        for extra in chance.sample(("No", "Note", "Uncertainty", "Reading", "Deviation as found", "Load cell"), chance.randrange(4)):
-            columns.append((extra, extra))
-        chance.shuffle(columns)
-        sign = -1 if any(head == "Error" for _, head in columns) else 1
-        for sort, head in columns:
-            if sort == "point":
-                column(head, [figure(str(p), digits) for p, _ in rows], unit)
-            elif sort == "deviation":
-                column(head, [figure(str(sign * float(d)), digits) for _, d in rows], other)
-            elif sort == "No":
-                column(head, [str(n) for n in range(len(rows))], "")
-            elif sort == "Note":
-                column(head, [chance.choice(("", "ok", "15", "015")) for _ in rows], "")
-            else:
-                column(head, [figure(str(chance.choice((0, 0.5, 15)))) for _ in rows], other)
-        lines = [mark.join(heads)] + [mark.join(column[n] for column in cells) for n in range(len(rows))]
-        if chance.random() < 0.1:
-            lines[chance.randrange(1, len(lines))] += mark
-        if chance.random() < 0.1:
-            at = chance.randrange(1, len(lines))
-            lines[at] = lines[at].rpartition(mark)[0]
-        for _ in range(chance.choice((0, 0, 1, 2))):
-            lines.insert(chance.choice((0, len(lines), len(lines), chance.randrange(len(lines)))), chance.choice(REMARKS))
-        return "\n".join(lines) + "\n", sign
-
     def test_odd_tables(self):
-        """The right points or a refusal, of which none makes a chip without the correction agree."""
+        """600 tables: the right points or a refusal. None makes a chip without the correction agree, and the chip that has it
+        agrees with each that is taken whole and in order."""
         chance = support.random.Random(44)
-        taken = 0
-        for number in range(400):
-            text, sign = self.odd_table(chance)
-            columns = {"error": "Error"} if sign < 0 else {}
+        found = [OddTable(chance) for _ in range(600)]
+        self.assertGreater(len({table.text for table in found}), 590)
+        chips = [(image, read_sheet(image)) for image in map(read_image, (self.path("bare"), self.cell))]
+        taken = set()
+        for table in found:
+            columns = {"error": "Error"} if table.turned else {}
             try:
-                points = self.points(text, **columns)
+                points = self.points(table.text, **columns)
             except Trouble as trouble:
-                self.assertEqual(trouble.status, 2, text)
+                self.assertEqual(trouble.status, 2, table.text)
                 continue
-            self.assertEqual(points, BILLIONTHS, text)
-            taken += 1
-            if number % 8 == 0:
-                options = ("--error", "Error") if sign < 0 else ()
-                self.gives(1, "certificate", self.path("bare"), self.file("cert", text), *options, out="DIFFERS")
-        self.assertGreater(taken, 60)
+            self.assertEqual(points, table.points, table.text)
+            taken.add(table.text)
+            for (image, sheet), agrees in zip(chips, (False, points == BILLIONTHS)):
+                try:
+                    against = certificate.against(image, sheet, self.path("cert"), tables.Asked(**columns))
+                except Trouble as trouble:
+                    self.assertEqual((trouble.status, points == BILLIONTHS), (1, False), table.text)
+                    continue
+                self.assertEqual(against.agrees(), agrees, table.text)
+                self.assertEqual(against.verdict().startswith("AGREES: "), agrees, table.text)
+            if len(taken) % 20 == 0:
+                options = ("--error", "Error") if table.turned else ()
+                self.gives(1, "certificate", self.path("bare"), self.path("cert"), *options)
+        self.assertGreater(len(taken), 150)
 
 
-REMARKS = ("Laboratory,RR-118", "Uncertainty 0.005 %", "", "Calibrated 2025-11-03", "# checked", "signed;J.K", "Temperature;23;C")
+# Heads that hold neither points nor deviations, and figures for them: 0 would let a chip without a correction agree.
+BESIDE = (
+    "No", "Note", "Uncertainty", "Reading", "Deviation as found", "Load cell", "Standard deviation", "Limit of deviation", "Difference",
+)  # fmt: skip
+
+
+class OddTable:
+    """A table as some laboratory writes it: the columns in any order among others, one of some separators and decimal marks, units
+    in heads, in cells or in a row of their own, thousands with a mark, rows that lack a cell or go downward, titles above and
+    remarks below. `points` are the right ones, in the rows' order."""
+
+    def __init__(self, chance):
+        self.chance = chance
+        self.mark = chance.choice(",,;;\t")
+        self.decimal = chance.choice(".,") if self.mark != "," or chance.random() < 0.3 else "."
+        self.thousands = chance.choice(("", "", "", "", "", "", ".", ",", "'", " "))
+        self.quote = chance.random() < 0.5
+        self.digits = chance.choice((None, None, None, 3, 6))
+        self.minus = chance.choice(("-", "-", "-", "\u2212"))
+        self.faults = chance.random() < 0.3
+        self.units = chance.choice(("head", "head", "head", "head", "cell", "row"))
+        rows, self.unit, self.other = chance.choice((
+            (NEWTONS, "N", "N"),
+            (PERCENTS, "%", "%"),
+            ([(p / 1000, d) for p, d in NEWTONS], "kN", "N"),
+            ([(p, f"{float(d) * 1000:g}") for p, d in NEWTONS], "N", "mN"),
+            ([(p, d) for (p, _), (_, d) in zip(NEWTONS, PERCENTS)], "N", "%"),
+            (PERCENTS, "% of span", "% of span"),
+        ))  # fmt: skip
+        order = list(range(len(rows)))
+        if chance.random() < 0.05:
+            order.reverse()
+        self.rows = [rows[n] for n in order]
+        self.points = [BILLIONTHS[n] for n in order]
+        self.columns = self.drawn_columns()
+        self.turned = any(head == "Error" for _, head in self.columns)
+        self.text = self.written()
+
+    def drawn_columns(self):
+        chance = self.chance
+        found = [("point", chance.choice(("Point", "Load", "Calibration point", "Applied force")))]
+        found.append(("deviation", chance.choice(("Deviation", "Deviation", "Correction", "Deviation as left", "Error"))))
+        found += [("beside", head) for head in chance.sample(BESIDE, chance.choice((0, 0, 1, 2)))]
+        chance.shuffle(found)
+        return found
+
+    def figure(self, text):
+        text = text if self.digits is None else f"{float(text):.{self.digits}f}"
+        if self.faults and self.chance.random() < 0.05:
+            text = self.chance.choice(("0" + text, "~" + text, text + "?", "'" + text, f"({text})", text + " ok"))
+        if float_of(text) is not None and abs(float_of(text)) >= 1000 and self.thousands:
+            text = f"{float(text):,}".replace(",", self.thousands)
+        text = text.replace(".", self.decimal) if self.decimal != "." else text
+        text = text.replace("-", self.minus)
+        return f'"{text}"' if self.quote and self.mark in text else text
+
+    def beside(self, head):
+        if head == "No":
+            return [str(n) for n in range(len(self.rows))]
+        if head == "Note":
+            return [self.chance.choice(("", "ok", "15", "015")) for _ in self.rows]
+        return [self.figure(str(self.chance.choice((0, 0, 0.5, 15)))) for _ in self.rows]
+
+    def column(self, sort, head):
+        """The head and the cells below it."""
+        sign = -1 if head == "Error" else 1
+        if sort == "beside":
+            cells, unit = self.beside(head), "" if head in ("No", "Note") else self.other
+        elif sort == "point":
+            cells, unit = [self.figure(str(point)) for point, _ in self.rows], self.unit
+        else:
+            cells, unit = [self.figure(f"{sign * float(deviation):g}") for _, deviation in self.rows], self.other
+        if self.units == "cell":
+            return [head, *(f"{cell} {unit}".strip() for cell in cells)]
+        if self.units == "row":
+            return [head, unit, *cells]
+        return [f"{head} ({unit})" if unit else head, *cells]
+
+    def written(self):
+        chance = self.chance
+        columns = [self.column(*column) for column in self.columns]
+        lines = [self.mark.join(cells) for cells in zip(*columns)]
+        if self.faults and chance.random() < 0.3:
+            lines[chance.randrange(1, len(lines))] += self.mark
+        if self.faults and chance.random() < 0.3:
+            at = chance.randrange(1, len(lines))
+            lines[at] = lines[at].rpartition(self.mark)[0]
+        for _ in range(chance.choice((0, 0, 1, 2))):
+            lines.insert(chance.choice((0, 0, len(lines), len(lines), chance.randrange(len(lines)))), chance.choice(REMARKS))
+        end = chance.choice(("\n", "\n", "\r\n"))
+        return chance.choice(("", "", "", "\ufeff")) + end.join(lines) + end
+
+
+REMARKS = (
+    "Laboratory,RR-118", "Uncertainty 0.005 %", "", "Calibrated 2025-11-03", "# checked", "signed;J.K", "Temperature;23;C",
+    "Page 1 of 1", "k = 2", "Load cell serial 555",
+)  # fmt: skip
 
 
 def float_of(text):

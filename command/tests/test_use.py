@@ -131,6 +131,13 @@ class Use(support.Case):
         ):
             self.assertEqual(self.ends(status, *words, program=program, env=env), self.ends(status, *words))
 
+    def test_the_library_is_asked_for_only_where_it_is_needed(self):
+        """Its first use may compile it."""
+        program = support.other_home(self.path("there"))
+        self.ends(0, "--help", program=program)
+        self.ends(2, "show", program=program)
+        self.ends(3, "show", sample("load-cell.kind1"), program=program)
+
     def test_as_a_program(self):
         self.ends(0, "show", *map(sample, ACCEPTED), "--curve")
         self.ends(1, "show", sample("damaged.kind1"))

@@ -331,8 +331,7 @@ class AgainstCurve(Against):
 
     def fractions(self, inputs):
         found = super().fractions(inputs)
-        figures = [one.figure for one in found if not isinstance(one, Refusal)]
-        places = self.ruler.places([Fraction(figure) for figure in figures]) if all(map(math.isfinite, figures)) else [None]
+        places = self.ruler.places([Fraction(one.figure) for one in found if not isinstance(one, Refusal)])
         if None in places:
             raise refused("the chip's curve gives a figure more than a tenth outside the span")
         left = iter(places)

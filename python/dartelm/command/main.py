@@ -2,6 +2,7 @@
 import argparse
 import contextlib
 import datetime
+import functools
 import importlib
 import os
 import re
@@ -18,6 +19,7 @@ VALUED += ("--certificate", "--within", "--span", "--certificates", "--customer"
 STATUS = "Ends with 0 if accepted, 1 if refused or different, 2 if it is not understood, 3 if a file cannot be read or written."
 
 
+@functools.lru_cache(maxsize=None)
 def parser():
     about = "A sender's chip at the bench, in plain words and units. " + STATUS
     top = argparse.ArgumentParser(prog="dartelm", description=about, allow_abbrev=False)
@@ -142,11 +144,9 @@ class Made(argparse.Action):
         super().__init__(nargs=0, **words)
 
     def __call__(self, made, *_):
-        if self.dest == "version":
-            print(version.line())
-        else:
-            manual = importlib.import_module(".manual", __package__)
-            print(manual.page(made) if self.dest == "man" else manual.completion(made), end="")
+        manual = importlib.import_module(".manual", __package__)
+        texts = {"man": manual.page, "completion": manual.completion, "version": lambda _: version.line() + "\n"}
+        print(texts[self.dest](made), end="")
         made.exit()
 
 

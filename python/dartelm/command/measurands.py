@@ -95,7 +95,9 @@ DENSITY = {"kg/m\u00b3": 1, "g/l": 1, "kg/l": 1000, "g/cm3": 1000, "g/cm\u00b3":
 MASS_FLOW = {"kg/s": 1, "kg/h": Fraction(1, HOUR), "g/s": Fraction(1, 1000), "kg/min": Fraction(1, 60)}
 FLOW = {
     "m\u00b3/s": 1,
+    "m3/s": 1,
     "m\u00b3/hr": Fraction(1, HOUR),
+    "m3/hr": Fraction(1, HOUR),
     "m3/h": Fraction(1, HOUR),
     "l/s": Fraction(1, 1000),
     "l/min": Fraction(1, 60000),

@@ -11,7 +11,7 @@ import socket
 import struct
 import time
 
-from .trouble import UNREAD, Trouble, misused, unread
+from .trouble import misused, unread
 
 PREFIX = "ow:"
 HEAD = struct.Struct(">6i")
@@ -19,8 +19,8 @@ READ, WRITE, LIST = 2, 3, 7
 UNCACHED, OWNET = 0x20, 0x100
 PORT = 4304
 SILENCE, PATIENCE = 5.0, 60.0
-# No answer that is asked for here is longer.
-LONGEST = 65536
+# No answer that is asked for here is longer, and no error has a greater number.
+LONGEST, LAST_ERROR = 65536, 4095
 ROW = 8
 NO_SUCH = 1
 READ_ONLY = (errno.EROFS, errno.EACCES, errno.EPERM, errno.ENOTSUP)
@@ -39,18 +39,16 @@ class Denied(Exception):
         self.number = number
 
 
-class ReadOnly(Trouble):
-    """Nothing is written to this chip."""
-
-
 class Owserver:
     """A question is a connection of its own: an owserver does not end while one is kept."""
 
     def __init__(self, place="localhost"):
-        host, _, port = place.rpartition(":") if re.search(r":[0-9]+$", place) else (place, "", str(PORT))
-        if not host or not 0 < int(port) < 1 << 16:
+        """HOST, HOST:PORT or PORT, as ow-shell takes them; an IPv6 address stands in brackets."""
+        whole = f"localhost:{place}" if re.fullmatch("[0-9]+", place) else place
+        found = re.fullmatch(r"(\[[^][]+\]|[^][:]+)(?::([0-9]{1,5}))?", whole)
+        if not found or not 0 < int(found[2] or PORT) < 1 << 16:
             raise misused(f"-s: '{place}' is no HOST:PORT")
-        self.host, self.port = host, int(port)
+        self.host, self.port = found[1], int(found[2] or PORT)
 
     def where(self):
         return f"{self.host}:{self.port}"
@@ -59,13 +57,14 @@ class Owserver:
         """The payload of the answer."""
         payload = path.encode("ascii") + b"\0" + data
         try:
-            with socket.create_connection((self.host, self.port), SILENCE) as link:
+            with socket.create_connection((self.host.strip("[]"), self.port), SILENCE) as link:
                 link.sendall(HEAD.pack(0, len(payload), kind, UNCACHED | OWNET, size, offset) + payload)
                 result, answer = self.answer(link)
         except (TimeoutError, socket.timeout):
             raise unread(f"the server at {self.where()} is silent") from None
-        except OSError as error:
-            raise unread(f"no owserver at {self.where()}: {error.strerror or error}; {CONFIGURE}") from None
+        except (OSError, UnicodeError) as error:
+            reason = getattr(error, "strerror", None) or error
+            raise unread(f"no owserver at {self.where()}: {reason}; {CONFIGURE}") from None
         if result < 0:
             raise Denied(-result)
         return answer
@@ -75,7 +74,7 @@ class Owserver:
         began = time.monotonic()
         while True:
             zero, length, result, _, _, _ = HEAD.unpack(self.taken(link, HEAD.size))
-            if zero != 0 or length > LONGEST:
+            if zero != 0 or length > LONGEST or result < -LAST_ERROR:
                 raise unread(f"what answers at {self.where()} is no owserver")
             if length >= 0:
                 return result, self.taken(link, length)
@@ -93,7 +92,11 @@ class Owserver:
 
     def chips(self):
         """The names of all chips, as FAMILY.ID."""
-        names = self.ask(LIST, "/").rstrip(b"\0").decode("ascii", "replace").split(",")
+        try:
+            answer = self.ask(LIST, "/")
+        except Denied as denied:
+            raise unread(f"the server at {self.where()} does not list its chips: {denied}; check the adapter") from None
+        names = answer.rstrip(b"\0").decode("ascii", "replace").split(",")
         return [name.strip("/") for name in names if NAME.fullmatch(name.strip("/"))]
 
     def chip(self, name):
@@ -145,18 +148,19 @@ class Chip:
         return first
 
     def write_row(self, offset, row):
-        """Accepted is not written: what was programmed is to be read back."""
+        """What the server says against it, or None. Neither tells whether it is written: the chip is to be read back."""
         try:
             self.server.ask(WRITE, self.path(), len(row), offset, row)
         except Denied as denied:
-            raise self.trouble(denied) from None
+            return denied
+        return None
 
     def trouble(self, denied):
         if denied.number == NO_SUCH:
             return unread(f"ow:{self.name}: there is no such chip at {self.server.where()}; there are {listed(self.server.chips())}")
         if denied.number in READ_ONLY:
-            return ReadOnly(f"ow:{self.name}: it is read-only, or the server is: {denied}", UNREAD)
-        return unread(f"ow:{self.name}: the server answers: {denied}")
+            return unread(f"ow:{self.name}: it is read-only, or the server is: {denied}")
+        return unread(f"ow:{self.name}: the server answers: {denied}; check the contact and the adapter")
 
 
 # Where chips are looked for: `-s` says another place.

@@ -113,9 +113,8 @@ def take(sheet, image, inputs, dash="large"):
 
 
 def curve_corrections(taken):
-    """Places on the span and what a curve adds there, in the sender's unit, as far as it is finite."""
-    places = [(one.position / WHOLE_SPAN, one.figure - one.straight) for one in taken]
-    return [place for place in places if math.isfinite(place[1])]
+    """Places on the span and what a curve adds there, in the sender's unit. Figures of readings are finite (docs/PROMISES.md)."""
+    return [(one.position / WHOLE_SPAN, one.figure - one.straight) for one in taken]
 
 
 def why_no_reading(sheet, image, dash="large"):
@@ -140,17 +139,13 @@ def figure_text(figure, unit, prefix):
 
 def curve_text(sheet, one, unit, prefix):
     """What a curve adds, to a billionth of the greater end's power of ten."""
-    figure = one.figure - one.straight
-    if not math.isfinite(figure):
-        return str(figure)
-    return in_unit(rounded(figure, greater_end(sheet).adjusted() - 9), unit, prefix, True)
+    return in_unit(rounded(one.figure - one.straight, greater_end(sheet).adjusted() - 9), unit, prefix, True)
 
 
 def greater_end(sheet):
-    return max(abs(singles.digits(value)) for value in (sheet.values[7], sheet.values[8]) if value is not MISSING)
+    return max(abs(singles.digits(value)) for value in (sheet.values[7], sheet.values[8]))
 
 
 def sheet_prefix(sheet, unit):
-    """One prefix for all physical figures of a sheet, which suits its greater end."""
-    missing = sheet.values[7] is sheet.values[8] is MISSING
-    return "" if missing else unit.prefix_for(greater_end(sheet))
+    """One prefix for all physical figures of a sheet, which suits its greater end. Without both ends there are no such figures."""
+    return "" if MISSING in (sheet.values[7], sheet.values[8]) else unit.prefix_for(greater_end(sheet))

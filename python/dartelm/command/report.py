@@ -8,7 +8,7 @@ from .image import Image, read_sheet, refusal_of
 from .panels import NARROW, WIDE, Panel
 from .readings import WHOLE_SPAN
 from .trouble import ACCEPTED, REFUSED
-from .units import float_text, in_unit, many, percent, plain, signed
+from .units import float_text, in_unit, many, plain, signed
 
 SAMPLES = 241
 STYLE = """
@@ -23,8 +23,9 @@ h2 { font-size: 1.1em; margin: 1.4em 0 .4em; border-bottom: 2px solid var(--ink)
 p { margin: .3em 0; overflow-wrap: anywhere; }
 .verdict { border: 2px solid var(--ink); padding: .4em .7em; margin: .8em 0; font-weight: bold; }
 .look { border-left: 6px double var(--ink); padding-left: .6em; }
-.job { display: flex; flex-wrap: wrap; gap: .3em 2em; }
-.job p { flex: 1 1 14em; border-bottom: 1px solid var(--ink); min-height: 1.6em; }
+.one { white-space: nowrap; }
+.job { display: flex; flex-wrap: wrap; gap: .3em 2em; margin-top: 1.6em; break-inside: avoid; }
+.job p { flex: 1 1 14em; border-bottom: 1px solid var(--ink); min-height: 3em; }
 table { border-collapse: collapse; width: 100%; margin-top: .6em; }
 td, th { text-align: right; vertical-align: top; padding: .12em 0 .12em .6em; border-bottom: 1px solid var(--faint); }
 td, th { white-space: nowrap; }
@@ -36,7 +37,8 @@ td, th { white-space: nowrap; }
 .fields span { text-align: right; overflow-wrap: anywhere; }
 .points { columns: 2; column-gap: 2em; }
 .points p { break-inside: avoid; margin: 0; border-bottom: 1px solid var(--faint); font-variant-numeric: tabular-nums; }
-pre { white-space: pre-wrap; overflow-wrap: anywhere; }
+.in1 { padding-left: 1.2em; }
+.in2 { padding-left: 2.4em; }
 svg { width: 100%; height: auto; }
 svg.wide { display: block; }
 svg.narrow { display: none; }
@@ -49,21 +51,22 @@ svg .dot { fill: var(--paper); stroke: var(--ink); stroke-width: 1.6; }
 svg .band { fill: var(--band); stroke: var(--ink); stroke-width: 1; stroke-dasharray: 7 4; }
 figure { margin: .4em 0 0; break-inside: avoid; }
 figcaption { font-size: .9em; margin-top: -.4em; }
-footer { margin-top: 1.6em; border-top: 1px solid var(--ink); font-size: .85em; overflow-wrap: anywhere; }
+footer { break-inside: avoid; margin-top: 1.6em; border-top: 1px solid var(--ink); font-size: .85em; overflow-wrap: anywhere; }
 @media screen and (max-width: 40em) {
   .fields, .points { columns: 1; } body { margin-top: .5em; } figcaption { margin-top: .2em; }
   svg.wide { display: none; } svg.narrow { display: block; }
   table, tbody { display: block; } tr.heads { display: none; }
   tr { display: grid; grid-template-columns: 1fr 1fr; column-gap: 1em; padding: .3em 0; border-bottom: 1px solid var(--faint); }
-  td { display: flex; justify-content: space-between; gap: .5em; border: 0; padding: 0; font-size: .85em; white-space: normal; }
-  td::before { content: attr(data-name); color: var(--soft); font-weight: normal; text-align: left; }
+  td { display: flex; justify-content: space-between; gap: .5em; border: 0; padding: 0; font-size: .9em; }
+  td:nth-child(n + 3) { grid-column: 1 / -1; }
+  td::before { content: attr(data-name); color: var(--soft); font-weight: normal; }
 }
 @page { size: A4; margin: 10mm; }
 @media print {
   body { margin: 0; padding: 0; max-width: none; font-size: 10px; line-height: 1.25; }
   h2 { break-after: avoid; margin-top: .9em; }
-  .points { columns: 3; } .fields { columns: 2; } svg { max-height: 52mm; } svg text { font-size: 10.5px; }
-  footer { margin-top: .8em; } td, th { white-space: nowrap; font-size: 1em; }
+  .points { columns: 3; } .fields { columns: 2; } svg { max-height: 36mm; } svg text { font-size: 14px; }
+  footer { margin-top: .8em; } .job { margin-top: .8em; } .job p { min-height: 2.4em; }
 }
 """
 
@@ -95,14 +98,15 @@ def run(given):
 def document(title, body):
     return (
         f'<!DOCTYPE html>\n<html lang="en">\n<head>\n<meta charset="utf-8">\n'
-        f'<meta name="viewport" content="width=device-width, initial-scale=1">\n<title>{text(title)}</title>\n'
+        f'<meta name="viewport" content="width=device-width, initial-scale=1">\n<title>{html.escape(title)}</title>\n'
         f"<style>{STYLE}</style>\n</head>\n<body>\n<h1>{text(title)}</h1>\n" + "\n".join(body) + "\n</body>\n</html>\n"
     )
 
 
 def text(words):
-    """For a page; a figure and its unit stay on one line."""
-    return re.sub(r"(?<=[0-9]) (?=[%\w\u00b0])", "\u00a0", html.escape(words))
+    """For a page; a figure and its unit, and a date, stay on one line."""
+    joined = re.sub(r"(?<=[0-9]) (?=[%\w\u00b0])", "\u00a0", html.escape(words))
+    return re.sub(r"\b[0-9]{4}-[0-9]{2}-[0-9]{2}\b", r'<span class="one">\g<0></span>', joined)
 
 
 def for_the_job(given):
@@ -133,7 +137,9 @@ def refused_title(lines):
 
 def refused_body(lines, refusal):
     yield f'<p class="verdict">{text(refusals.headline(refusal).replace("refused", "REFUSED", 1))}</p>'
-    yield "<pre>" + html.escape("\n".join(lines[1:])) + "</pre>"
+    for line in lines[1:]:
+        depth = (len(line) - len(line.lstrip())) // 2
+        yield f'<p class="in{depth}">{text(line.strip())}</p>'
 
 
 def compared(image, sheet, given):
@@ -215,9 +221,6 @@ def correction_figure(sheet, image, by):
 def curve_figure(sheet, by, taken, below):
     line = readings.curve_corrections(taken)
     unit, prefix = by.unit(), readings.sheet_prefix(sheet, by.unit())
-    if not line:
-        yield "<p>The curve's figures are not finite.</p>"
-        return
     drawing = drawn("Correction over the span", line, [], lambda y: in_unit(float_text(y, 4), unit, prefix, True), below)
     about = f"Line: figure shown minus the figure without the curve, in {unit.named(prefix)}, by {SAMPLES} readings."
     yield figure(drawing, about)
@@ -226,9 +229,9 @@ def curve_figure(sheet, by, taken, below):
 def certificate_figure(sheet, by, against):
     line = against.over(SAMPLES)
     dots = [(one.place / WHOLE_SPAN, float(one.difference)) for one in against.at]
-    distance = against.distance()
+    band = against.distance() and Band(against)
     below = feet(sheet, by)
-    yield figure(drawn("Chip minus certificate", line, dots, percent_label, below, distance), certificate_caption(against, distance))
+    yield figure(drawn("Chip minus certificate", line, dots, percent_label, below, band), certificate_caption(band))
     for told in (*against.heading(), *against.told, *([against.meaning()] if against.agrees() else [])):
         yield f"<p>{text(told[:1].upper() + told[1:])}</p>"
     heads = "".join(f"<th>{html.escape(name)}</th>" for name in certificate.HEADS)
@@ -240,14 +243,19 @@ def certificate_figure(sheet, by, against):
     yield "</table>"
 
 
-def certificate_caption(against, distance):
+class Band:
+    """How far a chip that is built from the certificate's points can be from it, either way, in billionths and in words."""
+
+    def __init__(self, against):
+        self.distance = against.distance()
+        self.words = against.told_bound.text()
+
+
+def certificate_caption(band):
     caption = f"Line: the chip minus the certificate, in per cent of the span, by {SAMPLES} readings. "
     caption += "Circles: the certificate's points."
-    if distance:
-        caption += (
-            f" Grey band between broken lines: the proved distance, {percent(distance)} of the span "
-            f"({against.physical(distance, False)}) either way."
-        )
+    if band:
+        caption += f" Grey band between broken lines: what a chip built from these points could be off by, {band.words}, either way."
     return caption
 
 
@@ -255,14 +263,14 @@ def percent_label(billionths):
     return signed(plain(float_text(billionths / 1e7, 4))) + " %"
 
 
-def drawn(title, line, dots, label, below, distance=None):
+def drawn(title, line, dots, label, below, band=None):
     """The picture in a wide form and in a narrow one, of which a screen shows one; its words tell what it shows."""
-    heights = [y for _, y in line + dots] + ([distance, -distance] if distance else [])
+    heights = [y for _, y in line + dots] + ([band.distance, -band.distance] if band else [])
     found = []
     for form in (WIDE, NARROW):
-        panel = Panel(described(title, line or dots, label, distance), heights, label, form)
-        if distance:
-            panel.band(distance)
+        panel = Panel(described(title, line or dots, label, band), heights, label, form)
+        if band:
+            panel.band(band.distance)
         panel.axes(below)
         if line:
             panel.line(line)
@@ -271,16 +279,16 @@ def drawn(title, line, dots, label, below, distance=None):
     return "".join(found)
 
 
-def described(title, places, label, distance):
+def described(title, places, label, band):
     """A picture in words: both ends, the greatest and the least, and whether it stays in its band."""
     def at(place):
         return f"{label(place[1])} at {plain(float_text(place[0] * 100, 4))} % of the span"
 
     said = f"{title}: from {at(places[0])} to {at(places[-1])}"
     said += f"; greatest {at(max(places, key=lambda place: place[1]))}, least {at(min(places, key=lambda place: place[1]))}"
-    if distance:
-        outside = any(abs(y) > distance for _, y in places)
-        said += f"; the proved band is {label(distance).lstrip('+')} either way, and the line {'leaves it' if outside else 'stays in it'}"
+    if band:
+        outside = any(abs(y) > band.distance for _, y in places)
+        said += f"; the proved band is {band.words}, either way, and the line {'leaves it' if outside else 'stays in it'}"
     return said
 
 

@@ -153,10 +153,8 @@ def curve_lines(sheet, image, by):
     taken = readings.take(sheet, image, readings.evenly(readings.ends_of(sheet), 61))
     if sheet.curve():
         unit, prefix = by.unit(), readings.sheet_prefix(sheet, by.unit())
-        drawn = readings.curve_corrections(taken)
-        if drawn:
-            yield f"correction over the span, in {unit.named(prefix)}:"
-            yield from text_curve(drawn, lambda y: in_unit(float_text(y, 4), unit, prefix, True))
+        yield f"correction over the span, in {unit.named(prefix)}:"
+        yield from text_curve(readings.curve_corrections(taken), lambda y: in_unit(float_text(y, 4), unit, prefix, True))
         return
     yield "correction over the span:"
     yield from text_curve([(one.position / readings.WHOLE_SPAN, one.correction) for one in taken], tenths)

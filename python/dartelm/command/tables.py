@@ -13,6 +13,8 @@ OF_SPAN = re.compile(r"(?:%|per cent|percent) (?:of )?(?:the )?(?:full )?span")
 SPAN = "% of span"
 DEVIATION = {"deviation", "deviations", "correction", "corrections"}
 ERROR = {"error", "errors"}
+# A column headed so is of deviations, and has not the sender's.
+ABOUT = {"standard", "std", "uncertainty", "limit", "limits", "tolerance", "permissible", "permitted", "allowed", "allowable"}
 RELATIVE = {"relative", "rel", "reading", "rdg", "indication", "indicated"}
 MEASURED = {word for name, _ in measurands.CASES for word in re.findall("[a-z]+", name.lower())}
 POINT = {"point", "points", "figure", "load", "applied"} | MEASURED
@@ -116,6 +118,8 @@ def columns_of(path, line, row, asked):
         if len(found) > 1:
             names = " and ".join(f"'{row[at]}'" for at in found)
             raise misused(f"{path}:{line}: {names} may each be the {what}; {option} COLUMN says which")
+    if asked.deviation is None and ABOUT & words_of(row[deviations[0]]):
+        raise misused(f"{path}:{line}: '{row[deviations[0]]}' may not be the sender's deviation; --deviation COLUMN takes it as that")
     if errors:
         raise misused(
             f"{path}:{line}: '{row[errors[0]]}' is an error, which has the other sign than a deviation; "

@@ -6,7 +6,7 @@ from fractions import Fraction
 
 from .trouble import misused
 
-EXACT = decimal.Context(prec=200, Emax=999, Emin=-999)
+EXACT = decimal.Context(prec=200)
 PREFIXES = {"n": -9, "u": -6, "\u00b5": -6, "\u03bc": -6, "m": -3, "": 0, "k": 3, "M": 6, "G": 9}
 NUMBER = re.compile(r"\s*([+-]?(?:[0-9]+\.?[0-9]*|\.[0-9]+)(?:[eE][+-]?[0-9]{1,2}(?![0-9]))?)\s*(.*?)\s*")
 LONGEST = 40
@@ -48,7 +48,7 @@ class Unit:
 
     def takes(self):
         """The spellings that are understood, for a message."""
-        names = [self.name] + [prefix + self.name for prefix in self.prefixes if ord(prefix) < 128] + list(self.others)[:FEW]
+        names = [self.name] + [prefix + self.name for prefix in self.prefixes if prefix.isascii()] + list(self.others)[:FEW]
         return names[0] if len(names) == 1 else ", ".join(names[:-1]) + " or " + names[-1]
 
 

@@ -182,7 +182,7 @@ def layout(image, found):
     fetched = tried(whole_image.ask, calls.fetch, bytes(76), 1)
     template = 33 if isinstance(fetched, Refusal) and fetched.number == 18 else 32
     refusal = refusal_of(whole_image)
-    if refusal and (refusal.number in (1, 2, 17) or refusal.place < BEHIND_TEMPLATE):
+    if refusal and refusal.place < BEHIND_TEMPLATE:
         return None
     precision = tried(whole_image.ask, calls.fetch, Places(template, 0).index, 9)
     if isinstance(precision, Refusal):
@@ -240,14 +240,14 @@ def cause_lines(image, found, refusal):
     elif not any(image.data):
         yield "likely: every byte is 0: the reader had no contact, or the chip was wiped"
         yield "to do: read the chip again; if it stays, it holds no sheet: 'dartelm make' one"
-    elif found.count(GOOD) == len(found):
+    elif not bad(found):
         yield "likely: a whole chip whose sheet was written wrongly, or for another device: the pages add up"
-    elif len(found) > 1 and found.count(GOOD) == len(found) - 1:
-        yield f"likely: one page is damaged, or changed by a writer that did not mend its check byte: page {bad(found)[0]}"
-    elif len(found) > 1 and found.count(GOOD):
-        yield f"likely: some pages are damaged or were never written: pages {', '.join(map(str, bad(found)))}"
-    else:
+    elif GOOD not in found:
         yield "likely: no page adds up: a bad contact, a dump that does not begin at the first byte, or no such chip"
+    elif len(bad(found)) == 1:
+        yield f"likely: one page is damaged, or changed by a writer that did not mend its check byte: page {bad(found)[0]}"
+    else:
+        yield f"likely: some pages are damaged or were never written: pages {', '.join(map(str, bad(found)))}"
     said = refusals.advice(refusal)
     if said and any(image.data):
         yield f"to do: {said}" + (BUILD if refusal.number == 17 else "")

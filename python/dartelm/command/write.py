@@ -9,7 +9,7 @@ from . import files, owserver
 from .fields import FIELDS
 from .image import Image, open_image, read_sheet, refusal_of
 from .looks import shown
-from .owserver import PREFIX, Owserver, ReadOnly
+from .owserver import PREFIX, READ_ONLY, Owserver
 from .trouble import ACCEPTED, misused, refused, unread
 from .units import many
 
@@ -31,9 +31,29 @@ def run(given):
             print(f"ow:{chip.name}: holds it already")
             return ACCEPTED
         own_sender(chip, Image(present, chip.kind), sheet, given.force)
-        keep(chip, present, given.keep)
-        Rows(chip, wanted).write(present)
+        say = Progress()
+        keep(chip, present, given.keep, say)
+        Rows(chip, present, wanted.data, say).write()
+        say.end()
     return ACCEPTED
+
+
+class Progress:
+    """What cannot be said leaves no chip unfinished: it is raised at the end."""
+
+    def __init__(self):
+        self.failed = None
+
+    def __call__(self, line):
+        try:
+            print(line, flush=True)
+        except OSError as error:
+            self.failed = error
+            os.dup2(os.open(os.devnull, os.O_WRONLY), 1)
+
+    def end(self):
+        if self.failed:
+            raise self.failed
 
 
 class Lock:
@@ -46,13 +66,20 @@ class Lock:
     def __enter__(self):
         path = os.path.join(tempfile.gettempdir(), f"dartelm-{self.name}.lock")
         try:
-            self.handle = os.open(path, os.O_RDWR | os.O_CREAT | os.O_NOFOLLOW | os.O_CLOEXEC, 0o666)
+            self.handle = self.opened(path)
             fcntl.flock(self.handle, fcntl.LOCK_EX | fcntl.LOCK_NB)
         except BlockingIOError:
             os.close(self.handle)
             raise unread(f"ow:{self.name}: another command writes this chip now") from None
         except OSError as error:
             raise unread(f"cannot lock {path}: {files.reason(error)}") from None
+
+    def opened(self, path):
+        """Another user's file serves as well, which may neither be written nor made again."""
+        try:
+            return os.open(path, os.O_RDONLY | os.O_NOFOLLOW | os.O_CLOEXEC)
+        except FileNotFoundError:
+            return os.open(path, os.O_RDONLY | os.O_CREAT | os.O_NOFOLLOW | os.O_CLOEXEC, 0o644)
 
     def __exit__(self, *_):
         os.close(self.handle)
@@ -69,67 +96,72 @@ def own_sender(chip, present, sheet, force):
         raise refused(f"ow:{chip.name}: another sender's sheet is on the chip ({told}); --force writes over it")
 
 
-def keep(chip, present, asked):
+def keep(chip, present, asked, say):
     """What was there goes into a file first, which replaces none. Where the chip is refused, as an unfinished one is, a file that
     is there has what was there before, and stays."""
     path = asked or f"{chip.name}-old.kind{chip.kind}"
     if os.path.lexists(path):
         if refusal_of(Image(present, chip.kind)):
-            print(f"{path} is there already, and stays")
+            say(f"{path} is there already, and stays")
         elif files.read_bytes(path) != present:
             raise unread(f"{path} is there already; --keep OLD has to name another file for what is on the chip now")
         return
     files.write_new(path, present, False)
-    print(f"{path}: written, what was on the chip")
+    say(f"{path}: written, what was on the chip")
 
 
 class Rows:
-    """The rows of an image, written and read back."""
+    """The rows of an image, written and read back. `held` was read last; `coming` is what holds if the row on its way is taken."""
 
-    def __init__(self, chip, wanted):
+    def __init__(self, chip, old, wanted, say):
         self.chip = chip
+        self.old = self.held = self.coming = old
         self.wanted = wanted
+        self.say = say
         self.sent = 0
 
-    def write(self, present):
+    def write(self):
         try:
-            while True:
-                row = self.next(present)
-                if row is None:
-                    break
-                present = self.one(present, *row)
+            for offset, row in self.rows():
+                self.one(offset, row)
         except BaseException:
             print(f"dartelm: ow:{self.chip.name}: {self.unfinished()}", file=sys.stderr)
             raise
-        print(f"ow:{self.chip.name}: written and read back, accepted, {many(self.sent, 'row')}")
+        self.say(f"ow:{self.chip.name}: written and read back, accepted, {many(self.sent, 'row')}")
 
     def unfinished(self):
-        if not self.sent:
+        told = {self.old: "as it was", self.wanted: "written"}
+        now, then = (told.get(data, "refused") for data in (self.held, self.coming))
+        if self.held == self.coming == self.old:
             return "nothing was changed on the chip"
-        return "unfinished: the chip is refused until the same command has finished it"
+        return f"unfinished: the chip is {now if now == then else f'{now} or {then}'} now; the same command finishes it"
 
-    def next(self, present):
-        """Offset and bytes of the row that comes next; None where all is written."""
-        row = calls.next_row(present, self.wanted.data, kind=self.chip.kind)
-        if row.is_done:
-            return None
-        if self.sent >= MOST[self.chip.kind]:
-            raise unread(f"ow:{self.chip.name}: {self.sent} rows are written, and it asks for more")
-        return row.offset, row.bytes
+    def rows(self):
+        """Offset and bytes of each row, as what is held then asks for it."""
+        while True:
+            row = calls.next_row(self.held, self.wanted, kind=self.chip.kind)
+            if row.is_done:
+                return
+            if self.sent >= MOST[self.chip.kind]:
+                raise unread(f"ow:{self.chip.name}: {self.sent} rows are written, and it asks for more")
+            yield row.offset, row.bytes
 
-    def one(self, present, offset, row):
-        """A row is written and the whole chip read back: what holds then."""
-        self.sent += 1
-        try:
-            self.chip.write_row(offset, row)
-        except ReadOnly:
-            self.sent -= 1
-            raise
+    def one(self, offset, row):
+        """A row is written and the whole chip read back."""
+        self.coming = self.held[:offset] + row + self.held[offset + len(row) :]
+        denied = self.chip.write_row(offset, row)
         now = self.chip.read()
-        if now == present:
-            self.sent -= 1
-            raise unread(f"ow:{self.chip.name}: the chip does not take the row at {offset}; it may be protected")
-        if now != present[:offset] + row + present[offset + len(row) :]:
+        if now == self.held:
+            self.coming = now
+            raise self.untaken(offset, denied)
+        if now != self.coming:
             raise unread(f"ow:{self.chip.name}: what is read back is not the row that was written at {offset}; check the contact")
-        print(f"  row {self.sent}: bytes {offset} to {offset + len(row) - 1}", flush=True)
-        return now
+        self.held = now
+        self.sent += 1
+        self.say(f"  row {self.sent}: bytes {offset} to {offset + len(row) - 1}")
+
+    def untaken(self, offset, denied):
+        if denied and denied.number in READ_ONLY:
+            return self.chip.trouble(denied)
+        said = f" (the server answers: {denied})" if denied else ""
+        return unread(f"ow:{self.chip.name}: the chip does not take the row at {offset}; it may be protected{said}")
