@@ -1,1 +1,3 @@
 mod Names
+pub mod LineLaws
+pub mod GatherLaws

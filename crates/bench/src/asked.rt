@@ -3,6 +3,7 @@ use words::Filled;
 use words::Number;
 use words::word;
 ghost use mathlib.Core.Path.{_≡_};
+ghost use Rattle.bench.specs.Asked.{lent as lentIn, lentSaid};
 ghost use Rattle.bench.specs.Kinds.{kindOf};
 
 // Room for the bytes of any word.
@@ -30,7 +31,9 @@ pub enum Asked {
 }
 
 // The kind and the image, words 1 and 2 of a line.
-pub fn lent(line: &[u8], room: &mut [u8]) -> Asked {
+pub fn lent(line: &[u8], room: &mut [u8]) -> Asked
+    ensures { λ r. ⌜ lentSaid r (now (room .exit)) ≡ lentIn (now (line .entry)) (now (room .entry)) ⌝ }
+{
     let Number::Is(kind) = words::number_of(word(line, 1)) else {
         return Asked::Unknown;
     };

@@ -16,7 +16,12 @@ use words::Worth;
 use words::Writer;
 use words::front_mut;
 use words::word;
+ghost use mathlib.Core.Bool.{false};
+ghost use mathlib.Core.Path.{_≡_};
 ghost use Prim.Native.Nat.{_≤_};
+ghost use Rattle.fields.specs.Answers.{templateSaid};
+ghost use Rattle.words.specs.Said.{numberSaid};
+ghost use Rattle.bench.specs.Builds.{endBitWord, hasCurve, isBuild, templateIn, head as headIn, headSaid, slots as slotsIn, slotsSaid, flag as flagIn, sheet as sheetIn, sheetSaid};
 
 // The first word that is a value.
 const VALUES: u64 = 5;
@@ -24,7 +29,7 @@ const VALUES: u64 = 5;
 // The word of the end bit, behind the values of a template's fields; the text follows it, and then the domain and the points, or
 // `curve`, the segment count, the segments and the terms.
 fn end_bit_word(template: Template) -> u64
-    ensures { λ r. ⌜ r ≤ 26 ⌝ }
+    ensures { λ r. ⌜ (r ≡ endBitWord template) × (r ≤ 26) ⌝ }
 {
     VALUES + fields::last_field(template)
 }
@@ -32,6 +37,7 @@ fn end_bit_word(template: Template) -> u64
 // Whether a line hands in a curve.
 fn is_drawn(line: &[u8], end: u64) -> bool
     requires { ⌜ end ≤ 26 ⌝ }
+    ensures { λ r. ⌜ r ≡ hasCurve (now (line .entry)) end ⌝ }
 {
     equal(word(line, end + 2), b"curve")
 }
@@ -39,6 +45,7 @@ fn is_drawn(line: &[u8], end: u64) -> bool
 // Whether a line has as many words as a build from points or from a curve.
 fn is_whole(line: &[u8], end: u64) -> bool
     requires { ⌜ end ≤ 26 ⌝ }
+    ensures { λ r. ⌜ r ≡ isBuild (now (line .entry)) end ⌝ }
 {
     if is_drawn(line, end) {
         return words::word_count(line) == end + 6;
@@ -47,58 +54,138 @@ fn is_whole(line: &[u8], end: u64) -> bool
 }
 
 // The template that word 4 names, if the line has the words of a build from it.
-fn template_in(line: &[u8]) -> TemplateAnswer {
+fn template_in(line: &[u8]) -> TemplateAnswer
+    ensures { λ r. ⌜ templateSaid r ≡ templateIn (now (line .entry)) ⌝ }
+{
     let Number::Is(number) = words::number_of(word(line, 4)) else {
         return TemplateAnswer::Unknown;
     };
     let TemplateAnswer::Is(template) = fields::template_of(number) else {
         return TemplateAnswer::Unknown;
     };
-    if !is_whole(line, end_bit_word(template)) {
-        return TemplateAnswer::Unknown;
+    if is_whole(line, end_bit_word(template)) {
+        return TemplateAnswer::Is(template);
     }
-    TemplateAnswer::Is(template)
+    TemplateAnswer::Unknown
 }
 
-// The value of a field.
-fn slot(line: &[u8], index: u64) -> Slot {
-    match words::value_of(word(line, index)) {
-        Worth::Is(value) => Slot { value },
-        Worth::Not => Slot {
+// The kind, the buffer's length, the level and the template, words 1 to 4.
+struct Head {
+    kind: u8,
+    length: usize,
+    level: Level,
+    template: Template,
+}
+
+enum Headed {
+    Is(Head),
+    Unknown,
+}
+
+fn head_of(line: &[u8]) -> Headed
+    ensures { λ r. ⌜ headSaid r ≡ headIn (now (line .entry)) ⌝ }
+{
+    let Number::Is(kind) = words::number_of(word(line, 1)) else {
+        return Headed::Unknown;
+    };
+    let Number::Is(length) = words::number_of(word(line, 2)) else {
+        return Headed::Unknown;
+    };
+    let Writer::Is(level) = words::level_of(word(line, 3)) else {
+        return Headed::Unknown;
+    };
+    let TemplateAnswer::Is(template) = template_in(line) else {
+        return Headed::Unknown;
+    };
+    Headed::Is(Head {
+        kind: asked::kind_of(kind),
+        length: length as usize,
+        level,
+        template,
+    })
+}
+
+// The values of the fields, and whether all their words are values.
+struct Slots {
+    taken: bool,
+    fields: [Slot; 21],
+}
+
+fn no_slots() -> Slots
+    ensures { λ r. ⌜ r .taken ≡ false ⌝ }
+{
+    Slots {
+        taken: false,
+        fields: [Slot {
             value: Value::Missing,
-        },
+        }; 21],
     }
 }
 
-// Whether the words of the fields, before that of the end bit, are values.
-fn are_values(line: &[u8], end: u64) -> bool {
-    let mut index = VALUES;
-    while index < end {
-        match words::value_of(word(line, index)) {
-            Worth::Is(_) => {}
-            Worth::Not => return false,
-        }
-        index += 1;
-    }
-    true
-}
-
-// The sheet record of a line's values.
-fn sheet_of(line: &[u8], template: Template, end_bit: bool, level: Level) -> Sheet {
-    let last = fields::last_field(template);
+fn slots_of(line: &[u8], template: Template) -> Slots
+    ensures { λ r. ⌜ slotsSaid r ≡ slotsIn (now (line .entry)) template ⌝ }
+{
+    let last = fields::last_field(template) as usize;
     let mut fields = [Slot {
         value: Value::Missing,
     }; 21];
     let mut at: usize = 0;
-    while at < last as usize {
-        fields[at] = slot(line, VALUES + at as u64);
+    while at < last {
+        match words::value_of(word(line, VALUES + at as u64)) {
+            Worth::Is(value) => fields[at] = Slot { value },
+            Worth::Not => return no_slots(),
+        }
         at += 1;
     }
-    Sheet {
-        template,
+    Slots {
+        taken: true,
         fields,
-        end_bit,
-        level,
+    }
+}
+
+// A word that is 0 or 1.
+fn flag_of(word: &[u8]) -> Number
+    ensures { λ r. ⌜ numberSaid r ≡ flagIn (now (word .entry)) ⌝ }
+{
+    let Number::Is(n) = words::number_of(word) else {
+        return Number::Not;
+    };
+    if n > 1 {
+        return Number::Not;
+    }
+    Number::Is(n)
+}
+
+// The sheet record, and whether its words are such.
+struct Sheeted {
+    taken: bool,
+    sheet: Sheet,
+}
+
+fn sheet_of(line: &[u8], template: Template, level: Level) -> Sheeted
+    ensures { λ r. ⌜ sheetSaid r ≡ sheetIn (now (line .entry)) template level ⌝ }
+{
+    let slots = slots_of(line, template);
+    let fields = slots.fields;
+    match flag_of(word(line, end_bit_word(template))) {
+        Number::Is(bit) => Sheeted {
+            taken: slots.taken,
+            sheet: Sheet {
+                template,
+                fields,
+                end_bit: bit == 1,
+                level,
+            },
+        },
+        Number::Not => Sheeted {
+            taken: false,
+            sheet: Sheet {
+                template,
+                fields,
+                end_bit: false,
+                level,
+            },
+        },
     }
 }
 
@@ -106,12 +193,9 @@ fn sheet_of(line: &[u8], template: Template, end_bit: bool, level: Level) -> She
 fn build_in(image: &mut [u8], kind: u8, line: &[u8], end: u64, sheet: Sheet)
     requires { ⌜ end ≤ 26 ⌝ }
 {
-    let Number::Is(domain) = words::number_of(word(line, end + 2)) else {
+    let Number::Is(domain) = flag_of(word(line, end + 2)) else {
         return printing::unknown();
     };
-    if domain > 1 {
-        return printing::unknown();
-    }
     let mut text = [0u8; ROOM];
     let Filled::To(characters) = words::bytes_of(word(line, end + 1), &mut text) else {
         return printing::unknown();
@@ -147,36 +231,23 @@ fn draw_in(image: &mut [u8], kind: u8, line: &[u8], end: u64, sheet: Sheet)
     printing::written(answer, image);
 }
 
-// The kind, the buffer's length, the level and the template, words 1 to 4, the values, the end bit, the text, and the domain and
-// the points or a curve.
+// The words before the values, the sheet record, the text, and the domain and the points or a curve.
 pub fn build(line: &[u8]) {
-    let Number::Is(kind) = words::number_of(word(line, 1)) else {
+    let Headed::Is(head) = head_of(line) else {
         return printing::unknown();
     };
-    let Number::Is(length) = words::number_of(word(line, 2)) else {
+    let template = head.template;
+    let level = head.level;
+    let sheeted = sheet_of(line, template, level);
+    if !sheeted.taken {
         return printing::unknown();
-    };
-    let Writer::Is(level) = words::level_of(word(line, 3)) else {
-        return printing::unknown();
-    };
-    let TemplateAnswer::Is(template) = template_in(line) else {
-        return printing::unknown();
-    };
+    }
+    let sheet = sheeted.sheet;
     let end = end_bit_word(template);
-    let Number::Is(end_bit) = words::number_of(word(line, end)) else {
-        return printing::unknown();
-    };
-    if end_bit > 1 {
-        return printing::unknown();
-    }
-    if !are_values(line, end) {
-        return printing::unknown();
-    }
-    let sheet = sheet_of(line, template, end_bit == 1, level);
     let mut room = [0u8; ROOM];
-    let image = front_mut(&mut room, length as usize);
+    let image = front_mut(&mut room, head.length);
     if is_drawn(line, end) {
-        return draw_in(image, asked::kind_of(kind), line, end, sheet);
+        return draw_in(image, head.kind, line, end, sheet);
     }
-    build_in(image, asked::kind_of(kind), line, end, sheet);
+    build_in(image, head.kind, line, end, sheet);
 }

@@ -8,7 +8,11 @@ use words::Number;
 use words::Worth;
 use words::piece_at;
 use words::piece_count;
+ghost use mathlib.Core.Bool.{false};
+ghost use mathlib.Core.Path.{_≡_};
 ghost use Prim.Native.Nat.{_<_};
+ghost use Rattle.words.specs.Said.{numberSaid};
+ghost use Rattle.bench.specs.Curves.{pairs, segmentAt, segmentSaid, segments as segmentsIn, segmentsSaid, termAt, termSaid, terms as termsIn, termsSaid, curve as curveIn, drawnSaid};
 
 // A segment, and a term, of a list.
 enum SegmentItem {
@@ -38,7 +42,9 @@ pub struct Drawn {
 }
 
 // How many pairs of items a list has, of which commas separate the items; `-` is none at all, and an odd number is no pairs.
-fn pairs_in(list: &[u8]) -> Number {
+fn pairs_in(list: &[u8]) -> Number
+    ensures { λ r. ⌜ numberSaid r ≡ pairs (now (list .entry)) ⌝ }
+{
     if words::is_minus(list) {
         return Number::Is(0);
     }
@@ -52,6 +58,7 @@ fn pairs_in(list: &[u8]) -> Number {
 // Start and term count, at this pair of a list.
 fn segment_at(list: &[u8], pair: u64) -> SegmentItem
     requires { ⌜ pair < 100 ⌝ }
+    ensures { λ r. ⌜ segmentSaid r ≡ segmentAt (now (list .entry)) pair ⌝ }
 {
     let Figure::Is(start) = words::figure_of(piece_at(list, 2 * pair, b',')) else {
         return SegmentItem::Not;
@@ -65,6 +72,7 @@ fn segment_at(list: &[u8], pair: u64) -> SegmentItem
 // Exponent and coefficient, at this pair of a list.
 fn term_at(list: &[u8], pair: u64) -> TermItem
     requires { ⌜ pair < 100 ⌝ }
+    ensures { λ r. ⌜ termSaid r ≡ termAt (now (list .entry)) pair ⌝ }
 {
     let Figure::Is(exponent) = words::figure_of(piece_at(list, 2 * pair, b',')) else {
         return TermItem::Not;
@@ -72,23 +80,28 @@ fn term_at(list: &[u8], pair: u64) -> TermItem
     let Worth::Is(value) = words::single_word(piece_at(list, 2 * pair + 1, b',')) else {
         return TermItem::Not;
     };
-    let Value::Single(coefficient) = value else {
-        return TermItem::Not;
-    };
-    TermItem::Is(Term {
-        exponent,
-        coefficient,
-    })
+    match value {
+        Value::Single(coefficient) => TermItem::Is(Term {
+            exponent,
+            coefficient,
+        }),
+        Value::Whole(_) => TermItem::Not,
+        Value::Missing => TermItem::Not,
+    }
 }
 
-fn no_segments() -> Segments {
+fn no_segments() -> Segments
+    ensures { λ r. ⌜ r .taken ≡ false ⌝ }
+{
     Segments {
         taken: false,
         segments: [Segment { start: 0, terms: 0 }; 20],
     }
 }
 
-fn no_terms() -> Terms {
+fn no_terms() -> Terms
+    ensures { λ r. ⌜ r .taken ≡ false ⌝ }
+{
     Terms {
         taken: false,
         terms: [Term {
@@ -98,7 +111,9 @@ fn no_terms() -> Terms {
     }
 }
 
-fn segments_of(list: &[u8]) -> Segments {
+fn segments_of(list: &[u8]) -> Segments
+    ensures { λ r. ⌜ segmentsSaid r ≡ segmentsIn (now (list .entry)) ⌝ }
+{
     let Number::Is(count) = pairs_in(list) else {
         return no_segments();
     };
@@ -120,7 +135,9 @@ fn segments_of(list: &[u8]) -> Segments {
     }
 }
 
-fn terms_of(list: &[u8]) -> Terms {
+fn terms_of(list: &[u8]) -> Terms
+    ensures { λ r. ⌜ termsSaid r ≡ termsIn (now (list .entry)) ⌝ }
+{
     let Number::Is(count) = pairs_in(list) else {
         return no_terms();
     };
@@ -143,7 +160,9 @@ fn terms_of(list: &[u8]) -> Terms {
 }
 
 // The curve of a segment count, a list of segments and a list of terms.
-pub fn curve_of(count: u64, segments: &[u8], terms: &[u8]) -> Drawn {
+pub fn curve_of(count: u64, segments: &[u8], terms: &[u8]) -> Drawn
+    ensures { λ r. ⌜ drawnSaid r ≡ curveIn count (now (segments .entry)) (now (terms .entry)) ⌝ }
+{
     let found = segments_of(segments);
     let listed = terms_of(terms);
     let curve = Curve {

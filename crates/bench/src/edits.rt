@@ -15,6 +15,8 @@ use words::Writer;
 use words::front;
 use words::front_mut;
 use words::word;
+ghost use mathlib.Core.Path.{_≡_};
+ghost use Rattle.bench.specs.Asked.{edit as editIn, editSaid, exchange as exchangeIn, exchangeSaid};
 
 // A value for a field, by a writer of a level.
 struct Edit {
@@ -29,7 +31,9 @@ enum Edited {
 }
 
 // The field, the value and the level, words 3 to 5 of a change or a proposal.
-fn edit_of(line: &[u8]) -> Edited {
+fn edit_of(line: &[u8]) -> Edited
+    ensures { λ r. ⌜ editSaid r ≡ editIn (now (line .entry)) ⌝ }
+{
     let Number::Is(field) = words::number_of(word(line, 3)) else {
         return Edited::Unknown;
     };
@@ -93,35 +97,56 @@ pub fn propose(line: &[u8]) {
     propose_in(front(&room, chip.length), chip.kind, edit);
 }
 
-fn commit_in(image: &mut [u8], kind: u8, level: Level, field: u64, present: u64, new: u64) {
-    let answer = change::commit(kind, image, level, field, present, new);
+// The code that stands in a field and the one that takes its place, by a writer of a level.
+struct Exchange {
+    field: u64,
+    present: u64,
+    new: u64,
+    level: Level,
+}
+
+enum Exchanged {
+    Of(Exchange),
+    Unknown,
+}
+
+// The field, the two codes and the level, words 3 to 6 of a commit.
+fn exchange_of(line: &[u8]) -> Exchanged
+    ensures { λ r. ⌜ exchangeSaid r ≡ exchangeIn (now (line .entry)) ⌝ }
+{
+    let Number::Is(field) = words::number_of(word(line, 3)) else {
+        return Exchanged::Unknown;
+    };
+    let Number::Is(present) = words::number_of(word(line, 4)) else {
+        return Exchanged::Unknown;
+    };
+    let Number::Is(new) = words::number_of(word(line, 5)) else {
+        return Exchanged::Unknown;
+    };
+    let Writer::Is(level) = words::level_of(word(line, 6)) else {
+        return Exchanged::Unknown;
+    };
+    Exchanged::Of(Exchange {
+        field,
+        present,
+        new,
+        level,
+    })
+}
+
+fn commit_in(image: &mut [u8], kind: u8, codes: Exchange) {
+    let level = codes.level;
+    let answer = change::commit(kind, image, level, codes.field, codes.present, codes.new);
     printing::written(answer, image);
 }
 
-// The field, the two codes and the level, words 3 to 6.
 pub fn commit(line: &[u8]) {
-    let Number::Is(field) = words::number_of(word(line, 3)) else {
-        return printing::unknown();
-    };
-    let Number::Is(present) = words::number_of(word(line, 4)) else {
-        return printing::unknown();
-    };
-    let Number::Is(new) = words::number_of(word(line, 5)) else {
-        return printing::unknown();
-    };
-    let Writer::Is(level) = words::level_of(word(line, 6)) else {
+    let Exchanged::Of(codes) = exchange_of(line) else {
         return printing::unknown();
     };
     let mut room = [0u8; ROOM];
     let Asked::Of(chip) = asked::lent(line, &mut room) else {
         return printing::unknown();
     };
-    commit_in(
-        front_mut(&mut room, chip.length),
-        chip.kind,
-        level,
-        field,
-        present,
-        new,
-    );
+    commit_in(front_mut(&mut room, chip.length), chip.kind, codes);
 }

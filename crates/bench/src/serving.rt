@@ -2,6 +2,9 @@
 use crate::commands;
 use crate::printing;
 use libc::STDIN_FILENO;
+ghost use mathlib.Core.Path.{_≡_};
+ghost use lib.ListN.{length};
+ghost use Rattle.bench.specs.Gathering.{begun, comeSaid, more, next, after};
 
 // The longest line.
 const LONGEST: usize = 32_768;
@@ -13,7 +16,9 @@ struct Gathered {
 }
 
 // A line just begun.
-fn nothing() -> Gathered {
+fn nothing() -> Gathered
+    ensures { λ r. ⌜ r ≡ begun ⌝ }
+{
     Gathered {
         length: 0,
         long: false,
@@ -28,12 +33,10 @@ fn finish(line: &[u8], so_far: Gathered) {
     commands::answer(words::front(line, so_far.length));
 }
 
-// One byte more: a line's end has it answered, any other byte is kept where there is room.
-fn step(line: &mut [u8], so_far: Gathered, b: u8) -> Gathered {
-    if b == b'\n' {
-        finish(line, so_far);
-        return nothing();
-    }
+// One byte more of a line, kept where there is room.
+fn kept(line: &mut [u8], so_far: Gathered, b: u8) -> Gathered
+    ensures { λ r. ⌜ comeSaid (now (line .exit)) r ≡ more (length (now (line .entry))) (comeSaid (now (line .entry)) «so_far») b ⌝ }
+{
     let length = so_far.length;
     if length >= line.len() {
         return Gathered { length, long: true };
@@ -45,8 +48,21 @@ fn step(line: &mut [u8], so_far: Gathered, b: u8) -> Gathered {
     }
 }
 
+// One byte more: a line's end has it answered.
+fn step(line: &mut [u8], so_far: Gathered, b: u8) -> Gathered
+    ensures { λ r. ⌜ comeSaid (now (line .exit)) r ≡ next (length (now (line .entry))) (comeSaid (now (line .entry)) «so_far») b ⌝ }
+{
+    if b == b'\n' {
+        finish(line, so_far);
+        return nothing();
+    }
+    kept(line, so_far, b)
+}
+
 // A block of bytes, one after another.
-fn gather(line: &mut [u8], before: Gathered, block: &[u8]) -> Gathered {
+fn gather(line: &mut [u8], before: Gathered, block: &[u8]) -> Gathered
+    ensures { λ r. ⌜ comeSaid (now (line .exit)) r ≡ after (length (now (line .entry))) (comeSaid (now (line .entry)) before) (now (block .entry)) ⌝ }
+{
     let mut so_far = before;
     let mut at = 0;
     while at < block.len() {

@@ -1,5 +1,5 @@
 -- A template has 21 fields at most.
-use Rattle.bench.proofs.Names.{arith, needs, last-most}
+use Rattle.bench.proofs.Names.{needs, arith, last-most}
 use Rattle.bench.proofs.builds.end_bit_word.Statement.{statement}
 use Rattle.bench.proofs.builds.end_bit_word.Tie as tie
 
@@ -9,4 +9,4 @@ end-bit-word-spec =
     (tie.spec
     (λ c κs. search needs)
     (λ c. record { fits = omega (arith, c .last-field .ensures, last-most (c .before .args .template)) })
-    (λ c. omega (arith, c .last-field .ensures, last-most (c .before .args .template))))
+    (λ c. (search needs, omega (arith, c .last-field .ensures, last-most (c .before .args .template)))))

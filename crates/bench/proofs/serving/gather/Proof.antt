@@ -1,5 +1,6 @@
--- The line keeps its length, and what is left of the block is the measure.
-use Rattle.bench.proofs.Names.{_≡_, _-_, length, needs}
+-- The line keeps its length, what has come goes byte by byte, and what is left of the block is the measure.
+use Rattle.bench.proofs.Names.{_-_, _∙_, _≡_, refl, sym, needs, drop, length, after, comeSaid}
+use Rattle.bench.proofs.GatherLaws.{after-end, gather-on}
 use Rattle.bench.proofs.serving.gather.Statement.{statement}
 use Rattle.bench.proofs.serving.gather.Tie as tie
 
@@ -7,13 +8,13 @@ pub gather-spec : {M : Type 1} → statement M
 gather-spec =
     tie.close
     (tie.spec
-    (λ line₀ block so-far₀ at₀ line so-far at. length line ≡ length line₀)
+    (λ line₀ block so-far₀ at₀ line so-far at. (length line ≡ length line₀) × (after (length line₀) (comeSaid line so-far) (drop at block) ≡ after (length line₀) (comeSaid line₀ so-far₀) block))
     (λ line₀ block so-far₀ at₀ line so-far at. length block - at)
-    (λ c. search needs)
+    (λ c. (search needs, refl))
     (λ c. search needs)
     (λ c κs. search needs)
     (λ c. search needs)
     (λ c. search needs)
+    (λ c. (search needs, gather-on (length (c .before .before .before .before .before .before .before .before .before .args .line .now)) (comeSaid (c .before .before .before .before .before .before .loop .line) (c .before .before .before .before .before .before .loop .so-far)) (c .before .before .before .before .before .before .before .before .before .args .block .now) (c .before .before .before .before .before .before .loop .at) (c .before .before .before .before .before .loop-test .taken) (c .before .before .before .before .before .before .loop .inv .0) (c .before .before .step .ensures) (c .before .before .before .before .before .before .loop .inv .1)))
     (λ c. search needs)
-    (λ c. search needs)
-    (λ c. search needs))
+    (λ c. sym (after-end (length (c .before .before .before .before .args .line .now)) (comeSaid (c .before .loop .line) (c .before .loop .so-far)) (c .before .before .before .before .args .block .now) (c .before .loop .at) (search needs)) ∙ c .before .loop .inv .1))
