@@ -19,6 +19,9 @@ use sheet::SegmentAnswer;
 use sheet::Summary;
 use sheet::TableDomain;
 use sheet::TermAnswer;
+ghost use mathlib.Core.Path.{_≡_};
+ghost use Rattle.reading.specs.Reading.{readingSaid};
+ghost use Rattle.shown.specs.Listing.{taken};
 
 // A field's line, or its refusal's; the numbers stand in two columns.
 fn print_field(kind: u8, image: &[u8], template: Template, field: u64) {
@@ -158,7 +161,9 @@ fn print_fields(kind: u8, image: &[u8], template: Template) {
 }
 
 // Whether a dash that answers so takes the sheet's points.
-fn takes(answer: ReadingAnswer) -> bool {
+fn takes(answer: ReadingAnswer) -> bool
+    ensures { λ r. ⌜ r ≡ taken (readingSaid answer) ⌝ }
+{
     match answer {
         ReadingAnswer::Shows(_) => true,
         ReadingAnswer::Refused(r) => r.number != refusal::TOO_MANY_POINTS,

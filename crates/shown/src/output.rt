@@ -2,15 +2,23 @@
 use integers::minus;
 use integers::plus;
 use libc::STDOUT_FILENO;
+ghost use mathlib.Core.Path.{_≡_};
+ghost use Rattle.shown.specs.Tables.{entryOf};
 
 pub fn put(text: &[u8]) {
     io::write_all(STDOUT_FILENO, text);
 }
 
 // The piece of a table that stands in this column of this row, from 0: rows are lines, and a semicolon separates columns.
-// Nothing where there is none such.
+// Empty where there is none such.
+fn entry(table: &[u8], row: u64, column: u64) -> &[u8]
+    ensures { λ r. ⌜ now r ≡ entryOf (now (table .entry)) row column ⌝ }
+{
+    words::piece_at(words::piece_at(table, row, b'\n'), column, b';')
+}
+
 pub fn put_entry(table: &[u8], row: u64, column: u64) {
-    put(words::piece_at(words::piece_at(table, row, b'\n'), column, b';'));
+    put(entry(table, row, column));
 }
 
 pub fn put_number(n: u64) {

@@ -1,5 +1,6 @@
 // A Single in decimal, right to the last digit shown: up to seven digits, the nearest, a tie to the even one.
-ghost use Prim.Native.Nat.{_≤_, _<_};
+ghost use Prim.Native.Nat.{_%_, _≤_, _<_};
+ghost use Rattle.shown.specs.Singles.{Shapes, Scales};
 use crate::output::put;
 use crate::output::put_from;
 use crate::output::put_number;
@@ -17,52 +18,72 @@ fn print_first_and_rest(text: &[u8]) {
     }
 }
 
-// Digits of which `whole` stand before the point; past ten, as a power of ten.
-fn print_large(text: &[u8], whole: u64)
-    requires { ⌜ 0 < whole ⌝ }
-{
-    if 10 < whole {
-        print_first_and_rest(text);
-        put(b"e");
-        put_number(whole - 1);
-        return;
-    }
-    let end = whole as usize;
-    if text.len() <= end {
-        put(text);
-        put_zeros((end - text.len()) as u64);
-        return;
-    }
-    put(words::front(text, end));
-    put(b".");
-    put_from(text, end);
+// Where the point of digits stands.
+enum Shape {
+    // Behind the first digit, times a power of ten; and divided by one.
+    Raised(u64),
+    Lowered(u64),
+    // Behind so many noughts that follow the digits.
+    Whole(u64),
+    // Behind so many of the digits.
+    Split(u64),
+    // Before so many noughts that precede the digits.
+    Behind(u64),
 }
 
-// Digits behind the point and so many noughts; past four, as a power of ten.
-fn print_small(text: &[u8], noughts: u64)
-    requires { ⌜ noughts < 1000 ⌝ }
+// Of so many digits with `up` noughts behind them, the point so many places up: plain with up to ten digits before the point, or up
+// to four noughts behind it.
+fn shape_of(count: u64, up: u64, point: u64) -> Shape
+    requires { ⌜ (count < 9_223_372_036_854_775_808) × (up ≤ 20_000_000) × (point < 1000) ⌝ }
+    ensures { λ r. ⌜ Shapes count up point r ⌝ }
 {
+    let top = up + count;
+    if point < top {
+        let whole = top - point;
+        if 10 < whole {
+            return Shape::Raised(whole - 1);
+        }
+        if count <= whole {
+            return Shape::Whole(whole - count);
+        }
+        return Shape::Split(whole);
+    }
+    let noughts = point - top;
     if 4 < noughts {
-        print_first_and_rest(text);
-        put(b"e-");
-        put_number(noughts + 1);
-        return;
+        return Shape::Lowered(noughts + 1);
     }
-    put(b"0.");
-    put_zeros(noughts);
-    put(text);
+    Shape::Behind(noughts)
 }
 
-// Digits with `up` noughts behind them, and the point so many places up.
 fn print_digits(text: &[u8], up: u64, point: u64)
     requires { ⌜ (up ≤ 20_000_000) × (point < 1000) ⌝ }
 {
-    let top = up + text.len() as u64;
-    if point < top {
-        print_large(text, top - point);
-        return;
+    match shape_of(text.len() as u64, up, point) {
+        Shape::Raised(power) => {
+            print_first_and_rest(text);
+            put(b"e");
+            put_number(power);
+        }
+        Shape::Lowered(power) => {
+            print_first_and_rest(text);
+            put(b"e-");
+            put_number(power);
+        }
+        Shape::Whole(noughts) => {
+            put(text);
+            put_zeros(noughts);
+        }
+        Shape::Split(whole) => {
+            put(words::front(text, whole as usize));
+            put(b".");
+            put_from(text, whole as usize);
+        }
+        Shape::Behind(noughts) => {
+            put(b"0.");
+            put_zeros(noughts);
+            put(text);
+        }
     }
-    print_small(text, point - top);
 }
 
 // The digits of n × 10^up, with the point so many places up.
@@ -87,28 +108,48 @@ fn print_scaled(m: u64, p: u64)
     print_number(x.n, x.up, less(149, p));
 }
 
-// A finite Single without its sign, from its exponent's field and its fraction's.
-fn print_fields(exponent: u64, fraction: u64)
-    requires { ⌜ (exponent < 256) × (fraction < 8_388_608) ⌝ }
+// A finite Single: its sign, and m × 2^p / 2^149.
+struct Scaled {
+    negative: bool,
+    m: u64,
+    p: u64,
+}
+
+// By the fields of its bits: the sign, the exponent and the fraction.
+fn scaled_of(bits: u32) -> Scaled
+    requires { ⌜ bits % 2_147_483_648 < 2_139_095_040 ⌝ }
+    ensures { λ r. ⌜ Scales bits r ⌝ }
 {
+    let negative = 0x8000_0000 <= bits;
+    let exponent = (bits % 0x8000_0000 / 0x80_0000) as u64;
+    let fraction = (bits % 0x80_0000) as u64;
     if exponent == 0 {
-        print_scaled(fraction, 0);
-        return;
+        return Scaled {
+            negative,
+            m: fraction,
+            p: 0,
+        };
     }
-    print_scaled(fraction + 8_388_608, exponent - 1);
+    Scaled {
+        negative,
+        m: 8_388_608 + fraction,
+        p: exponent - 1,
+    }
 }
 
 // A Single from its bits.
 fn print_bits(bits: u32) {
-    let rest = bits % 0x8000_0000;
-    if rest != bits {
+    if 0x7f80_0000 <= bits % 0x8000_0000 {
+        if 0x8000_0000 <= bits {
+            put(b"-");
+        }
+        return put(b"infinity");
+    }
+    let x = scaled_of(bits);
+    if x.negative {
         put(b"-");
     }
-    if 0x7f80_0000 <= rest {
-        put(b"infinity");
-        return;
-    }
-    print_fields((rest / 0x80_0000) as u64, (rest % 0x80_0000) as u64);
+    print_scaled(x.m, x.p);
 }
 
 // A Single, with up to seven digits; plain from 0.00001 to below 10,000,000,000, else with a power of ten.

@@ -9,21 +9,34 @@ use fields::Template;
 use fields::Value;
 use integers::plus;
 use texts::TextAnswer;
+ghost use mathlib.Core.Path.{_≡_};
+ghost use Rattle.shown.specs.Texts.{dateField, textField};
+
+// The field of the calibration date; the initials are behind it.
+fn date_field(template: Template) -> u64
+    ensures { λ r. ⌜ r ≡ dateField template ⌝ }
+{
+    match template {
+        Template::Bridge => 18,
+        Template::Resistance => 16,
+    }
+}
 
 // The number by which a field's text is asked for: 3, 18 for a date, 19 for initials; 0 where a field has none.
-fn text_field(template: Template, field: u64) -> u64 {
-    match template {
-        Template::Bridge => match field {
-            3 | 18 | 19 => field,
-            _ => 0,
-        },
-        Template::Resistance => match field {
-            3 => 3,
-            16 => 18,
-            17 => 19,
-            _ => 0,
-        },
+fn text_field(template: Template, field: u64) -> u64
+    ensures { λ r. ⌜ r ≡ textField template field ⌝ }
+{
+    let date = date_field(template);
+    if field == 3 {
+        return 3;
     }
+    if field == date {
+        return 18;
+    }
+    if field == date + 1 {
+        return 19;
+    }
+    0
 }
 
 // The text of a code of field 3, 18 or 19, or the code itself where it has none.
