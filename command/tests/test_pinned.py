@@ -375,6 +375,16 @@ class Shown(support.Case):
             self.assertAlmostEqual(float(row[6]), float(shift) / 1e7, delta=1.1e-7)
             self.assertAlmostEqual(float(row[2]), float(x + shift) * 5e-6, delta=1e-5)
 
+    def test_the_text_curve_of_a_resistance_sender(self):
+        """Points at 0.26928, 26.08344, 51.32079, 75.98898 and 100.08648 % of sixty columns, from 0 down to -1.3206 % in eight rows."""
+        said, _ = self.gives(0, "show", sample("temperature.kind1"), "--curve")
+        lines = said.splitlines()
+        first = lines.index("deviation at each point, of the span (no reading is taken from a resistance sender):") + 1
+        drawn = [line.split("|", 1) for line in lines[first : first + 9]]
+        self.assertEqual([label.strip() for label, _ in drawn], ["0 %", "", "", "", "", "", "", "", "-1.3206 %"])
+        stars = {(row, column) for row, (_, cells) in enumerate(drawn) for column, cell in enumerate(cells) if cell == "*"}
+        self.assertEqual(stars, {(2, 0), (7, 16), (8, 31), (6, 46), (1, 60)})
+
     def test_inputs_of_a_table(self):
         for count in (2, 10000):
             said, _ = self.gives(0, "read", CELL, "--table", count)
@@ -646,6 +656,11 @@ class Whole(support.Case):
         other = read_sheet(support.console(), read_image(CELL))
         with mock.patch.object(setting, "write_image", return_value=other):
             self.gives(3, "set", CELL, "location=1", "-o", self.path("two"), err="what stands in the file is not what was written")
+        self.gives(0, "set", CELL, "date=2026-01-01", "--level", "calibration", "-o", self.path("dated"))
+        other = read_sheet(support.console(), read_image(self.path("dated")))
+        words = ("date=2026-01-01", "location=1", "--level", "maker", "-o", self.path("three"))
+        with mock.patch.object(setting, "write_image", return_value=other):
+            self.gives(3, "set", CELL, *words, err="what stands in the file is not what was written")
 
     def test_a_console_that_answers_half_a_line(self):
         program = support.other_home(self.path("there"), "#!/bin/sh\nread line\nprintf 'ok 1'\n")
