@@ -324,6 +324,7 @@ class Names(support.Case):
             ("tray", "A line for each of many chips. Ends with 0"),
         ):
             self.assertIn(said, " ".join(self.gives(0, name, "--help")[0].split()))
+        self.gives(0, "--man", out=(".SS show\nThe sheet in plain words and units.\n", ".SS tray\nA line for each of many chips.\n"))
 
 
 class Shown(support.Case):
@@ -403,7 +404,7 @@ class Shown(support.Case):
             height = 0.0419996 - row * (0.0419996 + 0.021) / 8
             wanted = float(certificate_line([(p * 10**7, round(d * 10**7)) for p, d in POINTS], round(column / 60 * 10**9))) / 1e7
             self.assertAlmostEqual(height, wanted, delta=0.0045)
-        self.assertRegex(lines[first + 9], r"^ {14}0 % +50 % +100 % of the span$")
+        self.assertEqual(lines[first + 9], " " * 14 + "0 %" + " " * 25 + "50 %" + " " * 25 + "100 % of the span")
 
 
 POINTS = ((0, 0), (20.00016, 0.015), (40.00032, 0.042), (60.00048, 0.038), (80.00064, 0.009), (99.99927, -0.021))
@@ -490,6 +491,15 @@ class Verdicts(support.Case):
         points = [(100, 10), (200, -10), (400, 90)]
         for x, y in ((0, 10), (100, 110), (150, 150), (200, 190), (250, 265), (400, 490), (500, 590)):
             self.assertEqual(certificate.line_at(points, support.Fraction(x)), y if x else 10)
+
+    def test_what_is_marked_with_a_tolerance(self):
+        """0.004 % and 0.2 N too little at 40 %, and at the chip's own point beside it."""
+        cert = self.file("cert", PERCENT.replace("0.042", "0.046"))
+        for tolerance, status, marks in (
+            ("0.0039%", 1, 2), ("0.004%", 1, 1), ("0.0041%", 0, 0), ("0.19N", 1, 2), ("0.2N", 1, 1), ("0.21N", 0, 0),
+        ):  # fmt: skip
+            said, _ = self.gives(status, "certificate", CELL, cert, "--within", tolerance)
+            self.assertEqual(said.count(" !\n"), marks, (tolerance, said))
 
     def test_comments_and_separators(self):
         for text in (
