@@ -1,5 +1,6 @@
 """compare: recordings as a logger writes them, by the proved call, in parts of any number."""
 import os
+from decimal import Decimal
 
 import support
 from dartelm.command import readings
@@ -118,6 +119,21 @@ class Compare(support.Case):
         far = self.file("far", "1\n" * 5 + "9000000\n")
         self.gives(1, "compare", CELL, self.path("a"), self.path("b"), "--make", far, err="input 6, 9 mV/V: refused: 14")
         self.assertFalse(os.path.exists(self.path("a")) or os.path.exists(self.path("b")))
+
+
+class Span(support.Case):
+    def test_a_span_that_does_not_begin_at_nought(self):
+        """-5000 to 5000 N: a figure of F newtons is (F + 5000) times 100,000 billionths."""
+        chip, inputs = sample("many-points.kind2"), self.file("in", "input (mV/V)\n-3\n-2\n-1\n0\n1.5\n3\n")
+        ten, sixty = self.path("ten"), self.path("sixty")
+        self.gives(0, "compare", chip, ten, sixty, "--make", inputs, out=("1 tick\n", "6 ticks\n"))
+        for path in (ten, sixty):
+            rows = [line.split(",") for line in self.bytes(path).decode().splitlines()[1:]]
+            figures = [f"{given},{Decimal(fraction) / 100000 - 5000}\n" for _, given, fraction in rows]
+            self.file(path, "input (nV/V),figure (N)\n" + "".join(figures))
+        self.gives(0, "compare", chip, ten, sixty, out="AGREE: 1 tick at ten a second, 6 at sixty; each shows its input's reading\n")
+        self.file(sixty, self.bytes(sixty).decode().replace("-3000000,-5000", "-3000000,-4999"))
+        self.gives(1, "compare", chip, ten, sixty, out=("DIFFER: the first tick that fails is ", "0.01 % (100000 billionths)"))
 
 
 if __name__ == "__main__":

@@ -106,6 +106,7 @@ class Words(support.Case):
             ("manufacturer ID = 1451\n", "", "sheet: there is no line 'manufacturer ID = ..'\n"),
             ("template = 33\n", "", "sheet: there is no line 'template = ..', one of 33, 32\n"),
             ('"rolling road 2, left drum"', "left", 'sheet:31: the text stands between ", as text = "left drum"\n'),
+            ("kind = 1\n", "kind = 1\nsegment = 0 %\nterm = 0, 1\n", "sheet:2: a sheet has points or a curve, not both\n"),
             ("20.00016 %, +0.015 %", "20 %", "sheet:26: a point has two parts with a comma between them\n"),
             ("kind = 1\n", "kind = 1\nserial number = 9\n", "sheet:8: 'serial number' stands in line 2 already\n"),
         ):
@@ -113,6 +114,15 @@ class Words(support.Case):
         certificate = sample("load-cell.csv")
         said = "sheet: it has points of its own; leave them out, or --certificate\n"
         self.gives(2, "make", self.sheet("", ""), "--certificate", certificate, "--dry-run", err=said)
+
+    def test_bytes_that_no_text_has(self):
+        """0xB0 is a degree sign to a spreadsheet, unless there are control codes: then the file is no text."""
+        table = b"Point (%),Deviation (%),Temp \xb0C\n0,0,20\n20,0.015,20\n"
+        for code in range(32):
+            text = table + b"# " + bytes([code]) + b"\n"
+            control = code < 9 or code > 13
+            status, _, err = self.run_here("distance", self.file("cert", text), "--span", "5000N")
+            self.assertEqual((status == 3, "cert: it is no text (byte 29)" in err), (control, control), code)
 
     def test_closing_texts(self):
         for text in ('"', "left", '"left', 'left"', ""):

@@ -323,6 +323,7 @@ class Names(support.Case):
             ("tray", "A line for each of many chips. Ends with 0"),
         ):
             self.assertIn(said, " ".join(self.gives(0, name, "--help")[0].split()))
+        self.gives(0, "--man", out=(".SS show\nThe sheet in plain words and units.\n", ".SS tray\nA line for each of many chips.\n"))
 
 
 class Shown(support.Case):
@@ -374,6 +375,16 @@ class Shown(support.Case):
             self.assertAlmostEqual(float(row[6]), float(shift) / 1e7, delta=1.1e-7)
             self.assertAlmostEqual(float(row[2]), float(x + shift) * 5e-6, delta=1e-5)
 
+    def test_the_text_curve_of_a_resistance_sender(self):
+        """Points at 0.26928, 26.08344, 51.32079, 75.98898 and 100.08648 % of sixty columns, from 0 down to -1.3206 % in eight rows."""
+        said, _ = self.gives(0, "show", sample("temperature.kind1"), "--curve")
+        lines = said.splitlines()
+        first = lines.index("deviation at each point, of the span (no reading is taken from a resistance sender):") + 1
+        drawn = [line.split("|", 1) for line in lines[first : first + 9]]
+        self.assertEqual([label.strip() for label, _ in drawn], ["0 %", "", "", "", "", "", "", "", "-1.3206 %"])
+        stars = {(row, column) for row, (_, cells) in enumerate(drawn) for column, cell in enumerate(cells) if cell == "*"}
+        self.assertEqual(stars, {(2, 0), (7, 16), (8, 31), (6, 46), (1, 60)})
+
     def test_inputs_of_a_table(self):
         for count in (2, 10000):
             said, _ = self.gives(0, "read", CELL, "--table", count)
@@ -392,7 +403,7 @@ class Shown(support.Case):
             height = 0.0419996 - row * (0.0419996 + 0.021) / 8
             wanted = float(certificate_line([(p * 10**7, round(d * 10**7)) for p, d in POINTS], round(column / 60 * 10**9))) / 1e7
             self.assertAlmostEqual(height, wanted, delta=0.0045)
-        self.assertRegex(lines[first + 9], r"^ {14}0 % +50 % +100 % of the span$")
+        self.assertEqual(lines[first + 9], " " * 14 + "0 %" + " " * 25 + "50 %" + " " * 25 + "100 % of the span")
 
 
 POINTS = ((0, 0), (20.00016, 0.015), (40.00032, 0.042), (60.00048, 0.038), (80.00064, 0.009), (99.99927, -0.021))
@@ -479,6 +490,15 @@ class Verdicts(support.Case):
         points = [(100, 10), (200, -10), (400, 90)]
         for x, y in ((0, 10), (100, 110), (150, 150), (200, 190), (250, 265), (400, 490), (500, 590)):
             self.assertEqual(certificate.line_at(points, support.Fraction(x)), y if x else 10)
+
+    def test_what_is_marked_with_a_tolerance(self):
+        """0.004 % and 0.2 N too little at 40 %, and at the chip's own point beside it."""
+        cert = self.file("cert", PERCENT.replace("0.042", "0.046"))
+        for tolerance, status, marks in (
+            ("0.0039%", 1, 2), ("0.004%", 1, 1), ("0.0041%", 0, 0), ("0.19N", 1, 2), ("0.2N", 1, 1), ("0.21N", 0, 0),
+        ):  # fmt: skip
+            said, _ = self.gives(status, "certificate", CELL, cert, "--within", tolerance)
+            self.assertEqual(said.count(" !\n"), marks, (tolerance, said))
 
     def test_comments_and_separators(self):
         for text in (
@@ -646,6 +666,11 @@ class Whole(support.Case):
         other = read_sheet(read_image(CELL))
         with mock.patch.object(setting, "write_image", return_value=other):
             self.gives(3, "set", CELL, "location=1", "-o", self.path("two"), err="what stands in the file is not what was written")
+        self.gives(0, "set", CELL, "date=2026-01-01", "--level", "calibration", "-o", self.path("dated"))
+        other = read_sheet(read_image(self.path("dated")))
+        words = ("date=2026-01-01", "location=1", "--level", "maker", "-o", self.path("three"))
+        with mock.patch.object(setting, "write_image", return_value=other):
+            self.gives(3, "set", CELL, *words, err="what stands in the file is not what was written")
 
     def test_a_refusal_that_nobody_caught(self):
         with mock.patch.object(main, "answer", side_effect=Refusal(2, 7)):

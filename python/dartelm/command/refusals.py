@@ -41,7 +41,7 @@ def headline(refusal, word=None):
     """Number, place and meaning on a line: of the meaning its first sentence, or the part that has a word."""
     place = PLACES.get(refusal.number, "place")
     said = part_with(meaning(refusal), word) if word else shortened(meaning(refusal))
-    return f"refused: {refusal.number} at {place} {refusal.place}" + (f": {said}" if said else "")
+    return f"refused: {refusal.number} at {place} {refusal.place}: {said}"
 
 
 def about(value):

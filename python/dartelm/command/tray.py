@@ -206,7 +206,7 @@ class Certificates:
 
 
 def why(number):
-    return refusals.shortened(refusals.meaning(Refusal(number, 0))) or "refused"
+    return refusals.shortened(refusals.meaning(Refusal(number, 0)))
 
 
 def as_lines(chips):
