@@ -1,23 +1,45 @@
 /* Dartelm: the IEEE 1451.4 data sheet (TEDS) in a sender's memory chip, from its image to a reading. For C99 and C++.
  *
- * Every call but dartelm_version and dartelm_kind_of returns one struct by value. Its number is 0 where the call is accepted; else it is a refusal's, DARTELM_WRONG_IMAGE
- * to DARTELM_WRONG_TICKS, with the refusal's place beside it, and every other member is 0 (of a page's answer, which has no
- * number, all). (0 as a float is +0.0. A Single that
- * is returned is finite.) A refused call writes nothing; no call writes anything but the image of a build, a change or a commit,
- * and the buffer of an index.
+ *     #include <stdio.h>
+ *     #include "dartelm.h"
  *
- * Nothing is kept between calls, so any number of them may run at once, in interrupts too. No heap is used; the only functions
- * taken from outside are memcpy and memset. Every call returns, whatever it is handed.
+ *     int main(void)
+ *     {
+ *         uint8_t image[DARTELM_LONGEST_IMAGE];
+ *         size_t length = fread(image, 1, sizeof image, stdin);
+ *         uint8_t kind = dartelm_kind_of(length);
+ *         dartelm_reading_answer reading = dartelm_reading(kind, image, length, 1000000, DARTELM_DASH_SMALL);
+ *         if (reading.number != DARTELM_ACCEPTED)
+ *             return reading.number;
+ *         printf("%.3f\n", reading.figure);
+ *         return 0;
+ *     }
  *
- * What the caller owes, since nothing can test it:
- *   - a pointer is good for the length beside it, and is not NULL, not even where that length is 0;
- *   - what is lent to one call does not overlap, and nothing else writes to it until the call returns;
- *   - the processor rounds to nearest and keeps subnormal numbers, as it does where nobody changed it.
- * Nothing else is owed: any kind, number, length, byte and float may be handed in.
+ * It takes a reading at 1,000,000 nV/V: `cc -Iinclude use.c portable/c/dartelm.c -o use`, then `./use < samples/load-cell.kind1`.
+ * docs/FIRMWARE.md says how the library is compiled and what it costs, docs/REFUSALS.md what to do about each refusal, and
+ * docs/WORDS.md what the words mean.
  *
- * A flag is a uint8_t: 0 means no, and anything else yes, so that every byte means something (a C bool with a byte other than 0 or
- * 1 would be undefined). A flag that is returned is 0 or 1. Bytes of padding are never looked at, and may hold anything in what is
- * returned: compare members, not whole structs.
+ * Answers. Every call but dartelm_version and dartelm_kind_of returns one struct by value.
+ *   - number is DARTELM_ACCEPTED, or the refusal: DARTELM_WRONG_IMAGE to DARTELM_WRONG_TICKS.
+ *   - place is the refusal's place. The comment of the refusal says what it counts.
+ *   - Every other member of a refused answer is 0, and so is place if the call is accepted. A float is then +0.0.
+ *   - A Single that is returned is finite.
+ *   - dartelm_page is never refused, and its answer has no number.
+ *
+ * Memory. A build, a change and a commit write to their image, dartelm_index to its buffer. Nothing else is written, and a refused
+ * call writes nothing. There is no heap, and nothing is kept between calls: any number of them may run at once, in interrupts too.
+ * From outside the library takes memcpy and memset, and on a processor without double hardware the compiler's routines for doubles.
+ *
+ * The caller's duties, which no call can test:
+ *   - A pointer is valid for the length after it, and is not NULL, not even if that length is 0.
+ *   - What is passed to one call does not overlap, and nothing else writes to it until the call returns.
+ *   - The processor rounds to nearest and keeps subnormal numbers (the default).
+ * There are no others: any kind, number, length, byte and float may be passed. A call then returns, and does nothing undefined.
+ *
+ * Flags. A flag is a uint8_t: 0 means no, any other byte yes. (A C bool with a byte other than 0 or 1 would be undefined.) A flag
+ * that is returned is 0 or 1.
+ *
+ * Padding. No call reads it, and in an answer it may hold any bytes: compare members, not whole structs.
  */
 #ifndef DARTELM_H
 #define DARTELM_H
@@ -29,12 +51,13 @@
 extern "C" {
 #endif
 
-/* This header's number, which rises when a call or a struct changes; dartelm_version() is the archive's. */
+/* This header's number, which rises when a call or a struct changes. dartelm_version() returns the library's. */
 #define DARTELM_VERSION 8
 
 /* ---- numbers ---- */
 
-/* Why a call is refused, and what its place is. */
+/* Why a call is refused, and what its place counts. A bit is a bit of the stream, from 0.
+ * docs/REFUSALS.md has a section for each. */
 enum {
     DARTELM_ACCEPTED = 0,
     DARTELM_WRONG_IMAGE = 1,      /* Kind not 0 to 2, or a wrong image length. Place: 0. */
@@ -72,67 +95,68 @@ enum {
                                    * Place: the whole ticks of the fast list. */
 };
 
-/* The template of a sheet's first block, as a check returns it: it says what the fields are. */
+/* The template of a sheet's first block, as a check returns it. The fields depend on it. */
 enum {
     DARTELM_TEMPLATE_RESISTANCE = 32, /* resistance senders: fields 1 to 19 */
     DARTELM_TEMPLATE_BRIDGE = 33      /* bridge senders: fields 1 to 21 */
 };
 
-/* Fields 1 to 21 of template 33, and what a value counts; 1 to 9 are template 32's too. */
+/* The fields of template 33, with the range or the unit of a value. Fields 1 to 9 are template 32's too. A value is a whole number
+ * where no Single is named. */
 enum {
     DARTELM_FIELD_MANUFACTURER_ID = 1,     /* 17 to 16381 */
     DARTELM_FIELD_MODEL_NUMBER = 2,        /* 0 to 32767 */
     DARTELM_FIELD_VERSION_LETTER = 3,      /* 1 to 26, A to Z: see dartelm_text and dartelm_code */
     DARTELM_FIELD_VERSION_NUMBER = 4,      /* 0 to 63 */
     DARTELM_FIELD_SERIAL_NUMBER = 5,       /* 0 to 16777215 */
-    DARTELM_FIELD_MEASURAND = 6,           /* 0 to 45: the physical measurand, and with it the unit of 7, 8 and of a reading */
+    DARTELM_FIELD_MEASURAND = 6,           /* 0 to 45: sets the unit of 7, 8 and of a reading's figure */
     DARTELM_FIELD_MIN_PHYS_VAL = 7,        /* a Single, in the measurand's unit; or missing */
     DARTELM_FIELD_MAX_PHYS_VAL = 8,        /* a Single, in the measurand's unit; or missing */
-    DARTELM_FIELD_PRECISION = 9,           /* 0, 1 or 2, of template 32 also 3: how 10 and 11 are stored; not changed alone */
-    DARTELM_FIELD_MIN_ELEC_VAL = 10,       /* nV/V at precision 0 and 1; a Single in V/V at precision 2; or missing */
-    DARTELM_FIELD_MAX_ELEC_VAL = 11,       /* nV/V at precision 0 and 1; a Single in V/V at precision 2; or missing */
+    DARTELM_FIELD_PRECISION = 9,           /* 0, 1 or 2, of template 32 also 3: how 10 and 11 are stored */
+    DARTELM_FIELD_MIN_ELEC_VAL = 10,       /* in nV/V at precision 0 and 1; a Single in V/V at precision 2; or missing */
+    DARTELM_FIELD_MAX_ELEC_VAL = 11,       /* in nV/V at precision 0 and 1; a Single in V/V at precision 2; or missing */
     DARTELM_FIELD_BRIDGE_TYPE = 12,        /* 0 quarter, 1 half, 2 full */
-    DARTELM_FIELD_IMPEDANCE = 13,          /* 0.1 ohm; or missing */
-    DARTELM_FIELD_RESPONSE_TIME = 14,      /* 10 ns; or missing */
-    DARTELM_FIELD_EXCITATION_NOMINAL = 15, /* 0.1 V; or missing */
-    DARTELM_FIELD_EXCITATION_MIN = 16,     /* 0.1 V; or missing */
-    DARTELM_FIELD_EXCITATION_MAX = 17,     /* 0.1 V; or missing */
+    DARTELM_FIELD_IMPEDANCE = 13,          /* in 0.1 ohm; or missing */
+    DARTELM_FIELD_RESPONSE_TIME = 14,      /* in 10 ns; or missing */
+    DARTELM_FIELD_EXCITATION_NOMINAL = 15, /* in 0.1 V; or missing */
+    DARTELM_FIELD_EXCITATION_MIN = 16,     /* in 0.1 V; or missing */
+    DARTELM_FIELD_EXCITATION_MAX = 17,     /* in 0.1 V; or missing */
     DARTELM_FIELD_CAL_DATE = 18,           /* days since 1 January 1998: see dartelm_text and dartelm_code; or missing */
     DARTELM_FIELD_CAL_INITIALS = 19,       /* three letters: see dartelm_text and dartelm_code */
-    DARTELM_FIELD_CAL_PERIOD = 20,         /* days */
+    DARTELM_FIELD_CAL_PERIOD = 20,         /* in days */
     DARTELM_FIELD_LOCATION_ID = 21,        /* 0 to 2047 */
     DARTELM_FIELDS = 21                    /* how many there are */
 };
 
-/* Fields 10 to 19 of template 32, and what a value counts. */
+/* Fields 10 to 19 of template 32, with the range or the unit of a value. */
 enum {
-    DARTELM_RESISTANCE_MIN_ELEC_VAL = 10,    /* ohm, at precision 3 a Single; or missing */
-    DARTELM_RESISTANCE_MAX_ELEC_VAL = 11,    /* ohm, at precision 3 a Single; or missing */
+    DARTELM_RESISTANCE_MIN_ELEC_VAL = 10,    /* in ohm, at precision 3 a Single; or missing */
+    DARTELM_RESISTANCE_MAX_ELEC_VAL = 11,    /* in ohm, at precision 3 a Single; or missing */
     DARTELM_RESISTANCE_MAPPING_METHOD = 12,  /* 0 linear, 1 inverse m/(x+b), 2 inverse b+m/x, 3 inverse 1/(b+m/x) */
-    DARTELM_RESISTANCE_RESPONSE_TIME = 13,   /* 10 ns; or missing */
-    DARTELM_RESISTANCE_CURRENT_NOMINAL = 14, /* 0.1 nA; or missing */
-    DARTELM_RESISTANCE_CURRENT_MAX = 15,     /* 0.1 nA; or missing */
-    DARTELM_RESISTANCE_CAL_DATE = 16,        /* days since 1 January 1998; or missing. Its text is asked for as field 18's */
-    DARTELM_RESISTANCE_CAL_INITIALS = 17,    /* three letters. Their text is asked for as field 19's */
-    DARTELM_RESISTANCE_CAL_PERIOD = 18,      /* days */
+    DARTELM_RESISTANCE_RESPONSE_TIME = 13,   /* in 10 ns; or missing */
+    DARTELM_RESISTANCE_CURRENT_NOMINAL = 14, /* in 0.1 nA; or missing */
+    DARTELM_RESISTANCE_CURRENT_MAX = 15,     /* in 0.1 nA; or missing */
+    DARTELM_RESISTANCE_CAL_DATE = 16,        /* days since 1 January 1998; or missing. For its text pass field 18 */
+    DARTELM_RESISTANCE_CAL_INITIALS = 17,    /* three letters. For their text pass field 19 */
+    DARTELM_RESISTANCE_CAL_PERIOD = 18,      /* in days */
     DARTELM_RESISTANCE_LOCATION_ID = 19,     /* 0 to 2047 */
     DARTELM_RESISTANCE_FIELDS = 19           /* how many there are */
 };
 
-/* A writer's level, which a change, a proposal and a commit carry: which fields it may write. Reading asks for none, and a build
- * tests none. Any other byte is the owner's. */
+/* A writer's level, which a change, a proposal and a commit take, and the fields that it may write. It is no access control: the
+ * caller passes it. Reads take none, and a build tests none. Any other byte is the owner's. */
 enum {
     DARTELM_LEVEL_OWNER = 0,            /* field 21; of template 32 field 19 */
     DARTELM_LEVEL_CALIBRATION_ROOM = 1, /* also 7, 8, 10, 11, 18, 19 and 20; of template 32 7, 8, 10, 11, 14, 16, 17 and 18 */
     DARTELM_LEVEL_MAKER = 2             /* every field that can be changed alone */
 };
 
-/* What calibration deviations are listed against. Any other byte that is handed in is taken as 1. */
+/* What calibration deviations are listed against. Any other byte that is passed is taken as 1. */
 enum {
-    DARTELM_DOMAIN_ELECTRICAL = 0, /* where the input lies in the span: a reading adds the deviation there to it */
-    DARTELM_DOMAIN_PHYSICAL = 1,   /* the fraction that is read: the least that with its own deviation is at least where the
-                                    * input lies */
-    DARTELM_NO_DOMAIN = 255        /* told where there are no calibration points, so with a curve too */
+    DARTELM_DOMAIN_ELECTRICAL = 0, /* the input's position in the span: a reading adds the deviation at that position */
+    DARTELM_DOMAIN_PHYSICAL = 1,   /* the fraction: a reading returns the least fraction that, with its own deviation, is at least
+                                    * the input's position */
+    DARTELM_NO_DOMAIN = 255        /* returned if there are no calibration points, so with a curve too */
 };
 
 /* The dash that a reading is taken on. Any other byte is taken as 1. */
@@ -141,36 +165,39 @@ enum {
     DARTELM_DASH_SMALL = 1  /* takes 32 at most */
 };
 
-/* What a curve holds at most. */
+/* The most that a curve holds, and its greatest exponent. */
 enum {
     DARTELM_CURVE_SEGMENTS = 20,
-    DARTELM_CURVE_TERMS = 30,   /* of all segments */
-    DARTELM_SEGMENT_TERMS = 6,  /* of one; one at least */
+    DARTELM_CURVE_TERMS = 30,   /* in all segments */
+    DARTELM_SEGMENT_TERMS = 6,  /* in one segment, which has at least one */
     DARTELM_GREATEST_EXPONENT = 5
 };
 
-/* How many ticks a fast recording has for one of a slow one. */
+/* The ticks of a fast recording for one tick of a slow one. */
 #define DARTELM_FAST_TICKS 6
 
-/* What dartelm_kind_of gives for a length that no kind of chip has: a kind that every call refuses, with 1. */
+/* What dartelm_kind_of returns for a length that no kind of chip has. Every call refuses this kind with DARTELM_WRONG_IMAGE. */
 #define DARTELM_NO_KIND 255
 
-/* The bytes of the longest image. */
+/* The length of the longest image, in bytes. */
 #define DARTELM_LONGEST_IMAGE 512
 
-/* The bytes of a row, which a chip writes at once, and the most writes that it takes to write an image. */
+/* The length in bytes of a row, which a chip writes at once, and the most writes that an image takes. */
 #define DARTELM_ROW_LENGTH 8
 #define DARTELM_MOST_WRITES 68
 
-/* The bytes of an index of an image with so many calibration points (with template 32 the last 8 of them are not needed), and of
- * the longest index. */
+/* The length in bytes of the index of an image with so many calibration points (with template 32 it is 8 less), and of the longest
+ * index. */
 #define DARTELM_INDEX_LENGTH(points) (4 * (DARTELM_FIELDS + (points)))
 #define DARTELM_LONGEST_INDEX 480
 
 /* ---- structs ---- */
 
-/* A field's value: missing where is_missing says yes, else a Single where is_single does, else a whole number. What is returned
- * has 0 in the members that it does not need, so it may be handed in again. */
+/* In each answer number is DARTELM_ACCEPTED or a refusal, and place is the refusal's. The span is from field 10 to
+ * field 11. */
+
+/* A field's value: missing if is_missing is yes, else the Single if is_single is yes, else the whole number. The members that a
+ * value does not need are returned as 0, so that it may be passed again. */
 typedef struct dartelm_value {
     int64_t whole;      /* in the field's unit */
     float single;       /* in the field's unit */
@@ -178,29 +205,28 @@ typedef struct dartelm_value {
     uint8_t is_missing; /* a flag */
 } dartelm_value;
 
-/* A sheet's fields: field f is values[f - 1]. Values after the template's last field are not looked at, and what is returned has
- * zeros there. The writer's level is not stored: a build does not look at it, and what is returned has 0 there. The template is a
- * flag: there are two, and no third can be handed in. */
+/* A sheet's fields: field f is values[f - 1]. A build does not read the values after the template's last field, and they are
+ * returned as zeros. The level is not stored: a build does not read it, and it is returned as 0. */
 typedef struct dartelm_fields {
     dartelm_value values[DARTELM_FIELDS];
     uint8_t end_bit;       /* a flag: a closing text follows */
-    uint8_t level;         /* the writer's, DARTELM_LEVEL_OWNER to DARTELM_LEVEL_MAKER */
-    uint8_t unused;        /* not looked at, and returned as 0 */
+    uint8_t level;         /* not read, and returned as 0 */
+    uint8_t unused;        /* not read, and returned as 0 */
     uint8_t is_resistance; /* a flag: 0 is template 33, anything else 32 */
 } dartelm_fields;
 
-/* What a check answers. */
+/* What a check returns: the sizes of the sheet. */
 typedef struct dartelm_check_answer {
     uint8_t number;
     uint64_t place;
-    uint64_t bits;       /* bits of the stream up to the end, a zero that ends the text counted */
-    uint64_t points;     /* calibration points */
+    uint64_t bits;       /* bits of the stream up to the end, with the zero that ends a text */
+    uint64_t points;     /* calibration points, 0 to 99 */
     uint64_t characters; /* characters of the closing text */
     uint8_t end_bit;     /* a flag: a closing text follows */
     uint8_t template_id; /* DARTELM_TEMPLATE_BRIDGE or DARTELM_TEMPLATE_RESISTANCE */
     uint8_t domain;      /* of the calibration points, DARTELM_DOMAIN_ELECTRICAL to DARTELM_NO_DOMAIN */
-    uint64_t segments;   /* of a curve */
-    uint64_t terms;      /* of all its segments */
+    uint64_t segments;   /* segments of a curve, 0 to 20 */
+    uint64_t terms;      /* terms of all its segments, 0 to 30 */
 } dartelm_check_answer;
 
 /* One field. */
@@ -210,18 +236,18 @@ typedef struct dartelm_field_answer {
     dartelm_value value;
 } dartelm_field_answer;
 
-/* What a check answers, and all fields. */
+/* What a check returns, and all fields. */
 typedef struct dartelm_sheet_answer {
     uint8_t number;
     uint64_t place;
-    uint64_t bits;        /* bits of the stream up to the end, a zero that ends the text counted */
-    uint64_t points;      /* calibration points */
+    uint64_t bits;        /* bits of the stream up to the end, with the zero that ends a text */
+    uint64_t points;      /* calibration points, 0 to 99 */
     uint64_t characters;  /* characters of the closing text */
-    uint64_t field_count; /* fields that the sheet has: 21, or 19 of template 32 */
+    uint64_t field_count; /* fields of the sheet: 21, or 19 of template 32 */
     dartelm_fields fields;
     uint8_t domain;    /* of the calibration points, DARTELM_DOMAIN_ELECTRICAL to DARTELM_NO_DOMAIN */
-    uint64_t segments; /* of a curve */
-    uint64_t terms;    /* of all its segments */
+    uint64_t segments; /* segments of a curve, 0 to 20 */
+    uint64_t terms;    /* terms of all its segments, 0 to 30 */
 } dartelm_sheet_answer;
 
 /* A calibration point and its deviation. */
@@ -237,30 +263,31 @@ typedef struct dartelm_segment_answer {
     uint8_t number;
     uint64_t place;
     int64_t start;  /* billionths of the span */
-    uint64_t terms; /* how many it has */
+    uint64_t terms; /* terms of this segment, 1 to 6 */
 } dartelm_segment_answer;
 
 /* A term of a curve. */
 typedef struct dartelm_term_answer {
     uint8_t number;
     uint64_t place;
-    int64_t exponent;  /* of the position in per cent of the span */
+    int64_t exponent;  /* 0 to 5: the power of the position in per cent of the span */
     float coefficient; /* per cent of the span */
 } dartelm_term_answer;
 
-/* A curve for a build: so many segments, and the terms of one after the other. What stands behind them is not looked at. */
+/* A curve for a build: its segments, and the terms of one segment after those of the one before. A build reads count segments and
+ * their terms, and nothing after them. */
 typedef struct dartelm_curve_segment {
-    int64_t start;
-    uint64_t terms;
+    int64_t start;  /* billionths of the span; the first is 0 */
+    uint64_t terms; /* terms of this segment, 1 to 6 */
 } dartelm_curve_segment;
 
 typedef struct dartelm_curve_term {
-    int64_t exponent;
-    float coefficient;
+    int64_t exponent;  /* 0 to 5: the power of the position in per cent of the span */
+    float coefficient; /* per cent of the span */
 } dartelm_curve_term;
 
 typedef struct dartelm_curve {
-    uint64_t count;
+    uint64_t count; /* segments, 1 to 20 */
     dartelm_curve_segment segments[DARTELM_CURVE_SEGMENTS];
     dartelm_curve_term terms[DARTELM_CURVE_TERMS];
 } dartelm_curve;
@@ -269,22 +296,22 @@ typedef struct dartelm_curve {
 typedef struct dartelm_character_answer {
     uint8_t number;
     uint64_t place;
-    char character; /* 1 to 127 */
+    char character; /* ASCII, 1 to 127 */
 } dartelm_character_answer;
 
-/* What a build, a change or a commit answers. */
+/* What a build, a change, a commit or the making of an index returns. */
 typedef struct dartelm_write_answer {
     uint8_t number;
     uint64_t place;
 } dartelm_write_answer;
 
-/* What a field would become. Its codes may be handed to dartelm_commit. */
+/* What a field would become. Its codes may be passed to dartelm_commit. */
 typedef struct dartelm_proposal_answer {
     uint8_t number;
     uint64_t place;
-    uint64_t present_code; /* what stands in the field */
-    uint64_t new_code;     /* what a change would store */
-    dartelm_value value;   /* what that reads back */
+    uint64_t present_code; /* the code in the field */
+    uint64_t new_code;     /* the code that a change would store */
+    dartelm_value value;   /* the value that new_code reads back as */
 } dartelm_proposal_answer;
 
 /* A reading. */
@@ -295,19 +322,19 @@ typedef struct dartelm_reading_answer {
     double figure;    /* in the measurand's unit */
 } dartelm_reading_answer;
 
-/* What two recordings come to. */
+/* The comparison of two recordings. */
 typedef struct dartelm_compared_answer {
     uint8_t number;
     uint64_t place;
     uint8_t agrees; /* a flag: they agree */
-    uint64_t tick;  /* else the first fast tick that fails, from 0; 0 where they agree */
+    uint64_t tick;  /* the first fast tick that fails, from 0; 0 if they agree */
 } dartelm_compared_answer;
 
 /* The certificate distance of a list of points. */
 typedef struct dartelm_distance_answer {
     uint8_t number;
     uint64_t place;
-    uint64_t slope; /* K, the least whole number with 1000 times each rise or fall at most K times its run */
+    uint64_t slope; /* K: the steepest slope of the deviations between neighbours, in thousandths, rounded up */
     uint64_t bound; /* B, in 2000ths of a billionth of the span */
 } dartelm_distance_answer;
 
@@ -315,18 +342,18 @@ typedef struct dartelm_distance_answer {
 typedef struct dartelm_conformity_answer {
     uint8_t number;
     uint64_t place;
-    uint64_t slope;      /* K of the points, as of a distance */
+    uint64_t slope;      /* K of the points, in thousandths, as in a distance */
     uint64_t bound;      /* B, in 2000ths of a billionth of the span */
-    uint8_t is_straight; /* a flag: there is a straight table to compare; else K and B are 0 */
+    uint8_t is_straight; /* a flag: the sheet has no curve and no table of domain 1; else K and B are 0 */
 } dartelm_conformity_answer;
 
 /* The next row of an image that is written to a chip. */
 typedef struct dartelm_row_answer {
     uint8_t number;
     uint64_t place;
-    uint8_t is_done;                   /* a flag: nothing more is to be written */
-    uint64_t offset;                   /* else the row's first byte in the image */
-    uint8_t bytes[DARTELM_ROW_LENGTH]; /* and its bytes */
+    uint8_t is_done;                   /* a flag: the chip holds the wanted image */
+    uint64_t offset;                   /* the row's first byte in the image, from 0 */
+    uint8_t bytes[DARTELM_ROW_LENGTH]; /* what to write there */
 } dartelm_row_answer;
 
 /* A text. */
@@ -334,122 +361,133 @@ typedef struct dartelm_text_answer {
     uint8_t number;
     uint64_t place;
     uint64_t length;     /* characters: 1, 3 or 10 */
-    char characters[11]; /* them, with zeros behind: a C string */
+    char characters[11]; /* the text, then zeros: a C string */
 } dartelm_text_answer;
 
 /* A code. */
 typedef struct dartelm_code_answer {
     uint8_t number;
     uint64_t place;
-    uint64_t code;
+    uint64_t code; /* as it is stored in the field */
 } dartelm_code_answer;
 
-/* The stream bytes of a page. This is never refused, so it has no number. */
+/* The stream bytes of a page. */
 typedef struct dartelm_page_answer {
-    uint64_t count;    /* 31; 0 for a wrong kind, image length or page */
-    uint8_t bytes[31]; /* zeros where count is 0 */
+    uint64_t count;    /* bytes: 31, or 0 for a wrong kind, image length or page */
+    uint8_t bytes[31]; /* zeros if count is 0 */
 } dartelm_page_answer;
 
 /* ---- calls ---- */
 
-/* The archive's number. */
+/* The parameters that many calls have:
+ *   - kind: 0, 1 or 2, a chip of 40, 128 or 512 bytes (DS2430A, DS2431, DS2433). Any other byte is refused.
+ *   - image: the bytes of a chip, register first; image_length: in bytes.
+ *   - field: a number from 1. DARTELM_FIELD_.. are those of template 33, DARTELM_RESISTANCE_.. those of template 32.
+ *   - index of a point, a segment, a term or a character: its number from 0.
+ *   - level: DARTELM_LEVEL_OWNER to DARTELM_LEVEL_MAKER.
+ *   - domain: DARTELM_DOMAIN_ELECTRICAL or DARTELM_DOMAIN_PHYSICAL.
+ *   - dash: DARTELM_DASH_LARGE or DARTELM_DASH_SMALL.
+ *   - points: calibration point and deviation in turn, in billionths of the span; points_length: how many numbers, two a point.
+ *   - text: characters of one byte, without a zero at the end; text_length: in characters.
+ * Refusals are named without DARTELM_, in the order of the tests. */
+
+/* The library's number: compare it with DARTELM_VERSION. */
 uint32_t dartelm_version(void);
 
-/* The kind of the chip whose image has so many bytes: 0 (40 bytes), 1 (128), 2 (512), else DARTELM_NO_KIND. */
+/* The kind of a chip by the length of its image in bytes: 0 (40), 1 (128), 2 (512), else DARTELM_NO_KIND. */
 uint8_t dartelm_kind_of(size_t bytes);
 
-/* Checks an image. Refused with 1 to 7, 17, 22, 24 and 25. */
+/* Checks an image. Refusals: WRONG_IMAGE, BLANK_CHIP, WRONG_SUM, then in the order of the stream PAST_END, WRONG_BLOCK,
+ * OUTSIDE_TABLE, NOT_FINITE, NOT_RISING, SUMS_NOT_RISING, WRONG_CURVE, TOO_MANY_TERMS. */
 dartelm_check_answer dartelm_check(uint8_t kind, const uint8_t *image, size_t image_length);
 
-/* Reads field 1 to 21, of template 32 field 1 to 19. Refused as a check is, and with 8 for another field. */
+/* Reads a field: 1 to 21, of template 32 1 to 19. Refusals: those of a check, NO_SUCH. */
 dartelm_field_answer dartelm_field(uint8_t kind, const uint8_t *image, size_t image_length, uint64_t field);
 
-/* Makes the index of an image in a buffer: for each field in order, then for each calibration point, its first bit in the stream
- * and how many bits it has, 16 bits each, low byte first. DARTELM_INDEX_LENGTH gives the bytes; those beyond stay. Refused as a
- * check is, and with 18: then the buffer keeps every byte. An index stays right when a field is changed. */
+/* Makes the index of an image in a buffer of buffer_length bytes. For each field in order, then for each calibration point, it has
+ * the first bit in the stream and the number of bits, 16 bits each, low byte first. DARTELM_INDEX_LENGTH is its length in bytes;
+ * the bytes after it stay as they are. An index stays right when a field is changed. Refusals: those of a check, SHORT_INDEX. */
 dartelm_write_answer dartelm_index(uint8_t kind, const uint8_t *image, size_t image_length, uint8_t *buffer,
                                    size_t buffer_length);
 
-/* Fetches a field where an index says that it stands: through the image's own index it is what dartelm_field gives. Only the page
- * sums, the first template's number (any but 32 is taken as 33) and this field are looked at. Refused with 1, 2 and 17 for the
- * image, 8 for a field that the template has not, 18 for an index of fewer than 84 bytes, or 76 with template 32; with 5 where the
- * index gives the field bits that it cannot have, or that the stream has not; and with 5 and 6 for the field's bits. Any bytes may
- * be handed in as an index. */
+/* Reads one field at the position that an index of index_length bytes gives. With the image's own index it returns what
+ * dartelm_field returns, and is faster: it tests the page sums, the first template's number (any but 32 is taken as 33) and this
+ * field alone. With another image's index it may accept an image that dartelm_check refuses. Any bytes may be passed as an index.
+ * Refusals: WRONG_IMAGE, BLANK_CHIP, WRONG_SUM; NO_SUCH if the template has no such field; SHORT_INDEX below 84 bytes, with
+ * template 32 below 76; OUTSIDE_TABLE if the entry has bits that the field cannot have, or that the stream has not; OUTSIDE_TABLE
+ * and NOT_FINITE for the field's own bits. */
 dartelm_field_answer dartelm_fetch(uint8_t kind, const uint8_t *image, size_t image_length, const uint8_t *index,
                                    size_t index_length, uint64_t field);
 
-/* Reads all fields with one check: each is what dartelm_field gives. Refused as a check is. */
+/* Reads all fields with one check. Each is what dartelm_field returns. Refusals: those of a check. */
 dartelm_sheet_answer dartelm_sheet(uint8_t kind, const uint8_t *image, size_t image_length);
 
-/* Reads a calibration point, by index from 0. Refused as a check is, and with 8 past the last. */
+/* Reads a calibration point, by its index. Refusals: those of a check, NO_SUCH past the last. */
 dartelm_pair_answer dartelm_pair(uint8_t kind, const uint8_t *image, size_t image_length, uint64_t index);
 
-/* Reads a segment of a curve, by index from 0. Refused as a check is, and with 8 past the last. */
+/* Reads a segment of a curve, by its index. Refusals: those of a check, NO_SUCH past the last. */
 dartelm_segment_answer dartelm_segment(uint8_t kind, const uint8_t *image, size_t image_length, uint64_t index);
 
-/* Reads a term of a curve, by index from 0 over all its segments. Refused as a check is, and with 8 past the last. */
+/* Reads a term of a curve, by its index over all segments. Refusals: those of a check, NO_SUCH past the last. */
 dartelm_term_answer dartelm_term(uint8_t kind, const uint8_t *image, size_t image_length, uint64_t index);
 
-/* Reads a character of the closing text, by index from 0. Refused as a check is, and with 8 past the last. */
+/* Reads a character of the closing text, by its index. Refusals: those of a check, NO_SUCH past the last. */
 dartelm_character_answer dartelm_character(uint8_t kind, const uint8_t *image, size_t image_length, uint64_t index);
 
-/* Builds an image. The text's characters are 1 to 127; points are calibration point and deviation by turns, in billionths of the
- * span, and the domain is theirs: without points it is not looked at. Refused with 1, 7, 9 to 11, 16 and 22: then the image keeps
- * every byte. */
+/* Builds an image from fields, a closing text of characters 1 to 127, and calibration points of a domain. Without points the domain
+ * is not read. Refusals: WRONG_IMAGE, WRONG_LIST, WRONG_SORT, OUT_OF_RANGE, NOT_RISING, SUMS_NOT_RISING, TOO_LONG. */
 dartelm_write_answer dartelm_build(uint8_t kind, uint8_t *image, size_t image_length, dartelm_fields fields,
                                    const char *text, size_t text_length, uint8_t domain, const int64_t *points,
                                    size_t points_length);
 
-/* Builds an image with a curve in place of points. Refused with 1, 9 to 11, 24 and 25: then the image keeps every byte. */
+/* Builds an image with a curve in place of points. Refusals: WRONG_IMAGE, WRONG_SORT, OUT_OF_RANGE, then in the order of the stream
+ * WRONG_CURVE, OUT_OF_RANGE and TOO_MANY_TERMS, last TOO_LONG. */
 dartelm_write_answer dartelm_build_curve(uint8_t kind, uint8_t *image, size_t image_length, dartelm_fields fields,
                                          const char *text, size_t text_length, dartelm_curve curve);
 
-/* Changes one field of an image, and the check bytes of its pages, as a writer of a level. Refused as a check is, and with 8, 9,
- * 10, 12 and 20: then the image keeps every byte. */
+/* Changes one field of an image, and the check bytes of its pages, as a writer of a level. The value is in the field's unit.
+ * Refusals: those of a check, NO_SUCH, CHANGED_ALONE, LEVEL_TOO_LOW, WRONG_SORT, OUT_OF_RANGE. */
 dartelm_write_answer dartelm_change(uint8_t kind, uint8_t *image, size_t image_length, uint8_t level, uint64_t field,
                                     dartelm_value value);
 
-/* Tells what a field would become by a change, and writes nothing. Refused as the change would be. */
+/* Returns what a field would become by a change, and writes nothing. Refusals: those of the change. */
 dartelm_proposal_answer dartelm_propose(uint8_t kind, const uint8_t *image, size_t image_length, uint8_t level,
                                         uint64_t field, dartelm_value value);
 
-/* Puts new_code into a field of an image, and rewrites the check bytes of its pages, as a writer of a level. Refused as a check
- * is, and with 8, 12, 20, 19 where another code than present_code stands there, and 10 where new_code may not: then the image keeps
- * every byte. A proposal and its commit leave the bytes that a change would. */
+/* Stores new_code in a field of an image, and rewrites the check bytes of its pages, as a writer of a level. Pass the codes of a
+ * proposal: the two calls leave the bytes that the change would. Refusals: those of a check, NO_SUCH, CHANGED_ALONE, LEVEL_TOO_LOW,
+ * OTHER_CODE if the field's code is not present_code, OUT_OF_RANGE if the field cannot hold new_code. */
 dartelm_write_answer dartelm_commit(uint8_t kind, uint8_t *image, size_t image_length, uint8_t level, uint64_t field,
                                     uint64_t present_code, uint64_t new_code);
 
-/* Takes a reading at an input in nV/V, on a dash. Refused as a check is, with 4 for a sheet of template 32, 23 for one with more
- * points than the small dash takes, and with 13, 14 and 21. At precision 2 the Singles of fields 10 and 11 are taken to the nearest
- * nV/V, halves upward. Where the small dash is not refused with 23, it is answered as the large one is. With a curve the
- * fraction is where the input lies in the span, and the figure is worked from the curve. */
+/* Takes a reading at an input in nV/V, on a dash. At precision 2 the Singles of fields 10 and 11 are rounded to the nearest nV/V,
+ * halves upward. With a curve the fraction is the input's position in the span, and the figure is computed from the curve. Both
+ * dashes return the same, but for TOO_MANY_POINTS. Refusals: those of a check; WRONG_BLOCK for a sheet of template 32;
+ * TOO_MANY_POINTS on the small dash; NO_SPAN for a missing end; END_OUTSIDE; NO_SPAN for ends that do not rise; OUTSIDE_SPAN. */
 dartelm_reading_answer dartelm_reading(uint8_t kind, const uint8_t *image, size_t image_length, int64_t input,
                                        uint8_t dash);
 
-/* Holds a recording of ten refreshes a second against one of sixty, and both against the image. A recording has the input in
- * nV/V and the shown fraction by turns; tick t of the slow one pairs with tick 6t of the fast one. They agree if paired inputs and
- * fractions are equal and every fraction is what dartelm_reading gives for its input on the large dash; a fast tick whose reading
- * is refused fails. Two empty lists agree. Refused as a check is, and with 26. The image is checked once, whatever the lists'
- * lengths. */
+/* Compares a recording of ten refreshes a second with one of sixty, and both with the image. A recording has the input in nV/V and
+ * the fraction in billionths of the span in turn; slow_length and fast_length are how many numbers, two a tick. Tick t of the slow
+ * one pairs with tick 6t of the fast one. They agree if paired inputs and fractions are equal, and every fraction is what
+ * dartelm_reading returns for its input on the large dash. A fast tick whose reading is refused fails. Two empty lists agree. The
+ * image is checked once. Refusals: those of a check, WRONG_TICKS. */
 dartelm_compared_answer dartelm_compare(uint8_t kind, const uint8_t *image, size_t image_length, const int64_t *slow,
                                         size_t slow_length, const int64_t *fast, size_t fast_length);
 
-/* Tells how far a reading can stray from a certificate, before a chip is written: with these calibration points in domain 0 no
- * fraction that dartelm_reading gives is more than bound / 2000 billionths of the span from the exact line through them, at any
- * input and after any changes and commits. Refused as a build would refuse the list, with 7, 10 and 16. */
+/* Returns how far a reading can be from a certificate, before a chip is written. If a chip is built from these points in domain 0,
+ * no fraction of a reading is more than bound / 2000 billionths of the span from the exact line through them, at any input and
+ * after any changes and commits. Refusals: WRONG_LIST, OUT_OF_RANGE, NOT_RISING, as in a build. */
 dartelm_distance_answer dartelm_distance(const int64_t *points, size_t points_length);
 
-/* Tells how far any reading of this image can be from the line through these points, whoever wrote the image: no fraction that
- * dartelm_reading gives is more than bound / 2000 billionths of the span from it, at any input. For a sheet with a curve, or with
- * a table of domain 1, is_straight is 0. Refused as a check is, with 4 for a sheet of template 32, and as a build in domain 0
- * would refuse the list, with 7, 10 and 16. */
+/* Returns how far a reading of this image can be from the line through these points, whoever wrote the image. No fraction of a
+ * reading is more than bound / 2000 billionths of the span from it, at any input. Refusals: those of a check, WRONG_BLOCK for a
+ * sheet of template 32, then those of a distance. */
 dartelm_conformity_answer dartelm_conformity(uint8_t kind, const uint8_t *image, size_t image_length, const int64_t *points,
                                              size_t points_length);
 
-/* The next row to write to a chip that holds present, so that it comes to hold wanted. Nothing is kept between calls: present is
- * what the chip holds now, whatever bytes those are. A chip that is pulled between two writes, or loses power in one, holds what it
- * held at first, wanted, or what a check refuses with 2 or 17 (of a chip of kind 0 this is so for rows that are written whole); the
- * same loop then goes on from there. Refused as a check refuses wanted, then with 1 for the length of present.
+/* Returns the next row to write to a chip that holds present, so that it will hold wanted; the lengths are in bytes. present is
+ * what the chip holds now, any bytes. A row that is returned differs from the chip's. DARTELM_MOST_WRITES are enough for each kind.
  *
  *     for (int writes = 0; writes <= DARTELM_MOST_WRITES; writes++) {
  *         read_chip(present, length);
@@ -461,21 +499,23 @@ dartelm_conformity_answer dartelm_conformity(uint8_t kind, const uint8_t *image,
  *     }
  *     return CHIP_DOES_NOT_TAKE_WRITES;
  *
- * A row that is to be written is another than the chip holds there. DARTELM_MOST_WRITES are enough for every kind. */
+ * A chip that is pulled between two writes, or loses power in one, holds what it held at first, or wanted, or what a check refuses
+ * with WRONG_SUM or BLANK_CHIP. (With kind 0 this is so for rows that are written whole.) The same loop then goes on from there.
+ * Refusals: those of a check of wanted, then WRONG_IMAGE for the length of present. */
 dartelm_row_answer dartelm_next_row(uint8_t kind, const uint8_t *present, size_t present_length, const uint8_t *wanted,
                                     size_t wanted_length);
 
-/* The text of a code of field 3, 18 or 19, as template 33 has them: a letter, a date as 2018-01-02, three letters. Refused with 8
- * and 10. */
+/* The text of a code of field 3, 18 or 19 of template 33: a letter, a date such as 2018-01-02, three letters. Refusals: NO_SUCH,
+ * OUT_OF_RANGE. */
 dartelm_text_answer dartelm_text(uint64_t field, uint64_t code);
 
-/* The code of a text of field 3, 18 or 19. Refused with 8, 9 and 10. */
+/* The code of a text of field 3, 18 or 19 of template 33. Refusals: NO_SUCH, WRONG_SORT, OUT_OF_RANGE. */
 dartelm_code_answer dartelm_code(uint64_t field, const char *text, size_t text_length);
 
-/* The 31 stream bytes of a page, from 0; none for a wrong kind, image length or page. The image is not checked. */
+/* The 31 stream bytes of a page, by its number from 0; none for a wrong kind, image length or page. The image is not checked. */
 dartelm_page_answer dartelm_page(uint8_t kind, const uint8_t *image, size_t image_length, uint64_t page);
 
-/* ---- the structs lie so, with pointers of 32 and of 64 bits, wherever a 64-bit integer is aligned to 8 bytes ---- */
+/* ---- the layout of the structs, with pointers of 32 and of 64 bits, wherever a 64-bit integer is aligned to 8 bytes ---- */
 
 #if defined(__cplusplus) && __cplusplus >= 201103L
 #define DARTELM_IS(name, fact) static_assert(fact, #name)
