@@ -475,7 +475,7 @@ dartelm_reading_answer dartelm_reading(uint8_t kind, const uint8_t *image, size_
 dartelm_compared_answer dartelm_compare(uint8_t kind, const uint8_t *image, size_t image_length, const int64_t *slow,
                                         size_t slow_length, const int64_t *fast, size_t fast_length);
 
-/* Returns how far a reading can be from a certificate, before a chip is written. Build a chip from these points in domain 0: then no
+/* Returns how far a reading can be from a certificate, before a chip is written. For a chip built from these points in domain 0, no
  * fraction of a reading is more than bound / 2000 billionths of the span from the exact line through them. This holds at any input,
  * and after any changes and commits. Refusals: WRONG_LIST, OUT_OF_RANGE, NOT_RISING, as in a build. */
 dartelm_distance_answer dartelm_distance(const int64_t *points, size_t points_length);
