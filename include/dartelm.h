@@ -15,9 +15,9 @@
  *         return 0;
  *     }
  *
- * It takes a reading at 1,000,000 nV/V: `cc -Iinclude use.c portable/c/dartelm.c -o use`, then `./use < samples/load-cell.kind1`.
- * docs/FIRMWARE.md says how the library is compiled and what it costs, docs/REFUSALS.md what to do about each refusal, and
- * docs/WORDS.md what the words mean.
+ * It takes a reading at 1,000,000 nV/V: `cc -Iinclude use.c portable/c/dartelm.c -o use`, then `./use < samples/load-cell.kind1`
+ * prints 2502.000 (N). docs/FIRMWARE.md says how the library is compiled and what it costs, docs/REFUSALS.md what to do about each
+ * refusal, and docs/WORDS.md what the words mean.
  *
  * Answers. Every call but dartelm_version and dartelm_kind_of returns one struct by value.
  *   - number is DARTELM_ACCEPTED, or the refusal: DARTELM_WRONG_IMAGE to DARTELM_WRONG_TICKS.
@@ -56,8 +56,8 @@ extern "C" {
 
 /* ---- numbers ---- */
 
-/* Why a call is refused, and what its place counts. A bit is a bit of the stream, from 0.
- * docs/REFUSALS.md has a section for each. */
+/* Why a call is refused, and what its place counts. A bit is a bit of the stream, from 0. docs/REFUSALS.md has a section for each
+ * number. */
 enum {
     DARTELM_ACCEPTED = 0,
     DARTELM_WRONG_IMAGE = 1,      /* Kind not 0 to 2, or a wrong image length. Place: 0. */
@@ -411,11 +411,11 @@ dartelm_write_answer dartelm_index(uint8_t kind, const uint8_t *image, size_t im
                                    size_t buffer_length);
 
 /* Reads one field at the position that an index of index_length bytes gives. With the image's own index it returns what
- * dartelm_field returns, and is faster: it tests the page sums, the first template's number (any but 32 is taken as 33) and this
+ * dartelm_field returns, and is faster. It tests the page sums, the first template's number (any but 32 is taken as 33) and this
  * field alone. With another image's index it may accept an image that dartelm_check refuses. Any bytes may be passed as an index.
  * Refusals: WRONG_IMAGE, BLANK_CHIP, WRONG_SUM; NO_SUCH if the template has no such field; SHORT_INDEX below 84 bytes, with
- * template 32 below 76; OUTSIDE_TABLE if the entry has bits that the field cannot have, or that the stream has not; OUTSIDE_TABLE
- * and NOT_FINITE for the field's own bits. */
+ * template 32 below 76. Then OUTSIDE_TABLE if the entry has a length that the field cannot have, or ends past the stream;
+ * OUTSIDE_TABLE and NOT_FINITE for the field's own bits. */
 dartelm_field_answer dartelm_fetch(uint8_t kind, const uint8_t *image, size_t image_length, const uint8_t *index,
                                    size_t index_length, uint64_t field);
 
@@ -475,9 +475,9 @@ dartelm_reading_answer dartelm_reading(uint8_t kind, const uint8_t *image, size_
 dartelm_compared_answer dartelm_compare(uint8_t kind, const uint8_t *image, size_t image_length, const int64_t *slow,
                                         size_t slow_length, const int64_t *fast, size_t fast_length);
 
-/* Returns how far a reading can be from a certificate, before a chip is written. If a chip is built from these points in domain 0,
- * no fraction of a reading is more than bound / 2000 billionths of the span from the exact line through them, at any input and
- * after any changes and commits. Refusals: WRONG_LIST, OUT_OF_RANGE, NOT_RISING, as in a build. */
+/* Returns how far a reading can be from a certificate, before a chip is written. For a chip built from these points in domain 0, no
+ * fraction of a reading is more than bound / 2000 billionths of the span from the exact line through them. This holds at any input,
+ * and after any changes and commits. Refusals: WRONG_LIST, OUT_OF_RANGE, NOT_RISING, as in a build. */
 dartelm_distance_answer dartelm_distance(const int64_t *points, size_t points_length);
 
 /* Returns how far a reading of this image can be from the line through these points, whoever wrote the image. No fraction of a
