@@ -133,8 +133,8 @@ class Span(support.Case):
             self.file("sixty", "\n".join(lines) + "\n"),
             out=(
                 "DIFFER: the first tick that fails is 8 at sixty a second, 0.1333 s, ",
-                " at sixty: input 0.886128 mV/V, shows 20 % (200000000 billionths)\n",
-                " reading: 44.3475388 % (443475388 billionths) at 0.886128 mV/V\n",
+                "  at sixty: input 0.886128 mV/V, shows 20 % (200000000 billionths)\n",
+                "  reading:  44.3475388 % (443475388 billionths) at 0.886128 mV/V\n",
             ),
         )
         position, low = Decimal("44.3064"), Decimal("40.00032")
