@@ -16,6 +16,9 @@ from unittest import mock
 HERE = os.path.dirname(os.path.realpath(__file__))
 HOME = os.path.dirname(os.path.dirname(HERE))
 sys.dont_write_bytecode = True
+# A writer's lock is one for the machine: two runs of the tests do not wait for each other.
+os.environ["TMPDIR"] = tempfile.tempdir = tempfile.mkdtemp(prefix="dartelm-test-")
+atexit.register(shutil.rmtree, tempfile.tempdir, True)
 for folder in (os.path.join(HOME, "command"), HERE):
     if folder not in sys.path:
         sys.path.insert(0, folder)
