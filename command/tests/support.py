@@ -1,4 +1,5 @@
 """What the tests share: commands run in this process or as a program; samples; a folder of one's own."""
+import atexit
 import contextlib
 import io
 import os
@@ -13,6 +14,10 @@ from fractions import Fraction
 HERE = os.path.dirname(os.path.realpath(__file__))
 HOME = os.path.dirname(os.path.dirname(HERE))
 sys.dont_write_bytecode = True
+# A writer's lock is one for the machine: two runs of the tests do not wait for each other. Another user's lock is tried there too.
+os.environ["TMPDIR"] = tempfile.tempdir = tempfile.mkdtemp(prefix="dartelm-test-")
+os.chmod(tempfile.tempdir, 0o1777)
+atexit.register(shutil.rmtree, tempfile.tempdir, True)
 for folder in (os.path.join(HOME, "python"), HERE):
     if folder not in sys.path:
         sys.path.insert(0, folder)

@@ -43,6 +43,7 @@ class Certificate(support.Case):
             out=(
                 "6 points",
                 "2 20 % 0.4 mV/V 1000.75 N 1000.749995 N -0.000005 N -0.0000001 %\n",
+                "5 80 % 1.6 mV/V 4000.45 N 4000.450045 N +0.000045 N +0.0000009 %\n",
                 "6 100 % 2 mV/V 4998.95 N 4998.95 N 0 N 0 %\n",
                 "AGREES: at every input within what storing at the nearest step explains; the worst is at 99.99927 %, a point",
                 "own: -0.0000011 %, -0.000055 N",

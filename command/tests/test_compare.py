@@ -122,6 +122,30 @@ class Compare(support.Case):
 
 
 class Span(support.Case):
+    def test_what_is_told_of_a_tick(self):
+        """44.3064 % of 2 mV/V, and the correction between the points at 40 and 60 %, 0.042 and 0.038 %."""
+        lines = self.lines_of(SIXTY)
+        lines[8] = lines[8].split(" ")[0] + " 200000000"
+        self.gives(
+            1,
+            "compare",
+            CELL,
+            TEN,
+            self.file("sixty", "\n".join(lines) + "\n"),
+            out=(
+                "DIFFER: the first tick that fails is 8 at sixty a second, 0.1333 s, ",
+                "  at sixty: input 0.886128 mV/V, shows 20 % (200000000 billionths)\n",
+                "  reading:  44.3475388 % (443475388 billionths) at 0.886128 mV/V\n",
+            ),
+        )
+        position, low = Decimal("44.3064"), Decimal("40.00032")
+        wanted = position + Decimal("0.042") - Decimal("0.004") * (position - low) / Decimal("20.00016")
+        self.assertAlmostEqual(float(wanted), 44.3475388, places=6)
+
+    def lines_of(self, path):
+        with open(path, encoding="ascii") as file:
+            return file.read().splitlines()
+
     def test_a_span_that_does_not_begin_at_nought(self):
         """-5000 to 5000 N: a figure of F newtons is (F + 5000) times 100,000 billionths."""
         chip, inputs = sample("many-points.kind2"), self.file("in", "input (mV/V)\n-3\n-2\n-1\n0\n1.5\n3\n")

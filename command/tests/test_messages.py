@@ -124,6 +124,16 @@ class Words(support.Case):
             status, _, err = self.run_here("distance", self.file("cert", text), "--span", "5000N")
             self.assertEqual((status == 3, "cert: it is no text (byte 29)" in err), (control, control), code)
 
+    def test_inputs_that_are_too_fine(self):
+        """An input is a whole number of nV/V; the ones below and above are named."""
+        for text, near in (
+            ("1.5nV/V", "0.000001 mV/V or 0.000002 mV/V"),
+            ("-1.5nV/V", "-0.000002 mV/V or -0.000001 mV/V"),
+            ("-0.5nV/V", "-0.000001 mV/V or 0 mV/V"),
+            ("0.5nV/V", "0 mV/V or 0.000001 mV/V"),
+        ):
+            self.gives(2, "read", sample("load-cell.kind1"), text, err=f" is finer than it counts; write {near}\n")
+
     def test_closing_texts(self):
         for text in ('"', "left", '"left', 'left"', ""):
             sheet = self.sheet('"rolling road 2, left drum"', text)

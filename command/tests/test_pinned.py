@@ -111,6 +111,10 @@ THOUSANDS = (
     (13, "Pa", "0.145037737730209215154241027951194"),
     (13, "kPa", "145.037737730209215154241027951194"),
     (13, "bar", "14503.7737730209215154241027951194"),
+    (13, "MPa", "145037.7377302092151542410279511939767009"),
+    (13, "mbar", "14.50377377302092151542410279511939767009"),
+    (13, "hPa", "14.50377377302092151542410279511939767009"),
+    (13, "atm", "14695.94877551344872550347215715472968922"),
     (14, "g", "1"),
     (14, "lb", "453.59237"),
     (14, "oz", "28.349523125"),
@@ -618,6 +622,28 @@ class Whole(support.Case):
         """Without a check byte for each page of 32."""
         for count in (39, 124, 496):
             self.gives(1, "why", self.file("chip", bytes(count)), out=f"likely: {count} bytes are a chip's stream, without the check bytes")
+
+    def test_whose_sheet_is_on_a_chip(self):
+        """Maker, model, version and serial number say whose it is; nothing else does."""
+        chip = types.SimpleNamespace(kind=1, name="one")
+        for change, other in (
+            ("maker=1452", "manufacturer ID 1451"),
+            ("model=78", "model number 77"),
+            ("version letter=D", "version letter C"),
+            ("version number=5", "version number 4"),
+            ("serial=556", "serial number 555"),
+            ("measurand=kgf", None),
+            ("location=13", None),
+        ):
+            self.gives(0, "set", CELL, change, "--level", "maker", "-o", self.path("new"), "--force")
+            sheet = read_sheet(read_image(self.path("new")))
+            words = (chip, read_image(CELL), sheet)
+            if other:
+                said = re.escape(f"ow:one: another sender's sheet is on the chip ({other}); --force writes over it")
+                self.assertRaisesRegex(Trouble, said, write.own_sender, *words, False)
+            else:
+                write.own_sender(*words, False)
+            write.own_sender(*words, True)
 
     def test_rows_have_an_end(self):
         """A chip of 128 or 512 bytes has 16 or 64 rows of 8; four more are room enough."""
