@@ -1,55 +1,89 @@
-"""The structs and calls of include/dartelm.h."""
+"""include/dartelm.h as data: its constants, enums, refusals' reasons, structs and calls, in their order."""
+import os
 import re
 
-from .mir import Unknown
+HOME = os.path.dirname(os.path.dirname(os.path.realpath(__file__)))
+
+
+class Unreadable(Exception):
+    """A line of the header of a form that is not known here."""
 
 
 class Header:
-    def __init__(self, path):
-        with open(path, encoding='utf-8') as f:
-            text = re.sub(r'/\*.*?\*/', '', f.read(), flags=re.S)
-        self.structs, self.calls, self.own = {}, {}, {}
-        for body, name in re.findall(r'typedef struct \w+ \{(.*?)\} (\w+);', text, flags=re.S):
-            self.structs[name] = [self.member(x) for x in body.split(';') if x.strip()]
-        for result, name, params in re.findall(r'^(\w+) (dartelm_\w+)\(([^;]*?)\);', text, flags=re.S | re.M):
-            params = ' '.join(params.split())
-            listed = [] if params == 'void' else [x.strip() for x in params.split(',')]
-            self.calls[name] = (result, [re.fullmatch(r'(.*?)(\w+)', p).groups() for p in listed], params)
+    def __init__(self, home=HOME, prefix=''):
+        """Names of structs and calls are without the prefix, those of constants without DARTELM_."""
+        with open(os.path.join(home, 'include', 'dartelm.h'), encoding='utf-8') as f:
+            whole = f.read()
+        text = re.sub(r'/\*.*?\*/', '', whole, flags=re.S)
+        self.constants = {name: int(value) for name, value in re.findall(r'^#define DARTELM_(\w+) ([0-9]+)$', text, re.M)}
+        self.enums = [enumerators(body) for body in re.findall(r'^enum \{(.*?)\};', text, re.S | re.M)]
+        self.reasons = reasons(whole)
+        lengths = dict(self.constants)
+        for enum in self.enums:
+            lengths.update(enum)
+        self.structs = {
+            name.removeprefix(prefix): [member(line.replace(prefix, ''), lengths) for line in lines(body, ';')]
+            for body, name in re.findall(r'^typedef struct \w+ \{(.*?)\} (\w+);', text, re.S | re.M)
+        }
+        self.calls = {
+            name.removeprefix(prefix): (result.removeprefix(prefix), parameters(words.replace(prefix, '')))
+            for result, name, words in re.findall(r'^(\w+) (dartelm_\w+)\(([^;]*?)\);', text, re.S | re.M)
+        }
         if not self.calls:
-            raise Unknown(f'{path} has no calls')
+            raise Unreadable('a header without calls')
 
-    @staticmethod
-    def member(text):
-        """(C type, name, whether it is an array)"""
-        found = re.fullmatch(r'(\w+) (\w+)(\[\w+\])?', text.strip())
-        if not found:
-            raise Unknown(f'a member of the header: {text.strip()}')
-        return found[1], found[2], bool(found[3])
 
-    def meet(self, fn, shapes):
-        """Learns from a call which struct of the header each declared type is."""
-        result, params, _ = self.calls[fn.name.split('::')[-1]]
-        self.match(fn.locals[0].type, result, shapes)
-        left = list(params)
-        for local in fn.locals[1:fn.params + 1]:
-            if not left:
-                raise Unknown(f'the header has other parameters of {fn.name}')
-            self.match(local.type, left.pop(0)[0].strip(), shapes)
-            if local.type[0] == 'Slice' and left:
-                left.pop(0)
+def lines(text, end):
+    return [line for line in (' '.join(part.split()) for part in text.split(end)) if line]
 
-    def match(self, t, c, shapes):
-        """A declared type is the header's struct, and so are the declared types of its fields."""
-        if t[0] != 'Named' or c not in self.structs:
-            return
-        if self.own.setdefault(t[1], c) != c:
-            raise Unknown(f'{t[1]} is {c} and {self.own[t[1]]} in the header')
-        kind, parts = shapes[t[1]]
-        if kind != 'Fields' or len(parts) != len(self.structs[c]):
-            raise Unknown(f'the header has another {c}')
-        for part, (member, _, is_array) in zip(parts, self.structs[c]):
-            self.match(part[1] if is_array and part[0] == 'Array' else part, member, shapes)
 
-    def struct_of(self, name):
-        """The header's struct for a declared type, or None."""
-        return self.own.get(name)
+def reasons(text):
+    """What the header says of each refusal, by its name."""
+    body = re.search(r'DARTELM_ACCEPTED = 0,(.*?)^\};', text, re.S | re.M)
+    if not body:
+        raise Unreadable('the enum of refusals')
+    found = re.findall(r'DARTELM_(\w+) = [0-9]+,?\s*/\*(.*?)\*/', body[1], re.S)
+    return {name: ' '.join(words.replace('*', ' ').split()) for name, words in found}
+
+
+def enumerators(body):
+    found = []
+    for line in lines(body, ','):
+        parts = re.fullmatch(r'DARTELM_(\w+) = ([0-9]+)', line)
+        if not parts:
+            raise Unreadable(line)
+        found.append((parts[1], int(parts[2])))
+    return found
+
+
+def member(line, lengths):
+    """Name, type and length of a struct's member; its length is 0 where it is no array."""
+    parts = re.fullmatch(r'(\w+) (\w+)(?:\[(?:DARTELM_)?(\w+)\])?', line)
+    if not parts:
+        raise Unreadable(line)
+    length = parts[3] or '0'
+    return parts[2], parts[1], int(length) if length.isdigit() else lengths[length]
+
+
+def parameters(words):
+    """Name and type of each parameter, as C has them."""
+    found = []
+    for line in [] if words.strip() == 'void' else lines(words, ','):
+        parts = re.fullmatch(r'((?:const )?\w+ \*?)(\w+)', line)
+        if not parts:
+            raise Unreadable(line)
+        found.append((parts[2], parts[1].strip()))
+    return found
+
+
+def lent(found):
+    """Parameters in which a pointer and the length behind it are one, of type `const T[]`, or `T[]` if it is written."""
+    out, left = [], list(found)
+    while left:
+        name, sort = left.pop(0)
+        if sort.endswith('*'):
+            if not left or left.pop(0) != (name + '_length', 'size_t'):
+                raise Unreadable(f'a pointer without its length: {name}')
+            sort = sort.removesuffix('*').strip() + '[]'
+        out.append((name, sort))
+    return out

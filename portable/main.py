@@ -4,8 +4,9 @@ import hashlib
 import os
 import sys
 
+from .declared import Declared
 from .files import File
-from .header import Header
+from .header import Unreadable
 from .mir import Unknown
 from .program import Program
 from .reading import Proved
@@ -58,8 +59,7 @@ def made(home, programs=PROGRAMS):
     """The files by their names."""
     proved = Proved(home, ['dartelm'])
     mains = {name: proved.program(name) for name in programs}
-    header = Header(os.path.join(home, 'include/dartelm.h'))
-    whole = Program(proved.functions, header, proved.sources)
+    whole = Program(proved.functions, Declared(home), proved.sources)
     listed = sums(home, proved.crates)
     with open(os.path.join(os.path.dirname(__file__), 'prelude.c'), encoding='utf-8') as f:
         prelude = f.read()
@@ -90,7 +90,7 @@ def main(words, home):
     folder = os.path.join(home, 'portable/c')
     try:
         files = made(home)
-    except Unknown as unknown:
+    except (Unknown, Unreadable) as unknown:
         print(f'portable: not known here: {unknown}', file=sys.stderr)
         return 3
     if words:

@@ -107,7 +107,8 @@ class Program:
 
     def signature(self, fn, writer):
         if fn.name in self.exported:
-            result, _, listed = self.exported[fn.name]
+            result, params = self.exported[fn.name]
+            listed = ', '.join(c + name if c.endswith('*') else f'{c} {name}' for name, c in params) or 'void'
             return f'{result} {self.c_name(fn.name)}({listed})'
         params = []
         for i in range(1, fn.params + 1):
@@ -167,17 +168,17 @@ class Program:
             t = fn.locals[i].type
             if not left:
                 raise Unknown(f'the header has other parameters of {fn.name}')
-            c, name = left.pop(0)
+            name, c = left.pop(0)
             writer.names[i] = (name, [((id(fn.body), None),)])
             writer.c_params.append(name)
             if t[0] == 'Slice':
-                length = left.pop(0)[1]
+                length = left.pop(0)[0]
                 slice_ = f'{name}_lent'
                 writer.names[-i] = (slice_, [((id(fn.body), None),)])
                 first.append(f'{self.types.c(t)} {slice_} = {self.types.c(t)}_of(({self.types.pointer(t[1])}){name}, {length});')
                 writer.spots[i] = Spot(slice_, t)
                 writer.c_params.append(length)
-            elif c.strip() == self.types.c(t):
+            elif c == self.types.c(t):
                 writer.spots[i] = Spot(name, t)
             elif t[0] == 'Int' and not stores(fn, i):
                 writer.spots[i] = Spot(f'({self.types.c(t)}){name}', t)

@@ -101,8 +101,8 @@ class Values:
         of = self.types.shapes[at.type[1]][1][k]
         own = self.types.header.struct_of(at.type[1])
         if own:
-            member, name, array = self.types.header.structs[own][k]
-            return Spot(at.dot(name), of, member=member, array=array, const=at.const)
+            name, member, length = self.types.header.structs[own][k]
+            return Spot(at.dot(name), of, member=member, array=bool(length), const=at.const)
         return Spot(at.dot(self.types.field_names(at.type[1])[k]), of, const=at.const)
 
     # ---- pointers: `offset` counts bytes, an index counts elements

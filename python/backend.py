@@ -1,14 +1,11 @@
 """Builds the package for pip, with Python's own library and a C compiler alone (PEP 517).
 
-A wheel has the package, the shared library compiled from portable/c/dartelm.c, and the command `dartelm` with its two programs.
-Below the package the command finds what it finds in a release: bin/, command/, docs/, include/ and target/bin/.
+A wheel has the package, with the command `dartelm`, and the shared library compiled from portable/c/dartelm.c.
 """
 import base64
 import hashlib
 import os
 import re
-import shlex
-import subprocess
 import sys
 import sysconfig
 import tarfile
@@ -20,15 +17,8 @@ sys.path.insert(0, os.path.dirname(os.path.realpath(__file__)))
 from dartelm import library  # noqa: E402
 
 HOME = library.HOME
-PROGRAMS = ("console", "tray")
-# What the command runs and reads.
-NEEDED = ("bin/built.sh", "bin/console", "bin/tray", "docs/REFUSALS.md", "include/dartelm.h")
 # What a source distribution has.
-SOURCES = ("pyproject.toml", "python", "portable/c", "command/dartelm", "docs/PYTHON.md", *NEEDED)
-
-
-class Unbuilt(Exception):
-    """Something that a wheel has cannot be built."""
+SOURCES = ("pyproject.toml", "python/backend.py", "python/dartelm", "portable/c/dartelm.c", "docs/PYTHON.md", "include/dartelm.h")
 
 
 def get_requires_for_build_wheel(config_settings=None):
@@ -57,8 +47,7 @@ def build_wheel(wheel_directory, config_settings=None, metadata_directory=None):
     files = {**modules(), **compiled()}
     files[f"{info}/METADATA"] = metadata().encode(), 0o644
     files[f"{info}/WHEEL"] = f"Wheel-Version: 1.0\nGenerator: dartelm\nRoot-Is-Purelib: false\nTag: {tag}\n".encode(), 0o644
-    if any(path.startswith("dartelm/command/") for path in files):
-        files[f"{info}/entry_points.txt"] = b"[console_scripts]\ndartelm = dartelm.__main__:main\n", 0o644
+    files[f"{info}/entry_points.txt"] = b"[console_scripts]\ndartelm = dartelm.__main__:main\n", 0o644
     record = "".join(f"{path},sha256={digest(data)},{len(data)}\n" for path, (data, _) in sorted(files.items()))
     files[f"{info}/RECORD"] = f"{record}{info}/RECORD,,\n".encode(), 0o644
     with zipfile.ZipFile(os.path.join(wheel_directory, name), "w", zipfile.ZIP_DEFLATED) as wheel:
@@ -77,39 +66,18 @@ def digest(data):
 def modules():
     """The package's modules, and the command's below it."""
     files = {}
-    package = os.path.join(HOME, "python", "dartelm")
-    for name in sorted(os.listdir(package)):
-        if name.endswith((".py", ".typed")):
-            files[f"dartelm/{name}"] = read(os.path.join(package, name)), 0o644
-    if all(os.path.exists(source(name)) for name in PROGRAMS):
-        for name in sorted(os.listdir(os.path.join(HOME, "command", "dartelm"))):
-            if name.endswith(".py"):
-                files[f"dartelm/command/dartelm/{name}"] = read(os.path.join(HOME, "command", "dartelm", name)), 0o644
-        for name in NEEDED:
-            path = os.path.join(HOME, *name.split("/"))
-            files[f"dartelm/{name}"] = read(path), 0o755 if os.access(path, os.X_OK) else 0o644
+    for folder in ("dartelm", "dartelm/command"):
+        package = os.path.join(HOME, "python", folder)
+        for name in sorted(os.listdir(package)):
+            if name.endswith((".py", ".typed")):
+                files[f"{folder}/{name}"] = read(os.path.join(package, name)), 0o644
     return files
 
 
 def compiled():
-    """The shared library and the command's programs."""
-    compiler = shlex.split(os.environ.get("CC") or "cc")
-    files = {}
+    """The shared library."""
     with tempfile.TemporaryDirectory() as room:
-        path = os.path.join(room, "libdartelm.so")
-        library.compile_to(path, HOME, compiler)
-        files["dartelm/libdartelm.so"] = read(path), 0o755
-        for name in PROGRAMS if all(os.path.exists(source(name)) for name in PROGRAMS) else ():
-            path = os.path.join(room, name)
-            words = [*compiler, "-std=c99", "-O2", "-I" + os.path.join(HOME, "include"), source(name), "-o", path]
-            if subprocess.run(words, check=False).returncode != 0:
-                raise Unbuilt(" ".join(words))
-            files[f"dartelm/target/bin/{name}"] = read(path), 0o755
-    return files
-
-
-def source(name):
-    return os.path.join(HOME, "portable", "c", name + ".c")
+        return {"dartelm/libdartelm.so": (read(library.compiled(HOME, room)), 0o755)}
 
 
 def read(path):

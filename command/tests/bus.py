@@ -1,11 +1,25 @@
 """A small owserver for tests: chips in memory, and servers that fall silent, cut answers short, or are none."""
 import errno
+import os
+import shutil
 import socket
 import struct
+import tempfile
 import threading
+from unittest import mock
 
 HEAD = struct.Struct(">6i")
 READ, WRITE, LIST = 2, 3, 7
+
+
+def lock_apart(case):
+    """Locks of a test's own, so that two tests may run at once."""
+    folder = tempfile.mkdtemp()
+    os.chmod(folder, 0o1777)
+    case.addCleanup(shutil.rmtree, folder)
+    for patch in (mock.patch.object(tempfile, "tempdir", folder), mock.patch.dict(os.environ, TMPDIR=folder)):
+        patch.start()
+        case.addCleanup(patch.stop)
 
 
 class Bus:
@@ -71,16 +85,22 @@ class Bus:
         return data
 
     def answer(self, kind, path, size, offset, data):
+        if self.how == "far":
+            return -(1 << 31), b""
+        if kind == LIST and self.how == "unlisted":
+            return -errno.EIO, b""
         if kind == LIST:
             return 0, ",".join("/" + name for name in [*self.there(), "81.000000000001"]).encode() + b"\0"
         name = path.split("/")[1]
         if not path.endswith("/memory") or name not in self.chips:
             return -1, b""
+        if kind == READ and self.how == "unread":
+            return -errno.EIO, b""
         if kind == READ:
             return self.read(name, size, offset)
         if self.how == "read-only":
             return -errno.EROFS, b""
-        return self.write(name, offset, data)
+        return self.write(name, offset, data) if self.how != "protected" else (-errno.EINVAL, b"")
 
     def there(self):
         return [name for name in self.chips if name not in self.pulled]
@@ -101,6 +121,7 @@ class Bus:
         if self.cut is not None and len(self.rows) >= self.cut:
             self.pulled.add(name)
         if name not in self.pulled and self.how != "deaf":
+            data = data[:4] + bytes([data[4] ^ 1]) + data[5:] if self.how == "torn" else data
             self.rows.append((offset, bytes(data)))
             self.chips[name][offset : offset + len(data)] = data
         return 0, b""

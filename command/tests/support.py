@@ -1,17 +1,15 @@
-"""What the tests share: commands run in this process with one console, or as a program; samples; a folder of one's own."""
+"""What the tests share: commands run in this process or as a program; samples; a folder of one's own."""
 import atexit
 import contextlib
 import io
 import os
 import random
 import shutil
-import struct
 import subprocess
 import sys
 import tempfile
 import unittest
 from fractions import Fraction
-from unittest import mock
 
 HERE = os.path.dirname(os.path.realpath(__file__))
 HOME = os.path.dirname(os.path.dirname(HERE))
@@ -19,13 +17,14 @@ sys.dont_write_bytecode = True
 # A writer's lock is one for the machine: two runs of the tests do not wait for each other.
 os.environ["TMPDIR"] = tempfile.tempdir = tempfile.mkdtemp(prefix="dartelm-test-")
 atexit.register(shutil.rmtree, tempfile.tempdir, True)
-for folder in (os.path.join(HOME, "command"), HERE):
+for folder in (os.path.join(HOME, "python"), HERE):
     if folder not in sys.path:
         sys.path.insert(0, folder)
 
-from dartelm import console as consoles  # noqa: E402
-from dartelm import image as images  # noqa: E402
-from dartelm import main  # noqa: E402
+from dartelm.command import image as images  # noqa: E402
+from dartelm.command import main  # noqa: E402
+from dartelm.command.singles import as_float  # noqa: E402
+from dartelm.command.trouble import Refusal  # noqa: E402
 
 SAMPLES = os.path.join(HOME, "samples")
 REFUSED = ("blank.kind1", "damaged.kind1")
@@ -33,25 +32,10 @@ ACCEPTED = tuple(sorted(name for name in os.listdir(SAMPLES) if ".kind" in name 
 TODAY = ("--today", "2026-03-01")
 PROGRAM = os.path.join(HOME, "bin", "dartelm")
 
-_console = None
-
-
-def console():
-    global _console
-    if _console is None:
-        _console = consoles.Console()
-        atexit.register(_console.close)
-    return _console
-
-
-class Shared:
-    """The console of all tests, which a command does not close."""
-
-    def __enter__(self):
-        return console()
-
-    def __exit__(self, *_):
-        return False
+def console(*words):
+    """The words of the console's answer, which is another program over the same calls."""
+    words = [os.path.join(HOME, "bin", "console"), *map(str, words)]
+    return subprocess.run(words, capture_output=True, text=True, check=True).stdout.split()
 
 
 def sample(name):
@@ -84,7 +68,7 @@ class Case(unittest.TestCase):
     def run_here(self, *words):
         """Status, standard output and standard error of a command, in this process."""
         out, err = io.StringIO(), io.StringIO()
-        with mock.patch.object(main, "Console", Shared), contextlib.redirect_stdout(out), contextlib.redirect_stderr(err):
+        with contextlib.redirect_stdout(out), contextlib.redirect_stderr(err):
             try:
                 status = main.main([str(word) for word in words])
             except SystemExit as ended:
@@ -139,10 +123,10 @@ def built_images(count, seed):
     chance = random.Random(seed)
     found = []
     while len(found) < count:
-        sheet = random_sheet(chance)
-        answer = console().ask_all([sheet.build_line()])[0]
-        if answer.startswith("ok "):
-            found.append(images.Image(bytes.fromhex(answer[3:]), sheet.kind))
+        try:
+            found.append(images.build(random_sheet(chance)))
+        except Refusal:
+            pass
     return found
 
 
@@ -154,26 +138,20 @@ def sealed(data):
     return bytes(data)
 
 
-def other_home(path, console):
-    """A home of its own with another console; what `dartelm` to run."""
+def other_home(path):
+    """A home of its own with nothing but the package; what `dartelm` to run."""
     os.makedirs(os.path.join(path, "bin"))
     shutil.copytree(
-        os.path.join(HOME, "command", "dartelm"),
-        os.path.join(path, "command", "dartelm"),
-        ignore=shutil.ignore_patterns("__pycache__"),
+        os.path.join(HOME, "python", "dartelm"), os.path.join(path, "python", "dartelm"), ignore=shutil.ignore_patterns("__pycache__")
     )
     shutil.copy2(os.path.join(HOME, "bin", "dartelm"), os.path.join(path, "bin", "dartelm"))
-    if console:
-        with open(os.path.join(path, "bin", "console"), "w", encoding="utf-8") as file:
-            file.write(console)
-        os.chmod(os.path.join(path, "bin", "console"), 0o755)
     return os.path.join(path, "bin", "dartelm")
 
 
 def random_single(chance):
     if chance.random() < 0.5:
-        return f"s{chance.choice((0, 0x80000000, 1, 0x007FFFFF, 0x7F7FFFFF, 0xFF7FFFFF, 0x3F800000)):08x}"
-    return f"s{chance.randrange(0x7F800000) | chance.choice((0, 0x80000000)):08x}"
+        return as_float(chance.choice((0, 0x80000000, 1, 0x007FFFFF, 0x7F7FFFFF, 0xFF7FFFFF, 0x3F800000)))
+    return as_float(chance.randrange(0x7F800000) | chance.choice((0, 0x80000000)))
 
 
 # Start, step and number of codes of an electrical end, by template and precision.
@@ -187,42 +165,42 @@ def random_sheet(chance):
     precision = chance.randrange(3 if sheet.template == 33 else 4)
 
     def maybe(value, share=0.2):
-        return "m" if chance.random() < share else value
+        return None if chance.random() < share else value
 
     def end():
         if precision == (2 if sheet.template == 33 else 3):
             return maybe(random_single(chance))
         start, step, codes = STEPS[sheet.template][precision]
-        return maybe(f"w{start + step * chance.randrange(codes)}")
+        return maybe(start + step * chance.randrange(codes))
 
     values = [
-        f"w{chance.randrange(17, 16382)}",
-        f"w{chance.randrange(1 << 15)}",
-        f"w{chance.randrange(1, 27)}",
-        f"w{chance.randrange(64)}",
-        f"w{chance.randrange(1 << 24)}",
-        f"w{chance.randrange(46)}",
+        chance.randrange(17, 16382),
+        chance.randrange(1 << 15),
+        chance.randrange(1, 27),
+        chance.randrange(64),
+        chance.randrange(1 << 24),
+        chance.randrange(46),
         maybe(random_single(chance)),
         maybe(random_single(chance)),
-        f"w{precision}",
+        precision,
         end(),
         end(),
     ]
     if sheet.template == 33:
         values += [
-            f"w{chance.randrange(3)}",
-            maybe(f"w{chance.randrange(10, 262153)}"),
-            maybe(f"w{chance.randrange(100, 791180997)}"),
+            chance.randrange(3),
+            maybe(chance.randrange(10, 262153)),
+            maybe(chance.randrange(100, 791180997)),
         ]
-        values += [maybe(f"w{chance.randrange(1, 512)}") for _ in range(3)]
+        values += [maybe(chance.randrange(1, 512)) for _ in range(3)]
     else:
-        values += [f"w{chance.randrange(4)}", maybe(f"w{chance.randrange(100, 791180997)}")]
-        values += [maybe(f"w{chance.randrange(10000, 1000000000)}") for _ in range(2)]
+        values += [chance.randrange(4), maybe(chance.randrange(100, 791180997))]
+        values += [maybe(chance.randrange(10000, 1000000000)) for _ in range(2)]
     values += [
-        maybe(f"w{chance.randrange(65535)}"),
-        f"w{chance.randrange(1 << 15)}",
-        f"w{chance.randrange(1 << 12)}",
-        f"w{chance.randrange(1 << 11)}",
+        maybe(chance.randrange(65535)),
+        chance.randrange(1 << 15),
+        chance.randrange(1 << 12),
+        chance.randrange(1 << 11),
     ]
     sheet.values = dict(enumerate(values, 1))
     if chance.random() < 0.6:
@@ -236,5 +214,5 @@ def random_sheet(chance):
         for code in [0] + sorted(chance.sample(range(1, 8130), chance.randrange(5))):
             exponents = sorted(chance.sample(range(6), chance.randrange(1, 5)))
             sheet.segments.append((123000 * code, len(exponents)))
-            sheet.terms += [(exponent, random_single(chance)[1:]) for exponent in exponents]
+            sheet.terms += [(exponent, random_single(chance)) for exponent in exponents]
     return sheet

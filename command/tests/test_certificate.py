@@ -1,10 +1,11 @@
 """certificate: a chip against its certificate, in per cent or in the sender's unit, by the proved distance."""
 import support
-from dartelm import certificate, tables
-from dartelm.image import build, read_image, read_sheet
-from dartelm.singles import nearest
-from dartelm.trouble import Refusal
-from dartelm.units import EXACT
+from dartelm import distance
+from dartelm.command import certificate, tables
+from dartelm.command.image import build, read_image, read_sheet
+from dartelm.command.singles import nearest
+from dartelm.command.trouble import Refusal
+from dartelm.command.units import EXACT
 from support import ACCEPTED, REFUSED, sample
 
 PERCENT = "point (%),deviation (%)\n0,0\n20,0.015\n40,0.042\n60,0.038\n80,0.009\n100,-0.021\n"
@@ -69,16 +70,16 @@ class Certificate(support.Case):
     def test_a_chip_that_is_made_from_the_certificate_agrees(self):
         """Whatever the steps do to its points, and whichever precision it has: that is what is proved."""
         chance = support.random.Random(11)
-        sheet = read_sheet(support.console(), read_image(sample("load-cell.kind1")))
+        sheet = read_sheet(read_image(sample("load-cell.kind1")))
         done = 0
         for number in range(60):
             sheet.kind, sheet.text = 2, None
             ends = sorted(chance.sample(range(1, 60), 2))
-            sheet.values[9] = f"w{number % 3}"
+            sheet.values[9] = number % 3
             sheet.values[10], sheet.values[11] = (
-                (f"w{1000000 * end}" for end in ends),
-                (f"w{100025 * end}" for end in ends),
-                (f"s{nearest(EXACT.create_decimal(end) / 777):08x}" for end in ends),
+                (1000000 * end for end in ends),
+                (100025 * end for end in ends),
+                (nearest(EXACT.create_decimal(end) / 777) for end in ends),
             )[number % 3]
             places = sorted(chance.sample(range(0, 66000), chance.choice((1, 2, 6, 30))))
             sheet.points = [
@@ -86,12 +87,12 @@ class Certificate(support.Case):
                 for place in places
             ]
             try:
-                chip = build(support.console(), sheet)
-                bound = support.console().distance(sheet.points)[1]
+                chip = build(sheet)
+                bound = distance(sheet.points).bound
             except Refusal as refusal:
                 self.assertEqual(refusal.number, 7)
                 continue
-            beside = certificate.beside_points(support.console(), chip, read_sheet(support.console(), chip), "", sheet.points)
+            beside = certificate.beside_points(chip, read_sheet(chip), "", sheet.points)
             self.assertLessEqual(beside.bound(), -(-bound // 2000))
             self.assertTrue(beside.agrees() or beside.is_open(), beside.verdict())
             self.assertLessEqual(max(abs(y) for _, y in beside.over(40)), beside.distance())

@@ -3,7 +3,8 @@ import os
 from decimal import Decimal
 
 import support
-from dartelm.image import read_image
+from dartelm.command import readings
+from dartelm.command.image import read_image
 from support import sample
 
 CELL, TEN, SIXTY = sample("load-cell.kind1"), sample("load-cell.ten"), sample("load-cell.sixty")
@@ -68,9 +69,9 @@ class Compare(support.Case):
         self.compare(1, TEN, far, out=("fails is 8 ", "reading: refused: 14"))
 
     def test_long_recordings(self):
-        """More than one line of the console holds, and a tick that fails behind the first parts of them."""
+        """More ticks than a line of the console holds."""
         inputs = [n * 37 % 2000000 for n in range(6 * 500)]
-        shown = [got[0] for got in support.console().readings(read_image(CELL), inputs)]
+        shown = [got.fraction for got in readings.of(read_image(CELL), inputs)]
         for wrong in (None, 0, 479, 480, 481, 2999):
             rows = [(v, q + (n == wrong)) for n, (v, q) in enumerate(zip(inputs, shown))]
             fast = self.file("fast", "".join(f"{v},{q}\n" for v, q in rows))

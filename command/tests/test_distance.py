@@ -2,8 +2,8 @@
 import os
 
 import support
-from dartelm import bounds
-from dartelm.image import read_image, read_sheet
+from dartelm.command import bounds
+from dartelm.command.image import read_image, read_sheet
 from support import sample, sample_bytes
 
 CELL, CERT = sample("load-cell.kind1"), sample("load-cell.csv")
@@ -36,11 +36,11 @@ class Distance(support.Case):
     def test_the_part_of_the_float(self):
         """docs/PROMISES.md: 2^-53 of |least| + |greatest - least| (4 q + 1) / 10^9. The farthest q is 1.1 of the span, and the
         greatest deviation, 1.09715 of it."""
-        sheet = read_sheet(support.console(), read_image(sample("many-points.kind2")))
+        sheet = read_sheet(read_image(sample("many-points.kind2")))
         for off in (0, 1, 516):
             wanted = support.Fraction(off * 10000, 10**9)
             wanted += (5000 + support.Fraction(10000 * (4 * 2197150000 + 1), 10**9)) / 2**53
-            self.assertEqual(bounds.Bound(support.console(), sheet, support.Fraction(off)).physical(), wanted)
+            self.assertEqual(bounds.Bound(sheet, support.Fraction(off)).physical(), wanted)
 
     def test_figures_in_the_senders_unit(self):
         cert = self.file("cert", "load (kN),deviation (N)\n0,0\n1,0.75\n2,2.1\n3,1.9\n4,0.45\n5,-1.05\n")

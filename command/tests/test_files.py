@@ -1,14 +1,12 @@
 """A file is written whole or not at all, and none is replaced unless it is asked for."""
 import os
-import signal
 import subprocess
 import sys
-import time
 from unittest import mock
 
 import support
-from dartelm import files
-from dartelm.trouble import Trouble
+from dartelm.command import files
+from dartelm.command.trouble import Trouble
 from support import sample
 
 CELL = sample("load-cell.kind1")
@@ -16,21 +14,9 @@ KILLED = """
 import os, signal, sys
 sys.path.insert(0, {command!r})
 sys.dont_write_bytecode = True
-from dartelm import main
+from dartelm.command import main
 os.{call} = lambda *_, **__: os.kill(os.getpid(), signal.{signal})
 sys.exit(main.main(sys.argv[1:]))
-"""
-
-
-SLOW = """#!/usr/bin/env python3
-import subprocess, sys, time
-inner = subprocess.Popen([{console!r}], stdin=subprocess.PIPE, stdout=subprocess.PIPE)
-for line in sys.stdin:
-    time.sleep(0.01)
-    inner.stdin.write(line.encode())
-    inner.stdin.flush()
-    sys.stdout.write(inner.stdout.readline().decode())
-    sys.stdout.flush()
 """
 
 
@@ -129,7 +115,7 @@ class Write(support.Case):
             return done.stdout, done.stderr.decode()
 
         image, said = run("set", CELL, "location=5")
-        self.assertEqual(support.console().ask("field", "1", image.hex(), "21"), ["w5"])
+        self.assertEqual(support.console("field", 1, image.hex(), 21), ["w5"])
         self.assertIn("measurement location ID 12 5 5\n", support.squeezed(said))
         self.assertIn("standard output: written, accepted", said)
         sheet = self.file("sheet", run("export", CELL)[0])
@@ -155,7 +141,7 @@ class Write(support.Case):
                 ("set", sample("load-cell.kind1"), "location=1", "-o", self.path("new")),
                 ("make", source, "-o", self.path("new")),
             ):
-                script = KILLED.format(command=os.path.join(support.HOME, "command"), call=call, signal=name)
+                script = KILLED.format(command=os.path.join(support.HOME, "python"), call=call, signal=name)
                 done = subprocess.run([sys.executable, "-c", script, *words], capture_output=True, check=False)
                 self.assertNotEqual(done.returncode, 0)
                 self.assertEqual(os.listdir(self.room), ["sheet"], (call, name, words[0]))
@@ -164,28 +150,12 @@ class Write(support.Case):
         there = self.file("there", "precious")
         words = ("set", sample("load-cell.kind1"), "location=1", "-o", there, "--force")
         for call in ("fsync", "link", "replace"):
-            script = KILLED.format(command=os.path.join(support.HOME, "command"), call=call, signal="SIGKILL")
+            script = KILLED.format(command=os.path.join(support.HOME, "python"), call=call, signal="SIGKILL")
             done = subprocess.run([sys.executable, "-c", script, *words], capture_output=True, check=False)
             self.assertNotEqual(done.returncode, 0)
             self.assertEqual(self.bytes("there"), b"precious")
             for name in os.listdir(self.room):
                 self.assertIn(os.path.getsize(self.path(name)), (8, 128))
-
-    def test_killed_while_the_console_answers(self):
-        program = support.other_home(self.path("there"), SLOW.format(console=os.path.join(support.HOME, "bin", "console")))
-        os.mkdir(self.path("out"))
-        new = self.path("out/new")
-        sheet = self.file("sheet", self.gives(0, "export", sample("load-cell.kind1"))[0])
-        for words in (("set", sample("load-cell.kind1"), "location=1", "-o", new, "--force"), ("make", sheet, "-o", new)):
-            for delay in (0.12, 0.3, 0.5):
-                with subprocess.Popen([program, *words], stdout=subprocess.DEVNULL, stderr=subprocess.DEVNULL) as process:
-                    time.sleep(delay)
-                    process.send_signal(signal.SIGKILL)
-                left = os.listdir(self.path("out"))
-                self.assertIn(left, ([], ["new"]))
-                if left:
-                    self.assertEqual(os.path.getsize(new), 128)
-                    os.unlink(new)
 
 
 if __name__ == "__main__":

@@ -4,8 +4,8 @@ import subprocess
 from unittest import mock
 
 import support
-from dartelm import files
-from dartelm.trouble import Trouble
+from dartelm.command import files
+from dartelm.command.trouble import Trouble
 from support import sample, sample_bytes
 
 CELL = sample("load-cell.kind1")

@@ -5,8 +5,8 @@ import shutil
 import subprocess
 
 import support
-from dartelm import main
-from dartelm.image import from_stream
+from dartelm.command import main
+from dartelm.command.image import from_stream
 from support import sample, sample_bytes
 
 RT = """#!/bin/sh

@@ -3,7 +3,7 @@ from unittest import mock
 
 import bus
 import support
-from dartelm import owserver
+from dartelm.command import owserver
 from support import sample, sample_bytes
 
 ONE, TWO, OLD, OTHER = "2D.0123456789AB", "23.00000000BEEF", "14.000000000014", "28.0000000000FF"
@@ -69,6 +69,8 @@ class Chips(support.Case):
             ("differ", "two reads differ; check the contact"),
             ("closed", "closed the connection in the middle of an answer"),
             ("absurd", "is no owserver"),
+            ("far", "is no owserver"),
+            ("unread", f"ow:{ONE}: the server answers: Input/output error; check the contact and the adapter\n"),
         ):
             self.bus(how=how)
             out, err = self.gives(3, "show", f"ow:{ONE}", *self.server)
@@ -87,11 +89,17 @@ class Chips(support.Case):
         self.gives(3, "show", f"ow:{OTHER}", *self.server, err="a chip of family 28 is none of 14 (DS2430A), 2D (DS2431), 23 (DS2433)")
         there.close()
         self.gives(3, "chips", *self.server, err=(f"no owserver at {there.place}: ", "server: usb = all", "/etc/owfs.conf"))
+        self.bus(how="unlisted")
+        self.gives(3, "chips", *self.server, err="does not list its chips: Input/output error; check the adapter\n")
+        self.gives(3, "chips", "-s", "a..b", err="no owserver at a..b:4304: ")
         for words, part in (
             (("show", "ow:2D"), "a chip's name is like 2D.0123456789AB"),
             (("show", "ow:2D.0123456789AG"), "a chip's name is like"),
             (("show", "ow:", "-s", ":5"), "no HOST:PORT"),
             (("show", "ow:", "-s", "localhost:99999"), "no HOST:PORT"),
+            (("show", "ow:", "-s", "bench:"), "no HOST:PORT"),
+            (("show", "ow:", "-s", "::1"), "no HOST:PORT"),
+            (("show", "ow:", "-s", "0"), "no HOST:PORT"),
         ):
             self.gives(2, *words, err=part)
 
@@ -102,7 +110,14 @@ class Chips(support.Case):
         self.gives(3, "show", f"ow:{ONE}", *self.server, err="there is no such chip")
 
     def test_places(self):
-        for place, host, port in (("localhost", "localhost", 4304), ("bench:99", "bench", 99), ("10.0.0.1", "10.0.0.1", 4304)):
+        for place, host, port in (
+            ("localhost", "localhost", 4304),
+            ("bench:99", "bench", 99),
+            ("10.0.0.1", "10.0.0.1", 4304),
+            ("99", "localhost", 99),
+            ("[::1]:99", "[::1]", 99),
+            ("[::1]", "[::1]", 4304),
+        ):
             found = owserver.Owserver(place)
             self.assertEqual((found.host, found.port), (host, port))
 

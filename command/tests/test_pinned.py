@@ -7,9 +7,10 @@ import types
 from unittest import mock
 
 import support
-from dartelm import certificate, dumps, image, main, measurands, refusals, setting, sheets, units, write
-from dartelm.image import Image, build, read_image, read_sheet
-from dartelm.trouble import Refusal, Trouble
+from dartelm import calls
+from dartelm.command import certificate, dumps, image, main, measurands, readings, refusals, setting, sheets, units, write
+from dartelm.command.image import Image, build, read_image, read_sheet
+from dartelm.command.trouble import Refusal, Trouble
 from support import sample, sample_bytes
 
 CELL = sample("load-cell.kind1")
@@ -168,8 +169,7 @@ class Names(support.Case):
             text = sheet.replace("force/weight, N (4)", code).replace(" N\n", f" {name.split(', ')[1]}\n")
             self.gives(0, "make", self.file("sheet", text), "-o", self.path("chip"), "--force", out=f" {name} ({code})")
             self.gives(0, "show", self.path("chip"), out=(f"{name} ({code})\n", f"maximum physical value 5000 {name.split(', ')[1]}\n"))
-            stored = support.console().ask("field", "1", self.bytes("chip").hex(), "6")
-            self.assertEqual(stored, [f"w{code}"])
+            self.assertEqual(calls.field(self.bytes("chip"), 6), int(code))
 
     def test_other_units(self):
         for code, word, wanted in THOUSANDS:
@@ -231,22 +231,21 @@ class Names(support.Case):
                 {0: 10, 1: 1000, 2: 1},
             ),
         ):
-            sheet = read_sheet(support.console(), read_image(sample(name)))
+            sheet = read_sheet(read_image(sample(name)))
             for precision, words in end.items():
-                sheet.values[9], sheet.values[10], sheet.values[11] = f"w{precision}", "w0", f"w{2 * middle[precision]}"
-                chip = build(support.console(), sheet)
+                sheet.values[9], sheet.values[10], sheet.values[11] = precision, 0, 2 * middle[precision]
+                chip = build(sheet)
                 self.gives(0, "show", self.file("chip", chip.data), out=words)
-                stored = support.console().ask("propose", chip, 11, f"w{3 * middle[precision]}", "maker")[2]
-                self.assertEqual(stored, f"w{3 * middle[precision]}")
+                self.assertEqual(chip.ask(calls.propose, 11, 3 * middle[precision], 2).value, 3 * middle[precision])
                 half = middle[precision] // 2
                 if half:
-                    below = support.console().ask("propose", chip, 11, f"w{3 * middle[precision] - half // 2 - 1}", "maker")[2]
-                    self.assertEqual(below, f"w{3 * middle[precision]}")
+                    below = chip.ask(calls.propose, 11, 3 * middle[precision] - half // 2 - 1, 2).value
+                    self.assertEqual(below, 3 * middle[precision])
         self.gives(0, "show", sample("brake-pressure.kind1"), out="full precision (2)\n")
         text, _ = self.gives(0, "export", sample("temperature.kind1"))
         text = text.replace("steps of 1 ohm (2)", "full precision (3)")
         self.gives(0, "make", self.file("sheet", text), "-o", self.path("full"))
-        self.assertEqual(support.console().ask("field", "1", self.bytes("full").hex(), "9"), ["w3"])
+        self.assertEqual(calls.field(self.bytes("full"), 9), 3)
 
     def test_fields(self):
         for name, template in (("load-cell.kind1", 33), ("temperature.kind1", 32)):
@@ -262,7 +261,7 @@ class Names(support.Case):
             for code, word in enumerate(words):
                 for given in (code, word, f"{word} ({code})"):
                     self.gives(0, "set", sample(name), f"12={given}", "--level", "maker", "-o", self.path("chip"), "--force")
-                    self.assertEqual(support.console().ask("field", "1", self.bytes("chip").hex(), "12"), [f"w{code}"])
+                    self.assertEqual(calls.field(self.bytes("chip"), 12), code)
                 self.gives(0, "show", self.path("chip"), out=f"12 {NAMES[33 if words == BRIDGES else 32][11]} {word} ({code})\n")
 
     def test_figures_by_their_codes(self):
@@ -286,12 +285,12 @@ class Names(support.Case):
                 self.assertAlmostEqual(float(number) * scale[prefix], figure(code), delta=0.51 * step, msg=given)
         for day, code in (("1998-01-01", 0), ("1998-12-31", 364), ("2000-02-29", 789), ("2025-11-03", 10168)):
             self.gives(0, "set", CELL, f"date={day}", "--level", "calibration", "-o", self.path("chip"), "--force")
-            self.assertEqual(support.console().ask("field", "1", self.bytes("chip").hex(), "18"), [f"w{code}"])
+            self.assertEqual(calls.field(self.bytes("chip"), 18), code)
             self.gives(0, "show", self.path("chip"), out=f"18 calibration date {day}\n")
         for code in range(1, 27):
             letter = chr(ord("A") + code - 1)
             self.gives(0, "set", CELL, f"version letter={letter}", "--level", "maker", "-o", self.path("chip"), "--force")
-            self.assertEqual(support.console().ask("field", "1", self.bytes("chip").hex(), "3"), [f"w{code}"])
+            self.assertEqual(calls.field(self.bytes("chip"), 3), code)
             self.gives(0, "show", self.path("chip"), out=f"3 version letter {letter}\n")
 
     def test_choices_are_the_consoles(self):
@@ -347,7 +346,7 @@ class Shown(support.Case):
 
     def test_the_first_and_the_last_points(self):
         """-5000 to 5000 N: a point at 97.89399 % is at 4789.399 N, and with -0.0254 % shows 4786.859 N."""
-        points = read_sheet(support.console(), read_image(sample("many-points.kind2"))).points
+        points = read_sheet(read_image(sample("many-points.kind2"))).points
         said, _ = self.gives(0, "show", sample("many-points.kind2"), out=".. 90 more: --points shows them\n")
         rows = [line.split() for line in said.splitlines() if " deviation " in line]
         self.assertEqual([int(row[0]) for row in rows], [0, 1, 2, 93, 94, 95])
@@ -361,15 +360,15 @@ class Shown(support.Case):
         self.assertEqual([int(line.split()[0]) for line in said.splitlines() if " deviation " in line], list(range(96)))
 
     def test_twelve_points_are_few(self):
-        sheet = read_sheet(support.console(), read_image(CELL))
+        sheet = read_sheet(read_image(CELL))
         for count, some in ((12, 12), (13, 6)):
             sheet.points = [(15300 * 100 * n, 1000 * n) for n in range(count)]
-            said, _ = self.gives(0, "show", self.file("chip", build(support.console(), sheet, 2).data))
+            said, _ = self.gives(0, "show", self.file("chip", build(sheet, 2).data))
             self.assertEqual(sum(" deviation " in line for line in said.splitlines()), some)
 
     def test_readings_of_a_table(self):
         """q by document 01, over stored points; 5 inputs from end to end."""
-        points = read_sheet(support.console(), read_image(CELL)).points
+        points = read_sheet(read_image(CELL)).points
         said, _ = self.gives(0, "read", CELL, "--table", "5")
         rows = [line.split() for line in said.splitlines()[2:]]
         self.assertEqual([row[0] for row in rows], ["0", "0.5", "1", "1.5", "2"])
@@ -460,8 +459,8 @@ class Verdicts(support.Case):
 
     def test_one_billionth_differs_from_a_twin(self):
         """A table against the physical figure is held against a chip made from the certificate, to the last billionth."""
-        sheet = read_sheet(support.console(), read_image(sample("torque.kind1")))
-        beside = certificate.beside_points(support.console(), read_image(sample("torque.kind1")), sheet, "", list(sheet.points))
+        sheet = read_sheet(read_image(sample("torque.kind1")))
+        beside = certificate.beside_points(read_image(sample("torque.kind1")), sheet, "", list(sheet.points))
         self.assertTrue(beside.agrees())
         for off in (1, -1):
             beside.at[1].difference = off
@@ -485,7 +484,7 @@ class Verdicts(support.Case):
 
     def test_inputs_are_the_nearest_to_the_points(self):
         cell = read_image(CELL)
-        found = certificate.against(support.console(), cell, read_sheet(support.console(), cell), sample("load-cell.csv"))
+        found = certificate.against(cell, read_sheet(cell), sample("load-cell.csv"))
         self.assertEqual([one.input for one in found.at], [0, 400000, 800000, 1200000, 1600000, 2000000])
         self.assertEqual([one.input for one in found.own], [0, 400003, 800006, 1200010, 1600013, 1999985])
         places = [x for x, _ in found.over(5)]
@@ -569,7 +568,7 @@ class Whole(support.Case):
         self.gives(1, "why", self.file("chip", first.data), out="bit 0 is bit 0 of page 0, byte 1: manufacturer ID\n")
         pages = set()
         for one in support.stored_images():
-            refusal = support.images.refusal_of(support.console(), one)
+            refusal = support.images.refusal_of(one)
             if refusal and one.kind and refusal.number in (3, 4, 5, 6, 7, 22, 24):
                 byte = refusal.place // 8
                 said, _ = self.gives(1, "why", self.file("chip", one.data))
@@ -637,8 +636,8 @@ class Whole(support.Case):
             ("location=13", None),
         ):
             self.gives(0, "set", CELL, change, "--level", "maker", "-o", self.path("new"), "--force")
-            sheet = read_sheet(support.console(), read_image(self.path("new")))
-            words = (support.console(), chip, read_image(CELL), sheet)
+            sheet = read_sheet(read_image(self.path("new")))
+            words = (chip, read_image(CELL), sheet)
             if other:
                 said = re.escape(f"ow:one: another sender's sheet is on the chip ({other}); --force writes over it")
                 self.assertRaisesRegex(Trouble, said, write.own_sender, *words, False)
@@ -650,13 +649,14 @@ class Whole(support.Case):
         """A chip of 128 or 512 bytes has 16 or 64 rows of 8; four more are room enough."""
         for kind, most, name in ((1, 20, "load-cell.kind1"), (2, 68, "many-points.kind2")):
             wanted = read_image(sample(name))
-            rows = write.Rows(support.console(), types.SimpleNamespace(kind=kind, name="one"), wanted)
             present = bytes(byte ^ 0xFF for byte in wanted.data)
+            rows = write.Rows(types.SimpleNamespace(kind=kind, name="one"), present, wanted.data, None)
             rows.sent = most - 1
-            self.assertEqual(len(rows.next(present)[1]), 8)
+            self.assertEqual(len(next(rows.rows())[1]), 8)
             rows.sent = most
-            self.assertRaises(Trouble, rows.next, present)
-            self.assertIsNone(rows.next(wanted.data))
+            self.assertRaises(Trouble, next, rows.rows())
+            rows.held = wanted.data
+            self.assertEqual(list(rows.rows()), [])
 
     def test_intel_hex(self):
         good = ":10000000" + "00" * 16 + "F0"
@@ -689,19 +689,14 @@ class Whole(support.Case):
         with mock.patch.object(image, "read_image", return_value=Image(sample_bytes("torque.kind1"))):
             self.gives(3, "set", CELL, "location=1", "-o", self.path("new"), err="what stands in the file is not what was written")
             self.gives(3, "make", sheet, "-o", self.path("made"), err="made: what stands in the file is not what was written")
-        other = read_sheet(support.console(), read_image(CELL))
+        other = read_sheet(read_image(CELL))
         with mock.patch.object(setting, "write_image", return_value=other):
             self.gives(3, "set", CELL, "location=1", "-o", self.path("two"), err="what stands in the file is not what was written")
         self.gives(0, "set", CELL, "date=2026-01-01", "--level", "calibration", "-o", self.path("dated"))
-        other = read_sheet(support.console(), read_image(self.path("dated")))
+        other = read_sheet(read_image(self.path("dated")))
         words = ("date=2026-01-01", "location=1", "--level", "maker", "-o", self.path("three"))
         with mock.patch.object(setting, "write_image", return_value=other):
             self.gives(3, "set", CELL, *words, err="what stands in the file is not what was written")
-
-    def test_a_console_that_answers_half_a_line(self):
-        program = support.other_home(self.path("there"), "#!/bin/sh\nread line\nprintf 'ok 1'\n")
-        self.assertEqual(support.run_program("show", CELL, program=program)[0], 3)
-        self.assertIn("without an answer", support.run_program("show", CELL, program=program)[2])
 
     def test_a_refusal_that_nobody_caught(self):
         with mock.patch.object(main, "answer", side_effect=Refusal(2, 7)):
@@ -746,9 +741,9 @@ class Whole(support.Case):
             self.assertEqual([line[9:] for line in said.splitlines() if line.startswith("look at: ")], looks)
 
     def test_floats_are_the_protocols(self):
-        (found,) = support.console().readings(read_image(CELL), [1000000])
-        answer = support.console().ask("reading", read_image(CELL), 1000000, "large")
-        self.assertEqual((str(found[0]), struct.pack(">d", found[1]).hex()), tuple(answer))
+        (found,) = readings.of(read_image(CELL), [1000000])
+        answer = support.console("reading", 1, "@" + CELL, 1000000, "large")
+        self.assertEqual([str(found.fraction), struct.pack(">d", found.figure).hex()], answer)
 
 
 if __name__ == "__main__":

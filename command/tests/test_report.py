@@ -5,7 +5,8 @@ import os
 import re
 
 import support
-from dartelm import panels
+from dartelm import calls
+from dartelm.command import panels
 from support import ACCEPTED, REFUSED, sample
 
 PERCENT = "point (%),deviation (%)\n0,0\n20,0.015\n40,0.042\n60,0.038\n80,0.009\n100,-0.021\n"
@@ -159,13 +160,12 @@ class Report(support.Case):
     def test_a_curve_as_drawn(self):
         """In the sender's unit, by the curve's own terms: 300 kPa, in per cent of the span."""
         image = support.images.read_image(sample("exhaust-pressure.kind1"))
-        terms = [support.console().ask("term", image, index) for index in range(5)]
-        counts = [support.console().ask("segment", image, index) for index in range(2)]
-        first = int(counts[0][1])
+        terms = [image.ask(calls.term, index) for index in range(5)]
+        segments = [image.ask(calls.segment, index) for index in range(2)]
 
         def correction(x):
-            own = terms[:first] if x < int(counts[1][0]) / 1e7 else terms[first:]
-            exact = sum(support.struct.unpack(">f", bytes.fromhex(word))[0] * x ** int(power) for power, word in own)
+            own = terms[: segments[0].terms] if x < segments[1].start / 1e7 else terms[segments[0].terms :]
+            exact = sum(one.coefficient * x**one.exponent for one in own)
             return 300 * exact / 100
 
         for one in self.drawings(self.page(0, sample("exhaust-pressure.kind1"))):

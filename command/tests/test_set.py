@@ -2,7 +2,7 @@
 import os
 
 import support
-from support import sample, sample_bytes
+from support import sample
 
 
 class Set(support.Case):
@@ -27,8 +27,8 @@ class Set(support.Case):
 
     def test_it_is_what_a_change_writes(self):
         self.set(0, "impedance=350.5ohm", "--level", "maker", out="350 ohm 350.5 ohm 350.5 ohm 0 ohm")
-        cell = sample_bytes("load-cell.kind1").hex()
-        self.assertEqual(support.console().ask("change", "1", cell, "13", "w3505", "maker")[1], self.bytes("new").hex())
+        changed = support.console("change", 1, "@" + sample("load-cell.kind1"), 13, "w3505", "maker")
+        self.assertEqual(changed, ["ok", self.bytes("new").hex()])
 
     def test_each_sample(self):
         for name in support.ACCEPTED:

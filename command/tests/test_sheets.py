@@ -2,8 +2,8 @@
 import os
 
 import support
-from dartelm import export, make, sheets
-from dartelm.image import build, read_sheet
+from dartelm.command import export, make, sheets
+from dartelm.command.image import build, read_sheet
 from support import ACCEPTED, REFUSED, sample, sample_bytes
 
 
@@ -20,14 +20,14 @@ class Again(support.Case):
         """Some hundreds, of every template, precision and kind, with points of both domains, with curves, and without."""
         sorts = set()
         for number, image in enumerate(support.built_images(300, 7)):
-            sheet = read_sheet(support.console(), image)
-            text = "\n".join(sheets.written(support.console(), sheet)) + "\n"
-            draft = sheets.parsed(support.console(), "again", text)
-            again = build(support.console(), draft.sheet)
+            sheet = read_sheet(image)
+            text = "\n".join(sheets.written(sheet)) + "\n"
+            draft = sheets.parsed("again", text)
+            again = build(draft.sheet)
             self.assertEqual(again.data, image.data, text)
             if number % 8 == 0:
-                self.assertEqual(export.exported(support.console(), image, sheet), (text, True))
-                rows = make.stored_rows(support.console(), draft, read_sheet(support.console(), again))
+                self.assertEqual(export.exported(image, sheet), (text, True))
+                rows = make.stored_rows(draft, read_sheet(again))
                 self.assertEqual([row.told() for row in rows if not row.is_exact], [])
             sorts |= {(sheet.template, sheet.values[9]), (sheet.kind,), (sheet.template, sheet.domain, sheet.curve())}
         self.assertEqual(len(sorts), 3 + 4 + 3 + 2 * 4)
@@ -36,15 +36,15 @@ class Again(support.Case):
         """Bits behind the end are not the sheet's: where they are not 0 that is said, and the rest is the same."""
         count = differing = 0
         for image in support.stored_images():
-            if support.images.refusal_of(support.console(), image):
+            if support.images.refusal_of(image):
                 continue
             count += 1
-            sheet = read_sheet(support.console(), image)
-            text, same = export.exported(support.console(), image, sheet)
+            sheet = read_sheet(image)
+            text, same = export.exported(image, sheet)
             differing += not same
             self.assertEqual(text.startswith("#"), not same)
             again = read_sheet(
-                support.console(), build(support.console(), sheets.parsed(support.console(), "again", text).sheet)
+                build(sheets.parsed("again", text).sheet)
             )
             self.assertEqual(
                 (again.values, again.points, again.text, again.domain), (sheet.values, sheet.points, sheet.text, sheet.domain)
@@ -157,7 +157,7 @@ class Make(support.Case):
         self.make(1, self.text, "--kind", "0", err="refused: 11 at bits ")
         self.make(1, self.edited("rolling", "r" * 400), err="refused: 11 at bits ")
         self.make(1, self.text + "".join(f"point = {n} %, 0 %\n" for n in range(130)), err="refused: 16")
-        self.make(2, self.edited("rolling", "r" * 40000), err="more than any chip holds")
+        self.make(1, self.edited("rolling", "r" * 40000), err="refused: 11 at bits 65535")
         torque, _ = self.gives(0, "export", sample("torque.kind1"))
         self.make(1, torque.replace("50.0004 %, +0.065", "50.0004 %, -90"), err=("sheet:27: refused: 22 ",))
 

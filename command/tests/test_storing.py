@@ -2,8 +2,9 @@
 import os
 
 import support
-from dartelm import fields, storing
-from dartelm.fields import FIELDS, Around
+from dartelm.command import storing
+from dartelm.command.fields import FIELDS, Around
+from dartelm.command.trouble import Refusal
 from support import sample
 
 CELL = sample("load-cell.kind1")
@@ -12,11 +13,11 @@ CELL = sample("load-cell.kind1")
 class Nearest(support.Case):
     def stored(self, template, precision, number, text):
         """What the chip stores, or the refusal's number."""
-        by = Around(support.console(), template, 4, precision)
+        by = Around(template, 4, precision)
         field = FIELDS[template][number - 1]
         value = field.parsed(text, by)
-        answer = storing.Reference(support.console(), template, precision).propose(number, value).split(" ")
-        return f"no {answer[1]}" if answer[0] == "no" else field.shown(answer[2], by)
+        answer = storing.Reference(template, precision).propose(number, value)
+        return f"no {answer.number}" if isinstance(answer, Refusal) else field.shown(answer.value, by)
 
     def test_steps(self):
         """By document 01: precision 0 has steps of 1,000,000 nV/V from -1,000,000,000, precision 1 of 25 from -6,550,000."""
@@ -67,14 +68,13 @@ class Nearest(support.Case):
 
     def test_points(self):
         """Points have steps of 15,300 billionths, deviations of 1,000: 0.000765 % and 0.00005 % are their first borders."""
-        billionths = storing.Billionths(support.console())
         fraction = support.Fraction
         for count, stored in ((fraction("7649.9"), 0), (7650, 15300), (fraction("1002670200.4"), None), (fraction("-0.5"), None)):
-            self.assertEqual(billionths.points([billionths.point(count)]), [stored])
+            self.assertEqual(storing.points([storing.settled(count, storing.points)]), [stored])
         for count, stored in ((fraction("499.9"), 0), (500, 1000), (fraction("-500.1"), -1000), (-500, 0)):
-            self.assertEqual(billionths.deviations([billionths.deviation(count)]), [stored])
+            self.assertEqual(storing.deviations([storing.settled(count, storing.deviations)]), [stored])
         for count, stored in ((fraction("61499.5"), 0), (61500, 123000), (fraction("184499.999"), 123000)):
-            self.assertEqual(billionths.starts([billionths.start(count)]), [stored])
+            self.assertEqual(storing.starts([storing.settled(count, storing.starts)]), [stored])
 
     def test_geometric_is_by_ratio(self):
         self.assertEqual([storing.nearer(100, 129, support.Fraction(n, 10), True) for n in (1135, 1136)], [False, True])
@@ -191,7 +191,6 @@ class Trial(support.Case):
         for command in (("set", CELL, "location=1"), ("make", self.file("sheet", self.sheet))):
             self.gives(2, *command, "--dry-run", "-o", self.path("new"), err="takes either -o NEW or --dry-run")
             self.gives(2, *command, err="takes either -o NEW or --dry-run")
-        self.assertEqual(fields.MISSING, "m")
 
 
 if __name__ == "__main__":

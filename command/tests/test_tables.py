@@ -1,8 +1,8 @@
 """A certificate's table is taken as it is meant, or refused: never another one in its place."""
 import support
-from dartelm import certificate, tables
-from dartelm.image import read_image, read_sheet
-from dartelm.trouble import Trouble
+from dartelm.command import certificate, tables
+from dartelm.command.image import read_image, read_sheet
+from dartelm.command.trouble import Trouble
 from support import sample
 
 # The load cell's certificate in newtons and in per cent of 5000 N, and in billionths of it.
@@ -19,7 +19,7 @@ class Tables(support.Case):
         sheet, _ = self.gives(0, "export", self.cell)
         bare = "".join(line + "\n" for line in sheet.splitlines() if not line.startswith(("point", "domain")))
         self.gives(0, "make", self.file("bare.txt", bare), "-o", self.path("bare"))
-        self.scale = certificate.Scale(support.console(), read_sheet(support.console(), read_image(self.cell)))
+        self.scale = certificate.Scale(read_sheet(read_image(self.cell)))
 
     def points(self, text, **columns):
         table = tables.read_table(self.file("cert", text), tables.Asked(**columns))
@@ -193,7 +193,7 @@ class Tables(support.Case):
         chance = support.random.Random(44)
         found = [OddTable(chance) for _ in range(600)]
         self.assertGreater(len({table.text for table in found}), 590)
-        chips = [(image, read_sheet(support.console(), image)) for image in map(read_image, (self.path("bare"), self.cell))]
+        chips = [(image, read_sheet(image)) for image in map(read_image, (self.path("bare"), self.cell))]
         taken = set()
         for table in found:
             columns = {"error": "Error"} if table.turned else {}
@@ -206,7 +206,7 @@ class Tables(support.Case):
             taken.add(table.text)
             for (image, sheet), agrees in zip(chips, (False, points == BILLIONTHS)):
                 try:
-                    against = certificate.against(support.console(), image, sheet, self.path("cert"), tables.Asked(**columns))
+                    against = certificate.against(image, sheet, self.path("cert"), tables.Asked(**columns))
                 except Trouble as trouble:
                     self.assertEqual((trouble.status, points == BILLIONTHS), (1, False), table.text)
                     continue

@@ -1,6 +1,7 @@
-"""tray: a line a chip, by the tray program."""
+"""tray: a line a chip, and the tray program's total."""
 import csv
 import io
+import json
 import os
 import shutil
 import subprocess
@@ -20,7 +21,35 @@ BITS = {
 CHIPS = len(ACCEPTED)
 
 
+def images_in(tray):
+    """The images of a tray, as the tray program reads them (docs/TRAY.md): one of another kind or cut short is the last."""
+    found = []
+    while tray and len(found) < 1000:
+        size = support.images.BYTES.get(tray[0], 0)
+        found.append(tray[1 : size + 1])
+        tray = tray[size + 1 :] if size else b""
+    return found
+
+
 class Tray(support.Case):
+    def test_the_tray_programs_report(self):
+        """Every image of the stored trays, and their total."""
+        folder = os.path.join(support.SAMPLES, "trays")
+        trays = sorted(name for name in os.listdir(folder) if name.endswith(".tray") and name != "empty.tray")
+        for name in trays:
+            with open(os.path.join(folder, name), "rb") as file:
+                images = images_in(file.read())
+            with open(os.path.join(folder, name), "rb") as file:
+                words = [os.path.join(support.HOME, "bin", "tray")]
+                report = subprocess.run(words, stdin=file, capture_output=True, text=True, check=False).stdout.splitlines()
+            paths = [self.file(f"{number}.bin", data) for number, data in enumerate(images, 1)]
+            found = json.loads(self.gives(1, "tray", "--json", *paths)[0])
+            lines = [
+                f"{number} {chip['bits'] if chip['accepted'] else -chip['refused']}" for number, chip in enumerate(found["chips"], 1)
+            ]
+            self.assertEqual([*lines, f"total {found['total_bits']}"], report, name)
+        self.assertEqual(len(trays), 4)
+
     def test_files(self):
         out, _ = self.gives(0, "tray", *map(sample, ACCEPTED))
         for name, bits in BITS.items():
@@ -154,7 +183,7 @@ class Tray(support.Case):
     def test_every_refusal_is_the_checks(self):
         found = {}
         for image in support.stored_images():
-            refusal = support.images.refusal_of(support.console(), image)
+            refusal = support.images.refusal_of(image)
             found.setdefault(refusal.number if refusal else 0, image)
         for number, image in found.items():
             out, _ = self.gives(1 if number else 0, "tray", self.file("one", image.data))

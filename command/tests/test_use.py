@@ -3,6 +3,7 @@ import os
 import subprocess
 
 import support
+from dartelm import library
 from support import ACCEPTED, run_program, sample
 
 COMMANDS = ("show", "why", "set", "read", "tray", "certificate", "export", "make", "report", "distance", "compare")
@@ -112,12 +113,30 @@ class Use(support.Case):
         found, out, _ = run_program("show", sample("load-cell.kind1"), program=self.path("link"))
         self.assertEqual((found, ": accepted" in out), (0, True))
 
-    def test_no_console(self):
-        program = support.other_home(self.path("there"), "#!/bin/sh\nexit 3\n")
-        self.assertIn("without an answer", self.ends(3, "show", sample("load-cell.kind1"), program=program)[1])
-        os.unlink(os.path.join(self.room, "there/bin/console"))
-        self.assertIn("cannot run", self.ends(3, "show", sample("load-cell.kind1"), program=program)[1])
-        self.assertIn("cannot run", self.ends(3, "tray", sample("load-cell.kind1"), program=program)[1])
+    def test_no_library(self):
+        program = support.other_home(self.path("there"))
+        for words in (("show", sample("load-cell.kind1")), ("tray", sample("load-cell.kind1")), ("--version",)):
+            self.assertRegex(self.ends(3, *words, program=program)[1], r"^dartelm: the library cannot be compiled: [^\n]*dartelm\.c'\n$")
+            env = {**os.environ, "DARTELM_LIBRARY": self.path("none.so")}
+            self.assertIn("none.so", self.ends(3, "show", sample("load-cell.kind1"), env=env)[1])
+
+    def test_the_package_alone(self):
+        """No program, page or header is there to be run or read: the package and a library are enough."""
+        program = support.other_home(self.path("there"))
+        env = {**os.environ, "DARTELM_LIBRARY": library.chosen()[0]}
+        for status, words in (
+            (0, ("show", sample("load-cell.kind1"), "--curve")),
+            (1, ("why", sample("damaged.kind1"))),
+            (1, ("tray", support.SAMPLES)),
+        ):
+            self.assertEqual(self.ends(status, *words, program=program, env=env), self.ends(status, *words))
+
+    def test_the_library_is_asked_for_only_where_it_is_needed(self):
+        """Its first use may compile it."""
+        program = support.other_home(self.path("there"))
+        self.ends(0, "--help", program=program)
+        self.ends(2, "show", program=program)
+        self.ends(3, "show", sample("load-cell.kind1"), program=program)
 
     def test_as_a_program(self):
         self.ends(0, "show", *map(sample, ACCEPTED), "--curve")

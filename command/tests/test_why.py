@@ -177,7 +177,7 @@ class Why(support.Case):
     def test_every_stored_image(self):
         numbers = set()
         for number, image in enumerate(support.stored_images()):
-            refusal = support.images.refusal_of(support.console(), image)
+            refusal = support.images.refusal_of(image)
             path = self.file("stored", image.data)
             if not refusal and number % 4:
                 continue

@@ -89,33 +89,134 @@ class Dash(IntEnum):
     SMALL = 1
 
 
-# Why a call is refused, and what its place is.
-REASONS = {
-    Number.WRONG_IMAGE: "Kind not 0 to 2, or a wrong image length. Place: 0.",
-    Number.WRONG_SUM: "A page does not add up. Place: the page, from 0.",
-    Number.PAST_END: "The stream ends before the sheet does. Place: the first bit of what is cut off.",
-    Number.WRONG_BLOCK: "A block that is not known here; a reading from template 32. Place: its selector's bit.",
-    Number.OUTSIDE_TABLE: "Code not in the field's table; in a fetch also an entry that the field cannot have. Place: its first bit.",
-    Number.NOT_FINITE: "A Single that is infinite, or a NaN. Place: its first bit.",
-    Number.NOT_RISING: "Calibration points that do not rise. Place: the later one's bit; in a build its index.",
-    Number.NO_SUCH: "No such field, calibration point, segment, term or character. Place: the number given.",
-    Number.WRONG_SORT: "Wrong sort of value, missing where it may not be, text with end bit 0, text of a wrong length. Place: the field (for the closing text the number behind the last field's).",
-    Number.OUT_OF_RANGE: "A value, text or code that the field cannot hold. Place: the field, or the index of a point, a segment or a term.",
-    Number.TOO_LONG: "More than the chip holds. Place: the bits needed, 65,535 if they are more than that.",
-    Number.CHANGED_ALONE: "Field 9 cannot be changed alone. Place: 9.",
-    Number.NO_SPAN: "A reading needs fields 7, 8, 10 and 11, and 10 below 11. Place: the first that is missing, else 11.",
-    Number.OUTSIDE_SPAN: "A reading's input is too far outside the span. Place: 0.",
-    Number.WRONG_LIST: "A list of points that is odd or longer than 254. Place: its length.",
-    Number.BLANK_CHIP: "Every page is blank: nothing has been written to this chip. Place: 0.",
-    Number.SHORT_INDEX: "A buffer too short for an index, or an index too short to be one. Place: the bytes needed.",
-    Number.OTHER_CODE: "A commit: another code stands in the field than the present one. Place: the field.",
-    Number.LEVEL_TOO_LOW: "A writer of this level may not write the field. Place: the field.",
-    Number.END_OUTSIDE: "A reading at precision 2: a Single outside -2 to 2 V/V. Place: the first of fields 10 and 11 that is.",
-    Number.SUMS_NOT_RISING: "Domain 1: calibration points plus deviations that do not rise. Place: as in 7.",
-    Number.TOO_MANY_POINTS: "A reading on the small dash: more than 32 calibration points. Place: how many.",
-    Number.WRONG_CURVE: "A segment count, a start, a term count or an exponent that breaks the rules of a curve. Place: its bit; in a build the segment count, or the segment's or the term's index.",
-    Number.TOO_MANY_TERMS: "A curve of more than 30 terms. Place: how many up to the segment that passes them.",
-    Number.WRONG_TICKS: "Two recordings: a list of odd length, or fast ticks that are not six times the slow ones. Place: the whole ticks of the fast list.",
+# Of each refusal: the reason and its place, as the header says them; what it means, and what to do about it, as
+# docs/REFUSALS.md says them.
+REFUSALS = {
+    Number.WRONG_IMAGE: (
+        "Kind not 0 to 2, or a wrong image length. Place: 0.",
+        "the kind is not 0, 1 or 2, or the image does not have the kind's 40, 128 or 512 bytes",
+        "bench: the chip was read short, or is of another kind. Programmer: pass the kind that the length tells",
+    ),
+    Number.WRONG_SUM: (
+        "A page does not add up. Place: the page, from 0.",
+        "the page's bytes do not add up to 0 modulo 256 (kind 0: register and page together)",
+        "bench: read the chip again; if it stays, the page is damaged, or is the only one that was never written, or the chip was pulled while an image was written to it: then write that image again. Nothing on the chip is trusted then",
+    ),
+    Number.PAST_END: (
+        "The stream ends before the sheet does. Place: the first bit of what is cut off.",
+        "a field, selector, template number or end bit would lie past the stream's end",
+        "bench: the sheet on the chip is cut short. It was written by something that does not know the chip's size",
+    ),
+    Number.WRONG_BLOCK: (
+        "A block that is not known here; a reading from template 32. Place: its selector's bit.",
+        "a block that is not built here: another template than 33 or 32 first or 40 or 41 second, a selector 1 or 2, a third block; or a reading or a conformity of a sheet of template 32 (place 64)",
+        "bench: not a damaged chip, but a sender of another sort, or one that gives ohms and no nV/V",
+    ),
+    Number.OUTSIDE_TABLE: (
+        "Code not in the field's table; in a fetch also an entry that the field cannot have. Place: its first bit.",
+        "a code that the field's table has not: a maker below 17, a letter outside A to Z, all ones in a calibration point or in a start, exponent or coefficient of a curve, a count of points of 0, domain 1 of a curve; in a fetch, at the entry's offset, an entry whose length the field cannot have or that ends past the stream",
+        "bench: the sheet was written wrongly; the sender itself may be sound",
+    ),
+    Number.NOT_FINITE: (
+        "A Single that is infinite, or a NaN. Place: its first bit.",
+        "a Single that is infinite or no number, and not all ones",
+        "bench: the sheet was written wrongly; the sender itself may be sound",
+    ),
+    Number.NOT_RISING: (
+        "Calibration points that do not rise. Place: the later one's bit; in a build its index.",
+        "the calibration points do not rise once they are stored at their steps",
+        "bench: two points of the certificate fall on one step of the chip, or are listed out of order. Programmer: leave one out",
+    ),
+    Number.NO_SUCH: (
+        "No such field, calibration point, segment, term or character. Place: the number given.",
+        "no such field, pair, segment, term or character; for text, a field that has none",
+        "programmer: field numbers are 1 to 21, of template 32 1 to 19; indices count from 0 and end below the count that a check gives",
+    ),
+    Number.WRONG_SORT: (
+        "Wrong sort of value, missing where it may not be, text with end bit 0, text of a wrong length. Place: the field (for the closing text the number behind the last field's).",
+        "a value of the wrong sort (a Single where a whole number belongs), missing where it may not be, text with end bit 0, a text of the wrong length",
+        "programmer: hand in the sort of value that the field has (document 01's table of fields; dartelm_field returns that sort)",
+    ),
+    Number.OUT_OF_RANGE: (
+        "A value, text or code that the field cannot hold. Place: the field, or the index of a point, a segment or a term.",
+        "a figure outside the field's range, a Single that is not finite, a character 0 or above 127, a text that is no date or has a letter the field can't hold, a commit's new code that may not stand in the field",
+        "restorer: the certificate has a figure that this field cannot come near; another precision (field 9) may",
+    ),
+    Number.TOO_LONG: (
+        "More than the chip holds. Place: the bits needed, 65,535 if they are more than that.",
+        "the stream has fewer bits than the sheet needs",
+        "take a larger chip, fewer points, a shorter text or a lower precision; the place says by how much",
+    ),
+    Number.CHANGED_ALONE: (
+        "Field 9 cannot be changed alone. Place: 9.",
+        "field 9 changed alone: it sets the widths of fields 10 and 11, in both templates",
+        "build the image anew",
+    ),
+    Number.NO_SPAN: (
+        "A reading needs fields 7, 8, 10 and 11, and 10 below 11. Place: the first that is missing, else 11.",
+        "no reading can be taken: an end of the span is missing, or the least electrical value is not below the greatest",
+        "bench: the sheet is fine for identification, not for measuring",
+    ),
+    Number.OUTSIDE_SPAN: (
+        "A reading's input is too far outside the span. Place: 0.",
+        "the input lies more than a tenth of the span outside it, or beyond ±2 V/V",
+        "check the wiring before the sheet",
+    ),
+    Number.WRONG_LIST: (
+        "A list of points that is odd or longer than 254. Place: its length.",
+        "the list of points is odd or longer than 254",
+        "programmer: points and deviations go by turns, 127 pairs at most",
+    ),
+    Number.BLANK_CHIP: (
+        "Every page is blank: nothing has been written to this chip. Place: 0.",
+        "every page is 32 bytes of hexadecimal FF, whatever the register holds: nothing has been written to this chip",
+        "bench: not a damaged sender but a new one; build its sheet",
+    ),
+    Number.SHORT_INDEX: (
+        "A buffer too short for an index, or an index too short to be one. Place: the bytes needed.",
+        "the buffer lent for an index is too short for it; or the index that a fetch is handed cannot hold an entry for each field",
+        "programmer: an index has 4 bytes for each field and calibration point: 84 without points, 76 with template 32, and 480 at most, on a chip of kind 2 with 99 points",
+    ),
+    Number.OTHER_CODE: (
+        "A commit: another code stands in the field than the present one. Place: the field.",
+        "a commit: another code stands in the field than the present one that it carries",
+        "restorer: something has been written there since the proposal. Propose again, and look at what it would become now",
+    ),
+    Number.LEVEL_TOO_LOW: (
+        "A writer of this level may not write the field. Place: the field.",
+        "a change, a proposal or a commit by a writer whose level is too low for the field: an owner writes field 21, a calibration room also 7, 8, 10, 11, 18, 19 and 20 (of template 32 19, and 7, 8, 10, 11, 14, 16, 17 and 18), a maker every field that can be changed alone. Told after 12, and before 9, 10 and 19",
+        "bench: the figure may be fine, but another has to write it: the calibration room what a calibration settles, the maker what the sender is. Programmer: hand in the level of whoever asks; in C a byte that is no level is the owner's",
+    ),
+    Number.END_OUTSIDE: (
+        "A reading at precision 2: a Single outside -2 to 2 V/V. Place: the first of fields 10 and 11 that is.",
+        "no reading at precision 2: an end of the span, a Single in V/V, lies outside −2 to 2 V/V. Told after a missing end (13), and before ends that do not rise (13) and 14",
+        "bench: no bridge gives that; the end was written in another unit, mV/V perhaps, or wrongly",
+    ),
+    Number.SUMS_NOT_RISING: (
+        "Domain 1: calibration points plus deviations that do not rise. Place: as in 7.",
+        "domain 1: the calibration points plus their deviations do not rise once they are stored at their steps. Told after 7",
+        "bench: such a table has no one figure for an input. It was listed against the electrical figure, and belongs in domain 0, or a deviation is wrong. Programmer: hand in the domain that the certificate has",
+    ),
+    Number.TOO_MANY_POINTS: (
+        "A reading on the small dash: more than 32 calibration points. Place: how many.",
+        "a reading on the small dash, which takes 32 calibration points at most. Told after the image's check and 4, and before 13, 21 and 14",
+        "bench: the sheet is sound, and the large dash takes it. For the small one build it with fewer points, those that the certificate's line needs most. Programmer: hand in the dash that asks; in C any byte but 0 is the small one",
+    ),
+    Number.WRONG_CURVE: (
+        "A segment count, a start, a term count or an exponent that breaks the rules of a curve. Place: its bit; in a build the segment count, or the segment's or the term's index.",
+        "a curve that breaks its rules: 1 to 20 segments, one to six terms each, exponents the whole numbers 0 to 5, rising inside a segment, starts rising as stored, the first at 0. Told after 3, 5 and 6 of the same field",
+        "bench: the curve was written by something that takes more than is built here, or wrongly. Programmer: starts are in billionths of the span and are stored in steps of 123,000 of them (0.0123 %); two that are nearer than a step may be stored at one",
+    ),
+    Number.TOO_MANY_TERMS: (
+        "A curve of more than 30 terms. Place: how many up to the segment that passes them.",
+        "a curve of more than 30 terms. Told at the count of the segment that passes them, after 24 of the same field and before its terms are looked at",
+        "bench: the curve was written by something that takes more than is built here, or wrongly. Programmer: a curve of fewer segments, or of fewer powers, fits",
+    ),
+    Number.WRONG_TICKS: (
+        "Two recordings: a list of odd length, or fast ticks that are not six times the slow ones. Place: the whole ticks of the fast list.",
+        "two recordings that cannot be of one run: a list of odd length, or fast ticks that are not six times the slow ones. Told after the image's check, and before any tick is looked at",
+        "bench: one dash began or ended later than the other, or a list is cut in the middle of a refresh. Cut both to whole seconds from the same moment. Programmer: a list's length counts inputs and fractions, two for a refresh",
+    ),
 }
 
 VERSION = 8

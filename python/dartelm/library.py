@@ -4,25 +4,26 @@ It is the first of these that there is:
   - the file that DARTELM_LIBRARY names;
   - the one beside this module, compiled when the package was installed;
   - in a release, lib/libdartelm.so, on x86-64 Linux;
-  - in the repository or a release, one compiled from portable/c/dartelm.c into target/python/ (CC, or cc); in the repository a
-    RuntimeWarning says if a source is newer than that C.
+  - in the repository, where DARTELM_NATIVE is 1 or a source is newer than portable/c, the archive that the toolchain builds
+    (bin/archive), linked into target/python/;
+  - in the repository or a release, one compiled from portable/c/dartelm.c into target/python/ (CC, or cc).
 """
 import ctypes
 import hashlib
+import importlib
 import os
 import platform
 import shlex
-import subprocess
 import sys
-import tempfile
 import threading
-import warnings
 
 from .declared import VERSION
 
 PACKAGE = os.path.dirname(os.path.realpath(__file__))
 HOME = os.path.dirname(os.path.dirname(PACKAGE))
-FLAGS = ("-std=c99", "-O2", "-fPIC", "-shared")
+# The calls cost less than what Python does around them, so that the time to compile counts.
+FLAGS = ("-std=c99", "-O2", "-DDARTELM_COMPILE_FAST", "-fPIC", "-shared")
+FROM_C, NATIVE = "library compiled from portable/c", "library as the toolchain built it"
 
 
 class NoLibrary(OSError):
@@ -33,33 +34,41 @@ _loaded = None
 _lock = threading.Lock()
 
 
+def told(text):
+    """What takes a while is said to whoever puts another function here."""
+
+
 def library():
     """The library, loaded once."""
     global _loaded
     with _lock:
         if _loaded is None:
-            _loaded = load(path())
+            _loaded = load(chosen()[0])
     return _loaded
 
 
-def path():
-    """The file of the library."""
+def chosen(home=HOME):
+    """The file of the library, and what it is."""
     if os.environ.get("DARTELM_LIBRARY"):
-        return os.environ["DARTELM_LIBRARY"]
+        return os.environ["DARTELM_LIBRARY"], f"library {os.environ['DARTELM_LIBRARY']}"
     found = os.path.join(PACKAGE, "libdartelm.so")
     if os.path.exists(found):
-        return found
-    found = os.path.join(HOME, "lib", "libdartelm.so")
+        return found, FROM_C
+    found = os.path.join(home, "lib", "libdartelm.so")
     if os.path.exists(found) and (sys.platform, platform.machine()) == ("linux", "x86_64"):
-        return found
-    newer = newer_source(HOME)
+        return found, FROM_C
+    folder = os.path.join(home, "target", "python")
+    newer = newer_source(home)
     if newer:
-        warnings.warn(f"{newer} is newer than portable/c: run bin/portable", RuntimeWarning, stacklevel=4)
-    return compiled(HOME, os.path.join(HOME, "target", "python"))
+        told(f"{newer} is newer than portable/c")
+    if newer or os.environ.get("DARTELM_NATIVE") == "1":
+        return native(home, folder), NATIVE
+    return compiled(home, folder), FROM_C
 
 
 def newer_source(home):
-    """The first source of a repository that is not the one that its C was made from; None if there is none."""
+    """The first source of a repository that is not the one that its C was made from: another sum, or a file that is not listed.
+    None if there is none."""
     try:
         with open(os.path.join(home, "portable", "c", "sources.sha256"), encoding="utf-8") as file:
             sums = dict(reversed(line.rstrip("\n").split("  ", 1)) for line in file)
@@ -72,7 +81,14 @@ def newer_source(home):
                     return name
         except OSError:
             return name
-    return None
+    folders = sorted({name.partition("/src/")[0] for name in sums if "/src/" in name})
+    return next((name for folder in folders for name in sources_in(home, folder) if name not in sums), None)
+
+
+def sources_in(home, folder):
+    """The sources of a crate, by their names in the repository."""
+    for at, _, names in os.walk(os.path.join(home, folder, "src")):
+        yield from (os.path.relpath(os.path.join(at, name), home) for name in sorted(names) if name.endswith(".rt"))
 
 
 def load(found):
@@ -91,37 +107,34 @@ def compiled(home, folder):
     appears whole, so that any number of processes may do this at once."""
     source = os.path.join(home, "portable", "c", "dartelm.c")
     header = os.path.join(home, "include", "dartelm.h")
+    return made([*FLAGS, "-I" + os.path.dirname(header), source], (source, header), folder, "compiling portable/c/dartelm.c")
+
+
+def native(home, folder):
+    """The toolchain's archive as a library."""
+    archive = os.path.join(home, "target", "staticlib", "libdartelm.a")
+    compiling().archive(home)
+    words = ["-shared", "-Wl,-Bsymbolic", "-Wl,--whole-archive", archive, "-Wl,--no-whole-archive"]
+    return made(words, (archive,), folder, "linking the toolchain's archive")
+
+
+def made(words, sources, folder, said):
+    """A library by the compiler and words for it, unless it is there."""
     compiler = shlex.split(os.environ.get("CC") or "cc")
+    key = hashlib.sha256(repr((compiler, FLAGS, platform.machine())).encode())
     try:
-        key = hashlib.sha256(repr((compiler, FLAGS, platform.machine())).encode())
-        for name in (source, header):
+        for name in sources:
             with open(name, "rb") as file:
                 key.update(file.read())
-        found = os.path.join(folder, f"libdartelm-{key.hexdigest()[:16]}.so")
-        if os.path.exists(found):
-            return found
-        os.makedirs(folder, exist_ok=True)
-        handle, part = tempfile.mkstemp(suffix=".so", dir=folder)
-        os.close(handle)
     except OSError as error:
         raise NoLibrary(f"the library cannot be compiled: {error}") from None
-    try:
-        compile_to(part, home, compiler)
-        os.chmod(part, 0o755)
-        os.replace(part, found)
-    finally:
-        if os.path.exists(part):
-            os.remove(part)
+    found = os.path.join(folder, f"libdartelm-{key.hexdigest()[:16]}.so")
+    if not os.path.exists(found):
+        told(said)
+        compiling().compile_to(found, [*compiler, *words])
     return found
 
 
-def compile_to(found, home, compiler=("cc",)):
-    """Compiles a tree's C as a shared library."""
-    source = os.path.join(home, "portable", "c", "dartelm.c")
-    command = [*compiler, *FLAGS, "-I" + os.path.join(home, "include"), source, "-o", found]
-    try:
-        done = subprocess.run(command, stdout=subprocess.PIPE, stderr=subprocess.STDOUT, check=False)
-    except OSError as error:
-        raise NoLibrary(f"the library cannot be compiled: {compiler[0]}: {error.strerror}") from None
-    if done.returncode != 0:
-        raise NoLibrary(f"the library cannot be compiled: {' '.join(command)}\n{done.stdout.decode('utf-8', 'replace')}")
+def compiling():
+    """What is needed once, when there is no library yet."""
+    return importlib.import_module(".compiling", __package__)

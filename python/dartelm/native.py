@@ -1,5 +1,6 @@
 """The structs and calls of the header by ctypes, after the tables of declared.py."""
 import ctypes
+import functools
 import operator
 
 from .declared import CALLS, STRUCTS
@@ -22,6 +23,15 @@ for _name, _members in STRUCTS.items():
         (ctypes.Structure,),
         {"_fields_": [(member, TYPES[sort] * length if length else TYPES[sort]) for member, sort, length in _members]},
     )
+
+# Each call's parameters: name, type, and of an array its element's type.
+PARAMETERS = {
+    name: [
+        (parameter, sort, sort.removeprefix("const ").removesuffix("[]") if sort.endswith("[]") else None)
+        for parameter, sort in parameters
+    ]
+    for name, (_, parameters) in CALLS.items()
+}
 
 
 def whole(value, sort, what):
@@ -46,22 +56,27 @@ def buffer(values, sort, what):
 
 def call(name, **given):
     """Makes a call. Returns the struct or number that it returns, and what it wrote to, by parameter."""
-    result, parameters = CALLS[name]
-    words, kinds, written = [], [], {}
-    for parameter, sort in parameters:
+    words, written = [], {}
+    for parameter, sort, element in PARAMETERS[name]:
         value = given.pop(parameter)
-        if sort.endswith("[]"):
-            element = sort.removeprefix("const ").removesuffix("[]")
+        if element:
             array, length = buffer(value, element, parameter)
-            words += [array, length]
-            kinds += [ctypes.c_void_p, ctypes.c_size_t]
+            words += (array, length)
             if not sort.startswith("const "):
                 written[parameter] = array
         else:
             words.append(whole(value, sort, parameter) if sort in INTEGERS else value)
-            kinds.append(TYPES[sort])
     if given:
         raise TypeError(f"{name} has no {', '.join(given)}")
-    function = getattr(library(), "dartelm_" + name)
-    function.argtypes, function.restype = kinds, TYPES[result]
-    return function(*words), written
+    return function(name)(*words), written
+
+
+@functools.lru_cache(maxsize=None)
+def function(name):
+    """A call of the library, with the types of its words."""
+    found = getattr(library(), "dartelm_" + name)
+    found.argtypes = []
+    for _, sort, element in PARAMETERS[name]:
+        found.argtypes += [ctypes.c_void_p, ctypes.c_size_t] if element else [TYPES[sort]]
+    found.restype = TYPES[CALLS[name][0]]
+    return found

@@ -1,5 +1,5 @@
 """A refused call."""
-from .declared import REASONS, Number
+from .declared import REFUSALS, Number
 
 
 class Refusal(Exception):
@@ -17,4 +17,4 @@ class Refusal(Exception):
         self.place = int(place)
 
     def __str__(self) -> str:
-        return f"{self.name} ({self.number}), place {self.place}. {REASONS[Number(self.number)]}"
+        return f"{self.name} ({self.number}), place {self.place}. {REFUSALS[self.number][0]}"

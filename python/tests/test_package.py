@@ -5,6 +5,7 @@ import doctest
 import hashlib
 import inspect
 import os
+import re
 import shutil
 import subprocess
 import sys
@@ -17,9 +18,10 @@ HERE = os.path.dirname(os.path.realpath(__file__))
 HOME = os.path.dirname(os.path.dirname(HERE))
 sys.dont_write_bytecode = True
 sys.path[:0] = [os.path.join(HOME, "python"), HERE]
+sys.path.append(HOME)
 
-import header  # noqa: E402
 import lines  # noqa: E402
+from portable import header  # noqa: E402
 
 import dartelm  # noqa: E402
 from dartelm import answers, calls, convert, declared, library, native  # noqa: E402
@@ -40,12 +42,12 @@ class Tables(unittest.TestCase):
 
     def test_every_call_has_a_function(self):
         public = {name for name, _ in inspect.getmembers(calls, inspect.isfunction) if not name.startswith("_")} - {"call"}
-        self.assertEqual(public, set(header.Header().calls))
+        self.assertEqual(public, set(header.Header(prefix="dartelm_").calls))
         self.assertLessEqual(public, set(dartelm.__all__))
         self.assertEqual([name for name in dartelm.__all__ if not hasattr(dartelm, name)], [])
 
     def test_the_classes_have_the_structs_members(self):
-        structs = header.Header().structs
+        structs = header.Header(prefix="dartelm_").structs
         for name, sort in inspect.getmembers(answers, dataclasses.is_dataclass):
             struct = "".join("_" + c.lower() if c.isupper() else c for c in name)[1:]
             wanted = {member for member, _, _ in structs[struct]} - {"number", "place"}
@@ -56,11 +58,16 @@ class Tables(unittest.TestCase):
                 wanted = wanted - {"is_resistance", "unused"} | {"template_id"}
             self.assertEqual(found, wanted, name)
 
-    def test_every_refusal_has_a_reason(self):
-        self.assertEqual(set(declared.REASONS), set(declared.Number) - {declared.Number.ACCEPTED})
+    def test_every_refusal_has_its_texts(self):
+        self.assertEqual(set(declared.REFUSALS), set(declared.Number) - {declared.Number.ACCEPTED})
+        with open(os.path.join(HOME, "docs", "REFUSALS.md"), encoding="utf-8") as file:
+            page = file.read().replace("`", "")
+        for number, (_, meaning, advice) in declared.REFUSALS.items():
+            self.assertRegex(page, rf"(?m)^\| {number.value} \| [^|]* \| {re.escape(meaning)} \| {re.escape(advice)} \|$")
+        self.assertEqual(len(re.findall(r"(?m)^\| [0-9]+ \|", page)), len(declared.REFUSALS))
 
     def test_hints(self):
-        for name in set(header.Header().calls):
+        for name in set(header.Header(prefix="dartelm_").calls):
             signature = inspect.signature(getattr(calls, name))
             self.assertNotIn(inspect.Signature.empty, [signature.return_annotation])
             for parameter in signature.parameters.values():
@@ -225,6 +232,46 @@ class Library(unittest.TestCase):
                 file.write(text)
             self.assertEqual(library.newer_source(self.room), wanted)
 
+    def test_a_source_that_is_not_listed_is_newer(self):
+        os.makedirs(os.path.join(self.room, "portable", "c"))
+        os.makedirs(os.path.join(self.room, "crates", "a", "src", "b"))
+        with open(os.path.join(self.room, "portable", "c", "sources.sha256"), "w", encoding="ascii") as file:
+            file.write(hashlib.sha256(b"").hexdigest() + "  crates/a/src/a.rt\n")
+        for name, wanted in (("a.rt", None), ("b/note", None), ("b/b.rt", "crates/a/src/b/b.rt")):
+            with open(os.path.join(self.room, "crates", "a", "src", *name.split("/")), "w", encoding="ascii"):
+                pass
+            self.assertEqual(library.newer_source(self.room), wanted)
+
+    def home(self, archive):
+        """A repository in which bin/archive is a script."""
+        os.mkdir(os.path.join(self.room, "bin"))
+        with open(os.path.join(self.room, "bin", "archive"), "w", encoding="ascii") as file:
+            file.write("#!/bin/sh\n" + archive)
+        os.chmod(os.path.join(self.room, "bin", "archive"), 0o755)
+        return self.room
+
+    def test_the_toolchains_archive(self):
+        """Objects that are no more than position-independent in an executable, as the toolchain's are, become a library."""
+        home = self.home(
+            f"cd {self.room} && mkdir -p target/staticlib && cc -O1 -fPIE -I{HOME}/include -c {HOME}/portable/c/dartelm.c -o one.o && "
+            "rm -f target/staticlib/libdartelm.a && ar rcD target/staticlib/libdartelm.a one.o\n"
+        )
+        with mock.patch.dict(os.environ, {"DARTELM_NATIVE": "1", "DARTELM_LIBRARY": ""}):
+            path, told = library.chosen(home)
+        self.assertEqual((told, os.path.dirname(path)), (library.NATIVE, os.path.join(home, "target", "python")))
+        self.assertEqual(library.load(path).dartelm_version(), declared.VERSION)
+
+    def test_a_newer_source_is_proved(self):
+        home = self.home("exit 1\n")
+        os.makedirs(os.path.join(home, "portable", "c"))
+        with open(os.path.join(home, "portable", "c", "sources.sha256"), "w", encoding="ascii") as file:
+            file.write(f"{'0' * 64}  a.rt\n")
+        said = []
+        with mock.patch.dict(os.environ, {"DARTELM_LIBRARY": ""}), mock.patch.object(library, "told", said.append):
+            with self.assertRaisesRegex(library.NoLibrary, "archive cannot be built"):
+                library.chosen(home)
+        self.assertEqual(said[0], "a.rt is newer than portable/c")
+
     def test_two_at_once(self):
         program = (
             "import sys; sys.path.insert(0, sys.argv[1]); from dartelm import library; "
@@ -277,6 +324,9 @@ class Installed(unittest.TestCase):
             done = run(command, *words, cwd=room, env=env, stdin=subprocess.DEVNULL)
             self.assertEqual(done.stderr, "", words)
             self.assertIn(wanted, done.stdout, words)
+        program = "import dartelm, os; print(*sorted(one for one in os.listdir(os.path.dirname(dartelm.__file__)) if one[-3:] != '.py'))"
+        done = run(python, "-B", "-c", program, cwd=room)
+        self.assertEqual([name for name in done.stdout.split() if name != "__pycache__"], ["command", "libdartelm.so", "py.typed"])
 
 
 if __name__ == "__main__":
