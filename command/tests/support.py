@@ -14,8 +14,9 @@ from fractions import Fraction
 HERE = os.path.dirname(os.path.realpath(__file__))
 HOME = os.path.dirname(os.path.dirname(HERE))
 sys.dont_write_bytecode = True
-# A writer's lock is one for the machine: two runs of the tests do not wait for each other.
+# A writer's lock is one for the machine: two runs of the tests do not wait for each other. Other users may enter, as they may /tmp.
 os.environ["TMPDIR"] = tempfile.tempdir = tempfile.mkdtemp(prefix="dartelm-test-")
+os.chmod(tempfile.tempdir, 0o755)
 atexit.register(shutil.rmtree, tempfile.tempdir, True)
 for folder in (os.path.join(HOME, "python"), HERE):
     if folder not in sys.path:
