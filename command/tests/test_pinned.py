@@ -665,6 +665,10 @@ class Whole(support.Case):
             self.assertNotEqual(dumps.bytes_of(f"{bad}\n:00000001FF\n".encode()), bytes(16))
             self.assertIsNone(dumps.intel([line for line in f"{bad}\n:00000001FF".splitlines()]))
 
+    def test_what_is_a_text(self):
+        for data, text in ((b"load 5\r\n\tN", "load 5\r\n\tN"), (b"load\x01", None), (b"\x00load", None), (b"\xff", None), (b"", None)):
+            self.assertEqual(dumps.text_of(data), text)
+
     def test_offsets(self):
         """Seven digits before bytes are octal, or hexadecimal where the bytes before say so; a wrong offset is no dump."""
         data = bytes(range(128))

@@ -186,6 +186,13 @@ class Report(support.Case):
                 if x < 49:
                     self.assertAlmostEqual(y, 3 * (-0.004 * x + 0.00008 * x * x), delta=0.004)
 
+    def test_a_curves_figures_have_four_digits(self):
+        """-0.2876543 + 0.009 x - 0.00006 x^2 at 100 is 0.0123457 % of 300 kPa, 0.0370371 kPa."""
+        sheet, _ = self.gives(0, "export", sample("exhaust-pressure.kind1"))
+        self.gives(0, "make", self.file("sheet", sheet.replace("term = 0, -0.3\n", "term = 0, -0.2876543\n")), "-o", self.path("chip"))
+        for one in self.drawings(self.page(0, self.path("chip"))):
+            self.assertTrue("to +0.03704 kPa at 100 % of the span" in one.svg, one.words)
+
     def test_forty_points_have_large_dots(self):
         for count, size in ((1, "3.5"), (40, "3.5"), (41, "1.5")):
             panel = panels.Panel("", [0, 1], str)
