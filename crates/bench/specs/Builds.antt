@@ -5,7 +5,9 @@ use mathlib.Core.List.{List, [], _∷_}
 use mathlib.Core.Option.{Option, none, some, Option·map}
 use Prim.Native.Nat.{ℕ, _+_}
 use lib.Dec.{eqb, leb}
+use lib.IntN.{ℤ}
 use lib.ListN.{replicate}
+use Rattle.fields.specs.declared.Curve.{Curve}
 use Rattle.fields.specs.declared.Level.{Level}
 use Rattle.fields.specs.declared.Template.{Template}
 use Rattle.fields.specs.declared.Value.the-variants.{Missing}
@@ -16,7 +18,8 @@ use Rattle.build.specs.declared.Sheet.{Sheet}
 use Rattle.build.specs.Build.{slot}
 use Rattle.words.specs.Words.{wordCount, wordAt}
 use Rattle.words.specs.Said.{says_if_}
-use Rattle.words.specs.Figures.{number}
+use Rattle.words.specs.Figures.{number, figures}
+use Rattle.words.specs.Hexadecimal.{bytes}
 use Rattle.words.specs.Values.{value}
 use Rattle.words.specs.Levels.{level}
 use Rattle.bench.specs.declared.builds.Head.{Head}
@@ -24,6 +27,7 @@ use Rattle.bench.specs.declared.builds.Headed.{Headed}
 use Rattle.bench.specs.declared.builds.Headed.the-variants.{Is, Unknown}
 use Rattle.bench.specs.declared.builds.Slots.{Slots}
 use Rattle.bench.specs.declared.builds.Sheeted.{Sheeted}
+use Rattle.bench.specs.Curves.{curve}
 use Rattle.bench.specs.Kinds.{kindOf}
 use Rattle.bench.specs.Lists.{_>>=_, items, arrayed}
 
@@ -92,3 +96,20 @@ sheet line template level = do
 
 abbrev pub sheetSaid : Sheeted → Option Sheet
 sheetSaid s = says s .sheet if s .taken
+
+-- ---- behind the end bit
+
+abbrev pub textIn : List ℕ → ℕ → List (Option ℕ)
+textIn line end = bytes (wordAt (end + 1) line)
+
+abbrev pub domainIn : List ℕ → ℕ → Option ℕ
+domainIn line end = flag (wordAt (end + 2) line)
+
+abbrev pub pointsIn : List ℕ → ℕ → List (Option ℤ)
+pointsIn line end = figures (wordAt (end + 3) line)
+
+-- COUNT SEGMENTS TERMS, behind `curve`.
+abbrev pub curveIn : List ℕ → ℕ → Option Curve
+curveIn line end = do
+  count ← number (wordAt (end + 3) line)
+  curve count (wordAt (end + 4) line) (wordAt (end + 5) line)

@@ -2,6 +2,6 @@ pub mod Kinds
 pub mod Dashes
 pub mod Lists
 pub mod Asked
-pub mod Builds
 pub mod Curves
+pub mod Builds
 pub mod Gathering

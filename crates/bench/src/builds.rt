@@ -2,6 +2,7 @@
 use crate::asked;
 use crate::asked::ROOM;
 use crate::curves;
+use crate::curves::Drawn;
 use crate::printing;
 use build::Sheet;
 use build::Slot;
@@ -20,8 +21,9 @@ ghost use mathlib.Core.Bool.{false};
 ghost use mathlib.Core.Path.{_≡_};
 ghost use Prim.Native.Nat.{_≤_};
 ghost use Rattle.fields.specs.Answers.{templateSaid};
-ghost use Rattle.words.specs.Said.{numberSaid};
-ghost use Rattle.bench.specs.Builds.{endBitWord, hasCurve, isBuild, templateIn, head as headIn, headSaid, slots as slotsIn, slotsSaid, flag as flagIn, sheet as sheetIn, sheetSaid};
+ghost use Rattle.words.specs.Said.{numberSaid, filled, filledSaid};
+ghost use Rattle.bench.specs.Curves.{drawnSaid};
+ghost use Rattle.bench.specs.Builds.{endBitWord, hasCurve, isBuild, templateIn, head as headIn, headSaid, slots as slotsIn, slotsSaid, flag as flagIn, sheet as sheetIn, sheetSaid, textIn, domainIn, pointsIn, curveIn};
 
 // The first word that is a value.
 const VALUES: u64 = 5;
@@ -189,19 +191,62 @@ fn sheet_of(line: &[u8], template: Template, level: Level) -> Sheeted
     }
 }
 
+// The text, put at the start of a room.
+fn text_of(line: &[u8], end: u64, text: &mut [u8]) -> Filled
+    requires { ⌜ end ≤ 26 ⌝ }
+    ensures { λ r. ⌜ filledSaid r (now (text .exit)) ≡ filled (textIn (now (line .entry)) end) (now (text .entry)) ⌝ }
+{
+    words::bytes_of(word(line, end + 1), text)
+}
+
+// The domain.
+fn domain_of(line: &[u8], end: u64) -> Number
+    requires { ⌜ end ≤ 26 ⌝ }
+    ensures { λ r. ⌜ numberSaid r ≡ domainIn (now (line .entry)) end ⌝ }
+{
+    flag_of(word(line, end + 2))
+}
+
+// The points, put at the start of a room.
+fn points_of(line: &[u8], end: u64, points: &mut [i64]) -> Filled
+    requires { ⌜ end ≤ 26 ⌝ }
+    ensures { λ r. ⌜ filledSaid r (now (points .exit)) ≡ filled (pointsIn (now (line .entry)) end) (now (points .entry)) ⌝ }
+{
+    words::figures_of(word(line, end + 3), points)
+}
+
+// The curve, whose words stand behind `curve`.
+fn curve_in(line: &[u8], end: u64) -> Drawn
+    requires { ⌜ end ≤ 26 ⌝ }
+    ensures { λ r. ⌜ drawnSaid r ≡ curveIn (now (line .entry)) end ⌝ }
+{
+    let segments = word(line, end + 4);
+    let terms = word(line, end + 5);
+    match words::number_of(word(line, end + 3)) {
+        Number::Is(count) => curves::curve_of(count, segments, terms),
+        Number::Not => {
+            let curve = curves::curve_of(0, segments, terms).curve;
+            Drawn {
+                taken: false,
+                curve,
+            }
+        }
+    }
+}
+
 // A build of these in a buffer lent, from the text, the domain and the points, the words behind the end bit's.
 fn build_in(image: &mut [u8], kind: u8, line: &[u8], end: u64, sheet: Sheet)
     requires { ⌜ end ≤ 26 ⌝ }
 {
-    let Number::Is(domain) = flag_of(word(line, end + 2)) else {
+    let Number::Is(domain) = domain_of(line, end) else {
         return printing::unknown();
     };
     let mut text = [0u8; ROOM];
-    let Filled::To(characters) = words::bytes_of(word(line, end + 1), &mut text) else {
+    let Filled::To(characters) = text_of(line, end, &mut text) else {
         return printing::unknown();
     };
     let mut points = [0i64; ROOM];
-    let Filled::To(figures) = words::figures_of(word(line, end + 3), &mut points) else {
+    let Filled::To(figures) = points_of(line, end, &mut points) else {
         return printing::unknown();
     };
     let text = words::front(&text, characters);
@@ -210,18 +255,15 @@ fn build_in(image: &mut [u8], kind: u8, line: &[u8], end: u64, sheet: Sheet)
     printing::written(answer, image);
 }
 
-// The same from the text and a curve, whose words stand behind `curve`.
+// The same from the text and a curve.
 fn draw_in(image: &mut [u8], kind: u8, line: &[u8], end: u64, sheet: Sheet)
     requires { ⌜ end ≤ 26 ⌝ }
 {
-    let Number::Is(count) = words::number_of(word(line, end + 3)) else {
-        return printing::unknown();
-    };
     let mut text = [0u8; ROOM];
-    let Filled::To(characters) = words::bytes_of(word(line, end + 1), &mut text) else {
+    let Filled::To(characters) = text_of(line, end, &mut text) else {
         return printing::unknown();
     };
-    let drawn = curves::curve_of(count, word(line, end + 4), word(line, end + 5));
+    let drawn = curve_in(line, end);
     if !drawn.taken {
         return printing::unknown();
     }
