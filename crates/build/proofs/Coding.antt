@@ -1,11 +1,11 @@
 -- The codes of fields, one after the other.
 use Rattle.build.proofs.Names.{Bool, true, false, _≡_, refl, sym, ap, ap₂, _∙_, subst, List, [], _∷_, _++_, map, append-assoc, append-nil, ℕ, zero, suc, _+_, _-_, _*_, _/_, _%_, _^_, _≤_, _<_, add-one, arith}
-use Rattle.build.proofs.Names.{ℕ-discrete, ℤ, w64, SFits, toZ, ofZ, toZ-ofZ, Float, length, take, drop, getD, set, replicate, length-replicate, getD-replicate, length-append, length-set, length-map, List·getD-map}
+use Rattle.build.proofs.Names.{ℕ-discrete, ℤ, w64, SFits, toZ, ofZ, toZ-ofZ, Float, length, take, drop, getD, set, replicate, length-replicate, getD-replicate, length-set, length-map, List·getD-map}
 use Rattle.build.proofs.Names.{drop-of-length-le, slice, slice-cons, slice-empty, drop-cons, getD-set-same, getD-set-other, take-take, Refusal, Outcome, good, refused, _>>=_, bind-good, bind-refused, bind-assoc}
-use Rattle.build.proofs.Names.{bind-same, Piece, piece, needed, needed-append, Value, Whole, Missing, Row, Encoded, Code, NoCode, Template, Layout, encode, Line, chose, basic, templateLines, linesOf, numberOf}
+use Rattle.build.proofs.Names.{bind-same, Piece, piece, needed, needed-append, Value, Whole, Missing, Row, Encoded, Code, NoCode, Template, Layout, encode, Line, chose, basic, linesOf, numberOf}
 use Rattle.build.proofs.Names.{lastField, lineOf, rowOf, rowsOf, noLine, bitsBefore, Sound, AllSound, Real, encodedSaid, reads-back, row-sound, rows-sound, Told, blockPieces, Steady, lines-steady, Sheet}
 use Rattle.build.proofs.Names.{CodedField, Coded, Next, NotCoded, Bits, NotPlanned, slot, lent, templateIn, linePieces, fieldPieces, Encodes, Fitting, Fit, blank, fieldPiece, unpack, unpacked, codedFields}
-use Rattle.build.proofs.Names.{valueLent, slotsLent, Long, fieldsLent, Quick, codedFrom, FieldsCoded, CodedTo, FieldsPlanned, last-most}
+use Rattle.build.proofs.Names.{valueLent, slotsLent, Long, fieldsLent, Quick, codedFrom, FieldsCoded, CodedTo, FieldsPlanned, last-most, basic-most}
 use Rattle.build.proofs.FieldPlans.{withBlock, block-needed, fields-listed}
 use Rattle.build.proofs.Lent.{long-slot}
 
@@ -27,10 +27,6 @@ pub seen : (row : Row) (place : ℕ) {figure : ℤ} → SFits w64 figure → enc
 seen row place f = ap (λ (z : ℤ). encode row place (Whole z)) (toZ-ofZ f)
 
 -- ---- the fields that have their codes
-
-pub basic-fewer : (template : Template) → length basic ≤ lastField template
-unfolding linesOf
-basic-fewer template = omega (arith, length-append basic (templateLines template))
 
 -- One more.
 pub taken : (fields : List CodedField) (i : ℕ) (x : CodedField) → i < length fields →
@@ -270,7 +266,7 @@ module _ {t : Template} {sorts : List ℕ} {wholes : List ℤ} {singles : List F
       let all : List Piece = take (lastField t) (map fieldPiece (unpacked codes)) in
       let planned : linePieces (fieldsLent t sorts wholes singles) (linesOf t) 0 1 ≡ good all = sym (d .rest) ∙ from-end (fieldsLent t sorts wholes singles) (unpacked codes) latest (lastField t) (omega arith) in
       let are : withBlock t all ≡ codedFields t (unpacked codes) =
-      ap (λ q. q ++ (blockPieces (numberOf t) ++ drop (length basic) all)) (take-take (length basic) (lastField t) (map fieldPiece (unpacked codes)) (basic-fewer t)) in
+      ap (λ q. q ++ (blockPieces (numberOf t) ++ drop (length basic) all)) (take-take (length basic) (lastField t) (map fieldPiece (unpacked codes)) (basic-most t)) in
       record {
         said = sym (fields-listed (fieldsLent t sorts wholes singles) ∙ bind-good _ planned ∙ ap good are);
         fit = d .fit;

@@ -4,7 +4,7 @@ use Rattle.build.proofs.Names.{neither, Piece, Characters, unfit, endin
 
 -- ---- the characters
 
-fit-characters : (text : List ℕ) → unfit text ≡ false → Characters text
+pub fit-characters : (text : List ℕ) → unfit text ≡ false → Characters text
 fit-characters [] e = tt
 fit-characters (c ∷ text) e =
     let (a, e1) = neither (eqb c 0 || ltb 127 c) (unfit text) e in

@@ -1,7 +1,8 @@
 -- Pieces filled in one behind the other.
-use Rattle.build.proofs.Names.{_≡_, refl, sym, ap, ap₂, _∙_, List, [], _∷_, _++_, ℕ, zero, suc, _+_, _*_, _%_, _^_, _≤_, _<_, mod-eq-of-lt, div-eq-of-lt, lt-of-lt-of-le, add-comm, mul-assoc, zero-mul, arith}
-use Rattle.build.proofs.Names.{digits-lt, length, getD, replicate, length-replicate, bitOr, or-shifted-r, pow-add, pow-mono, shl-exact, Sizes, Cursor, number, putAt, imageBytes, streamBits, streamOf, streamNumber}
+use Rattle.build.proofs.Names.{_≡_, refl, sym, ap, ap₂, _∙_, List, [], _∷_, _++_, ℕ, zero, suc, _+_, _*_, _%_, _^_, _≤_, _<_, add-comm, mul-assoc, zero-mul, arith}
+use Rattle.build.proofs.Names.{digits-lt, length, getD, replicate, length-replicate, bitOr, or-shifted-r, pow-add, shl-exact, Sizes, Cursor, number, imageBytes, streamBits, streamOf, streamNumber}
 use Rattle.build.proofs.Names.{putIn, streamIndex, InStream, Piece, piece, pack, needed, pack-lt, pack-append, needed-append, stream-at, stream-length, put-whole, put-bytes, put-stream, Free, Room, Filled, Begun}
+use Rattle.build.proofs.Names.{put-free}
 use Rattle.memory.specs.Answers.{Whole}
 use Rattle.memory.proofs.PieceLaws.{Fit}
 
@@ -10,13 +11,6 @@ use Rattle.memory.proofs.PieceLaws.{Fit}
 -- A code behind the first k bits of another.
 pub or-behind : {a b : ℕ} (j k : ℕ) → a < 2 ^ j → j + k ≤ 64 → b < 2 ^ k → bitOr b (a * 2 ^ k % 2 ^ 64) ≡ b + a * 2 ^ k
 or-behind {a} {b} j k ha h hb = ap (bitOr b) (shl-exact j k 64 ha h) ∙ or-shifted-r a k b hb ∙ add-comm (a * 2 ^ k) b
-
--- A code put where nothing stands.
-put-free : (N at w code : ℕ) → N < 2 ^ at → putAt N at w code ≡ code * 2 ^ at + N
-put-free N at w code h =
-    let below : N < 2 ^ (w + at) = lt-of-lt-of-le h (pow-mono {i = at} {j = w + at} (omega arith)) in
-    ap₂ (λ (q r : ℕ). q * 2 ^ (w + at) + (code * 2 ^ at + r)) (div-eq-of-lt below) (mod-eq-of-lt h)
-    ∙ omega (arith, zero-mul (2 ^ (w + at)))
 
 -- Digits Q behind digits P behind a number.
 behind : (P Q N at w : ℕ) → Q * 2 ^ (at + w) + (P * 2 ^ at + N) ≡ (Q * 2 ^ w + P) * 2 ^ at + N

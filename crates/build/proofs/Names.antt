@@ -1,5 +1,7 @@
 -- What the proofs of this crate take from the kit, from the crates below and from its own definitions.
 pub use Prim.Native.Nat.{_%_, _*_, _+_, _-_, _/_, _<_, _^_, _≤_, min, suc, zero, ℕ}
+pub use Rattle.stream.proofs.Laying.{put-free}
+pub use Rattle.layout.proofs.PlaceSteps.{table-some}
 pub use mathlib.Core.Bool.{Bool, _&&_, _||_, false, not, true}
 pub use mathlib.Core.List.{List, [], _++_, _∷_, append-assoc, append-nil, map}
 pub use mathlib.Core.Logic.{_≢_, ⊎-elim}
@@ -12,7 +14,7 @@ pub use lib.Bits.{and-mask, bitAnd, bitOr, or-shifted, or-shifted-r}
 pub use lib.Dec.{eqb, leb, ltb}
 pub use lib.Ieee.{Float, nan}
 pub use lib.IntN.{_*ℤ_, pos, ℤ}
-pub use lib.ListN.{List·getD-map, drop, drop-of-length-le, getD, getD-replicate, length, length-append, length-drop, length-map, length-replicate, length-set, replicate, set, take, take-append-drop}
+pub use lib.ListN.{List·getD-map, drop, drop-of-length-le, getD, getD-replicate, length, length-drop, length-map, length-replicate, length-set, replicate, set, take, take-append-drop}
 pub use lib.Pow.{pow-add, pow-mono, shl-exact}
 pub use lib.Seq.{drop-append-le, drop-cons, drop-drop, getD-set-other, getD-set-same, getD-take, length-take-le, slice, slice-cons, slice-empty, take-take}
 pub use lib.Signed.{ltZ}
@@ -20,7 +22,7 @@ pub use mir.Facts.{toZ-ofZ}
 pub use mir.Syntax.{w64}
 pub use mir.Val.{SFits, boolByte, ofZ, toZ}
 pub use native.Mathlib.Decide.{ℕ-discrete}
-pub use native.Mathlib.Nat.{add-comm, div-eq-of-lt, lt-of-lt-of-le, mod-eq-of-lt, mul-assoc, zero-mul}
+pub use native.Mathlib.Nat.{add-comm, lt-of-lt-of-le, mul-assoc, zero-mul}
 pub use native.Mathlib.Numerals.{add-one}
 pub use native.Mathlib.Omega.{arith}
 pub use Rattle.build.specs.Build.{Table, behindPieces, drawn, lent, listTested, listed, pairsLent, slot, templateIn, unfit}
@@ -44,10 +46,10 @@ pub use Rattle.coding.proofs.Lent.{lent-real}
 pub use Rattle.coding.specs.Swift.{Told}
 pub use Rattle.fields.proofs.CalibrationLaws.{domain-most}
 pub use Rattle.fields.proofs.CodeLaws.{below-2^32}
-pub use Rattle.fields.proofs.CurveLaws.{above-five, below-zero, between, exponent-coded}
+pub use Rattle.fields.proofs.CurveLaws.{above-five, below-zero, between, exponent-coded, terms-most}
 pub use Rattle.fields.proofs.RowLaws.{coefficient-sound, deviation-sound, exponent-sound, point-sound, row-sound, rows-sound, start-sound}
 pub use Rattle.fields.proofs.StoredLaws.{reads-back}
-pub use Rattle.fields.proofs.TemplateFacts.{last-most, number-lt, span-listed}
+pub use Rattle.fields.proofs.TemplateFacts.{last-most, number-lt, span-listed, basic-most}
 pub use Rattle.fields.specs.Answers.{earlierSaid, encodedSaid, judgedSaid, previousSaid}
 pub use Rattle.fields.specs.Calibration.{calDeviation, calPoint, codesOf, domainCode, follows}
 pub use Rattle.fields.specs.Curves.{coefficient, exponent, exponentCode, exponentFollows, isExponent, isSegmentCount, isTermCount, mostTerms, segmentCount, segmentStart, startFollows, tenthsBefore, tenthsOf, termCount}
@@ -80,11 +82,12 @@ pub use Rattle.memory.proofs.PieceLaws.{needed-append, pack-append, pack-lt}
 pub use Rattle.memory.proofs.Streams.{stream-at, stream-length}
 pub use Rattle.memory.proofs.Written.{put-bytes, put-stream, put-whole}
 pub use Rattle.memory.specs.Answers.{sizesSaid, streamIndex}
-pub use Rattle.memory.specs.Bits.{number, putAt}
-pub use Rattle.memory.specs.Image.{imageBytes, imageOf, imageSizes, putIn, streamBits, streamNumber, streamOf}
+pub use Rattle.memory.specs.Bits.{number}
+pub use Rattle.memory.specs.Image.{imageBytes, imageOf, imageSizes, streamBits, streamNumber, streamOf}
+pub use Rattle.memory.specs.Laid.{putIn}
 pub use Rattle.memory.specs.Pieces.{Piece, needed, pack, piece}
 pub use Rattle.memory.specs.declared.Sizes.{Sizes}
-pub use Rattle.refusal.proofs.Outcomes.{bind-assoc, bind-good, bind-refused, bind-same, both, good-bind, good-same, good-then, neither, no-value, passed, then-good, then-refused, told}
+pub use Rattle.refusal.proofs.Outcomes.{bind-assoc, bind-good, bind-refused, bind-same, both, good-bind, good-same, good-then, neither, no-value, passed, then-good, then-refused, told, not-refused}
 pub use Rattle.refusal.proofs.WrittenLaws.{written-done, written-refused}
 pub use Rattle.refusal.specs.Outcome.{Outcome, _>>=_, _>>_, good, refuse_if_, refused}
 pub use Rattle.refusal.specs.Rows.{outOfRange, returned, tooLong, tooManyTerms, wrongCurve, wrongList, wrongSort}

@@ -1,8 +1,8 @@
 -- A segment's own fields and a term's: what is tested, and the codes that are left.
-use Rattle.build.proofs.Names.{_≡_, refl, sym, ap, subst, Bool, true, false, not, List, [], _∷_, Option, ℕ, _+_, _≤_, arith, ltb-false, leb-true, not-false, ltb, leb, ℤ, pos, _*ℤ_, w64, SFits, toZ, ofZ, toZ-ofZ}
-use Rattle.build.proofs.Names.{Refusal, Outcome, good, refused, refuse_if_, wrongCurve, tooManyTerms, good-bind, good-then, good-same, no-value, passed, both, bind-refused, Value, Whole, Single, Row, Segment}
+use Rattle.build.proofs.Names.{_≡_, sym, ap, subst, true, false, not, List, [], _∷_, Option, ℕ, _+_, _≤_, arith, ltb-false, not-false, ltb, ℤ, pos, _*ℤ_, w64, SFits, toZ, ofZ, toZ-ofZ}
+use Rattle.build.proofs.Names.{Refusal, Outcome, good, refused, wrongCurve, tooManyTerms, good-bind, good-then, good-same, passed, bind-refused, Value, Whole, Single, Row, Segment}
 use Rattle.build.proofs.Names.{Term, encode, segmentStart, termCount, exponent, coefficient, isTermCount, mostTerms, startFollows, exponentFollows, exponentCode, Sound, Real, start-sound, exponent-sound}
-use Rattle.build.proofs.Names.{coefficient-sound, reads-back, CodedField, Are, countTested, startCode, Fitting, coded, TwoCoded, segmentTwo, termTwo}
+use Rattle.build.proofs.Names.{coefficient-sound, reads-back, CodedField, Are, countTested, startCode, Fitting, coded, TwoCoded, segmentTwo, termTwo, not-refused, terms-most}
 use Rattle.build.specs.declared.drawing.TwoAnswer.the-variants.{Refused}
 
 -- ---- two pieces
@@ -18,9 +18,6 @@ fitting row i value code s real e = record { some = s .some; most = s .most; fit
 
 -- ---- a term count
 
-pub few-terms : (n : ℕ) → isTermCount n ≡ true → n ≤ 6
-few-terms n e = leb-true n 6 (both (leb 1 n) (leb n 6) e .1)
-
 module _ (i total n : ℕ) where
   pub count-wrong : isTermCount n ≡ false → countTested i total n ≡ refused (wrongCurve i)
   unfolding countTested
@@ -33,10 +30,6 @@ module _ (i total n : ℕ) where
   pub count-right : isTermCount n ≡ true → ltb mostTerms (total + n) ≡ false → countTested i total n ≡ good tt
   unfolding countTested
   count-right e f = rw (e, f)
-
-stands : (r : Refusal) (t : Bool) → (refuse r if t) ≡ good tt → t ≡ false
-stands r true e = no-value e
-stands r false e = refl
 
 -- ---- a start
 
@@ -72,7 +65,7 @@ module _ (before : Option ℕ) (i total : ℕ) (s : Segment) where
       let (f, f2) = passed (wrongCurve i) (not (startFollows before code)) _ start f1 in
       let (t, f3) = good-then (countTested i total (s .terms)) _ start f2 in
       let (n, f4) = passed (wrongCurve i) (not (isTermCount (s .terms))) _ tt t in
-      let m = stands (tooManyTerms (total + s .terms)) (ltb mostTerms (total + s .terms)) f4 in
+      let m = not-refused (tooManyTerms (total + s .terms)) (ltb mostTerms (total + s .terms)) f4 in
       subst StartPlanned (good-same f3) (record {
         coded = e1;
         follows = not-false (startFollows before code) f;
@@ -92,7 +85,7 @@ module _ (before : Option ℕ) (i total : ℕ) (s : Segment) where
   unfolding segmentTwo
   segment-coded {start} e =
       let p = start-planned start e in
-      two-good (rw e) (fitting segmentStart i (Whole (s .start)) start start-sound tt (p .coded)) (record { some = omega arith; most = omega arith; fits = omega (arith, few-terms (s .terms) (p .own)) })
+      two-good (rw e) (fitting segmentStart i (Whole (s .start)) start start-sound tt (p .coded)) (record { some = omega arith; most = omega arith; fits = omega (arith, terms-most (s .terms) (p .own)) })
 
 -- ---- a term
 

@@ -9,6 +9,7 @@ use lib.Ieee.{Float, nan}
 use lib.ListN.{length, getD, take, drop, set, replicate}
 use lib.Seq.{slice}
 use Rattle.refusal.specs.declared.Refusal.{Refusal}
+pub use Rattle.refusal.specs.Outcome.{tested}
 use Rattle.refusal.specs.Outcome.{Outcome, good, refused, _>>_, _>>=_}
 use Rattle.memory.specs.Pieces.{Piece, piece, needed}
 use Rattle.fields.specs.declared.Value.{Value}
@@ -44,10 +45,6 @@ use Rattle.build.specs.declared.drawing.TwoAnswer.{TwoAnswer}
 use Rattle.build.specs.declared.drawing.TwoAnswer.the-variants.{Are as Both, Refused as Neither}
 use Rattle.build.specs.declared.drawing.CurvePlan.{CurvePlan}
 use Rattle.build.specs.Build.{slot, templateIn, linePieces, fieldPieces, startCode, curvePieces}
-
--- What a test says: nothing but the refusal.
-abbrev pub tested : {A : Type 0} → Outcome A → Outcome (Unit {0})
-tested o = o >> good tt
 
 -- ---- pieces that nothing refuses
 

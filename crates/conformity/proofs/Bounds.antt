@@ -1,8 +1,7 @@
 -- The greatest difference is enough, is no more than any number that is enough, and is attained.
 use Rattle.conformity.proofs.Names.{_≡_, refl, subst, List, [], _∷_, _⊎_, inl, inr, ℕ, max, _+_, _*_, _≤_, _<_, mul-le-mul-right, mul-pos, decLe, arith, ℤ, pos, natAbs, _+ℤ_, _-ℤ_, _*ℤ_, _over_, nearest, Pair}
 use Rattle.conformity.proofs.Names.{Rises, Slopes, Conforms, AtPoints, WithinOf, correction, deviation, certificateLine, correction-some, conforms-within, ceiling-meets, ceiling-least, differenceAt, greatestOver}
-use Rattle.conformity.proofs.Names.{greatestDifference, Attains, AtSome}
-use Rattle.conformity.proofs.Ceilings.{ceiling-tight}
+use Rattle.conformity.proofs.Names.{greatestDifference, Attains, AtSome, ceiling-tight}
 
 module _ (stored lent : List Pair) (stored-rises : Rises stored) (rises : Rises lent) where
   abbrev num : ℤ → ℕ

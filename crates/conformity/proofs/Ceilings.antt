@@ -1,17 +1,5 @@
 -- Quotients rounded up.
-use Rattle.conformity.proofs.Names.{_≡_, sym, ap, ℕ, _+_, _*_, _-_, _/_, _%_, _≤_, _<_, div-add-mod', mod-lt, mul-le-mul-right, le-of-mul-le-mul-right, arith, ceiling, ceiling-meets, ceiling-least}
-
--- Equal fractions have equal quotients.
-no-more : (a b c d : ℕ) → 0 < b → 0 < d → a * d ≡ c * b → ceiling a b ≤ ceiling c d
-no-more a b c d hb hd e =
-    ceiling-least a b hb (ceiling c d) (le-of-mul-le-mul-right {k = d} (omega (arith, mul-le-mul-right b (ceiling-meets c d hd))) hd)
-
-pub ceiling-same : (a b c d : ℕ) → 0 < b → 0 < d → a * d ≡ c * b → ceiling a b ≡ ceiling c d
-ceiling-same a b c d hb hd e = omega (arith, no-more a b c d hb hd e, no-more c d a b hd hb (sym e))
-
--- A quotient rounded up is less than 1 above it.
-pub ceiling-tight : (a b : ℕ) → 0 < b → ceiling a b * b < a + b
-ceiling-tight a b hb = omega (arith, div-add-mod' (a + (b - 1)) b)
+use Rattle.conformity.proofs.Names.{_≡_, sym, ap, ℕ, _+_, _*_, _-_, _/_, _%_, _≤_, _<_, div-add-mod', mod-lt, le-of-mul-le-mul-right, arith, ceiling, ceiling-meets, ceiling-least}
 
 -- The whole part and the rest apart.
 module _ (num run : ℕ) (some : 0 < run) where

@@ -2,8 +2,7 @@
 use Rattle.conformity.proofs.Names.{_≡_, refl, sym, ap, ap₂, _∙_, subst, List, [], _∷_, inl, inr, ℕ, zero, suc, max, _+_, _*_, _/_, _≤_, _<_, mul-pos, mul-comm, add-one, arith, ℤ, pos, negsuc, natAbs, _-ℤ_, _*ℤ_}
 use Rattle.conformity.proofs.Names.{length, getD, _<ℤ_, up, dn, _over_, sub-parts-ℤ, ltZ-parts, parts-≤ℤ, parts-<ℤ, Pair, noPair, pairsLent, pairAt, pairs-length, pairsFrom, pairs-left, pairs-end, pointOf, Before}
 use Rattle.conformity.proofs.Names.{Rises, Table, Correction, correction, scaled, at, Is, is-held, is-right, correction-some, first-piece, next-piece, rise-at, ceiling, Corrected, difference, differenceAt}
-use Rattle.conformity.proofs.Names.{greatestOver, comparedWith, Exact, Apart, upwardDifference}
-use Rattle.conformity.proofs.Ceilings.{ceiling-same}
+use Rattle.conformity.proofs.Names.{greatestOver, comparedWith, Exact, Apart, upwardDifference, ceiling-same}
 use Rattle.conformity.proofs.Exacts.{correction-pieced, pair-lent}
 
 -- ---- whole numbers

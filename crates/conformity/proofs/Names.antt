@@ -1,5 +1,7 @@
 -- What the proofs of this crate take from the kit, from the crates below and from its own definitions.
 pub use Prim.Native.Nat.{_%_, _*_, _+_, _-_, _/_, _<_, _^_, _≤_, max, suc, zero, ℕ}
+pub use Rattle.integers.specs.Ceiling.{ceiling}
+pub use Rattle.integers.proofs.CeilingLaws.{ceiling-least, ceiling-meets, ceiling-tight, ceiling-same}
 pub use mathlib.Core.Bool.{cond, false, true, true≢false}
 pub use mathlib.Core.List.{List, [], _∷_, map}
 pub use mathlib.Core.Logic.{_⊎_, inl, inr}
@@ -28,8 +30,7 @@ pub use Rattle.conformity.specs.Steps.{Apart, Exact, isStraight, upwardD
 pub use Rattle.conformity.specs.Tight.{AtSome, Attains}
 pub use Rattle.conformity.specs.declared.corrections.Corrected.{Corrected}
 pub use Rattle.distance.proofs.Accepted.{taking}
-pub use Rattle.distance.proofs.Apart.{ceiling-least, ceiling-meets}
-pub use Rattle.distance.specs.Distance.{ceiling, distance, distanceSaid}
+pub use Rattle.distance.specs.Distance.{distance, distanceSaid}
 pub use Rattle.distance.specs.declared.ToldDistance.{ToldDistance}
 pub use Rattle.fields.specs.Calibration.{noPair}
 pub use Rattle.fields.specs.declared.Domain.the-variants.{Electrical, Physical}

@@ -1,6 +1,7 @@
 -- Conformity: how far any reading of an image can be from the line through a certificate's points. Order: the image's check, 4 for template 32, then the list
 -- as a build in domain 0 turns it down.
 use mathlib.Core.List.{List, [], _∷_, map}
+use Rattle.integers.specs.Ceiling.{ceiling}
 use mathlib.Core.Option.{Option, none, some}
 use Prim.Native.Nat.{ℕ, max, _+_, _*_}
 use lib.IntN.{ℤ, pos, natAbs, _-ℤ_, _*ℤ_}
@@ -8,13 +9,13 @@ use Rattle.refusal.specs.Outcome.{Outcome, good, refused, _>>_, _>>=_, refuse_i
 use Rattle.refusal.specs.Rows.{wrongBlock}
 use Rattle.fields.specs.declared.Pair.{Pair}
 use Rattle.fields.specs.declared.Domain.the-variants.{Electrical, Physical}
-use Rattle.layout.specs.Contents.{Calibration, bare, table, curve, Contents}
+use Rattle.layout.specs.Contents.{Calibration, bare, table, curve}
 use Rattle.layout.specs.Image.{contents, pairIn}
 use Rattle.layout.specs.Places.{firstSelector}
 use Rattle.build.specs.Build.{pairsLent}
 use Rattle.line.specs.Line.{Correction, correction}
 use Rattle.distance.specs.declared.ToldDistance.{ToldDistance}
-use Rattle.distance.specs.Distance.{ceiling, distance}
+use Rattle.distance.specs.Distance.{distance}
 use Rattle.reading.specs.Reading.{isResistance}
 use Rattle.conformity.specs.declared.ConformityAnswer.{ConformityAnswer}
 use Rattle.conformity.specs.declared.ConformityAnswer.the-variants.{Is, NotStraight, Refused}

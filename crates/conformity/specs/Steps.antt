@@ -1,5 +1,6 @@
 -- Only inner contracts need this: a correction in unsigned parts, small enough that nothing overflows.
 use mathlib.Core.Path.{_≡_}
+use Rattle.integers.specs.Ceiling.{ceiling}
 use mathlib.Core.Bool.{Bool, true, false}
 use mathlib.Core.Logic.{_⊎_}
 use Prim.Native.Nat.{ℕ, _+_, _*_, _^_, _≤_, _<_}
@@ -10,7 +11,6 @@ use Rattle.fields.specs.declared.Domain.the-variants.{Electrical, Physical}
 use Rattle.sheet.specs.declared.TableDomain.{TableDomain}
 use Rattle.sheet.specs.declared.TableDomain.the-variants.{NoTable, Is}
 use Rattle.line.specs.Line.{Correction}
-use Rattle.distance.specs.Distance.{ceiling}
 use Rattle.conformity.specs.declared.corrections.Corrected.{Corrected}
 
 -- From −2^32 to 2^32, over a run of 2^30 at most.

@@ -13,7 +13,6 @@ use sheet::TableDomain;
 ghost use mathlib.Core.Path.{_≡_};
 ghost use mathlib.Core.Bool.{true, false};
 ghost use Prim.Native.Nat.{ℕ, _^_, _≤_};
-ghost use lib.IntN.{ℤ};
 ghost use Rattle.refusal.specs.Outcome.{good};
 ghost use Rattle.build.specs.Build.{pairsLent};
 ghost use Rattle.layout.specs.Contents.{Contents};
@@ -24,9 +23,6 @@ ghost use Rattle.reading.specs.Reading.{isResistance};
 ghost use Rattle.distance.specs.Distance.{distance as distanceOf};
 ghost use Rattle.conformity.specs.Conformity.{comparedWith, conformity as conformityOf, conformitySaid};
 ghost use Rattle.conformity.specs.Steps.{isStraight};
-
-// The first selector's bit: Basic's 64 stand before it.
-const FIRST_SELECTOR: u64 = 64;
 
 // Whether the sheet corrects by a straight table: of domain 0, or without a block.
 fn is_straight(domain: TableDomain, segments: u64) -> bool
@@ -83,7 +79,9 @@ fn conformity_in(sheet: Opened, image: &[u8], points: &[i64]) -> ConformityAnswe
     let layout = sheet.layout;
     let template = layout.template;
     match template {
-        Template::Resistance => ConformityAnswer::Refused(refusal::wrong_block(FIRST_SELECTOR)),
+        Template::Resistance => ConformityAnswer::Refused(refusal::wrong_block(
+            layout::FIRST_SELECTOR as u64,
+        )),
         Template::Bridge => match distance::distance(points) {
             DistanceAnswer::Refused(r) => ConformityAnswer::Refused(r),
             DistanceAnswer::Is(told) => conformity_to(sheet, image, points, told),

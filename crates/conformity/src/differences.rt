@@ -3,12 +3,12 @@ use crate::corrections::Corrected;
 use crate::corrections::correction_at;
 ghost use mathlib.Core.Path.{_≡_};
 ghost use Prim.Native.Nat.{ℕ, max, _+_, _*_, _/_, _^_, _≤_, _<_};
-ghost use lib.IntN.{pos, natAbs, _-ℤ_, _*ℤ_};
+ghost use lib.IntN.{natAbs};
 ghost use lib.ListN.{length};
 ghost use lib.Signed.{_<ℤ_};
 ghost use Rattle.build.specs.Build.{pairsLent};
 ghost use Rattle.build.specs.Tested.{pairAt};
-ghost use Rattle.distance.specs.Distance.{ceiling};
+ghost use Rattle.integers.specs.Ceiling.{ceiling};
 ghost use Rattle.line.specs.Before.{pointOf, Before};
 ghost use Rattle.line.specs.Line.{Correction};
 ghost use Rattle.line.specs.Ranges.{Table};
@@ -31,7 +31,7 @@ fn upward(num: u64, run: u64) -> u64
 {
     let whole = num / run;
     let rest = num % run;
-    2000 * whole + (2000 * rest + (run - 1)) / run
+    2000 * whole + integers::ceiling(2000 * rest, run)
 }
 
 // 2000 × the difference of a deviation and a correction, rounded up.

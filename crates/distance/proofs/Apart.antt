@@ -1,6 +1,6 @@
--- How far whole numbers are apart, and quotients rounded up.
-use Rattle.distance.proofs.Names.{_≡_, ap₂, ℕ, suc, _+_, _*_, _-_, _≤_, _<_, div-lt-iff-lt-mul, div-le-self, div-add-mod', mod-lt, arith, w64, SFits, toZ, ofZ, toZ-ofZ, ℤ, pos, negsuc, natAbs, _-ℤ_, up, dn}
-use Rattle.distance.proofs.Names.{sub-parts-ℤ, ceiling}
+-- How far whole numbers are apart.
+use Rattle.distance.proofs.Names.{_≡_, ap₂, ℕ, _+_, _-_, _≤_, _<_, arith, w64, SFits, toZ, ofZ, toZ-ofZ, ℤ, pos, negsuc, natAbs, _-ℤ_, up, dn}
+use Rattle.distance.proofs.Names.{sub-parts-ℤ}
 
 -- u − d in parts.
 parted : (x : ℤ) (u d : ℕ) → up x + d ≡ dn x + u → (d ≤ u → u - d ≡ natAbs x) × (u < d → d - u ≡ natAbs x)
@@ -20,15 +20,3 @@ module _ (a b : ℤ) {pa mb ma pb : ℕ} (e : pa ≡ up a) (f : mb ≡ dn b) (g 
 -- Two figures that are handed to a callee.
 pub seen : {a b : ℤ} → SFits w64 a → SFits w64 b → natAbs (toZ w64 (ofZ w64 a) -ℤ toZ w64 (ofZ w64 b)) ≡ natAbs (a -ℤ b)
 seen f g = ap₂ (λ (x y : ℤ). natAbs (x -ℤ y)) (toZ-ofZ f) (toZ-ofZ g)
-
--- ---- rounded up
-
-module _ (num den : ℕ) (some : 0 < den) where
-  pub ceiling-meets : num ≤ ceiling num den * den
-  ceiling-meets = omega (arith, div-add-mod' (num + (den - 1)) den, mod-lt (num + (den - 1)) some)
-
-  pub ceiling-least : (k : ℕ) → num ≤ k * den → ceiling num den ≤ k
-  ceiling-least k h = omega (arith, div-lt-iff-lt-mul {k = den} {x = num + (den - 1)} {y = suc k} some .1 (omega arith))
-
-  pub ceiling-small : ceiling num den ≤ num + (den - 1)
-  ceiling-small = div-le-self (num + (den - 1)) den

@@ -1,5 +1,6 @@
 -- What the proofs of this crate take from the kit, from the crates below and from its own definitions.
 pub use Prim.Native.Nat.{_%_, _*_, _+_, _-_, _/_, _<_, _^_, _≤_, max, suc, zero, ℕ}
+pub use Rattle.integers.proofs.CeilingLaws.{ceiling-meets, ceiling-least, ceiling-small}
 pub use mathlib.Core.Bool.{Bool, _||_, false, true}
 pub use mathlib.Core.List.{List, [], _∷_}
 pub use mathlib.Core.Option.{Option, none, some}
@@ -12,7 +13,7 @@ pub use lib.Signed.{_<ℤ_, ltZ, ltZ-yes}
 pub use mir.Facts.{toZ-ofZ}
 pub use mir.Syntax.{w64}
 pub use mir.Val.{SFits, ofZ, toZ}
-pub use native.Mathlib.Nat.{div-add-mod', div-le-self, div-lt-iff-lt-mul, mod-lt, mul-le-mul-right}
+pub use native.Mathlib.Nat.{mul-le-mul-right}
 pub use native.Mathlib.Omega.{arith}
 pub use Rattle.build.proofs.PairPlans.{Coded, codes-planned, pairs-length, pairs-planned, table-planned}
 pub use Rattle.build.proofs.PairTurns.{pairs-left, pairsFrom}
@@ -20,7 +21,7 @@ pub use Rattle.build.proofs.Tests.{accepted, turned-down}
 pub use Rattle.build.specs.Build.{pairPieces, pairsLent}
 unfoldable pub use Rattle.build.specs.Build.{tablePieces}
 pub use Rattle.build.specs.Tested.{pairAt, piecesOf}
-pub use Rattle.distance.specs.Distance.{ceiling, leastSlope, steepest, toldBy}
+pub use Rattle.distance.specs.Distance.{leastSlope, steepest, toldBy}
 unfoldable pub use Rattle.distance.specs.Distance.{distance}
 pub use Rattle.distance.specs.Least.{Least, LeastSlope, NoSlope}
 pub use Rattle.distance.specs.Steps.{Step}

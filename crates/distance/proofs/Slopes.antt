@@ -1,7 +1,6 @@
 -- The slopes of a list, one pair of neighbours after the other.
 use Rattle.distance.proofs.Names.{_≡_, refl, sym, ap, _∙_, List, [], _∷_, ℕ, max, _+_, _*_, _/_, _^_, _≤_, _<_, mul-le-mul-right, arith, ℤ, natAbs, _-ℤ_, length, drop, length-drop, Pair, pairAt, pairs-length}
-use Rattle.distance.proofs.Names.{pairsFrom, pairs-left, Neighbours, Slopes, leastSlope, steepest, Step, Least}
-use Rattle.distance.proofs.Apart.{ceiling-meets, ceiling-least, ceiling-small}
+use Rattle.distance.proofs.Names.{pairsFrom, pairs-left, Neighbours, Slopes, leastSlope, steepest, Step, Least, ceiling-meets, ceiling-least, ceiling-small}
 
 -- ---- the pairs left
 

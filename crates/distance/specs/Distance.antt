@@ -1,7 +1,8 @@
 -- Document 01, demand 3: the certificate distance, told beforehand from the points alone. Order: 16, then each pair as a build in domain 0 turns it
 -- down.
 use mathlib.Core.List.{List, [], _∷_}
-use Prim.Native.Nat.{ℕ, max, _+_, _*_, _-_, _/_}
+use Rattle.integers.specs.Ceiling.{ceiling}
+use Prim.Native.Nat.{ℕ, max, _+_, _*_, _-_}
 use lib.IntN.{ℤ, natAbs, _-ℤ_}
 use Rattle.refusal.specs.Outcome.{Outcome, good, refused, _>>_}
 use Rattle.fields.specs.declared.Pair.{Pair}
@@ -11,10 +12,6 @@ use Rattle.build.specs.Build.{listed, pairsLent, listTested, tablePieces}
 use Rattle.distance.specs.declared.ToldDistance.{ToldDistance}
 use Rattle.distance.specs.declared.DistanceAnswer.{DistanceAnswer}
 use Rattle.distance.specs.declared.DistanceAnswer.the-variants.{Is, Refused}
-
--- The least whole number that is at least num / den.
-abbrev pub ceiling : ℕ → ℕ → ℕ
-ceiling num den = (num + (den - 1)) / den
 
 -- Of two neighbours, as lent: the least K with 1000 × their rise or fall at most K × their run.
 abbrev pub leastSlope : Pair → Pair → ℕ

@@ -1,5 +1,5 @@
 -- Only inner contracts need this: how far neighbours are apart, so that nothing overflows.
-use Prim.Native.Nat.{ℕ, _^_, _≤_, _<_}
+use Prim.Native.Nat.{_^_, _≤_, _<_}
 use lib.IntN.{natAbs, _-ℤ_}
 use Rattle.fields.specs.declared.Pair.{Pair}
 

@@ -9,10 +9,11 @@ ghost use mathlib.Core.Path.{_≡_};
 ghost use Prim.Native.Nat.{max, _+_, _*_, _/_, _^_, _≤_, _<_};
 ghost use lib.IntN.{natAbs, _-ℤ_};
 ghost use lib.ListN.{length};
+ghost use Rattle.integers.specs.Ceiling.{ceiling};
 ghost use Rattle.build.specs.Build.{pairsLent};
 ghost use Rattle.build.specs.Tested.{pairAt};
 ghost use Rattle.line.specs.Certificate.{Neighbours};
-ghost use Rattle.distance.specs.Distance.{ceiling, leastSlope, steepest as steepestOf, toldBy, distance as distanceOf, distanceSaid};
+ghost use Rattle.distance.specs.Distance.{leastSlope, steepest as steepestOf, toldBy, distance as distanceOf, distanceSaid};
 ghost use Rattle.distance.specs.Steps.{Step};
 
 // How far two figures are apart. Of any two, nothing overflows.
@@ -32,7 +33,7 @@ fn slope(rise: u64, run: u64) -> u64
     requires { ⌜ (rise ≤ 2 ^ 32) × (0 < run) × (run ≤ 2 ^ 32) ⌝ }
     ensures { λ r. ⌜ (r ≡ ceiling (1000 * rise) run) × (r ≤ 2 ^ 43) ⌝ }
 {
-    (1000 * rise + (run - 1)) / run
+    integers::ceiling(1000 * rise, run)
 }
 
 // The same from point i to the next.

@@ -24,8 +24,8 @@ domain-most Physical = omega arith
 
 -- ---- sums
 
--- In billionths above the least deviation.
-abbrev sumAbove : Codes → ℕ
+-- A point plus its deviation, in billionths above the least deviation.
+abbrev pub sumAbove : Codes → ℕ
 sumAbove c = D * c .point + R * c .deviation
 
 sum-parts : (c : Codes) → up (storedSum c) + 1_000_000_000 ≡ dn (storedSum c) + sumAbove c

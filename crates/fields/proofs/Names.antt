@@ -16,7 +16,7 @@ pub use lib.Ieee.Compare.{differs-from-itself, nan-differs}
 pub use lib.Ieee.Exact.{HasValue, odd-sign}
 pub use lib.Ieee.Fits.{down-pos}
 pub use lib.IntN.{_*ℤ_, _+ℤ_, _-ℤ_, natAbs, negsuc, negℤ, pos, subℕ, ℤ}
-pub use lib.ListN.{getD, length}
+pub use lib.ListN.{getD, length, length-append}
 pub use lib.Pow.{mod-mod-pow, ones-lt, pow-add, pow-mono, pow-pos, shl-exact, shl-lt}
 pub use lib.Signed.{_<ℤ_, leZ, ltZ}
 pub use mir.Facts.{and-yes, toZ-ofZ}
@@ -69,7 +69,7 @@ pub use Rattle.integers.proofs.PartLaws.{sub-parts, sub-parts-ℤ, up-neg}
 pub use Rattle.integers.specs.Nearest.{Fraction, _over_}
 unfoldable pub use Rattle.integers.specs.Nearest.{nearest}
 pub use Rattle.integers.specs.Parts.{InRange, dn, up}
-pub use Rattle.refusal.proofs.Outcomes.{both, good-same, neither, passed}
+pub use Rattle.refusal.proofs.Outcomes.{both, good-same, neither, passed, no-value}
 pub use Rattle.refusal.specs.Outcome.{Outcome, _>>_, good, refuse_if_, refused}
 pub use Rattle.refusal.specs.Rows.{notFinite, notRising, outOfRange, outsideTable, sumsNotRising, wrongCurve, wrongSort}
 pub use Rattle.refusal.specs.declared.Refusal.{Refusal}

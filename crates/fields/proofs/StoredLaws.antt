@@ -1,9 +1,9 @@
 -- What a rule keeps of a value: the promises of `specs/Stored.antt`.
 use Rattle.fields.proofs.Names.{_≡_, refl, sym, ap, _∙_, subst, Bool, true, false, not, _||_, cond, ℕ, _+_, _-_, _^_, _≤_, _<_, arith, le-ltb, eq-eqb, ne-eqb, ltb-false, eqb-true, not-false, T, eqb, ltb, ℤ, pos}
-use Rattle.fields.proofs.Names.{negsuc, natAbs, ltZ, ones-lt, Float, binary32, fits, ofBits, toBits, ofBits-toBits, toBits-ofBits, toBits-lt, le-ltZ, leZ-parts, Refusal, good, refused, _>>_, refuse_if_}
+use Rattle.fields.proofs.Names.{negsuc, natAbs, ltZ, ones-lt, Float, binary32, fits, ofBits, toBits, ofBits-toBits, toBits-ofBits, toBits-lt, le-ltZ, leZ-parts, Refusal, good, _>>_, refuse_if_}
 use Rattle.fields.proofs.Names.{outOfRange, outsideTable, notFinite, wrongSort, good-same, passed, neither, Value, Whole, Single, Missing, Rule, Plain, Stepped, Geometric, Ieee, Row, allOnes, topCode}
 use Rattle.fields.proofs.Names.{steppedValue, steppedCode, progression, geometricValue, finite, meaning, storedAt, wholeCode, singleCode, decode, encode, keptBy, kept, Real, Sound, Rising, ReadsBack, StoredAgain}
-use Rattle.fields.proofs.Names.{SteppedNearest, SteppedRises, SteppedRange}
+use Rattle.fields.proofs.Names.{SteppedNearest, SteppedRises, SteppedRange, no-value}
 use lib.Ieee.Bits.{is-true}
 use Rattle.fields.proofs.CodeLaws.{two-codes}
 use Rattle.fields.proofs.StepLaws.{code-nearest, code-rises, code-back, code-most, value-above, value-rises}
@@ -11,10 +11,7 @@ use Rattle.fields.proofs.ScaleLaws.{values-rise}
 use Rattle.fields.proofs.StoringLaws.{inside, no-less, own}
 use Rattle.fields.proofs.FloatLaws.{no-nan, not-finite-bits}
 
--- A refusal gives nothing, and what is asked for behind a test is given where the test does not hold.
-never : {A B : Type 0} {r : Refusal} {a : A} → refused r ≡ good a → B
-never e = let z : _≡_ {A = ℕ} 0 1 = cc in absurd (omega arith)
-
+-- What is asked for behind a test is given where the test does not hold.
 given : {A : Type 0} (r : Refusal) (t : Bool) (a b : A) → (refuse r if t >> good a) ≡ good b → (t ≡ false) × (a ≡ b)
 given r t a b e = let p = passed r t (good a) b e in (p .0, good-same (p .1))
 
@@ -75,7 +72,7 @@ whole-back : (w : ℕ) (rule : Rule) (m : Bool) (place at code : ℕ) (z : ℤ) 
 whole-back w (Plain least greatest) m place at code (pos n) s e =
     let (low, high, same) = ranged place (ltb n least) (ltb greatest n) n e in
     (omega (arith, ltb-false greatest n high, s .rules .1), rw (← same, low, high))
-whole-back w (Plain least greatest) m place at code (negsuc n) s e = never e
+whole-back w (Plain least greatest) m place at code (negsuc n) s e = no-value e
 whole-back w (Stepped start step) m place at code z s e =
     let top = steppedValue start step (topCode w) in
     let (low, high, same) = ranged place (ltZ z start) (ltZ top z) (steppedCode start step z) e in
@@ -86,7 +83,7 @@ whole-back w (Geometric scale) m place at code z s e =
     let (low, high, same) = ranged place (ltZ z (pos (value 0))) (ltZ (pos (value (topCode w))) z) (storedAt value (topCode w) (natAbs z)) e in
     let most : code ≤ topCode w = rw same at (inside value (topCode w) (natAbs z)) in
     (below-top w m code (s .some) most, rw (same, le-ltb (topCode w) code most))
-whole-back w Ieee m place at code z s e = never e
+whole-back w Ieee m place at code z s e = no-value e
 
 single-back : (w : ℕ) (m : Bool) (place at code : ℕ) (x : Float) → w ≡ 32 → T (fits binary32 x) → singleCode Ieee place x ≡ good code → Room w m code × (meaning Ieee w at code ≡ good (Single x))
 single-back w m place at code x h f e =
@@ -111,15 +108,15 @@ unfolding decode
 missing-back w rule true place at code e =
     let q = good-same e in
     (rw q at (ones-lt w), rw (eq-eqb code (allOnes w) (sym q)))
-missing-back w rule false place at code e = never e
+missing-back w rule false place at code e = no-value e
 
 back : (w : ℕ) (rule : Rule) (m : Bool) (place at code : ℕ) (v : Value) → Sound (the w rule m) → Real v → encode (the w rule m) place v ≡ good code → (code < 2 ^ w) × (decode (the w rule m) at code ≡ good (keptBy rule w v))
 unfolding encode
 back w rule m place at code Missing s real e = missing-back w rule m place at code e
 back w rule m place at code (Whole z) s real e = held w rule m at code _ (whole-back w rule m place at code z s e)
-back w (Plain least greatest) m place at code (Single x) s real e = never e
-back w (Stepped start step) m place at code (Single x) s real e = never e
-back w (Geometric scale) m place at code (Single x) s real e = never e
+back w (Plain least greatest) m place at code (Single x) s real e = no-value e
+back w (Stepped start step) m place at code (Single x) s real e = no-value e
+back w (Geometric scale) m place at code (Single x) s real e = no-value e
 back w Ieee m place at code (Single x) s real e = held w Ieee m at code (Single x) (single-back w m place at code x (s .rules) real e)
 
 pub reads-back : ReadsBack

@@ -1,6 +1,6 @@
 -- What holds of every template, worked out from its lines. The crates above cite these, and look at no template's lines themselves.
 use Rattle.fields.proofs.Names.{_≡_, refl, Bool, true, false, cond, none, some, ℕ, zero, suc, _+_, _*_, _^_, _≤_, _<_, arith, eqb-true, eqb, Cal, Template, Bridge, Resistance, physical, bridgePrecision, bridgeEnd}
-use Rattle.fields.proofs.Names.{line, choice, chosen, basic, template33, template32, numberOf, templateOf, linesOf, lastField, lineOf, bitsBefore}
+use Rattle.fields.proofs.Names.{line, choice, chosen, basic, template33, template32, numberOf, templateOf, linesOf, lastField, lineOf, bitsBefore, length, length-append, templateLines}
 
 -- Their numbers: of eight bits, and each of one template.
 pub number-lt : (t : Template) → numberOf t < 2 ^ 8
@@ -24,6 +24,11 @@ pub last-most : (t : Template) → lastField t ≤ 21
 unfolding linesOf basic template33 template32
 last-most Bridge = omega arith
 last-most Resistance = omega arith
+
+-- Basic's fields are the first of each.
+pub basic-most : (t : Template) → length basic ≤ lastField t
+unfolding linesOf
+basic-most t = omega (arith, length-append basic (templateLines t))
 
 -- Each has the ends of the span.
 pub span-listed : (t : Template) {f : ℕ} → f ≤ 11 → f ≤ lastField t

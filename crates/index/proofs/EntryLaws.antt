@@ -2,7 +2,7 @@
 use Rattle.index.proofs.Names.{_≡_, refl, sym, ap, ap₂, _∙_, List, [], _∷_, _++_, map, ℕ, zero, suc, _+_, _-_, _≤_, _<_, add-one, arith, decLt, length, getD, length-append, length-map, List·getD-map, ext-getD}
 use Rattle.index.proofs.Names.{getD-at, lt-ltb, le-ltb, Row, Layout, Line, basic, templateLines, linesOf, lastField, rowOf, bitsBefore, noLine, row-sound, Stream, FoundPair, Contents, nothing, field, layoutOf}
 use Rattle.index.proofs.Names.{pairsIn, fieldPlace, pairBits, pairPlace, bits-front, at-is, width-is, get-front, get-back, fields-count, Holding, field-stands, pair-here, in-basic, behind-basic, basic-most, Entry}
-use Rattle.index.proofs.Names.{entry, fieldEntry, pairEntry, entries, entryOf, firstEntries}
+use Rattle.index.proofs.Names.{entry, fieldEntry, pairEntry, entries, entryOf, firstEntries, noFound}
 use Rattle.index.proofs.Laying.{first-length}
 
 -- ---- by the layout
@@ -74,9 +74,6 @@ module _ {s : Stream} {c : Contents} (h : Holding s c) where
         most = omega (arith, ap (λ (x : Entry). x .length) e, sound .most);
         inside = omega (arith, ap (λ (x : Entry). x .length) e, ap (λ (x : Entry). x .offset) e, st .inside);
       }
-
-  abbrev noFound : FoundPair
-  noFound = record { point = nothing; deviation = nothing }
 
   pair-lies : (i : ℕ) → last ≤ i → i < length (entries c) → Lies i
   pair-lies i l m =

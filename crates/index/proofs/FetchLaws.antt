@@ -1,7 +1,7 @@
 -- A fetch, step by step.
 use Rattle.index.proofs.Names.{_≡_, refl, sym, ap, ap₂, _∙_, Bool, true, false, List, [], _∷_, map, ℕ, zero, suc, _+_, _-_, _*_, _^_, _≤_, _<_, arith, ℕ-discrete, ltb, length, drop, eq-eqb, ne-eqb, lt-ltb, le-ltb}
 use Rattle.index.proofs.Names.{Refusal, Outcome, good, refused, _>>_, _>>=_, refuse_if_, pastEnd, outsideTable, noSuch, shortIndex, good-same, no-value, told, bind-good, bind-refused, Sizes, Cursor, Taken, Field}
-use Rattle.index.proofs.Names.{NotTaken, fieldAt, imageSizes, sums, streamBits, streamNumber, takeAt, Step, takenSaid, takenAt, field-lt, Value, Row, Template, decode, Line, lastField, lineOf, Sound, row-sound}
+use Rattle.index.proofs.Names.{NotTaken, fieldAt, imageSizes, sums, streamBits, streamNumber, Step, takenSaid, takenAt, field-lt, Value, Row, Template, decode, Line, lastField, lineOf, Sound, row-sound}
 use Rattle.index.proofs.Names.{Entry, templateAt, entryAt, ofLength, choices, rowOfLength, bitsAt, fetchIn, fetch}
 
 -- ---- the row of a length
@@ -55,10 +55,10 @@ module _ (z : Sizes) (image : List ℕ) (at w : ℕ) (t : Taken) (e : takenSaid 
   N = streamNumber z image
 
   abbrev taking : Bool → Outcome Step
-  taking b = ((refuse pastEnd at if b) >> good (fieldAt N at w)) >>= λ code. good (record { code = code; next = at + w })
+  taking b = (refuse pastEnd at if b) >> good (record { code = fieldAt N at w; next = at + w })
 
   pub took : {code : ℕ} {next : Cursor} → t ≡ Field code next → (ltb (streamBits z) (at + w) ≡ false) × (code ≡ fieldAt N at w)
-  unfolding takeAt
+  unfolding takenAt
   took {code} {next} h = go (ltb (streamBits z) (at + w)) refl (told takenSaid h e)
     where
       go : (b : Bool) → ltb (streamBits z) (at + w) ≡ b → good (record { code = code; next = next .at }) ≡ taking b →
@@ -67,7 +67,7 @@ module _ (z : Sizes) (image : List ℕ) (at w : ℕ) (t : Taken) (e : takenSaid 
       go false k f = (k, ap (λ (x : Step). x .code) (good-same f))
 
   pub missed : {r : Refusal} → t ≡ NotTaken r → ltb (streamBits z) (at + w) ≡ true
-  unfolding takeAt
+  unfolding takenAt
   missed {r} h = go (ltb (streamBits z) (at + w)) refl (told takenSaid h e)
     where
       go : (b : Bool) → ltb (streamBits z) (at + w) ≡ b → refused r ≡ taking b → ltb (streamBits z) (at + w) ≡ true

@@ -153,6 +153,6 @@ module _ (kind : ℕ) (image made : List ℕ) (c : Contents) (e : contents kind 
       fetch-right kind image made f (accepted .sized) (accepted .summed) ∙ go (decLt f 1) (decLt (lastField (c .template)) f)
     where
       go : Dec (f < 1) → Dec (lastField (c .template) < f) → fetchIn z image made f ≡ readField kind image f
-      go (yes l) h = sym (in-none z image made f l) ∙ sym (accepted-reads kind image c e .no-field f (inl l))
-      go (no k) (yes l) = sym (in-past z image made f (omega arith) (omega (arith, last-is))) ∙ sym (accepted-reads kind image c e .no-field f (inr l))
+      go (yes l) h = sym (in-none z image made f l) ∙ sym (accepted-reads kind image c e .noField f (inl l))
+      go (no k) (yes l) = sym (in-past z image made f (omega arith) (omega (arith, last-is))) ∙ sym (accepted-reads kind image c e .noField f (inr l))
       go (no k) (no l) = fetched-field f (omega arith) (omega arith) ∙ sym (accepted-reads kind image c e .fields f (omega arith) (omega arith))

@@ -1,5 +1,7 @@
 -- What the proofs of this crate take from the kit, from the crates below and from its own definitions.
 pub use Prim.Native.Nat.{_%_, _*_, _+_, _-_, _/_, _<_, _^_, _≤_, suc, zero, ℕ}
+unfoldable pub use Rattle.stream.specs.Answers.{takenAt}
+pub use Rattle.stream.specs.declared.cursor.Passed.{Passed}
 pub use mathlib.Core.Bool.{Bool, false, true}
 pub use mathlib.Core.List.{List, [], _++_, _∷_, append-assoc, map}
 pub use mathlib.Core.Logic.{inl, inr}
@@ -16,7 +18,7 @@ pub use native.Mathlib.Nat.{zero-add}
 pub use native.Mathlib.Numerals.{add-one}
 pub use native.Mathlib.Omega.{arith}
 pub use Rattle.fields.proofs.RowLaws.{row-sound}
-pub use Rattle.fields.proofs.TemplateFacts.{last-most}
+pub use Rattle.fields.proofs.TemplateFacts.{last-most, basic-most}
 pub use Rattle.fields.specs.Answers.{decodedSaid}
 pub use Rattle.fields.specs.Lines.{Line, bitsBefore, chosen, lastField, lineOf, noLine, numberOf, rowOf, templateLines}
 unfoldable pub use Rattle.fields.specs.Lines.{basic, linesOf, template32, template33}
@@ -43,14 +45,13 @@ pub use Rattle.layout.proofs.Places.{fields-count, get-back, get-front}
 pub use Rattle.layout.proofs.Standing.{Stands, field-stands, pair-here}
 pub use Rattle.layout.specs.Contents.{Contents, FoundPair}
 pub use Rattle.layout.specs.Format.{Stream}
-pub use Rattle.layout.specs.Image.{contents, field, layoutOf, nothing, pairIn, pairsIn, streamIn}
+pub use Rattle.layout.specs.Image.{contents, field, layoutOf, nothing, pairIn, pairsIn, streamIn, noFound}
 pub use Rattle.layout.specs.Places.{fieldPlace, pairBits, pairPlace}
 pub use Rattle.memory.proofs.Chips.{sizes-chip}
 pub use Rattle.memory.proofs.FieldLaws.{field-lt}
 pub use Rattle.memory.specs.Answers.{sizesSaid, sumsSaid}
 pub use Rattle.memory.specs.Bits.{bytesOf, fieldAt, number}
 pub use Rattle.memory.specs.Image.{imageSizes, streamBits, streamNumber, sums}
-unfoldable pub use Rattle.memory.specs.Image.{takeAt}
 pub use Rattle.memory.specs.declared.Sizes.{Sizes}
 pub use Rattle.refusal.proofs.Outcomes.{bind-good, bind-refused, good-bind, good-same, no-value, passed, told}
 pub use Rattle.refusal.proofs.WrittenLaws.{written-done, written-refused}
@@ -60,12 +61,11 @@ pub use Rattle.refusal.specs.declared.Refusal.{Refusal}
 pub use Rattle.sheet.proofs.HeldLaws.{behind-is, holding, layout-is, points-are}
 pub use Rattle.sheet.proofs.OpenLaws.{not-opened, opens, sized}
 pub use Rattle.sheet.proofs.ReadLaws.{accepted-reads}
-pub use Rattle.sheet.proofs.WalkSteps.{basic-most}
 pub use Rattle.sheet.specs.Check.{readField}
 pub use Rattle.sheet.specs.Opened.{Opens}
 pub use Rattle.sheet.specs.Walk.{layoutAt}
 pub use Rattle.sheet.specs.declared.opening.Opened.{Opened}
-pub use Rattle.stream.specs.Answers.{Step, takenAt, takenSaid}
+pub use Rattle.stream.specs.Answers.{Step, takenSaid, passedOver}
 pub use Rattle.stream.specs.declared.cursor.Cursor.{Cursor}
 pub use Rattle.stream.specs.declared.cursor.Taken.{Taken}
 pub use Rattle.stream.specs.declared.cursor.Taken.the-variants.{Field, Refused as NotTaken}

@@ -23,22 +23,23 @@ given-pieces : {A B : Type 0} (S : ℕ) (o : Outcome A) (k : A → Format B) (at
 given-pieces S (good a) k at ps b l = (a, refl, l)
 given-pieces S (refused r) k at ps b l = absurd l
 
-module _ (S : ℕ) (domain : Domain) (before : Option Codes) (at : ℕ) where
-  abbrev behind : Found → Found → Format FoundPair
-  behind point deviation = given (follows domain before (point .at) (codesIn (paired point deviation))) >> ends (paired point deviation)
+-- The format behind a pair's two fields.
+abbrev pub following : Domain → Option Codes → Found → Found → Format FoundPair
+following domain before point deviation = given (follows domain before (point .at) (codesIn (paired point deviation))) >> ends (paired point deviation)
 
+module _ (S : ℕ) (domain : Domain) (before : Option Codes) (at : ℕ) where
   pub pair-parses : (p : FoundPair) → PairAt domain before at p → Parses S (pairOf domain before) at (foundPairPieces p) p
   unfolding pairOf
   pair-parses p h =
       let f : follows domain before (p .point .at) (codesIn p) ≡ good tt = ap (λ (n : ℕ). follows domain before n (codesIn p)) (at-is (h .point)) ∙ h .follows in
-      field-parses S calPoint (λ x. fieldOf calDeviation >>= behind x) at (p .point) _ p (h .point)
-      (field-parses S calDeviation (behind (p .point)) (at + 16) (p .deviation) [] p (h .deviation) (rw f refl))
+      field-parses S calPoint (λ x. fieldOf calDeviation >>= following domain before x) at (p .point) _ p (h .point)
+      (field-parses S calDeviation (following domain before (p .point)) (at + 16) (p .deviation) [] p (h .deviation) (rw f refl))
 
   pub pair-pieces : (ps : List Piece) (p : FoundPair) → Parses S (pairOf domain before) at ps p → (ps ≡ foundPairPieces p) × PairAt domain before at p
   unfolding pairOf
   pair-pieces ps p l =
-      let a = field-pieces S calPoint (λ x. fieldOf calDeviation >>= behind x) at ps p l in
-      let b = field-pieces S calDeviation (behind (a .first)) (at + 16) (a .behind) p (a .parses) in
+      let a = field-pieces S calPoint (λ x. fieldOf calDeviation >>= following domain before x) at ps p l in
+      let b = field-pieces S calDeviation (following domain before (a .first)) (at + 16) (a .behind) p (a .parses) in
       let (u, f, m) = given-pieces S (follows domain before (a .first .at) _) _ _ (b .behind) p (b .parses) in
       let (z, e) = ends-pieces S (paired (a .first) (b .first)) _ (b .behind) p m in
       subst (λ (q : FoundPair). (ps ≡ foundPairPieces q) × PairAt domain before at q) e (

@@ -21,18 +21,19 @@ pub record RuledPieces {B : Type 0} (S : ℕ) (row : Row) (rule : ℕ → Bool) 
   pub stands : RuledAt row rule at first
   pub parses : Parses S (k first) (at + row .width) behind b
 
-module _ (S : ℕ) (row : Row) (rule : ℕ → Bool) (at : ℕ) where
-  abbrev tested : Found → Format Found
-  tested x = refuse wrongCurve (x .at) if not (rule (x .code)) >> ends x
+-- A field that was found, where the rule takes its code.
+abbrev pub takenBy : (ℕ → Bool) → Found → Format Found
+takenBy rule x = refuse wrongCurve (x .at) if not (rule (x .code)) >> ends x
 
+module _ (S : ℕ) (row : Row) (rule : ℕ → Bool) (at : ℕ) where
   alone : (x : Found) → RuledAt row rule at x → Parses S (ruledOf row rule) at (pieceOf x ∷ []) x
   unfolding ruledOf
-  alone x h = field-parses S row tested at x [] x (h .field) (rw (h .taken) refl)
+  alone x h = field-parses S row (takenBy rule) at x [] x (h .field) (rw (h .taken) refl)
 
   first-is : (ps : List Piece) (x : Found) → Parses S (ruledOf row rule) at ps x → (ps ≡ pieceOf x ∷ []) × RuledAt row rule at x
   unfolding ruledOf
   first-is ps x l =
-      let w = field-pieces S row tested at ps x l in
+      let w = field-pieces S row (takenBy rule) at ps x l in
       let y : Found = w .first in
       let (t, m) = refuse-pieces S (wrongCurve (y .at)) (not (rule (y .code))) (ends y) _ (w .behind) x (w .parses) in
       let (z, e) = ends-pieces S y _ (w .behind) x m in
@@ -72,10 +73,10 @@ pub record TermAt (before : Option ℕ) (at : ℕ) (t : FoundTerm) : Type 0 wher
   pub exponent : RuledAt exponent (rises before) at (t .exponent)
   pub coefficient : FieldAt coefficient (at + 7) (t .coefficient)
 
-abbrev term : Found → Found → FoundTerm
+abbrev pub term : Found → Found → FoundTerm
 term x c = record { exponent = x; coefficient = c }
 
-abbrev withCoefficient : Found → Format FoundTerm
+abbrev pub withCoefficient : Found → Format FoundTerm
 withCoefficient x = fieldOf coefficient >>= λ c. ends (term x c)
 
 module _ (S : ℕ) (before : Option ℕ) (at : ℕ) where
@@ -124,24 +125,25 @@ pub record SegmentAt (before : Passed) (at : ℕ) (s : FoundSegment) : Type 0 wh
   pub counted : length (s .terms) ≡ s .count .code
   pub terms : TermsAt none (at + 20) (s .terms)
 
-abbrev segment : Found → Found → List FoundTerm → FoundSegment
+abbrev pub segment : Found → Found → List FoundTerm → FoundSegment
 segment start count terms = record { start = start; count = count; terms = terms }
 
+-- The format behind a segment's start and its number of terms.
+abbrev pub withTerms : Passed → Found → Found → Format FoundSegment
+withTerms before start count =
+    refuse tooManyTerms (before .terms + count .code) if ltb mostTerms (before .terms + count .code) >> (termsOf (count .code) >>= λ terms. ends (segment start count terms))
+
+abbrev pub withCount : Passed → Found → Format FoundSegment
+withCount before start = ruledOf termCount isTermCount >>= withTerms before start
+
 module _ (S : ℕ) (before : Passed) (at : ℕ) where
-  abbrev withTerms : Found → Found → Format FoundSegment
-  withTerms start count =
-      refuse tooManyTerms (before .terms + count .code) if ltb mostTerms (before .terms + count .code) >> (termsOf (count .code) >>= λ terms. ends (segment start count terms))
-
-  abbrev withCount : Found → Format FoundSegment
-  withCount start = ruledOf termCount isTermCount >>= withTerms start
-
   pub segment-parses : (s : FoundSegment) → SegmentAt before at s → Parses S (segmentOf before) at (segmentPieces s) s
   unfolding segmentOf termsOf
   segment-parses s h =
       let e : at + 20 ≡ at + 13 + 7 = omega arith in
       let terms = each-parses S termOf behindTerm TermAt termPieces (term-parses S) none (at + 20) (s .terms) (h .terms) in
-      ruled-parses S segmentStart (startFollows (before .start)) at withCount (s .start) _ s (h .start)
-      (ruled-parses S termCount isTermCount (at + 13) (withTerms (s .start)) (s .count) _ s (h .count)
+      ruled-parses S segmentStart (startFollows (before .start)) at (withCount before) (s .start) _ s (h .start)
+      (ruled-parses S termCount isTermCount (at + 13) (withTerms before (s .start)) (s .count) _ s (h .count)
       (rw (h .few)
       (parses-made S (termsOf (s .count .code)) (segment (s .start) (s .count)) _ (termsPieces (s .terms)) (s .terms)
       (subst (λ (n : ℕ). Parses S (termsOf (s .count .code)) n (termsPieces (s .terms)) (s .terms)) e
@@ -150,8 +152,8 @@ module _ (S : ℕ) (before : Passed) (at : ℕ) where
   pub segment-pieces : (ps : List Piece) (s : FoundSegment) → Parses S (segmentOf before) at ps s → (ps ≡ segmentPieces s) × SegmentAt before at s
   unfolding segmentOf termsOf
   segment-pieces ps s l =
-      let a = ruled-pieces S segmentStart (startFollows (before .start)) at withCount ps s l in
-      let b = ruled-pieces S termCount isTermCount (at + 13) (withTerms (a .first)) (a .behind) s (a .parses) in
+      let a = ruled-pieces S segmentStart (startFollows (before .start)) at (withCount before) ps s l in
+      let b = ruled-pieces S termCount isTermCount (at + 13) (withTerms before (a .first)) (a .behind) s (a .parses) in
       let total : ℕ = before .terms + b .first .code in
       let (t, m) = refuse-pieces S (tooManyTerms total) (ltb mostTerms total) _ _ (b .behind) s (b .parses) in
       let (terms, e, k) = made-pieces S (termsOf (b .first .code)) (segment (a .first) (b .first)) _ (b .behind) s m in
@@ -196,13 +198,14 @@ pub record CurveAt (at : ℕ) (segments : List FoundSegment) : Type 0 where
   pub most : length segments ≤ 20
   pub stand : SegmentsAt nothingPassed (at + 19) segments
 
+-- The format behind the number of segments, and behind the domain.
+abbrev pub drawn : Found → Format Calibration
+drawn count = segmentsOf (count .code) >>= λ segments. ends (curve segments)
+
+abbrev pub counted : Found → Format Calibration
+counted domain = ruledOf segmentCount isSegmentCount >>= drawn
+
 module _ (S at : ℕ) where
-  abbrev drawn : Found → Format Calibration
-  drawn count = segmentsOf (count .code) >>= λ segments. ends (curve segments)
-
-  abbrev counted : Found → Format Calibration
-  counted domain = ruledOf segmentCount isSegmentCount >>= drawn
-
   -- From the place behind the block's template number on.
   pub curve-parses : (segments : List FoundSegment) → 1 ≤ length segments → length segments ≤ 20 → SegmentsAt nothingPassed (at + 1 + 8) segments →
       Parses S curveOf at (curvePieces segments) (curve segments)

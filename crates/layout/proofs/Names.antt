@@ -15,7 +15,7 @@ pub use lib.Signed.{leZ}
 pub use native.Mathlib.Decide.{decLt}
 pub use native.Mathlib.Nat.{zero-add}
 pub use native.Mathlib.Omega.{arith}
-pub use Rattle.fields.proofs.CalibrationLaws.{code-domained, domain-coded, domain-most, sum-climbs}
+pub use Rattle.fields.proofs.CalibrationLaws.{code-domained, domain-coded, domain-most, sum-climbs, sumAbove}
 pub use Rattle.fields.proofs.CurveLaws.{follows-some, power, power-back, power-is, power-rises}
 pub use Rattle.fields.proofs.OpenLaws.{row-open}
 pub use Rattle.fields.proofs.RuleLaws.{plain-bounds, plain-good, stepped-whole}

@@ -1,16 +1,13 @@
 -- A calibration table as fields of 37 bits, a pair each: pairs that stand and rise are parsed.
 use Rattle.layout.proofs.Names.{_≡_, refl, sym, ap, _∙_, Option, none, some, ℕ, _+_, _*_, _/_, _%_, _^_, _≤_, _<_, arith, lt-leb, le-ltb, ℤ, pos, high, low, good, fieldAt, field-lt, field-add, Whole, Stepped}
-use Rattle.layout.proofs.Names.{Codes, Domain, Electrical, Physical, allOnes, topCode, steppedValue, decode, always, D, R, leastDeviation, calPoint, calDeviation, codesOf, follows, sum-climbs, Format, ends, _>>=_}
-use Rattle.layout.proofs.Names.{_>>_, given, Stream, parse, Found, FoundPair, paired, codesIn, fieldOf, pairOf, pairBits}
+use Rattle.layout.proofs.Calibrations.{following}
+use Rattle.layout.proofs.Names.{Codes, Domain, Electrical, Physical, allOnes, topCode, steppedValue, decode, always, D, R, leastDeviation, calPoint, calDeviation, codesOf, follows, sum-climbs, _>>=_}
+use Rattle.layout.proofs.Names.{_>>_, Stream, parse, FoundPair, fieldOf, pairOf, pairBits, sumAbove}
 use Rattle.layout.proofs.Formats.{parsed, parse-next}
 use Rattle.layout.proofs.Fields.{found}
 use Rattle.layout.proofs.Standing.{Stands, stands-parse}
 
 -- ---- what may follow
-
--- A point plus its deviation, in billionths above the least deviation.
-abbrev pub sumAbove : Codes → ℕ
-sumAbove c = D * c .point + R * c .deviation
 
 -- Behind what stands before, any pair may follow whose point is not below `least` and, in domain 1, whose sum is not below `floor`.
 abbrev pub Admits : Domain → Option Codes → ℕ → ℕ → Type 0
@@ -77,9 +74,6 @@ module _ (s : Stream) (at both : ℕ) (e : both ≡ fieldAt (s .number) at pairB
         code = deviation-is;
         inside = omega arith;
       } in
-      parse-next s (fieldOf calPoint) (λ x. fieldOf calDeviation >>= following x) at (sym (stands-parse p))
-      ∙ parse-next s (fieldOf calDeviation) (following (pairFrom at both .point)) (at + 16) (sym (stands-parse d))
+      parse-next s (fieldOf calPoint) (λ x. fieldOf calDeviation >>= following domain before x) at (sym (stands-parse p))
+      ∙ parse-next s (fieldOf calDeviation) (following domain before (pairFrom at both .point)) (at + 16) (sym (stands-parse d))
       ∙ rw (admits at (codesFrom both) l g) (ap (λ (n : ℕ). good (parsed (pairFrom at both) n)) (omega arith))
-    where
-      following : Found → Found → Format FoundPair
-      following x y = given (follows domain before (x .at) (codesIn (paired x y))) >> ends (paired x y)

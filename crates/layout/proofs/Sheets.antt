@@ -76,7 +76,7 @@ sheet-needed {S} {c} h =
       h .bits-are,
     )
 
-abbrev made : Template → List Found → Calibration → Ending → ℕ → Contents
+abbrev pub made : Template → List Found → Calibration → Ending → ℕ → Contents
 made template fields calibration ending end = record {
   template = template;
   fields = fields;
@@ -87,16 +87,16 @@ made template fields calibration ending end = record {
 }
 
 -- The format behind each of its parts.
-abbrev afterCalibration : Template → List Found → Calibration → Format Contents
+abbrev pub afterCalibration : Template → List Found → Calibration → Format Contents
 afterCalibration t xs k = endingOf >>= λ e. place >>= λ end. ends (made t xs k e end)
 
-abbrev afterOwn : Template → List Found → Format Contents
+abbrev pub afterOwn : Template → List Found → Format Contents
 afterOwn t xs = calibrationOf >>= λ k. afterCalibration t xs k
 
-abbrev afterBlock : List Found → Template → Format Contents
+abbrev pub afterBlock : List Found → Template → Format Contents
 afterBlock bs t = fieldsOf (templateLines t) 0 >>= λ os. afterOwn t (bs ++ os)
 
-abbrev afterBasics : List Found → Format Contents
+abbrev pub afterBasics : List Found → Format Contents
 afterBasics bs = firstBlock >>= λ t. afterBlock bs t
 
 pub sheet-parses : {S : ℕ} {c : Contents} (h : Formed S c) → Parses S sheetOf 0 (sheetPieces h) c

@@ -38,6 +38,9 @@ contents kind image = do
 abbrev pub nothing : Found
 nothing = record { row = any 0; at = 0; code = 0; value = Missing }
 
+abbrev pub noFound : FoundPair
+noFound = record { point = nothing; deviation = nothing }
+
 -- Field f, counted from 1.
 abbrev pub field : Contents → ℕ → Found
 field c f = getD (c .fields) (f - 1) nothing
@@ -82,6 +85,7 @@ figure Missing = pos 0
 abbrev pub pairIn : FoundPair → Pair
 pairIn p = record { point = figure (p .point .value); deviation = figure (p .deviation .value) }
 
+-- A Single's float.
 abbrev pub float : Value → Float
 float (Whole z) = nan
 float (Single x) = x

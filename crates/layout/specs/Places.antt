@@ -5,17 +5,19 @@ use lib.Dec.{ltb}
 use lib.ListN.{length}
 use Rattle.fields.specs.declared.Layout.{Layout}
 use Rattle.fields.specs.Lines.{basic, linesOf, ending, bitsBefore}
+use Rattle.fields.specs.Calibration.{calDomain, pointCount, calPoint, calDeviation}
+use Rattle.fields.specs.Curves.{curveDomain, segmentCount, segmentStart, termCount, exponent, coefficient}
 
 -- A block's selector and template number.
 abbrev pub blockBits : ℕ
-blockBits = 10
+blockBits = 2 + 8
 
 -- The first selector stands behind Basic's 64 bits, and the first template's number behind its two.
 abbrev pub firstSelector : ℕ
 firstSelector = 64
 
 abbrev pub firstNumber : ℕ
-firstNumber = 66
+firstNumber = firstSelector + 2
 
 -- The first bit of field f, counted from 1: the first block stands behind Basic.
 unfoldable pub fieldPlace : Layout → ℕ → ℕ
@@ -25,12 +27,12 @@ fieldPlace layout f = bitsBefore (linesOf (layout .template)) (layout .precision
 abbrev pub behindFields : Layout → ℕ
 behindFields layout = fieldPlace layout (ending (layout .template))
 
--- A table's block, domain and count stand before its pairs, of 37 bits each.
+-- A table's block, domain and count stand before its pairs, of a point and a deviation each.
 abbrev pub tableStart : ℕ
-tableStart = 18
+tableStart = blockBits + calDomain .width + pointCount .width
 
 abbrev pub pairBits : ℕ
-pairBits = 37
+pairBits = calPoint .width + calDeviation .width
 
 -- The bits of a table of n pairs: none without one.
 abbrev pub tableBits : ℕ → ℕ
@@ -41,15 +43,15 @@ tableBits (suc n) = tableStart + pairBits * suc n
 abbrev pub pairPlace : Layout → ℕ → ℕ
 pairPlace layout i = behindFields layout + tableStart + pairBits * i
 
--- A curve's block, domain and number of segments stand before its segments, a segment's start and number of terms before its terms, of 39 bits each.
+-- A curve's block, domain and number of segments stand before its segments, a segment's start and number of terms before its terms, of an exponent and a coefficient each.
 abbrev pub curveStart : ℕ
-curveStart = 19
+curveStart = blockBits + curveDomain .width + segmentCount .width
 
 abbrev pub segmentHead : ℕ
-segmentHead = 20
+segmentHead = segmentStart .width + termCount .width
 
 abbrev pub termBits : ℕ
-termBits = 39
+termBits = exponent .width + coefficient .width
 
 -- The bits of a curve of n segments and so many terms: none without one.
 abbrev pub curveBits : ℕ → ℕ → ℕ

@@ -17,7 +17,6 @@ pub use locating::SEGMENT_HEAD;
 pub use locating::SELECTOR_BITS;
 pub use locating::TABLE_START;
 pub use locating::TERM_BITS;
-pub use locating::curve_bits;
 pub use locating::fields_end;
 pub use locating::locate;
 pub use locating::locate_character;

@@ -89,7 +89,7 @@ pub fn table_bits(points: u64) -> usize
 }
 
 // The bits of a curve of segments and terms: none without one.
-pub fn curve_bits(segments: u64, terms: u64) -> usize
+fn curve_bits(segments: u64, terms: u64) -> usize
     requires { ⌜ (segments < 2 ^ 32) × (terms < 2 ^ 32) ⌝ }
     ensures { λ r. ⌜ r ≡ curveBits segments terms ⌝ }
 {

@@ -1,18 +1,11 @@
 -- What is computed is the crossing. There is a position at which the line is p, and the crossing is the least whole number that is at least that position.
-use Rattle.line.proofs.Names.{_≡_, ap, List, [], _∷_, _↔_, _⊎_, inl, inr, ℕ, _+_, _*_, _-_, _≤_, _<_, mul-le-mul-right, mul-pos, le-of-mul-le-mul-right, div-add-mod', mod-lt, div-lt-iff-lt-mul, arith, ℤ, pos}
+use Rattle.line.proofs.Names.{_≡_, ap, List, [], _∷_, _↔_, _⊎_, inl, inr, ℕ, _+_, _*_, _-_, _≤_, _<_, mul-le-mul-right, mul-pos, le-of-mul-le-mul-right, arith, ℤ, pos}
 use Rattle.line.proofs.Names.{natAbs, _+ℤ_, _-ℤ_, _*ℤ_, _≤ℤ_, _<ℤ_, up, dn, Fraction, _over_, same, add-parts, sub-parts-ℤ, leZ-parts, ltZ-parts, parts-≤ℤ, Pair, Correction, atEnd, between, correctionAfter}
-use Rattle.line.proofs.Names.{correction, certificateLine, Neighbours, Rises, sum, SumsRise, Meets, Crossing, ceiling, crossingHeld, crossingBetween, crossingAfter, crossing, Crosses}
+use Rattle.line.proofs.Names.{correction, certificateLine, Neighbours, Rises, sum, SumsRise, Meets, Crossing, ceiling, crossingHeld, crossingBetween, crossingAfter, crossing, Crosses, ceiling-meets, ceiling-least}
 use Rattle.line.proofs.Distances.{less, above-parts, scaled}
 use Rattle.line.proofs.Order.{Ahead, AtMost, Below, at-most, below, order, through, by-order, is-up-to, is-behind}
 use Rattle.line.proofs.Weights.{at, run, run-parts, run-some}
 use Rattle.line.proofs.Climb.{raised, raised-parts, climb, climb-parts, line-between, each-two, Climbs, Rising, rising}
-
--- `ceiling` is what it says.
-pub ceiling-least : (n d u : ℕ) → 0 < d → (n ≤ u * d) ↔ (ceiling n d ≤ u)
-ceiling-least n d u some = (
-  λ h. let l : ceiling n d < u + 1 = div-lt-iff-lt-mul some .1 (omega arith) in omega arith,
-  λ h. omega (arith, div-add-mod' (n + (d - 1)) d, mod-lt (n + (d - 1)) some, mul-le-mul-right d h),
-)
 
 -- A position x of P at which a line is p, and q is the least whole number from it on.
 record Reached (p q : ℤ) (line : ℤ → ℕ → Correction) (P : Fraction → Type 0) : Type 0 where
@@ -92,7 +85,7 @@ module _ (p : ℤ) (a b : Pair) (rises : a .point <ℤ b .point) (low : sum a <�
       to (d, h) =
           let m : up (a .point) + dn k ≤ up k + dn (a .point) = le-of-mul-le-mul-right {k = climb a b} (omega (arith, h .is, x-parts)) some in
           let e : up k + dn (a .point) ≡ u + (up (a .point) + dn k) = omega arith in
-          let few : steps ≤ u = ceiling-least (above * run a b) (climb a b) u some .0 (omega (arith, h .is, x-parts, ap (λ (k : ℕ). k * climb a b) e)) in
+          let few : steps ≤ u = ceiling-least (above * run a b) (climb a b) some u (omega (arith, h .is, x-parts, ap (λ (k : ℕ). k * climb a b) e)) in
           parts-≤ℤ (a .point +ℤ pos steps) k (omega (arith, q-parts))
 
       from : (a .point +ℤ pos steps) ≤ℤ k → AtMost x (k over 1)
@@ -100,7 +93,7 @@ module _ (p : ℤ) (a b : Pair) (rises : a .point <ℤ b .point) (low : sum a <�
           let l = leZ-parts (a .point +ℤ pos steps) k (h .le) in
           let e : up k + dn (a .point) ≡ u + (up (a .point) + dn k) = omega (arith, q-parts) in
           let few : steps ≤ u = omega (arith, q-parts) in
-          at-most x (k over 1) (omega (arith, x-parts, ap (λ (k : ℕ). k * climb a b) e, ceiling-least (above * run a b) (climb a b) u some .1 few))
+          at-most x (k over 1) (omega (arith, x-parts, ap (λ (k : ℕ). k * climb a b) e, ceiling-meets (above * run a b) (climb a b) some, mul-le-mul-right (climb a b) few))
 
 -- ---- along a table
 

@@ -1,8 +1,7 @@
 -- What calls say of sums, and that nothing overflows on the way to the crossing.
 use Rattle.line.proofs.Names.{_≡_, ap, ap₂, _∙_, ℕ, _+_, _*_, _^_, _≤_, _<_, mul-le-mul, mul-le-mul-right, arith, ℤ, pos, negsuc, natAbs, _+ℤ_, _-ℤ_, _≤ℤ_, w64, SFits, toZ, ofZ, toZ-ofZ, up, dn, add-parts}
-use Rattle.line.proofs.Names.{sub-parts-ℤ, abs-parts, leZ-parts, ltZ-parts, parts-≤ℤ, parts-fit, Pair, sum, ceiling, crossingBetween, Between}
+use Rattle.line.proofs.Names.{sub-parts-ℤ, abs-parts, leZ-parts, ltZ-parts, parts-≤ℤ, parts-fit, Pair, sum, ceiling, crossingBetween, Between, ceiling-least}
 use Rattle.line.proofs.Told.{gap-parts}
-use Rattle.line.proofs.Crossings.{ceiling-least}
 
 -- A whole number that is u − d.
 difference-fits : (z : ℤ) (u d : ℕ) → up z + d ≡ dn z + u → u < 2 ^ 63 → d < 2 ^ 63 → SFits w64 z
@@ -64,7 +63,7 @@ module _ (p : ℤ) (a b : Pair) (h : Between sum p a b) where
         )
 
     few : ceiling (above * run) climb ≤ run
-    few = ceiling-least (above * run) climb run climb-some .0 (omega (arith, mul-le-mul-right run above-most))
+    few = ceiling-least (above * run) climb climb-some run (omega (arith, mul-le-mul-right run above-most))
 
     product-small : above * run ≤ (2 ^ 30 + 2 ^ 33) * 2 ^ 30
     product-small = let most : above ≤ 2 ^ 30 + 2 ^ 33 = omega (arith, above-most, climb-small) in mul-le-mul most run-small

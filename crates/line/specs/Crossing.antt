@@ -1,9 +1,10 @@
 -- Document 02, Note 9: the fraction from a table by physical point. What it is; the same computed; and that there is one and no second.
 use mathlib.Core.Path.{_≡_}
+use Rattle.integers.specs.Ceiling.{ceiling}
 use mathlib.Core.Bool.{cond}
 use mathlib.Core.List.{List, [], _∷_}
 use mathlib.Core.Logic.{_↔_}
-use Prim.Native.Nat.{ℕ, _+_, _-_, _*_, _/_}
+use Prim.Native.Nat.{_+_, _-_, _*_}
 use lib.IntN.{ℤ, pos, natAbs, _+ℤ_, _-ℤ_, _*ℤ_}
 use lib.Signed.{leZ, _≤ℤ_, _<ℤ_}
 use Rattle.integers.specs.Nearest.{Fraction}
@@ -36,10 +37,6 @@ pub record Crossing (pairs : List Pair) (p q : ℤ) : Type 0 where
   pub least : (k : ℤ) → Meets pairs p k → q ≤ℤ k
 
 -- ---- the same, computed
-
--- The least whole number that is at least n / d.
-abbrev pub ceiling : ℕ → ℕ → ℕ
-ceiling n d = (n + (d - 1)) / d
 
 -- Where a deviation holds.
 abbrev pub crossingHeld : ℤ → Pair → ℤ

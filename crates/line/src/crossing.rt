@@ -2,9 +2,9 @@
 use crate::line::gap;
 use fields::Pair;
 ghost use mathlib.Core.Path.{_≡_};
-ghost use Prim.Native.Nat.{_+_, _≤_, _<_, _^_};
+ghost use Prim.Native.Nat.{_≤_, _^_};
 ghost use lib.IntN.{pos, natAbs, _+ℤ_};
-ghost use Rattle.line.specs.Crossing.{sum as sumOf, ceiling as ceilingOf, crossingHeld, crossingBetween};
+ghost use Rattle.line.specs.Crossing.{sum as sumOf, crossingHeld, crossingBetween};
 ghost use Rattle.line.specs.Ranges.{Figures, Between};
 
 // A point plus its deviation.
@@ -21,14 +21,6 @@ pub fn crossing_held(p: i64, pair: Pair) -> i64
     ensures { λ r. ⌜ r ≡ crossingHeld p pair ⌝ }
 {
     p - pair.deviation
-}
-
-// n / d, upward to a whole number.
-fn ceiling(n: u64, d: u64) -> u64
-    requires { ⌜ (0 < d) × (n + d ≤ 2 ^ 64) ⌝ }
-    ensures { λ r. ⌜ r ≡ ceilingOf n d ⌝ }
-{
-    (n + (d - 1)) / d
 }
 
 // So many steps behind a point.
@@ -49,5 +41,5 @@ pub fn crossing_between(p: i64, before: Pair, behind: Pair) -> i64
     let above = gap(p, low);
     let climb = gap(sum(behind), low);
     let run = gap(behind.point, before.point);
-    onward(before.point, ceiling(above * run, climb))
+    onward(before.point, integers::ceiling(above * run, climb))
 }

@@ -16,9 +16,11 @@ pub use native.Mathlib.Numerals.{add-one}
 pub use native.Mathlib.Omega.{arith}
 pub use Rattle.memory.specs.Answers.{Whole, sizesSaid, streamIndex}
 pub use Rattle.memory.specs.Bits.{Bytes, bit, bytesOf, fieldAt, number, putAt}
-pub use Rattle.memory.specs.Image.{SumsRight, allFF, blankPage, checkByte, covered, imageBytes, isGood, page, pageAt, pageSum, pagesOf, pagesStream, pagesWith, partOf, putIn, sizesOf, streamBits, streamBytes}
+pub use Rattle.memory.specs.Image.{SumsRight, allFF, blankPage, checkByte, covered, imageBytes, isGood, page, pageAt, pageSum, pagesOf, pagesStream, partOf, sizesOf, streamBits, streamBytes}
+pub use Rattle.memory.specs.Laid.{pagesWith, putIn}
 pub use Rattle.memory.specs.Image.{streamNumber, sums, total, withRight}
-unfoldable pub use Rattle.memory.specs.Image.{blankFrom, imageOf, imageSizes, pageBytes, pageTest, sealed, streamOf, sumsFrom, withStream}
+unfoldable pub use Rattle.memory.specs.Image.{blankFrom, imageOf, imageSizes, pageBytes, pageTest, streamOf, sumsFrom}
+unfoldable pub use Rattle.memory.specs.Laid.{sealed, withStream}
 pub use Rattle.memory.specs.Pieces.{Piece, needed, pack, piece}
 pub use Rattle.memory.specs.declared.Sizes.{Sizes}
 pub use Rattle.memory.specs.declared.kinds.SizesAnswer.{SizesAnswer}

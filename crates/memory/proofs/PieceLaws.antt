@@ -12,10 +12,6 @@ Fit (p ∷ ps) = (p .code < 2 ^ (p .width)) × Fit ps
 abbrev pub Holds : ℕ → ℕ → List Piece → Type 0
 Holds N at ps = fieldAt N at (needed ps) ≡ pack ps
 
-pub fit-append : (ps qs : List Piece) → Fit ps → Fit qs → Fit (ps ++ qs)
-fit-append [] qs f g = g
-fit-append (p ∷ ps) qs f g = (f .0, fit-append ps qs (f .1) g)
-
 pub fit-split : (ps qs : List Piece) → Fit (ps ++ qs) → Fit ps × Fit qs
 fit-split [] qs f = (tt, f)
 fit-split (p ∷ ps) qs f = let s = fit-split ps qs (f .1) in ((f .0, s .0), s .1)

@@ -3,14 +3,14 @@ use mathlib.Core.Path.{_≡_}
 use mathlib.Core.Bool.{Bool, true, false, not, _&&_, cond}
 use mathlib.Core.List.{List, [], _∷_, _++_}
 use Prim.Native.Nat.{ℕ, zero, suc, _+_, _-_, _*_, _/_, _%_, _<_}
-use lib.ListN.{length, take, drop, set}
+use lib.ListN.{length, take, drop}
 use lib.Dec.{eqb, ltb}
 use Rattle.refusal.specs.Outcome.{Outcome, good, refused, _>>_, _>>=_, refuse_if_}
-use Rattle.refusal.specs.Rows.{wrongImage, wrongSum, blankChip, pastEnd}
+use Rattle.refusal.specs.Rows.{wrongImage, wrongSum, blankChip}
 use Rattle.memory.specs.declared.Sizes.{Sizes}
 use Rattle.memory.specs.declared.pages.PageTest.{PageTest}
 use Rattle.memory.specs.declared.pages.PageTest.the-variants.{Good, Wrong, Blank}
-use Rattle.memory.specs.Bits.{number, bytesOf, fieldAt, putAt}
+use Rattle.memory.specs.Bits.{number, bytesOf}
 
 -- ---- kinds
 
@@ -121,12 +121,6 @@ streamOf z image = take (z .register) image ++ pagesStream (z .pages) (drop (z .
 abbrev pub streamNumber : Sizes → List ℕ → ℕ
 streamNumber z image = number (streamOf z image)
 
--- Row 3: the field of w bits at a place, within the stream.
-unfoldable pub takeAt : Sizes → List ℕ → ℕ → ℕ → Outcome ℕ
-takeAt z image at w = do
-  refuse pastEnd at if ltb (streamBits z) (at + w)
-  good (fieldAt (streamNumber z image) at w)
-
 -- ---- stream to image
 
 -- What has to be added to a sum to make it 0 modulo 256.
@@ -146,27 +140,6 @@ withRight z bytes = take (z .register) bytes ++ pagesOf (z .pages) (total (take 
 unfoldable pub imageOf : Sizes → ℕ → List ℕ
 imageOf z N = withRight z (bytesOf (streamBytes z) N)
 
--- The image with page i's check byte right, whatever stood there.
-unfoldable pub sealed : Sizes → List ℕ → ℕ → List ℕ
-sealed z image i =
-    let cleared = set image (pageAt z i) 0 in
-    set image (pageAt z i) (checkByte (total (covered z cleared i)))
-
 -- The page whose check byte covers bit n of the stream: the register's bits belong to page 0.
 abbrev pub pageOf : Sizes → ℕ → ℕ
 pageOf z n = (n / 8 - z .register) / 31
-
--- n pages with other stream bytes, each check byte as it stands.
-abbrev pub pagesWith : ℕ → List ℕ → List ℕ → List ℕ
-pagesWith zero image bytes = []
-pagesWith (suc n) image bytes = take 1 image ++ (take 31 bytes ++ pagesWith n (drop 32 image) (drop 31 bytes))
-
--- The image with another stream, each check byte as it stands.
-unfoldable pub withStream : Sizes → List ℕ → ℕ → List ℕ
-withStream z image N =
-    let bytes = bytesOf (streamBytes z) N in
-    take (z .register) bytes ++ pagesWith (z .pages) (drop (z .register) image) (drop (z .register) bytes)
-
--- The image with the field of w bits at a place replaced by a code: no other bit, and no check byte.
-abbrev pub putIn : Sizes → List ℕ → ℕ → ℕ → ℕ → List ℕ
-putIn z image at w code = withStream z image (putAt (streamNumber z image) at w code)

@@ -12,6 +12,7 @@ pub use pages::Sums;
 pub use pages::check_sums;
 pub use pages::page_bytes;
 pub use pages::seal;
+pub use pages::sum;
 
 // A chip's memory: the bytes of its register, and its pages of 32 bytes.
 pub struct Sizes {

@@ -12,8 +12,8 @@ ghost use Rattle.memory.specs.Image.{
   sumsFrom,
   sums,
   pageBytes,
-  sealed,
 };
+ghost use Rattle.memory.specs.Laid.{sealed};
 ghost use Rattle.memory.specs.Answers.{sumsSaid, Whole};
 use crate::Sizes;
 use crate::SizesAnswer;
@@ -35,7 +35,7 @@ pub enum Sums {
 }
 
 // The bytes of a slice, added up modulo 256.
-fn sum(bytes: &[u8]) -> u8
+pub fn sum(bytes: &[u8]) -> u8
     ensures { λ r. ⌜ r ≡ total (now (bytes .entry)) % 256 ⌝ }
 {
     let mut acc: u8 = 0;

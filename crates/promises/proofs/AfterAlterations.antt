@@ -140,29 +140,13 @@ after-one kind image c (commits co) bytes real e =
 -- ---- every one
 
 -- The bytes of an image, as many as before, accepted or refused.
-kept-length : (image : List ℕ) (o : Outcome (List ℕ)) → ((after : List ℕ) → o ≡ good after → length after ≡ length image) → length (afterwards image o) ≡ length image
-kept-length image (refused r) h = refl
-kept-length image (good after) h = h after refl
-
 kept-bytes : (image : List ℕ) (o : Outcome (List ℕ)) → Bytes image → ((after : List ℕ) → o ≡ good after → Bytes after) → Bytes (afterwards image o)
 kept-bytes image (refused r) bytes h = bytes
 kept-bytes image (good after) bytes h = h after refl
 
-by-length : (image : List ℕ) (a : Alteration) → length (alteredBy image a) ≡ length image
-by-length image (changes ch) = kept-length image _ (made-length (ch .kind) image (ch .level) (ch .field) (ch .value))
-by-length image (commits co) = kept-length image _ (commit-length (co .kind) image (co .level) (co .field) (co .present) (co .new))
-
 by-bytes : (image : List ℕ) (a : Alteration) → Bytes image → Bytes (alteredBy image a)
 by-bytes image (changes ch) bytes = kept-bytes image _ bytes (made-bytes (ch .kind) image (ch .level) (ch .field) (ch .value))
 by-bytes image (commits co) bytes = kept-bytes image _ bytes (commit-bytes (co .kind) image (co .level) (co .field) (co .present) (co .new))
-
-pub altered-length : (image : List ℕ) (alterations : List Alteration) → length (altered image alterations) ≡ length image
-altered-length image [] = refl
-altered-length image (a ∷ alterations) = altered-length (alteredBy image a) alterations ∙ by-length image a
-
-pub altered-bytes : (image : List ℕ) (alterations : List Alteration) → Bytes image → Bytes (altered image alterations)
-altered-bytes image [] bytes = bytes
-altered-bytes image (a ∷ alterations) bytes = altered-bytes (alteredBy image a) alterations (by-bytes image a bytes)
 
 pub after-alterations : AfterAlterations
 after-alterations kind image c [] bytes real e = e

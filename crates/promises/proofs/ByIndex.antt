@@ -24,23 +24,7 @@ read-by-index kind image = (each, none)
     each : (s : Summary) → check kind image ≡ good s → (c : Contents) × (contents kind image ≡ good c) × ReadsEach kind image s c
     each s e =
         let (c, h, g) = check-holds kind image s e in
-        let l = accepted-reads kind image c h in
-        let all : ReadsEach kind image (summary c) c =
-        record {
-          fields = l .fields;
-          noField = l .no-field;
-          pairs = l .pairs;
-          noPairs = l .no-pair;
-          characters = l .characters;
-          noCharacter = l .no-character;
-          segments = l .segments;
-          noSegments = l .no-segment;
-          terms = l .terms;
-          noTerms = l .no-term;
-        } in
-        (c, h, subst (λ t. ReadsEach kind image t c) g all)
+        (c, h, subst (λ t. ReadsEach kind image t c) g (accepted-reads kind image c h))
 
     none : (r : Refusal) → check kind image ≡ refused r → ReadsNone kind image r
-    none r e =
-        let l = refused-reads kind image r (check-refuses kind image r e) in
-        record { field = l .field; pair = l .pair; character = l .character; segment = l .segment; term = l .term }
+    none r e = refused-reads kind image r (check-refuses kind image r e)

@@ -5,8 +5,7 @@ use Rattle.promises.proofs.Names.{physicalFigure, Line, lineOf, allOnes
 use Rattle.promises.proofs.Names.{firstSelector, fieldPlace, Accepted, contents-accepted, CalibrationAt, FieldAt, field-at, Is, domainIn, Opens, openedAs, Physical, Dash, Reading, Span, isResistance, tooMany}
 use Rattle.promises.proofs.Names.{isMissing, least, greatest, spanOf, tooFar, position, fraction, servingTerms, share, readingAt, takeReading, bridge, shown, spanned, span-ready, position-small, fraction-small}
 use Rattle.promises.proofs.Names.{NeverFalls, End, near-share, fractionOf, figure-finite, figure-close, figure-follows, fraction-finite, fraction-rises, NoCurve, low, high, CurveShownNear, ShownNear, ShownFinite}
-use Rattle.promises.proofs.Names.{ShownFollows, ShownRises, ShownRisesByPhysicalPoint}
-use Rattle.reading.specs.Reading.{float}
+use Rattle.promises.proofs.Names.{ShownFollows, ShownRises, ShownRisesByPhysicalPoint, float}
 use Rattle.promises.proofs.Needles.{needle, needle-by-physical-point}
 use Rattle.figures.specs.Figures.{figure}
 use Rattle.promises.proofs.CurveFigures.{curve-held, curve-number}

@@ -1,5 +1,7 @@
 -- What the proofs of this crate take from the kit, from the crates below and from its own definitions.
 pub use Prim.Native.Nat.{_%_, _*_, _+_, _-_, _/_, _<_, _^_, _≤_, suc, zero, zero-le, ℕ}
+pub use Rattle.build.proofs.EndingPlans.{fit-characters, strayText}
+pub use Rattle.sheet.specs.Reads.{ReadsEach, ReadsNone}
 pub use mathlib.Core.Bool.{Bool, _&&_, _||_, cond, false, not, true, true≢false}
 pub use mathlib.Core.List.{List, [], _++_, _∷_, append-assoc, map, map-append}
 pub use mathlib.Core.Logic.{_≢_, _⊎_, inl, inr}
@@ -189,9 +191,9 @@ pub use Rattle.promises.specs.Lent.{AllReal, AllRealTerms, Lendable, Len
 pub use Rattle.promises.specs.Levels.{BuildAsksNoLevel, FieldsOfLevels, HigherMayToo, LevelsNest, LowerRefused, MakerAsBefore, NotHeld, RefusedOnlyThere, RefusedTo, atLevel}
 unfoldable pub use Rattle.promises.specs.Levels.{changeAsBefore}
 pub use Rattle.promises.specs.Needle.{Needle, NeedleByPhysicalPoint, NeverDrops, NeverFalls}
-pub use Rattle.promises.specs.Proposals.{CommitAfterAnother, CommitStores, ProposalRefused, ProposedThenCommitted, whether}
+pub use Rattle.promises.specs.Proposals.{CommitAfterAnother, CommitStores, ProposalRefused, ProposedThenCommitted}
 pub use Rattle.promises.specs.Readings.{SmallShowsLarge, SmallTakesFew}
-pub use Rattle.promises.specs.Reads.{BitsBehindNotJudged, ReadByIndex, ReadsEach, ReadsNone}
+pub use Rattle.promises.specs.Reads.{BitsBehindNotJudged, ReadByIndex}
 pub use Rattle.promises.specs.Refusals.{NeverFifteen, NeverZero, ReadsByOrder, RefusedByOrder, WritesByOrder}
 pub use Rattle.promises.specs.Rounding.{DeviationHalvesUp, HalvesUp, NearestHalvesUp, PositionHalvesUp}
 pub use Rattle.promises.specs.Singles.{NanovoltsOfBits, digits, exponentField, isNegative, unitsOf}
@@ -212,9 +214,9 @@ pub use Rattle.reading.specs.declared.span.Span.{Span}
 pub use Rattle.recordings.specs.Recordings.{unlike}
 unfoldable pub use Rattle.recordings.specs.Recordings.{compare}
 pub use Rattle.refusal.proofs.OrderLaws.{Among, by-among, by-bind, by-cond, by-last, by-number, by-test, by-then}
-pub use Rattle.refusal.proofs.Outcomes.{Other, bind-assoc, bind-good, bind-refused, bind-same, both, good-bind, good-same, good-then, neither, no-value, other-number, passed, then-good, then-refused}
+pub use Rattle.refusal.proofs.Outcomes.{Other, bind-assoc, bind-good, bind-refused, bind-same, both, good-bind, good-same, good-then, neither, no-value, other-number, passed, then-good, then-refused, not-refused}
 pub use Rattle.refusal.specs.Orders.{By, buildOrder, changeOrder, checkOrder, commitOrder, compareOrder, curveOrder, distanceOrder, fetchOrder, indexOrder, occurs, readOrder, readingOrder, streamRows, textOrder}
-pub use Rattle.refusal.specs.Outcome.{Outcome, _>>=_, _>>_, good, refuse_if_, refused}
+pub use Rattle.refusal.specs.Outcome.{Outcome, _>>=_, _>>_, good, refuse_if_, refused, tested}
 pub use Rattle.refusal.specs.Rows.{blankChip, changedAlone, endOutside, levelTooLow, noSpan, noSuch, notFinite, notRising, otherCode, outOfRange, outsideSpan, outsideTable, shortIndex, sumsNotRising, tooLong}
 pub use Rattle.refusal.specs.Rows.{tooManyPoints, tooManyTerms, wrongBlock, wrongCurve, wrongImage, wrongList, wrongSort, wrongSum, wrongTicks}
 pub use Rattle.refusal.specs.Written.{afterwards, writtenSaid}

@@ -1,31 +1,20 @@
 -- A whole plan: what it writes may stand in a stream, with the zero that may end the text, and what stands there is planned again.
-use Rattle.promises.proofs.Names.{_≡_, refl, sym, ap, ap₂, _∙_, subst, Bool, true, false, not, _&&_, _||_, List, [], _∷_, _++_, map, append-assoc, ℕ, suc, _+_, _-_, _*_, _/_, _%_, _≤_, _<_, arith, eqb, ltb, leb}
-use Rattle.promises.proofs.Names.{ℤ, length, take, length-map, ltb-false, le-ltb, lt-ltb, leb-true, leb-false, eqb-false, ne-eqb, Refusal, good, refuse_if_, wrongSort, outOfRange, wrongList, good-same, good-bind}
-use Rattle.promises.proofs.Names.{good-then, passed, no-value, neither, bind-good, Piece, piece, needed, needed-append, Template, basic, templateLines, numberOf, ending, Real, Domain, basic-sound, lines-sound}
+use Rattle.promises.proofs.Names.{_≡_, refl, sym, ap, ap₂, _∙_, subst, Bool, true, false, _&&_, _||_, List, [], _∷_, _++_, map, append-assoc, ℕ, suc, _+_, _-_, _*_, _/_, _%_, _≤_, _<_, arith, eqb, ltb, leb}
+use Rattle.promises.proofs.Names.{ℤ, length, take, length-map, ltb-false, le-ltb, lt-ltb, leb-true, leb-false, ne-eqb, good, wrongSort, outOfRange, wrongList, good-same, good-bind}
+use Rattle.promises.proofs.Names.{good-then, passed, neither, bind-good, Piece, piece, needed, needed-append, Template, basic, templateLines, numberOf, ending, Real, Domain, basic-sound, lines-sound}
 use Rattle.promises.proofs.Names.{Calibration, bare, tableFound, curveFound, Contents, pairIn, pairsIn, segmentsIn, allTerms, segmentIn, termIn, points, segments, terms, blockPieces, endCode, pieceOf, laid-length}
 use Rattle.promises.proofs.Names.{calibrationPieces, CalibrationAt, Characters, zeroIf, text-needed, charactersFrom, endPieces, Formed, sheetPieces, domainIn, Sheet, lent, templateIn, linePieces, fieldPieces}
 use Rattle.promises.proofs.Names.{unfit, endingPieces, pairsLent, tablePieces, Table, listed, drawn, listTested, behindPieces, plan, LendableTable, segmentsLent, keptPoints, keptDomain, keptSegments, keptTerms}
-use Rattle.promises.proofs.Names.{InDomain}
+use Rattle.promises.proofs.Names.{InDomain, not-refused, fit-characters, strayText}
 use Rattle.promises.proofs.PlannedFields.{KeptFrom, LentFrom, lines-stand, lines-again, kept-append, lent-split}
 use Rattle.promises.proofs.PlannedPairs.{table-stands, table-again}
 use Rattle.promises.proofs.PlannedCurve.{curve-stands, curve-again}
 
 -- ---- the ending
 
-fit-characters : (text : List ℕ) → unfit text ≡ false → Characters text
-fit-characters [] e = tt
-fit-characters (c ∷ text) e =
-    let (a, e1) = neither (eqb c 0 || ltb 127 c) (unfit text) e in
-    let (a0, a1) = neither (eqb c 0) (ltb 127 c) a in
-    (omega (arith, eqb-false c 0 a0), ltb-false 127 c a1, fit-characters text e1)
-
 characters-fit : (text : List ℕ) → Characters text → unfit text ≡ false
 characters-fit [] h = refl
 characters-fit (c ∷ text) h = rw (ne-eqb c 0 (λ e. omega arith), le-ltb 127 c (h .1)) (characters-fit text (h .2))
-
--- Text with end bit 0: row 9.
-abbrev strayText : Bool → List ℕ → Bool
-strayText endBit text = not endBit && ltb 0 (length text)
 
 text-room : (S : ℕ) (endBit : Bool) (at : ℕ) (text : List ℕ) → strayText endBit text ≡ false → at + 7 * length text ≤ S →
     length text ≤ charactersFrom S endBit at
@@ -100,13 +89,9 @@ half (a ∷ s ∷ lentPoints) = omega (arith, half lentPoints)
 
 -- ---- what stands behind the fields
 
-stands : (r : Refusal) (t : Bool) → (refuse r if t) ≡ good tt → t ≡ false
-stands r true e = no-value e
-stands r false e = refl
-
 few-lent : (domain : Domain) (lentPoints : List ℤ) → listTested (listed domain lentPoints) ≡ good tt → length lentPoints ≤ 254
 few-lent domain lentPoints e =
-    ltb-false 254 (length lentPoints) (neither (eqb (length lentPoints % 2) 1) (ltb 254 (length lentPoints)) (stands (wrongList (length lentPoints)) _ e) .1)
+    ltb-false 254 (length lentPoints) (neither (eqb (length lentPoints % 2) 1) (ltb 254 (length lentPoints)) (not-refused (wrongList (length lentPoints)) _ e) .1)
 
 pub record BehindStands (at : ℕ) (table : Table) (ps : List Piece) : Type 0 where
   pub calibration : Calibration

@@ -2,7 +2,7 @@
 use Rattle.promises.proofs.Names.{_≡_, refl, sym, ap, _∙_, subst, List, ℕ, _-_, arith, length-set, getD-set-same, Refusal, Outcome, good, refused, _>>=_, good-same, bind-good, bind-refused, then-good}
 use Rattle.promises.proofs.Names.{then-refused, Bytes, Value, Level, kept, Real, reads-back, Found, Contents, nothing, contents, field, recoded, Accepted, contents-accepted, withField, Proposal, codeFor}
 use Rattle.promises.proofs.Names.{recodedIn, change, propose, commit, Changeable, code-found, change-unread, change-is, field-sound, stored-contents, propose-unread, commit-is, Committed, means-stands}
-use Rattle.promises.proofs.Names.{stands-means, propose-is, commit-allowed, commit-other, commit-made, committed-contents, ProposedThenCommitted, whether, ProposalRefused, CommitStores, CommitAfterAnother}
+use Rattle.promises.proofs.Names.{stands-means, propose-is, commit-allowed, commit-other, commit-made, committed-contents, ProposedThenCommitted, tested, ProposalRefused, CommitStores, CommitAfterAnother}
 
 -- ---- a proposal
 
@@ -62,12 +62,12 @@ proposed-then-committed kind image level f v bytes real = go (contents kind imag
 pub proposal-refused : ProposalRefused
 proposal-refused kind image level f v bytes real = go (contents kind image) refl
   where
-    coded : (c : Contents) → contents kind image ≡ good c → (o : Outcome ℕ) → codeFor c level f v ≡ o → whether (propose kind image level f v) ≡ whether (change kind image level f v)
-    coded c e (refused r) h = ap whether (not-proposed kind image level f v bytes real c e h) ∙ sym (ap whether (not-changed kind image level f v bytes real c e h))
-    coded c e (good code) h = ap whether (proposed kind image level f v bytes real c e h) ∙ sym (ap whether (changes-it kind image level f v bytes real c e h))
+    coded : (c : Contents) → contents kind image ≡ good c → (o : Outcome ℕ) → codeFor c level f v ≡ o → tested (propose kind image level f v) ≡ tested (change kind image level f v)
+    coded c e (refused r) h = ap tested (not-proposed kind image level f v bytes real c e h) ∙ sym (ap tested (not-changed kind image level f v bytes real c e h))
+    coded c e (good code) h = ap tested (proposed kind image level f v bytes real c e h) ∙ sym (ap tested (changes-it kind image level f v bytes real c e h))
 
-    go : (o : Outcome Contents) → contents kind image ≡ o → whether (propose kind image level f v) ≡ whether (change kind image level f v)
-    go (refused r) e = ap whether (propose-unread kind image level f v r e) ∙ sym (ap whether (change-unread kind image level f v r e))
+    go : (o : Outcome Contents) → contents kind image ≡ o → tested (propose kind image level f v) ≡ tested (change kind image level f v)
+    go (refused r) e = ap tested (propose-unread kind image level f v r e) ∙ sym (ap tested (change-unread kind image level f v r e))
     go (good c) e = coded c e (codeFor c level f v) refl
 
 -- ---- a commit

@@ -2,7 +2,7 @@
 -- it lies from the least to the greatest deviation of the table.
 use mathlib.Core.Path.{_≡_}
 use mathlib.Core.List.{List, [], _∷_, _++_}
-use lib.IntN.{ℤ, pos}
+use lib.IntN.{ℤ}
 use lib.Signed.{_≤ℤ_}
 use Rattle.fields.specs.declared.Pair.{Pair}
 use Rattle.line.specs.Line.{deviation}

@@ -1,14 +1,14 @@
 -- Document 01, "Edges": the small proved set, which is the starred cases, one table and one statement over it. Beside it, under their own names:
 -- an example that document 000 prints, and cases that show that demand 3's hypotheses can be met.
 use mathlib.Core.Path.{_≡_}
-use mathlib.Core.Bool.{false, true}
+use mathlib.Core.Bool.{false}
 use mathlib.Core.List.{List, [], _∷_, _++_, map}
-use Prim.Native.Nat.{ℕ, _+_, _*_, _≤_}
+use Prim.Native.Nat.{ℕ, _+_}
 use lib.ListN.{replicate}
-use lib.IntN.{ℤ, pos, negℤ, natAbs, _-ℤ_, _*ℤ_}
+use lib.IntN.{ℤ, pos, negℤ}
 use lib.Ieee.{binary32, binary64, ofInt, ofBits}
 use Rattle.refusal.specs.declared.Refusal.{Refusal}
-use Rattle.refusal.specs.Outcome.{Outcome, good, refused, _>>=_}
+use Rattle.refusal.specs.Outcome.{good, refused, _>>=_}
 use Rattle.refusal.specs.Rows.{wrongBlock}
 use Rattle.memory.specs.Bits.{bytesOf}
 use Rattle.memory.specs.Pieces.{pack}

@@ -15,7 +15,7 @@ use Rattle.fields.specs.Calibration.{D, R}
 use Rattle.fields.specs.Figure.{billion}
 use Rattle.fields.specs.Rules.{finite}
 use Rattle.layout.specs.Contents.{FoundSegment, Calibration, bare, table, curve, Contents}
-use Rattle.layout.specs.Image.{contents, field}
+use Rattle.layout.specs.Image.{contents, field, float}
 use Rattle.sheet.specs.declared.TableDomain.the-variants.{Is}
 use Rattle.sheet.specs.Check.{readField, domainIn}
 use Rattle.build.specs.declared.Sheet.{Sheet}
@@ -27,7 +27,7 @@ use Rattle.fields.specs.declared.Domain.the-variants.{Electrical, Physical}
 use Rattle.reading.specs.declared.Dash.{Dash}
 use Rattle.reading.specs.declared.Reading.{Reading}
 use Rattle.curve.specs.Curve.{fractionOf}
-use Rattle.reading.specs.Reading.{float, servingTerms, takeReading}
+use Rattle.reading.specs.Reading.{servingTerms, takeReading}
 use Rattle.promises.specs.Needle.{NeverFalls}
 use Rattle.figures.specs.Figures.{units, exactFigure, exactFigureAt, NearShare}
 use Rattle.promises.specs.Lent.{Lendable}

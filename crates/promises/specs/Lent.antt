@@ -1,7 +1,6 @@
 -- What a caller can lend: a sheet record of 21 slots and a curve of 20 segments and 30 terms, whose Singles are f32.
 use mathlib.Core.Path.{_≡_}
 use mathlib.Core.List.{List, [], _∷_}
-use Prim.Native.Nat.{ℕ}
 use lib.ListN.{length}
 use Rattle.fields.specs.declared.Value.the-variants.{Single}
 use Rattle.fields.specs.declared.Term.{Term}

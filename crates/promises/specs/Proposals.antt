@@ -2,7 +2,7 @@
 use mathlib.Core.Path.{_≡_}
 use mathlib.Core.List.{List}
 use Prim.Native.Nat.{ℕ}
-use Rattle.refusal.specs.Outcome.{Outcome, good, refused, _>>=_}
+use Rattle.refusal.specs.Outcome.{good, refused, _>>=_, tested}
 use Rattle.refusal.specs.Rows.{otherCode}
 use Rattle.memory.specs.Bits.{Bytes}
 use Rattle.fields.specs.declared.Value.{Value}
@@ -20,15 +20,11 @@ ProposedThenCommitted =
     (kind : ℕ) (image : List ℕ) (level : Level) (f : ℕ) (v : Value) → Bytes image → Real v →
     (propose kind image level f v >>= λ p. commit kind image level f (p .present) (p .new)) ≡ change kind image level f v
 
-abbrev pub whether : {A : Type 0} → Outcome A → Outcome (Unit {0})
-whether (good a) = good tt
-whether (refused r) = refused r
-
 -- A proposal is refused exactly where the change is, with the same number and place.
 abbrev pub ProposalRefused : Type 0
 ProposalRefused =
     (kind : ℕ) (image : List ℕ) (level : Level) (f : ℕ) (v : Value) → Bytes image → Real v →
-    whether (propose kind image level f v) ≡ whether (change kind image level f v)
+    tested (propose kind image level f v) ≡ tested (change kind image level f v)
 
 -- An accepted commit makes the field's code the new one, with the value that it means, all else as it was.
 abbrev pub CommitStores : Type 0

@@ -8,7 +8,7 @@ use lib.ListN.{length, getD}
 use Rattle.refusal.specs.Outcome.{good}
 use Rattle.memory.specs.declared.Sizes.{Sizes}
 use Rattle.memory.specs.Bits.{Bytes, bit, fieldAt, putAt}
-use Rattle.memory.specs.Image.{imageSizes, streamBits, streamOf, streamNumber}
+use Rattle.memory.specs.Image.{imageSizes, streamOf, streamNumber}
 
 -- Stream bit n is bit n mod 8 of byte n / 8, bit 0 lowest.
 abbrev pub StreamBit : Type 0

@@ -61,7 +61,7 @@ pub use Rattle.layout.proofs.Fields.{FieldAt}
 pub use Rattle.layout.proofs.Places.{field-at}
 pub use Rattle.layout.specs.Contents.{Calibration, Contents, Found, FoundPair, FoundSegment, FoundTerm, Passed, bare, behindSegment, codesIn, curve, nothingPassed, table}
 pub use Rattle.layout.specs.Format.{Stream}
-pub use Rattle.layout.specs.Image.{contents, field, figure, layoutOf, pairIn, pairsIn, points, segmentIn, segmentsIn, streamIn, termIn}
+pub use Rattle.layout.specs.Image.{contents, field, figure, layoutOf, pairIn, pairsIn, points, segmentIn, segmentsIn, streamIn, termIn, float}
 pub use Rattle.layout.specs.Places.{fieldPlace, firstSelector}
 pub use Rattle.line.proofs.Distances.{above-parts, less, near-abs, scaled}
 pub use Rattle.line.proofs.Needle.{nearest-at-most}
@@ -76,7 +76,7 @@ pub use Rattle.line.specs.Certificate.{Neighbours}
 pub use Rattle.line.specs.Crossing.{SumsRise, crossing, crossingAfter, crossingBetween, crossingHeld, sum}
 pub use Rattle.line.specs.Line.{between, correctionAfter, deviation}
 pub use Rattle.line.specs.Ranges.{Between, Figures, Table}
-pub use Rattle.reading.specs.Reading.{electricalFigure, float, fraction, greatest, greatest as greatestOf, isMissing, isOutside, isResistance, least, least as leastOf, refuseFirst, servingTerms, share, tooFar}
+pub use Rattle.reading.specs.Reading.{electricalFigure, fraction, greatest, greatest as greatestOf, isMissing, isOutside, isResistance, least, least as leastOf, refuseFirst, servingTerms, share, tooFar}
 pub use Rattle.reading.specs.Reading.{tooMany}
 unfoldable pub use Rattle.reading.specs.Reading.{position, readingAt, serving, spanOf, takeReading}
 pub use Rattle.reading.specs.Steps.{Lies, Ready, betweenIn, endsSaid, figureIn, heldIn, ownTerms, spanSaid, termsFrom}

@@ -7,7 +7,7 @@ use lib.Dec.{ltb}
 use lib.ListN.{length}
 use lib.IntN.{ℤ, pos, negℤ, natAbs, _+ℤ_, _-ℤ_, _*ℤ_}
 use lib.Signed.{leZ, ltZ}
-use lib.Ieee.{Float, nan}
+use lib.Ieee.{Float}
 use Rattle.integers.specs.Nearest.{_over_, nearest}
 use Rattle.refusal.specs.declared.Refusal.{Refusal}
 use Rattle.refusal.specs.Outcome.{Outcome, good, refused, _>>_, _>>=_, refuse_if_}
@@ -23,7 +23,7 @@ use Rattle.fields.specs.Figure.{billion, floatFraction, physicalFigure}
 use Rattle.fields.specs.Singles.{outsideTwo, nanovolts}
 use Rattle.fields.specs.declared.Term.{Term}
 use Rattle.layout.specs.Contents.{FoundSegment, Calibration, bare, table, curve, Contents}
-use Rattle.layout.specs.Image.{contents, field, pairIn, segmentIn, termIn, points}
+use Rattle.layout.specs.Image.{contents, field, pairIn, segmentIn, termIn, points, float}
 use Rattle.layout.specs.Places.{firstSelector}
 use Rattle.line.specs.Line.{deviation}
 use Rattle.line.specs.Crossing.{crossing}
@@ -62,12 +62,6 @@ least c = electricalFigure (field c 10 .value)
 
 abbrev pub greatest : Contents → ℤ
 greatest c = electricalFigure (field c 11 .value)
-
--- A Single's float.
-abbrev pub float : Value → Float
-float (Single x) = x
-float (Whole z) = nan
-float Missing = nan
 
 abbrev pub isMissing : Value → Bool
 isMissing Missing = true

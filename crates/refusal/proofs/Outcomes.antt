@@ -29,6 +29,10 @@ pub passed : {B : Type 0} (r : Refusal) (t : Bool) (next : Outcome B) (b : B) �
 passed r true next b e = no-value e
 passed r false next b e = (refl, e)
 
+pub not-refused : (r : Refusal) (t : Bool) → (refuse r if t) ≡ good tt → t ≡ false
+not-refused r true e = no-value e
+not-refused r false e = refl
+
 -- Neither of two tests that an or joins.
 pub neither : (s t : Bool) → (s || t) ≡ false → (s ≡ false) × (t ≡ false)
 neither true t e = absurd (true≢false e)

@@ -1,12 +1,13 @@
 -- The walk over block 41.
 use Rattle.sheet.proofs.Names.{_≡_, refl, sym, ap, ap₂, _∙_, Bool, true, false, not, cond, List, _∷_, _++_, Option, none, some, ℕ, zero, suc, _+_, _-_, _*_, _/_, _%_, _^_, _≤_, _<_, arith, ltb-false, ltb, length}
 use Rattle.sheet.proofs.Names.{length-append, high, low, fieldAt, field-lt, field-add, Refusal, Outcome, good, refused, wrongCurve, tooManyTerms, good-same, no-value, told, Cursor, Row, Earlier, Sound}
-use Rattle.sheet.proofs.Names.{curveDomain, segmentCount, segmentStart, termCount, exponent, coefficient, isSegmentCount, isTermCount, mostTerms, startFollows, tenthsOf, tenthsBefore, exponentFollows}
+use Rattle.sheet.proofs.Names.{curveDomain, segmentCount, segmentStart, termCount, exponent, coefficient, isSegmentCount, isTermCount, mostTerms, startFollows}
 use Rattle.sheet.proofs.Names.{segment-count-sound, start-sound, term-count-sound, exponent-sound, CurveField, SegmentCount, Start, TermCount, Exponent, curveRow, Format, ends, _>>=_, _>>_, refuse_if_, repeated}
-use Rattle.sheet.proofs.Names.{Stream, Parsed, parse, Found, FoundTerm, FoundSegment, Calibration, curve, Passed, fieldOf, ruledOf, termOf, behindTerm, termsOf, segmentOf, behindSegment, nothingPassed, segmentsOf}
+use Rattle.sheet.proofs.Names.{Stream, Parsed, parse, Found, FoundSegment, curve, Passed, fieldOf, ruledOf, termOf, behindTerm, termsOf, segmentOf, behindSegment, nothingPassed, segmentsOf}
 use Rattle.sheet.proofs.Names.{curveOf, allTerms, termBits, parsed, parse-split, NotThere, CodeStep, Code, NoCode, EarlierStep, SegmentStep, BeforeSegment, NoSegment, keeping, Coded, coded, countsOf, TermCodes}
-use Rattle.sheet.proofs.Names.{termsBehind, countBehind, passedBy, behind, codeSaid, earlierStepSaid, segmentStepSaid}
+use Rattle.sheet.proofs.Names.{termsBehind, countBehind, passedBy, behind, codeSaid, earlierStepSaid, segmentStepSaid, takenBy, rises, withCoefficient, term, segment, withTerms, withCount, drawn}
 use Rattle.refusal.specs.Outcome as outcome
+use Rattle.layout.proofs.Curves.{counted}
 use Rattle.sheet.proofs.Steps.{field-inside, kept, keep-next, keep-refused, keep-made, keep-bind, keep-twice, keep-through}
 
 -- The rows of the fields that a rule takes.
@@ -19,18 +20,15 @@ curve-sound Exponent = exponent-sound
 -- ---- a field that a rule takes
 
 module _ (s : Stream) (row : Row) (rule : ℕ → Bool) (at : ℕ) (x : CodeStep) (e : codeSaid at x ≡ keeping coded (parse s (fieldOf row) at)) where
-  abbrev tested : Found → Format Found
-  tested y = refuse wrongCurve (y .at) if not (rule (y .code)) >> ends y
-
   pub ruled-halts : {r : Refusal} → x ≡ NoCode r → refused r ≡ keeping coded (parse s (ruledOf row rule) at)
   unfolding ruledOf
-  ruled-halts h = sym (ap (keeping coded) (keep-refused coded s (fieldOf row) tested at (told (codeSaid at) h e)))
+  ruled-halts h = sym (ap (keeping coded) (keep-refused coded s (fieldOf row) (takenBy rule) at (told (codeSaid at) h e)))
 
   pub ruled-steps : {code : ℕ} {next : Cursor} {takes : Bool} → x ≡ Code code next → takes ≡ rule code →
       cond takes (behind (record { at = at; code = code }) next) (refused (wrongCurve at)) ≡ keeping coded (parse s (ruledOf row rule) at)
   unfolding ruledOf
   ruled-steps {code} {next} {takes} h t =
-      let (y, q, p) = keep-next coded s (fieldOf row) tested at (told (codeSaid at) h e) in
+      let (y, q, p) = keep-next coded s (fieldOf row) (takenBy rule) at (told (codeSaid at) h e) in
       ap (λ (b : Bool). cond b (behind (record { at = at; code = code }) next) (refused (wrongCurve at))) t
       ∙ ap (λ (c : Coded). cond (rule (c .code)) (behind c next) (refused (wrongCurve (c .at)))) (sym q)
       ∙ go y (rule (y .code)) ∙ sym (ap (keeping coded) p)
@@ -46,7 +44,7 @@ pub ruled-taken : (s : Stream) (row : Row) (rule : ℕ → Bool) (at : ℕ) {x :
 unfolding ruledOf
 ruled-taken s row rule at {x} {code} {next} e h =
     let (y, q, p) = kept coded (parse s (ruledOf row rule) at) (told (codeSaid at) h e) in
-    let (z, i, f, g) = parse-split s (fieldOf row) (λ (y : Found). refuse wrongCurve (y .at) if not (rule (y .code)) >> ends y) at p in
+    let (z, i, f, g) = parse-split s (fieldOf row) (takenBy rule) at p in
     sym (go y z i (rule (z .code)) refl g ∙ ap (λ (c : Coded). rule (c .code)) q)
   where
     go : (y z : Found) (i : ℕ) (b : Bool) → rule (z .code) ≡ b → good (parsed y (next .at)) ≡ parse s (refuse wrongCurve (z .at) if not b >> ends z) i → true ≡ rule (y .code)
@@ -85,17 +83,7 @@ module _ {A B : Type 0} (s : Stream) (one : B → Format A) (behind : B → A �
 
 -- ---- a term
 
--- The rule of an exponent, by its code.
-abbrev rises : Option ℕ → ℕ → Bool
-rises before code = exponentFollows (tenthsBefore before) (tenthsOf code)
-
 module _ (s : Stream) (before : Option ℕ) (at : ℕ) (x : CodeStep) (e : codeSaid at x ≡ keeping coded (parse s (ruledOf exponent (rises before)) at)) where
-  abbrev ended : Found → Found → Format FoundTerm
-  ended y c = ends (record { exponent = y; coefficient = c })
-
-  abbrev withCoefficient : Found → Format FoundTerm
-  withCoefficient y = fieldOf coefficient >>= ended y
-
   pub exponent-halts : {r : Refusal} → x ≡ NoCode r → refused r ≡ keeping (behindTerm before) (parse s (termOf before) at)
   unfolding termOf
   exponent-halts h = sym (ap (keeping (behindTerm before)) (keep-refused coded s (ruledOf exponent (rises before)) withCoefficient at (told (codeSaid at) h e)))
@@ -108,12 +96,12 @@ module _ (s : Stream) (before : Option ℕ) (at : ℕ) (x : CodeStep) (e : codeS
     pub coefficient-halts : {r : Refusal} → y ≡ NoCode r → refused r ≡ keeping (behindTerm before) (parse s (termOf before) at)
     coefficient-halts g =
         let (p, q, w) = at-coefficient in
-        sym (ap (keeping (behindTerm before)) (w ∙ keep-refused coded s (fieldOf coefficient) (ended p) (middle .at) (told (codeSaid (middle .at)) g f)))
+        sym (ap (keeping (behindTerm before)) (w ∙ keep-refused coded s (fieldOf coefficient) (λ c. ends (term p c)) (middle .at) (told (codeSaid (middle .at)) g f)))
 
     pub term-stands : {code′ : ℕ} {next : Cursor} → y ≡ Code code′ next → behind (some code) next ≡ keeping (behindTerm before) (parse s (termOf before) at)
     term-stands {code′} {next} g =
         let (p, q, w) = at-coefficient in
-        let (c, q′, w′) = keep-next coded s (fieldOf coefficient) (ended p) (middle .at) (told (codeSaid (middle .at)) g f) in
+        let (c, q′, w′) = keep-next coded s (fieldOf coefficient) (λ c. ends (term p c)) (middle .at) (told (codeSaid (middle .at)) g f) in
         ap (λ (u : Coded). behind (some (u .code)) next) (sym q) ∙ sym (ap (keeping (behindTerm before)) (w ∙ w′))
 
 -- Its codes taken as one field.
@@ -170,30 +158,22 @@ module _ (s : Stream) (start total n at : ℕ) {many : Bool} (m : many ≡ ltb m
 
 -- From its start on.
 module _ (s : Stream) (before : Passed) where
-  abbrev made : Found → Found → List FoundTerm → FoundSegment
-  made start count terms = record { start = start; count = count; terms = terms }
-
-  abbrev withTerms : Found → Found → Format FoundSegment
-  withTerms start count =
-      let total = before .terms + count .code in
-      refuse tooManyTerms total if ltb mostTerms total >> (termsOf (count .code) >>= λ terms. ends (made start count terms))
-
   abbrev final : Parsed FoundSegment → Outcome (Parsed Passed)
   final x = good (parsed (behindSegment before (x .found)) (x .next))
 
   from-terms : (start count : Found) (at : ℕ) →
-      outcome._>>=_ (parse s (withTerms start count) at) final ≡ termsBehind s (start .code) (before .terms + count .code) (count .code) at
+      outcome._>>=_ (parse s (withTerms before start count) at) final ≡ termsBehind s (start .code) (before .terms + count .code) (count .code) at
   from-terms start count at = go (ltb mostTerms (before .terms + count .code))
     where
       rest : Format FoundSegment
-      rest = termsOf (count .code) >>= λ terms. ends (made start count terms)
+      rest = termsOf (count .code) >>= λ terms. ends (segment start count terms)
 
       go : (b : Bool) →
           outcome._>>=_ (parse s (refuse tooManyTerms (before .terms + count .code) if b >> rest) at) final
           ≡ outcome._>>_ (outcome.refuse_if_ (tooManyTerms (before .terms + count .code)) b)
           (keeping (λ terms. record { start = some (start .code); terms = before .terms + count .code }) (parse s (termsOf (count .code)) at))
       go true = refl
-      go false = sym (keep-bind (behindSegment before) (parse s rest at)) ∙ keep-made (behindSegment before) (made start count) s (termsOf (count .code)) at
+      go false = sym (keep-bind (behindSegment before) (parse s rest at)) ∙ keep-made (behindSegment before) (segment start count) s (termsOf (count .code)) at
 
   pub segment-by : (at : ℕ) →
       outcome._>>=_ (keeping coded (parse s (ruledOf segmentStart (startFollows (before .start))) at)) (λ x. countBehind s (x .found .code) (before .terms) (x .next))
@@ -201,9 +181,9 @@ module _ (s : Stream) (before : Passed) where
   unfolding segmentOf
   segment-by at =
       sym (keep-bind (behindSegment before) (parse s (segmentOf before) at)
-      ∙ keep-through coded s (ruledOf segmentStart (startFollows (before .start))) (λ start. ruledOf termCount isTermCount >>= withTerms start) at final
+      ∙ keep-through coded s (ruledOf segmentStart (startFollows (before .start))) (withCount before) at final
       (λ x. countBehind s (x .found .code) (before .terms) (x .next))
-      (λ x h. keep-through coded s (ruledOf termCount isTermCount) (withTerms (x .found)) (x .next) final
+      (λ x h. keep-through coded s (ruledOf termCount isTermCount) (withTerms before (x .found)) (x .next) final
       (λ c. termsBehind s (x .found .code) (before .terms + c .found .code) (c .found .code) (c .next)) (λ c g. from-terms (x .found) (c .found) (c .next))))
 
 -- ---- the curve
@@ -264,21 +244,15 @@ segments-total s (suc n) before at e =
     ap (λ z. passedBy behindSegment before (z .found) .terms) y ∙ all ∙ sym (ap (λ z. before .terms + length (allTerms (z .found))) y)
 
 module _ (s : Stream) (at : ℕ) (x : CodeStep) (e : codeSaid at x ≡ keeping coded (parse s (fieldOf curveDomain) at)) where
-  abbrev drawn : Found → Format Calibration
-  drawn count = segmentsOf (count .code) >>= λ segments. ends (curve segments)
-
-  abbrev counted : Format Calibration
-  counted = ruledOf segmentCount isSegmentCount >>= drawn
-
   pub domain-halts : {r : Refusal} → x ≡ NoCode r → refused r ≡ keeping countsOf (parse s curveOf at)
   unfolding curveOf
-  domain-halts h = sym (ap (keeping countsOf) (keep-refused coded s (fieldOf curveDomain) (λ d. counted) at (told (codeSaid at) h e)))
+  domain-halts h = sym (ap (keeping countsOf) (keep-refused coded s (fieldOf curveDomain) counted at (told (codeSaid at) h e)))
 
   module _ {code : ℕ} {second : Cursor} (h : x ≡ Code code second) (y : CodeStep)
       (f : codeSaid (second .at) y ≡ keeping coded (parse s (ruledOf segmentCount isSegmentCount) (second .at))) where
-    at-count : parse s curveOf at ≡ parse s counted (second .at)
+    at-count : parse s curveOf at ≡ parse s (ruledOf segmentCount isSegmentCount >>= drawn) (second .at)
     unfolding curveOf
-    at-count = let (d, q, p) = keep-next coded s (fieldOf curveDomain) (λ d. counted) at (told (codeSaid at) h e) in p
+    at-count = let (d, q, p) = keep-next coded s (fieldOf curveDomain) counted at (told (codeSaid at) h e) in p
 
     pub count-halts : {r : Refusal} → y ≡ NoCode r → refused r ≡ keeping countsOf (parse s curveOf at)
     count-halts g = sym (ap (keeping countsOf) (at-count ∙ keep-refused coded s (ruledOf segmentCount isSegmentCount) drawn (second .at) (told (codeSaid (second .at)) g f)))

@@ -4,7 +4,7 @@ use Rattle.sheet.proofs.Names.{good, refused, pastEnd, fieldAt, Whole, 
 use Rattle.sheet.proofs.Names.{rowOf, D, R, leastDeviation, noPair, noSegment, noTerm, stepped-whole, span-lines, Unscaled, bits, Stream, parse, Found, Contents, FoundPair, FoundTerm, FoundSegment, fieldOf}
 use Rattle.sheet.proofs.Names.{streamIn, nothing, field, layoutOf, pairsIn, pairIn, segmentsIn, segmentIn, allTerms, termIn, figure, points, segments, terms, fieldPlace, behindFields, tableStart, pairBits}
 use Rattle.sheet.proofs.Names.{tableBits, pairPlace, curveBits, behindBlock, characterPlace, parsed, Holding, accepted-at, field-stands, stands-parse, PairStands, pair-here, character-here, pairFrom, CurveStands}
-use Rattle.sheet.proofs.Names.{curve-here, Opened, domainIn, Opens, valueIn, segmentAt, termAt, behindSegments, termPlace, end-few, table-least}
+use Rattle.sheet.proofs.Names.{curve-here, Opened, domainIn, Opens, valueIn, segmentAt, termAt, behindSegments, termPlace, end-few, table-least, noFound}
 use Rattle.layout.proofs.Standing.{Stands}
 use Rattle.sheet.proofs.CurvePlaces.{curve-few, segment-is, segment-place, term-place}
 
@@ -90,9 +90,6 @@ module _ {kind : ℕ} {image : List ℕ} {o : Opened} {c : Contents} (h : Opens 
       ∙ ap valueIn (stands-parse (field-stands holding f lo (subst (λ (l : Layout). f ≤ lastField (l .template)) layout-is hi)))
 
   -- ---- a pair
-
-  abbrev noFound : FoundPair
-  noFound = record { point = nothing; deviation = nothing }
 
   pair-stands : (i : ℕ) → i < o .summary .points → PairStands s (pairPlace (o .layout) i) (getD (pairsIn (c .calibration)) i noFound)
   pair-stands i l =

@@ -1,5 +1,9 @@
 -- What the proofs of this crate take from the kit, from the crates below and from its own definitions.
 pub use Prim.Native.Nat.{_%_, _*_, _+_, _-_, _/_, _<_, _^_, _≤_, suc, zero, ℕ}
+unfoldable pub use Rattle.stream.specs.Answers.{takenAt}
+pub use Rattle.sheet.specs.Reads.{ReadsEach, ReadsNone}
+pub use Rattle.layout.proofs.Sheets.{made, afterCalibration, afterOwn, afterBlock, afterBasics}
+pub use Rattle.fields.proofs.CalibrationLaws.{sumAbove}
 pub use mathlib.Core.Bool.{Bool, cond, false, not, true}
 pub use mathlib.Core.List.{List, [], _++_, _∷_, map}
 pub use mathlib.Core.Logic.{_⊎_, inl, inr, ⊎-elim}
@@ -27,10 +31,10 @@ pub use Rattle.fields.proofs.DecodeLaws.{stood, turned}
 pub use Rattle.fields.proofs.FloatLaws.{no-number}
 pub use Rattle.fields.proofs.RowLaws.{coefficient-sound, count-sound, curve-domain-sound, deviation-sound, domain-sound, exponent-sound, point-sound, row-sound, segment-count-sound, start-sound, term-count-sound}
 pub use Rattle.fields.proofs.RuleLaws.{stepped-whole}
-pub use Rattle.fields.proofs.TemplateFacts.{last-most, span-lines, span-listed}
+pub use Rattle.fields.proofs.TemplateFacts.{last-most, span-lines, span-listed, basic-most}
 pub use Rattle.fields.specs.Answers.{decodedSaid, earlierSaid, judgedSaid, previousSaid}
 pub use Rattle.fields.specs.Calibration.{D, R, calDeviation, calDomain, calPoint, codesOf, domainOf, follows, leastDeviation, noPair, pointCount}
-pub use Rattle.fields.specs.Curves.{coefficient, curveDomain, exponent, exponentFollows, isSegmentCount, isTermCount, mostTerms, noSegment, noTerm, segmentCount, segmentStart, startFollows, tenthsBefore, tenthsOf}
+pub use Rattle.fields.specs.Curves.{coefficient, curveDomain, exponent, isSegmentCount, isTermCount, mostTerms, noSegment, noTerm, segmentCount, segmentStart, startFollows}
 pub use Rattle.fields.specs.Curves.{termCount}
 pub use Rattle.fields.specs.Judgement.{Open, OpenBehind, judge}
 pub use Rattle.fields.specs.Lines.{Line, basic, chose, lastField, lineOf, noLine, rowOf, templateLines}
@@ -55,23 +59,23 @@ pub use Rattle.fields.specs.declared.Term.{Term}
 pub use Rattle.fields.specs.declared.Value.{Value}
 pub use Rattle.fields.specs.declared.Value.the-variants.{Missing}
 pub use Rattle.layout.proofs.Accepted.{Holding, accepted-at, contents-accepted}
-pub use Rattle.layout.proofs.Calibrations.{CalibrationAt}
+pub use Rattle.layout.proofs.Calibrations.{CalibrationAt, following}
 pub use Rattle.layout.proofs.Choices.{basic-last, last-append}
 pub use Rattle.layout.proofs.CurvePlaces.{CurveStands, SegmentStands, TermStands, curve-here}
-pub use Rattle.layout.proofs.Curves.{SegmentsAt}
+pub use Rattle.layout.proofs.Curves.{SegmentsAt, takenBy, rises, withCoefficient, term, segment, withTerms, withCount, drawn}
 pub use Rattle.layout.proofs.Fields.{found, laid-length, laid-pieces}
 pub use Rattle.layout.proofs.Formats.{parse-bind, parse-next, parse-refused, parse-split, parsed, parsed-by}
 pub use Rattle.layout.proofs.Judging.{Come, basic-end, basic-judged, behind-open, block-named, block-unknown, choice-place, come-halt, come-inside, come-next, come-open, front-end, last-open, last-sets, own-judged}
 pub use Rattle.layout.proofs.Judging.{wrong-selector}
 pub use Rattle.layout.proofs.PlaceSteps.{end-few, table-least}
 pub use Rattle.layout.proofs.Places.{fields-count, get-back, get-front}
-pub use Rattle.layout.proofs.Rising.{Admits, admits-first, admits-next, codesFrom, not-physical, pair-rises, pairFrom, sumAbove}
+pub use Rattle.layout.proofs.Rising.{Admits, admits-first, admits-next, codesFrom, not-physical, pair-rises, pairFrom}
 pub use Rattle.layout.proofs.Standing.{PairStands, character-here, field-stands, pair-here, stands-parse}
 pub use Rattle.layout.specs.Contents.{Calibration, Contents, Ending, Found, FoundPair, FoundSegment, FoundTerm, Passed, bare, behindSegment, behindTerm, blockOf, codesIn, curve, firstBlock, nothingPassed, paired, table}
 unfoldable pub use Rattle.layout.specs.Contents.{blockAt, calibrationOf, charactersOf, curveOf, endingOf, fieldOf, fieldsOf, pairOf, pairsOf, ruledOf, segmentOf, segmentsOf, selectorOf, sheetOf, tableOf, termOf, termsOf}
 pub use Rattle.layout.specs.Format.{Format, Parsed, Stream, _>>=_, _>>_, bits, ends, given, parse, place, refuse_if_, remaining, stops}
 unfoldable pub use Rattle.layout.specs.Format.{repeated}
-pub use Rattle.layout.specs.Image.{allTerms, field, figure, float, lastChoice, layoutOf, nothing, pairIn, pairsIn, points, segmentIn, segments, segmentsIn, streamIn, termIn, terms}
+pub use Rattle.layout.specs.Image.{allTerms, field, figure, float, lastChoice, layoutOf, nothing, pairIn, pairsIn, points, segmentIn, segments, segmentsIn, streamIn, termIn, terms, noFound}
 unfoldable pub use Rattle.layout.specs.Image.{contents}
 pub use Rattle.layout.specs.Judgement.{frontLines, judged}
 pub use Rattle.layout.specs.Places.{behindBlock, behindFields, characterPlace, curveBits, fieldPlace, firstSelector, pairBits, pairPlace, tableBits, tableStart, termBits}
@@ -80,7 +84,7 @@ pub use Rattle.memory.proofs.FieldLaws.{field-add, field-lt}
 pub use Rattle.memory.specs.Answers.{Whole, sizesSaid, sumsSaid}
 pub use Rattle.memory.specs.Bits.{fieldAt}
 pub use Rattle.memory.specs.Image.{imageBytes, sizesOf, streamBits, streamNumber, sums}
-unfoldable pub use Rattle.memory.specs.Image.{imageSizes, takeAt}
+unfoldable pub use Rattle.memory.specs.Image.{imageSizes}
 pub use Rattle.memory.specs.declared.Sizes.{Sizes}
 pub use Rattle.memory.specs.declared.kinds.SizesAnswer.{SizesAnswer}
 pub use Rattle.memory.specs.declared.kinds.SizesAnswer.the-variants.{Are, Refused as NoSizes}
@@ -119,7 +123,7 @@ pub use Rattle.sheet.specs.declared.walk.CodeStep.{CodeStep}
 pub use Rattle.sheet.specs.declared.walk.CodeStep.the-variants.{Code, Refused as NoCode}
 pub use Rattle.sheet.specs.declared.walk.MarkStep.{MarkStep}
 pub use Rattle.sheet.specs.declared.walk.MarkStep.the-variants.{Behind, Refused as NoMark}
-pub use Rattle.stream.specs.Answers.{Step, takenAt, takenSaid}
+pub use Rattle.stream.specs.Answers.{Step, takenSaid}
 pub use Rattle.stream.specs.declared.cursor.Cursor.{Cursor}
 pub use Rattle.stream.specs.declared.cursor.Taken.{Taken}
 pub use Rattle.stream.specs.declared.cursor.Taken.the-variants.{Field, Refused as NotTaken}

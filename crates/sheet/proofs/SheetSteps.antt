@@ -1,33 +1,11 @@
 -- The walk over a whole sheet.
-use Rattle.sheet.proofs.Names.{_≡_, sym, ap, _∙_, Bool, List, _++_, map, ℕ, arith, length, length-map, Outcome, good, bind-assoc, bind-same, Sizes, Cursor, Layout, Template, basic, templateLines, linesOf, Format}
-use Rattle.sheet.proofs.Names.{ends, _>>=_, place, Stream, Parsed, parse, Found, Calibration, Contents, Ending, fieldsOf, firstBlock, calibrationOf, endingOf, sheetOf, streamIn, lastChoice, pairIn, pairsIn}
+use Rattle.sheet.proofs.Names.{_≡_, sym, ap, _∙_, Bool, List, _++_, map, ℕ, arith, length, length-map, Outcome, good, bind-assoc, bind-same, Sizes, Cursor, Layout, Template, basic, templateLines, linesOf}
+use Rattle.sheet.proofs.Names.{ends, _>>=_, place, Stream, Parsed, parse, Found, Calibration, Contents, fieldsOf, firstBlock, calibrationOf, endingOf, sheetOf, streamIn, lastChoice, pairIn, pairsIn}
 use Rattle.sheet.proofs.Names.{segmentIn, segmentsIn, termIn, allTerms, behindFields, parsed, parse-bind, parsed-by, laid-pieces, laid-length, last-append, basic-last, Opened, Counts, EndStep, Ended, domainIn}
-use Rattle.sheet.proofs.Names.{openedAs, keeping, choiceOn, countsOf, endCount, basicChoice, layoutAt, openedOf, walked, endingOpened, calibrationOpened, ownOpened, blockOpened, endSaid}
+use Rattle.sheet.proofs.Names.{openedAs, keeping, choiceOn, countsOf, endCount, basicChoice, layoutAt, openedOf, walked, endingOpened, calibrationOpened, ownOpened, blockOpened, endSaid, made, afterCalibration}
+use Rattle.sheet.proofs.Names.{afterOwn, afterBlock, afterBasics}
 use Rattle.refusal.specs.Outcome as outcome
 use Rattle.sheet.proofs.Steps.{keep-through, carried}
-
-abbrev made : Template → List Found → Calibration → Ending → ℕ → Contents
-made template fields calibration ending end = record {
-  template = template;
-  fields = fields;
-  calibration = calibration;
-  endBit = ending .endBit;
-  text = ending .text;
-  bits = end;
-}
-
--- The format behind each part of a sheet.
-abbrev afterCalibration : Template → List Found → Calibration → Format Contents
-afterCalibration t xs k = endingOf >>= λ e. place >>= λ end. ends (made t xs k e end)
-
-abbrev afterOwn : Template → List Found → Format Contents
-afterOwn t xs = calibrationOf >>= afterCalibration t xs
-
-abbrev afterBlock : List Found → Template → Format Contents
-afterBlock bs t = fieldsOf (templateLines t) 0 >>= λ os. afterOwn t (bs ++ os)
-
-abbrev afterBasics : List Found → Format Contents
-afterBasics bs = firstBlock >>= afterBlock bs
 
 -- What is counted of a calibration, as a check gives it.
 abbrev countsIn : Calibration → Counts

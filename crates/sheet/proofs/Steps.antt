@@ -1,6 +1,6 @@
 -- A step of the walk: from what a callee says of it to what the format says behind it.
 use Rattle.sheet.proofs.Names.{_≡_, refl, sym, ap, _∙_, subst, Bool, true, false, cond, List, [], _∷_, ℕ, _+_, _-_, _^_, _≤_, _<_, arith, ltb, length, le-ltb, ltb-false, Refusal, Outcome, good, refused, pastEnd}
-use Rattle.sheet.proofs.Names.{good-same, no-value, told, Sizes, Cursor, Taken, Field, NotTaken, fieldAt, streamBits, streamNumber, takeAt, Step, takenSaid, takenAt, field-lt, Value, Missing, Row, Decoded, Means}
+use Rattle.sheet.proofs.Names.{good-same, no-value, told, Sizes, Cursor, Taken, Field, NotTaken, fieldAt, streamBits, streamNumber, Step, takenSaid, takenAt, field-lt, Value, Missing, Row, Decoded, Means}
 use Rattle.sheet.proofs.Names.{NoValue, decodedSaid, decode, judge, Format, ends, _>>=_, bits, given, Stream, Parsed, parse, Found, fieldOf, streamIn, parsed, parse-bind, parse-next, parse-refused, found}
 use Rattle.sheet.proofs.Names.{CodeStep, Code, keeping, Coded, coded, valueIn, behind, codeSaid, judgedAt}
 use Rattle.refusal.specs.Outcome as outcome
@@ -89,7 +89,7 @@ bitsSaid (NotTaken r) = refused r
 
 module _ (z : Sizes) (image : List ℕ) (at w : ℕ) (t : Taken) (e : takenSaid t ≡ takenAt z image at w) where
   took : bitsSaid t ≡ parse (streamIn z image) (bits w) at
-  unfolding takeAt
+  unfolding takenAt
   took = said t ∙ ap stepped e ∙ go (ltb (streamBits z) (at + w))
     where
       N : ℕ
@@ -103,7 +103,7 @@ module _ (z : Sizes) (image : List ℕ) (at w : ℕ) (t : Taken) (e : takenSaid 
       said (NotTaken r) = refl
 
       go : (b : Bool) →
-          stepped (outcome._>>=_ (outcome._>>_ (outcome.refuse_if_ (pastEnd at) b) (good (fieldAt N at w))) (λ code. good (record { code = code; next = at + w })))
+          stepped (outcome._>>_ (outcome.refuse_if_ (pastEnd at) b) (good (record { code = fieldAt N at w; next = at + w })))
           ≡ cond b (refused (pastEnd at)) (good (parsed (fieldAt N at w) (at + w)))
       go true = refl
       go false = refl

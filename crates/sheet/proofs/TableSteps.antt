@@ -2,18 +2,15 @@
 use Rattle.sheet.proofs.Names.{_≡_, refl, sym, ap, ap₂, _∙_, List, _∷_, Option, none, some, ℕ, suc, _+_, _-_, _/_, _%_, _^_, _≤_, _<_, arith, length, Refusal, Outcome, good, refused, told, fieldAt, Cursor, Codes}
 use Rattle.sheet.proofs.Names.{Domain, Physical, allOnes, calDomain, domainOf, pointCount, calPoint, calDeviation, codesOf, follows, Format, ends, _>>=_, _>>_, given, Stream, Parsed, parse, Found, FoundPair}
 use Rattle.sheet.proofs.Names.{Calibration, table, paired, codesIn, fieldOf, pairOf, pairsOf, tableOf, pairBits, sumAbove, Admits, admits-first, admits-next, codesFrom, pair-rises, CodeStep, Code, NoCode}
-use Rattle.sheet.proofs.Names.{CodesStep, Stand, NoCodes, CountStep, Counted, NoCount, Is, Counts, keeping, Coded, coded, countsOf, tableFrom, behind, codeSaid, codesSaid, countSaid}
+use Rattle.sheet.proofs.Names.{CodesStep, Stand, NoCodes, CountStep, Counted, NoCount, Is, Counts, keeping, Coded, coded, countsOf, tableFrom, behind, codeSaid, codesSaid, countSaid, following}
 use Rattle.refusal.specs.Outcome as outcome
 use Rattle.sheet.proofs.Steps.{keep-next, keep-refused, keep-made, keep-twice, countLeft, count-start, count-more, count-done}
 
 -- ---- the codes of a pair
 
 module _ (s : Stream) (domain : Domain) (before : Option Codes) (at : ℕ) (x : CodeStep) (e : codeSaid at x ≡ keeping coded (parse s (fieldOf calPoint) at)) where
-  abbrev following : Found → Found → Format FoundPair
-  following p d = given (follows domain before (p .at) (codesIn (paired p d))) >> ends (paired p d)
-
   abbrev withDeviation : Found → Format FoundPair
-  withDeviation p = fieldOf calDeviation >>= following p
+  withDeviation p = fieldOf calDeviation >>= following domain before p
 
   pub point-halts : {r : Refusal} → x ≡ NoCode r → refused r ≡ keeping codesIn (parse s (pairOf domain before) at)
   unfolding pairOf
@@ -28,13 +25,13 @@ module _ (s : Stream) (domain : Domain) (before : Option Codes) (at : ℕ) (x : 
     pub deviation-halts : {r : Refusal} → y ≡ NoCode r → refused r ≡ keeping codesIn (parse s (pairOf domain before) at)
     deviation-halts g =
         let (p, q, w) = at-deviation in
-        sym (ap (keeping codesIn) (w ∙ keep-refused coded s (fieldOf calDeviation) (following p) (next .at) (told (codeSaid (next .at)) g f)))
+        sym (ap (keeping codesIn) (w ∙ keep-refused coded s (fieldOf calDeviation) (following domain before p) (next .at) (told (codeSaid (next .at)) g f)))
 
     pub pair-follows : {code′ : ℕ} {end : Cursor} → y ≡ Code code′ end →
         outcome._>>_ (follows domain before at (codesOf code code′)) (behind (codesOf code code′) end) ≡ keeping codesIn (parse s (pairOf domain before) at)
     pair-follows {code′} {end} g =
         let (p, q, w) = at-deviation in
-        let (d, q′, w′) = keep-next coded s (fieldOf calDeviation) (following p) (next .at) (told (codeSaid (next .at)) g f) in
+        let (d, q′, w′) = keep-next coded s (fieldOf calDeviation) (following domain before p) (next .at) (told (codeSaid (next .at)) g f) in
         ap₂ (λ (u v : Coded). outcome._>>_ (follows domain before (u .at) (codesOf (u .code) (v .code))) (behind (codesOf (u .code) (v .code)) end)) (sym q) (sym q′)
         ∙ go (follows domain before (p .at) (codesIn (paired p d))) (paired p d)
         ∙ sym (ap (keeping codesIn) (w ∙ w′))

@@ -4,7 +4,7 @@ use Rattle.sheet.proofs.Names.{eq-eqb, ne-eqb, Refusal, Outcome, good, 
 use Rattle.sheet.proofs.Names.{Template, Layout, Judged, Stands, Turned, judgedSaid, judge, Open, OpenBehind, Line, chose, basic, templateLines, linesOf, lastField, lineOf, rowOf, noLine, decode, Sound, row-sound}
 use Rattle.sheet.proofs.Names.{Format, ends, _>>=_, bits, given, refuse_if_, Stream, parse, Found, fieldOf, fieldsOf, streamIn, firstSelector, fieldPlace, behindFields, judged, frontLines, parsed, parse-next}
 use Rattle.sheet.proofs.Names.{parse-refused, found, Come, come-open, come-inside, come-halt, come-next, behind-open, basic-end, basic-judged, last-sets, last-open, front-end, own-judged, keeping, choiceOn, Roomy}
-use Rattle.sheet.proofs.Names.{basicChoice, ownStart, ownJudged, ownChoice, markOf, stoodTo}
+use Rattle.sheet.proofs.Names.{basicChoice, ownStart, ownJudged, ownChoice, markOf, stoodTo, basic-most}
 use Rattle.refusal.specs.Outcome as outcome
 use Rattle.sheet.proofs.Steps.{keep-made, keep-bind}
 
@@ -55,10 +55,6 @@ unfolding linesOf
 front-lines template {n} e =
     let k : suc (lastField template - 1) - (n + 1) ≡ length (templateLines template) - 1 = omega (arith, length-append basic (templateLines template)) in
     ap₂ (λ (i : ℕ) (ls : List Line). take i ls) k (drop-at basic (templateLines template) (n + 1 - 1) (omega arith))
-
-pub basic-most : (template : Template) → length basic ≤ lastField template
-unfolding linesOf
-basic-most template = omega (arith, length-append basic (templateLines template))
 
 -- The judging has come to field f of Basic at a place, and to one of a template's own fields.
 abbrev pub BasicCome : Template → Sizes → List ℕ → ℕ → ℕ → Type 0
@@ -118,9 +114,11 @@ pub basic-turn : (t : Template) {z : Sizes} {image : List ℕ} → Whole z image
     {row : Row} → row ≡ lineOf t f .rowAt 0 → Turn z image row at (judged (streamIn z image) basic 0 0) (BasicCome t z image (f + 1))
 basic-turn t w f at h hi l = turn-at w (stream-holds w (omega arith)) t 0 f (length basic) at h (omega arith) (basic-most t)
 
+abbrev pub OwnTurn : Sizes → List ℕ → Layout → Row → ℕ → ℕ → Type 0
+OwnTurn z image layout row f at = Turn z image row at (ownJudged (streamIn z image) layout) (OwnCome z image layout (f + 1))
+
 pub own-turn : (layout : Layout) {z : Sizes} {image : List ℕ} → Roomy z image → (f at : ℕ) → OwnCome z image layout f at → {closed : ℕ} → f ≤ closed →
-    closed < lastField (layout .template) → {row : Row} → row ≡ lineOf (layout .template) f .rowAt (layout .precision) →
-    Turn z image row at (ownJudged (streamIn z image) layout) (OwnCome z image layout (f + 1))
+    closed < lastField (layout .template) → {row : Row} → row ≡ lineOf (layout .template) f .rowAt (layout .precision) → OwnTurn z image layout row f at
 own-turn layout w f at h hi l =
     let t : Template = layout .template in
     turn-at (w .whole) (omega (arith, w .room, front-end t (layout .precision) .2)) t (length basic) f (lastField t - 1) at h (omega arith) (omega arith)

@@ -1,3 +1,4 @@
 pub mod Check
+pub mod Reads
 pub mod Opened
 pub mod Walk

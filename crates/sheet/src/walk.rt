@@ -64,7 +64,7 @@ pub enum TemplateStep {
 }
 
 // The code that was taken at bit `at`: its refusal, or 5 or 6 as its row says.
-pub fn judged(row: Row, at: u64, taken: Taken) -> CodeStep
+fn judged(row: Row, at: u64, taken: Taken) -> CodeStep
     requires { ⌜ Sound row ⌝ }
     ensures { λ r. ⌜ codeSaid at r ≡ judgedAt row at taken ⌝ }
 {

@@ -1,5 +1,6 @@
 -- What the proofs of this crate take from the kit, from the crates below and from its own definitions.
 pub use Prim.Native.Nat.{_%_, _*_, _+_, _-_, _/_, _<_, _^_, _≤_, suc, zero, ℕ}
+unfoldable pub use Rattle.stream.specs.Answers.{takenAt}
 pub use mathlib.Core.List.{List, _++_, append-nil}
 pub use mathlib.Core.Logic.{_⊎_, inl, inr}
 pub use mathlib.Core.Path.{_∙_, _≡_, ap, ap₂, refl, sym}
@@ -26,8 +27,8 @@ pub use Rattle.memory.proofs.SumLaws.{streamPart, sum-same}
 pub use Rattle.memory.proofs.Written.{Put, put-bytes, put-checks, put-is, put-stream, put-whole}
 pub use Rattle.memory.specs.Answers.{Whole, streamIndex}
 pub use Rattle.memory.specs.Bits.{Bytes, bytesOf, fieldAt, number, putAt}
-pub use Rattle.memory.specs.Image.{SumsRight, imageBytes, imageOf, pageAt, pageOf, pageSum, putIn, sealed, streamBits, streamBytes, streamNumber, streamOf, withStream}
-unfoldable pub use Rattle.memory.specs.Image.{takeAt}
+pub use Rattle.memory.specs.Image.{SumsRight, imageBytes, imageOf, pageAt, pageOf, pageSum, streamBits, streamBytes, streamNumber, streamOf}
+pub use Rattle.memory.specs.Laid.{putIn, sealed, withStream}
 pub use Rattle.memory.specs.declared.Sizes.{Sizes}
 pub use Rattle.refusal.specs.Outcome.{good, refused}
 pub use Rattle.refusal.specs.Rows.{pastEnd}

@@ -1,9 +1,12 @@
 -- What inner contracts need: fields within an image's stream, and what each case of an answer says in the terms of Image.
 use mathlib.Core.List.{List}
 use Prim.Native.Nat.{ℕ, _+_, _≤_}
-use Rattle.refusal.specs.Outcome.{Outcome, good, refused, _>>=_}
+use lib.Dec.{ltb}
+use Rattle.refusal.specs.Outcome.{Outcome, good, refused, _>>_, refuse_if_}
+use Rattle.refusal.specs.Rows.{pastEnd}
 use Rattle.memory.specs.declared.Sizes.{Sizes}
-use Rattle.memory.specs.Image.{streamBits, takeAt}
+use Rattle.memory.specs.Bits.{fieldAt}
+use Rattle.memory.specs.Image.{streamBits, streamNumber}
 use Rattle.memory.specs.Answers.{Whole}
 use Rattle.stream.specs.declared.cursor.Cursor.{Cursor}
 use Rattle.stream.specs.declared.cursor.Passed.{Passed}
@@ -32,5 +35,8 @@ abbrev pub takenSaid : Taken → Outcome Step
 takenSaid (Field code cursor) = good (record { code = code; next = cursor .at })
 takenSaid (NoField r) = refused r
 
-abbrev pub takenAt : Sizes → List ℕ → ℕ → ℕ → Outcome Step
-takenAt z image at w = takeAt z image at w >>= λ code. good (record { code = code; next = at + w })
+-- Row 3: the field of w bits at a place, within the stream, and the place behind it.
+unfoldable pub takenAt : Sizes → List ℕ → ℕ → ℕ → Outcome Step
+takenAt z image at w = do
+  refuse pastEnd at if ltb (streamBits z) (at + w)
+  good (record { code = fieldAt (streamNumber z image) at w; next = at + w })

@@ -3,7 +3,8 @@ ghost use mathlib.Core.Path.{_≡_};
 ghost use Prim.Native.Nat.{_+_, _-_, _*_, _/_, _%_, _^_, _≤_, _<_};
 ghost use lib.ListN.{length};
 ghost use Rattle.memory.specs.Bits.{number, bytesOf, fieldAt, putAt};
-ghost use Rattle.memory.specs.Image.{streamNumber, putIn};
+ghost use Rattle.memory.specs.Image.{streamNumber};
+ghost use Rattle.memory.specs.Laid.{putIn};
 ghost use Rattle.stream.specs.Answers.{InStream};
 use memory::Sizes;
 

@@ -2,7 +2,8 @@
 ghost use mathlib.Core.Path.{_≡_};
 ghost use Prim.Native.Nat.{_+_, _^_, _≤_, _<_};
 ghost use Rattle.memory.specs.Bits.{fieldAt};
-ghost use Rattle.memory.specs.Image.{streamNumber, putIn};
+ghost use Rattle.memory.specs.Image.{streamNumber};
+ghost use Rattle.memory.specs.Laid.{putIn};
 ghost use Rattle.memory.specs.Answers.{Whole};
 ghost use Rattle.stream.specs.Answers.{InStream, passedOver, takenSaid, takenAt};
 use crate::bitfields;

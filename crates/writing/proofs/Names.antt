@@ -9,7 +9,7 @@ pub use borrow.Author.Needs.{needs}
 pub use borrow.Author.Tests.{eq-eqb, eqb-false, eqb-true, le-ltb, lt-ltb, ltb-false, ltb-true, ne-eqb, not-false, not-true}
 pub use lib.Dec.{eqb, ltb}
 pub use lib.ListN.{List·getD-eq-default, drop, getD, length, length-append, length-drop, length-set, length-take, set, take}
-pub use lib.Seq.{drop-cons, drop-length, drop-set-add, ext-getD, getD-drop, getD-set-other, getD-set-same, getD-take, length-take-le, take-all, take-set-lt}
+pub use lib.Seq.{drop-set-add, ext-getD, getD-drop, getD-set-other, getD-set-same, getD-take, length-take-le, take-all, take-set-lt}
 pub use native.Mathlib.Decide.{decLt, ℕ-discrete}
 pub use native.Mathlib.Nat.{zero-add}
 pub use native.Mathlib.Numerals.{add-one}

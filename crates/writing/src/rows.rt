@@ -164,25 +164,13 @@ pub fn tally_rows(sizes: Sizes, present: &[u8], wanted: &[u8]) -> Tally
     t
 }
 
-fn sum(bytes: &[u8]) -> u8
-    ensures { λ r. ⌜ r ≡ total (now (bytes .entry)) % 256 ⌝ }
-{
-    let mut acc: u8 = 0;
-    let mut i: usize = 0;
-    while i < bytes.len() {
-        acc = std::num::wrapping_add_u8(acc, bytes[i]);
-        i += 1;
-    }
-    acc
-}
-
 // The sum of what page 0's check byte covers.
 pub fn first_sum(sizes: Sizes, image: &[u8]) -> u8
     requires { ⌜ (sizes .register ≤ 8) × (sizes .register + 32 ≤ length (now image)) ⌝ }
     ensures { λ r. ⌜ r ≡ pageSum sizes (now (image .entry)) 0 ⌝ }
 {
     let end = sizes.register + 32;
-    sum(&image[..end])
+    memory::sum(&image[..end])
 }
 
 // The sum of an image with one row as in another, from its own.
@@ -192,6 +180,6 @@ pub fn sum_with(own: u8, present: &[u8], wanted: &[u8], r: usize) -> u8
 {
     let at = 8 * r;
     let end = at + 8;
-    let less = std::num::wrapping_sub_u8(own, sum(&present[at..end]));
-    std::num::wrapping_add_u8(less, sum(&wanted[at..end]))
+    let less = std::num::wrapping_sub_u8(own, memory::sum(&present[at..end]));
+    std::num::wrapping_add_u8(less, memory::sum(&wanted[at..end]))
 }

@@ -3,12 +3,9 @@ use Rattle.curve.proofs.NestedLaws.{ten-million-is}
 use Rattle.curve.proofs.argument.Statement.{statement}
 use Rattle.curve.proofs.argument.Tie as tie
 
-nearest-i64-to-f64-requires : tie.Need-nearest-i64-to-f64-requires
-nearest-i64-to-f64-requires c κs = search needs
-
 returns : tie.Need-returns
 unfolding argument
 returns c = rw (c .nearest-i64-to-f64 .ensures, toZ-ofZ (c .before .fits .p), ten-million-is)
 
 pub argument-spec : {M : Type 1} → statement M
-argument-spec = tie.close (tie.spec nearest-i64-to-f64-requires returns)
+argument-spec = tie.close (tie.spec (λ c κs. search needs) returns)

@@ -13,38 +13,11 @@ returns : tie.Need-returns Inv-loop μ-loop
 unfolding nested
 returns c = rw (c .if1 .taken, zero-is)
 
-sub-sum : tie.Need-sub-sum Inv-loop μ-loop
-sub-sum c = search needs
-
-mul-sum : tie.Need-mul-sum Inv-loop μ-loop
-mul-sum c = search needs
-
-array-read-sum : tie.Need-array-read-sum Inv-loop μ-loop
-array-read-sum c = search needs
-
 loop-holds : tie.Need-loop-holds Inv-loop μ-loop
 loop-holds c =
     let s = c .before in
     let six : length (s .args .t1) ≡ 6 = s .good .0 .1 .0 .1 in
     (omega arith, cc (nested-first (s .args .x) (s .args .t1) (s .args .count) (omega arith) (omega arith)))
-
-sub-sum-2 : tie.Need-sub-sum-2 Inv-loop μ-loop
-sub-sum-2 c = search needs
-
-sub-sum-3 : tie.Need-sub-sum-3 Inv-loop μ-loop
-sub-sum-3 c = search needs
-
-mul-sum-2 : tie.Need-mul-sum-2 Inv-loop μ-loop
-mul-sum-2 c = search needs
-
-array-read-sum-2 : tie.Need-array-read-sum-2 Inv-loop μ-loop
-array-read-sum-2 c = search needs
-
-add-done : tie.Need-add-done Inv-loop μ-loop
-add-done c = search needs
-
-loop-less : tie.Need-loop-less Inv-loop μ-loop
-loop-less c = search needs
 
 loop-again : tie.Need-loop-again Inv-loop μ-loop
 loop-again c =
@@ -63,19 +36,5 @@ returns-2 c =
 pub correction-spec : {M : Type 1} → statement M
 correction-spec =
     tie.close
-    (tie.spec
-    Inv-loop
-    μ-loop
-    returns
-    sub-sum
-    mul-sum
-    array-read-sum
-    loop-holds
-    sub-sum-2
-    sub-sum-3
-    mul-sum-2
-    array-read-sum-2
-    add-done
-    loop-less
-    loop-again
-    returns-2)
+    (tie.spec Inv-loop μ-loop returns (λ c. search needs) (λ c. search needs) (λ c. search needs) loop-holds (λ c. search needs) (λ c. search needs)
+    (λ c. search needs) (λ c. search needs) (λ c. search needs) (λ c. search needs) loop-again returns-2)

@@ -3,15 +3,9 @@ use Rattle.curve.proofs.NestedLaws.{hundred-is}
 use Rattle.curve.proofs.float_fraction.Statement.{statement}
 use Rattle.curve.proofs.float_fraction.Tie as tie
 
-argument-requires : tie.Need-argument-requires
-argument-requires c κs = search needs
-
-correction-requires : tie.Need-correction-requires
-correction-requires c κs = search needs
-
 returns : tie.Need-returns
 unfolding fractionBy
 returns c = cc (toZ-ofZ (c .before .before .before .fits .p), hundred-is)
 
 pub float-fraction-spec : {M : Type 1} → statement M
-float-fraction-spec = tie.close (tie.spec argument-requires correction-requires returns)
+float-fraction-spec = tie.close (tie.spec (λ c κs. search needs) (λ c κs. search needs) returns)

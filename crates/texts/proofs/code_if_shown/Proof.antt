@@ -5,29 +5,14 @@ use Rattle.texts.proofs.Answers.{front-of, not-shown, compared}
 use Rattle.texts.proofs.code_if_shown.Statement.{statement}
 use Rattle.texts.proofs.code_if_shown.Tie as tie
 
-text-of-requires : tie.Need-text-of-requires
-text-of-requires c κs = search needs
-
-enum-known-answer : tie.Need-enum-known-answer
-enum-known-answer c = search needs
-
-enum-known-answer-2 : tie.Need-enum-known-answer-2
-enum-known-answer-2 c = search needs
-
 array-share-prefix-characters : tie.Need-array-share-prefix-characters
 array-share-prefix-characters c = front-of _ _ _ _ (c .before .before .before .before .text-of .ensures) (c .before .answer2 .given .1) .within
 
 slice-aggregate-equal : tie.Need-slice-aggregate-equal
 slice-aggregate-equal c = sym (length-take-le _ _ (front-of _ _ _ _ (c .before .before .before .before .before .text-of .ensures) (c .before .before .answer2 .given .1) .within))
 
-equal-requires : tie.Need-equal-requires
-equal-requires c κs = search needs
-
 returns : tie.Need-returns
 returns c = sym (compared _ _ _ _ _ true (c .before .before .before .before .before .before .before .text-of .ensures) (c .before .before .before .before .answer2 .given .1) (sym (c .before .equal .ensures) ∙ c .if1 .taken))
-
-out-of-range-requires : tie.Need-out-of-range-requires
-out-of-range-requires c κs = search needs
 
 returns-2 : tie.Need-returns-2
 returns-2 c = sym (not-shown _ _ _ _ _ (c .before .before .before .before .text-of .ensures) (c .before .answer .given .1))
@@ -38,14 +23,5 @@ returns-3 c = ap refused (c .out-of-range .ensures) ∙ sym (compared _ _ _ _ _ 
 pub code-if-shown-spec : {M : Type 1} → statement M
 code-if-shown-spec =
     tie.close
-    (tie.spec
-    text-of-requires
-    enum-known-answer
-    enum-known-answer-2
-    array-share-prefix-characters
-    slice-aggregate-equal
-    equal-requires
-    returns
-    out-of-range-requires
-    returns-2
-    returns-3)
+    (tie.spec (λ c κs. search needs) (λ c. search needs) (λ c. search needs) array-share-prefix-characters slice-aggregate-equal
+    (λ c κs. search needs) returns (λ c κs. search needs) returns-2 returns-3)

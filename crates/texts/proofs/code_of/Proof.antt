@@ -5,53 +5,23 @@ use Rattle.texts.proofs.Turning.{letter, date, initials, other, wrong-l
 use Rattle.texts.proofs.code_of.Statement.{statement}
 use Rattle.texts.proofs.code_of.Tie as tie
 
-wrong-sort-requires : tie.Need-wrong-sort-requires
-wrong-sort-requires c κs = search needs
-
 returns : tie.Need-returns
 returns c = ap refused (c .wrong-sort .ensures) ∙ sym (wrong-length (letter (c .before .before .if1 .taken)) _ (c .before .if2 .taken))
-
-one-code-requires : tie.Need-one-code-requires
-one-code-requires c κs = search needs
-
-code-if-shown-requires : tie.Need-code-if-shown-requires
-code-if-shown-requires c κs = search needs
 
 returns-2 : tie.Need-returns-2
 returns-2 c = c .code-if-shown .ensures ∙ sym (code-shown (letter (c .before .before .before .if1 .taken)) _ _ (c .before .before .if2 .left) (c .before .one-code .ensures))
 
-wrong-sort-requires-2 : tie.Need-wrong-sort-requires-2
-wrong-sort-requires-2 c κs = search needs
-
 returns-3 : tie.Need-returns-3
 returns-3 c = ap refused (c .wrong-sort2 .ensures) ∙ sym (wrong-length (date (c .before .before .if3 .taken)) _ (c .before .if4 .taken))
-
-code-of-requires : tie.Need-code-of-requires
-code-of-requires c κs = search needs
-
-code-if-shown-requires-2 : tie.Need-code-if-shown-requires-2
-code-if-shown-requires-2 c κs = search needs
 
 returns-4 : tie.Need-returns-4
 returns-4 c = c .code-if-shown2 .ensures ∙ sym (code-shown (date (c .before .before .before .if3 .taken)) _ _ (c .before .before .if4 .left) (c .before .code-of .ensures))
 
-wrong-sort-requires-3 : tie.Need-wrong-sort-requires-3
-wrong-sort-requires-3 c κs = search needs
-
 returns-5 : tie.Need-returns-5
 returns-5 c = ap refused (c .wrong-sort3 .ensures) ∙ sym (wrong-length (initials (c .before .before .if5 .taken)) _ (c .before .if6 .taken))
 
-three-code-requires : tie.Need-three-code-requires
-three-code-requires c κs = search needs
-
-code-if-shown-requires-3 : tie.Need-code-if-shown-requires-3
-code-if-shown-requires-3 c κs = search needs
-
 returns-6 : tie.Need-returns-6
 returns-6 c = c .code-if-shown3 .ensures ∙ sym (code-shown (initials (c .before .before .before .if5 .taken)) _ _ (c .before .before .if6 .left) (c .before .three-code .ensures))
-
-no-such-requires : tie.Need-no-such-requires
-no-such-requires c κs = search needs
 
 returns-7 : tie.Need-returns-7
 returns-7 c = ap refused (c .no-such .ensures) ∙ sym (no-such-code _ _ (other (c .before .before .before .if1 .left) (c .before .before .if3 .left) (c .before .if5 .left)))
@@ -59,21 +29,6 @@ returns-7 c = ap refused (c .no-such .ensures) ∙ sym (no-such-code _ _ (other 
 pub code-of-spec : {M : Type 1} → statement M
 code-of-spec =
     tie.close
-    (tie.spec
-    wrong-sort-requires
-    returns
-    one-code-requires
-    code-if-shown-requires
-    returns-2
-    wrong-sort-requires-2
-    returns-3
-    code-of-requires
-    code-if-shown-requires-2
-    returns-4
-    wrong-sort-requires-3
-    returns-5
-    three-code-requires
-    code-if-shown-requires-3
-    returns-6
-    no-such-requires
-    returns-7)
+    (tie.spec (λ c κs. search needs) returns (λ c κs. search needs) (λ c κs. search needs) returns-2 (λ c κs. search needs) returns-3
+    (λ c κs. search needs) (λ c κs. search needs) returns-4 (λ c κs. search needs) returns-5 (λ c κs. search needs) (λ c κs. search needs) returns-6
+    (λ c κs. search needs) returns-7)

@@ -8,5 +8,4 @@ returns c =
     record { received = r .read-full .result; few = omega (arith, r .before .read-buffer .ensures); steps = c .step .ensures }
 
 pub read-step-spec : {M : Type 1} → statement M
-read-step-spec =
-    tie.close (tie.spec (λ c κs. search needs) (λ c κs. search needs) (λ c κs. search needs) (λ c. search needs) returns)
+read-step-spec = tie.close (tie.spec (λ c κs. search needs) (λ c κs. search needs) (λ c κs. search needs) (λ c. search needs) returns)

@@ -120,20 +120,5 @@ returns-4 c =
 pub one-page-spec : {M : Type 1} → statement M
 one-page-spec =
     tie.close
-    (tie.spec
-    (λ c κs. search needs)
-    (λ c κs. search needs)
-    returns
-    row-of-requires
-    write-requires
-    returns-2
-    (λ c κs. search needs)
-    sum-with-requires
-    (λ c κs. search needs)
-    (λ c κs. search needs)
-    (λ c κs. search needs)
-    (λ c κs. search needs)
-    returns-3
-    row-of-requires-2
-    write-requires-3
-    returns-4)
+    (tie.spec (λ c κs. search needs) (λ c κs. search needs) returns row-of-requires write-requires returns-2 (λ c κs. search needs) sum-with-requires
+    (λ c κs. search needs) (λ c κs. search needs) (λ c κs. search needs) (λ c κs. search needs) returns-3 row-of-requires-2 write-requires-3 returns-4)

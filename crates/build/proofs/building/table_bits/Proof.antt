@@ -1,6 +1,5 @@
 -- `building::table_bits` meets its contract.
-use Rattle.build.proofs.Names.{needs}
-use Rattle.build.proofs.BuiltIn.{table-more}
+use Rattle.build.proofs.Names.{needs, table-some}
 use Rattle.build.proofs.building.table_bits.Statement.{statement}
 use Rattle.build.proofs.building.table_bits.Tie as tie
 
@@ -11,4 +10,4 @@ table-bits-spec =
     (λ c. search needs)
     (λ c. search needs)
     (λ c. search needs)
-    (λ c. table-more _ (c .if1 .left)))
+    (λ c. table-some _ (c .if1 .left)))

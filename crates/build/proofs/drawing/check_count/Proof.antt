@@ -1,6 +1,6 @@
 -- `drawing::check_count` meets its contract.
-use Rattle.build.proofs.Names.{sym, _∙_, needs, arith}
-use Rattle.build.proofs.SegmentPlans.{few-terms, count-wrong, count-many, count-right}
+use Rattle.build.proofs.Names.{sym, _∙_, needs, arith, terms-most}
+use Rattle.build.proofs.SegmentPlans.{count-wrong, count-many, count-right}
 use Rattle.build.proofs.drawing.check_count.Statement.{statement}
 use Rattle.build.proofs.drawing.check_count.Tie as tie
 
@@ -9,7 +9,7 @@ check-count-spec =
     tie.close
     (tie.spec
     (λ c κs. search needs)
-    (λ c. omega (arith, few-terms (c .before .before .args .terms) (sym (c .before .is-term-count .ensures) ∙ c .if1 .taken)))
+    (λ c. omega (arith, terms-most (c .before .before .args .terms) (sym (c .before .is-term-count .ensures) ∙ c .if1 .taken)))
     (λ c κs. search needs)
     (λ c κs. search needs)
     (λ c.

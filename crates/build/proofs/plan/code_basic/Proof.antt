@@ -1,6 +1,6 @@
 -- `plan::code_basic` meets its contract.
-use Rattle.build.proofs.Names.{_≤_, _-_, arith, needs, length, basic, FieldsCoded}
-use Rattle.build.proofs.Coding.{basic-fewer, quick-asked, quick-here, coded-next, coded-same, coded-up, stopped}
+use Rattle.build.proofs.Names.{_≤_, _-_, arith, needs, length, basic, FieldsCoded, basic-most}
+use Rattle.build.proofs.Coding.{quick-asked, quick-here, coded-next, coded-same, coded-up, stopped}
 use Rattle.build.proofs.plan.code_basic.Statement.{statement}
 use Rattle.build.proofs.plan.code_basic.Tie as tie
 
@@ -14,13 +14,13 @@ quick-code-requires : tie.Need-quick-code-requires Inv-loop μ-loop
 quick-code-requires c κs =
     let t = c .before .before .before .before .before .before .before .args .template in
     let l = c .before .before .loop in
-    quick-asked (record { template = t; precision = l .precision }) (c .basic-row .ensures _) (l .inv .1 .long) (omega (arith, c .before .loop-test .taken, c .before .before .before .basic-fields .ensures, basic-fewer t))
+    quick-asked (record { template = t; precision = l .precision }) (c .basic-row .ensures _) (l .inv .1 .long) (omega (arith, c .before .loop-test .taken, c .before .before .before .basic-fields .ensures, basic-most t))
 
 code-field-requires : tie.Need-code-field-requires Inv-loop μ-loop
 code-field-requires c κs =
     let t = c .before .before .before .before .before .before .before .before .before .args .template in
     let l = c .before .before .before .before .loop in
-    ((l .inv .1, omega (arith, c .before .before .before .loop-test .taken, c .before .before .before .before .before .basic-fields .ensures, basic-fewer t)), quick-here (record { template = t; precision = l .precision }) (c .before .before .basic-row .ensures _) (c .before .quick-code .ensures))
+    ((l .inv .1, omega (arith, c .before .before .before .loop-test .taken, c .before .before .before .before .before .basic-fields .ensures, basic-most t)), quick-here (record { template = t; precision = l .precision }) (c .before .before .basic-row .ensures _) (c .before .quick-code .ensures))
 
 loop-again : tie.Need-loop-again Inv-loop μ-loop
 loop-again c = (omega (arith, c .before .before .before .before .before .before .before .before .before .loop-test .taken, c .before .before .before .before .before .before .before .before .before .before .before .basic-fields .ensures), c .before .before .before .before .before .code-field .ensures .done _ (c .before .next .given .1))

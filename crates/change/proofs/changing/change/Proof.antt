@@ -70,24 +70,6 @@ returns-4 c =
 pub change-spec : {M : Type 1} → statement M
 change-spec =
     tie.close
-    (tie.spec
-    (λ c κs. search needs)
-    (λ c. search needs)
-    (λ c. search needs)
-    (λ c κs. search needs)
-    (λ c. search needs)
-    (λ c. search needs)
-    row-of-requires
-    encode-by-requires
-    (λ c. search needs)
-    (λ c. search needs)
-    locate-requires
-    rewrite-requires
-    (λ c. search needs)
-    returns
-    (λ c. search needs)
-    returns-2
-    (λ c. search needs)
-    returns-3
-    (λ c. search needs)
-    returns-4)
+    (tie.spec (λ c κs. search needs) (λ c. search needs) (λ c. search needs) (λ c κs. search needs) (λ c. search needs) (λ c. search needs)
+    row-of-requires encode-by-requires (λ c. search needs) (λ c. search needs) locate-requires rewrite-requires (λ c. search needs) returns
+    (λ c. search needs) returns-2 (λ c. search needs) returns-3 (λ c. search needs) returns-4)

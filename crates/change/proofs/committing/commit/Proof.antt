@@ -64,19 +64,5 @@ returns-3 c =
 pub commit-spec : {M : Type 1} → statement M
 commit-spec =
     tie.close
-    (tie.spec
-    (λ c κs. search needs)
-    (λ c. search needs)
-    (λ c. search needs)
-    may-commit-requires
-    (λ c. search needs)
-    (λ c. search needs)
-    row-of-requires
-    locate-requires
-    rewrite-requires
-    (λ c. search needs)
-    returns
-    (λ c. search needs)
-    returns-2
-    (λ c. search needs)
-    returns-3)
+    (tie.spec (λ c κs. search needs) (λ c. search needs) (λ c. search needs) may-commit-requires (λ c. search needs) (λ c. search needs)
+    row-of-requires locate-requires rewrite-requires (λ c. search needs) returns (λ c. search needs) returns-2 (λ c. search needs) returns-3)

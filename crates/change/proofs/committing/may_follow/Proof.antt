@@ -23,5 +23,4 @@ returns-3 c =
     follow-by (a .row) (a .stands) (a .field) (a .present) (a .new) (m .before .if1 .left) (sym (m .may-stand .ensures) ∙ not-false (m .may-stand .result) (c .if2 .left))
 
 pub may-follow-spec : {M : Type 1} → statement M
-may-follow-spec =
-    tie.close (tie.spec (λ c κs. search needs) returns (λ c κs. search needs) (λ c κs. search needs) returns-2 returns-3)
+may-follow-spec = tie.close (tie.spec (λ c κs. search needs) returns (λ c κs. search needs) (λ c κs. search needs) returns-2 returns-3)

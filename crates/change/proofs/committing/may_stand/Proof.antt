@@ -4,9 +4,6 @@ use Rattle.change.proofs.CommitLaws.{stands-not, stands-by, taken-judge
 use Rattle.change.proofs.committing.may_stand.Statement.{statement}
 use Rattle.change.proofs.committing.may_stand.Tie as tie
 
-shr-if1 : tie.Need-shr-if1
-shr-if1 c = omega (arith, c .before .pre .most)
-
 returns : tie.Need-returns
 returns c =
     let a = c .before .before .args in
@@ -26,4 +23,5 @@ returns-3 c =
 
 pub may-stand-spec : {M : Type 1} → statement M
 may-stand-spec =
-    tie.close (tie.spec shr-if1 returns (λ c κs. search needs) (λ c. search needs) (λ c. search needs) returns-2 returns-3)
+    tie.close
+    (tie.spec (λ c. omega (arith, c .before .pre .most)) returns (λ c κs. search needs) (λ c. search needs) (λ c. search needs) returns-2 returns-3)

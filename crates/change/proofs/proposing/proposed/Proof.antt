@@ -3,12 +3,6 @@ use Rattle.change.proofs.Names.{needs, sym, ap₂, _∙_, subst, _^_, _
 use Rattle.change.proofs.proposing.proposed.Statement.{statement}
 use Rattle.change.proofs.proposing.proposed.Tie as tie
 
-row-of-requires : tie.Need-row-of-requires
-row-of-requires c κs = (c .pre .0, c .pre .1)
-
-locate-requires : tie.Need-locate-requires
-locate-requires c κs = (c .before .pre .0, omega (arith, c .before .pre .1))
-
 decode-requires : tie.Need-decode-requires
 decode-requires c κs =
     let b = c .before .before in
@@ -30,4 +24,6 @@ returns-2 c =
 
 pub proposed-spec : {M : Type 1} → statement M
 proposed-spec =
-    tie.close (tie.spec row-of-requires locate-requires decode-requires (λ c. search needs) (λ c. search needs) returns returns-2)
+    tie.close
+    (tie.spec (λ c κs. (c .pre .0, c .pre .1)) (λ c κs. (c .before .pre .0, omega (arith, c .before .pre .1))) decode-requires (λ c. search needs)
+    (λ c. search needs) returns returns-2)

@@ -4,12 +4,6 @@ use Rattle.change.proofs.CommitLaws.{field-taken}
 use Rattle.change.proofs.standing.code_in.Statement.{statement}
 use Rattle.change.proofs.standing.code_in.Tie as tie
 
-row-of-requires : tie.Need-row-of-requires
-row-of-requires c κs = let p = c .before .before .before .pre in (p .1, p .2)
-
-locate-requires : tie.Need-locate-requires
-locate-requires c κs = let p = c .before .before .before .before .pre in (p .1, omega (arith, p .2))
-
 take-requires : tie.Need-take-requires
 take-requires c κs =
     let b = c .before .before .before .before .before in
@@ -39,4 +33,7 @@ returns-2 c =
 
 pub code-in-spec : {M : Type 1} → statement M
 code-in-spec =
-    tie.close (tie.spec row-of-requires locate-requires take-requires (λ c. search needs) (λ c. search needs) returns returns-2)
+    tie.close
+    (tie.spec (λ c κs. let p = c .before .before .before .pre in (p .1, p .2))
+    (λ c κs. let p = c .before .before .before .before .pre in (p .1, omega (arith, p .2))) take-requires (λ c. search needs) (λ c. search needs)
+    returns returns-2)

@@ -11,9 +11,6 @@ difference-fits (negsuc k) n e l = record { sfits = omega arith }
 deviation-fits : (n : ℕ) → n < 2 ^ 63 → SFits w64 (leastDeviation +ℤ toZ w64 n)
 deviation-fits n l = rw (toZ-pos w64 l) (difference-fits (leastDeviation +ℤ pos n) n (omega (arith, add-parts leastDeviation (pos n))) l)
 
-add-t8 : tie.Need-add-t8
-add-t8 c = deviation-fits (R * (c .args .code / 2 ^ 16)) (omega (arith, c .pre))
-
 returns : tie.Need-returns
 returns c =
     let code : ℕ = c .args .code in
@@ -26,10 +23,5 @@ returns c =
 pub pair-of-spec : {M : Type 1} → statement M
 pair-of-spec =
     tie.close
-    (tie.spec
-    (λ c. omega (arith, and-mask (c .args .code) 16))
-    (λ c. omega (arith, and-mask (c .args .code) 16))
-    (λ c. search needs)
-    (λ c. search needs)
-    add-t8
-    returns)
+    (tie.spec (λ c. omega (arith, and-mask (c .args .code) 16)) (λ c. omega (arith, and-mask (c .args .code) 16)) (λ c. search needs)
+    (λ c. search needs) (λ c. deviation-fits (R * (c .args .code / 2 ^ 16)) (omega (arith, c .pre))) returns)

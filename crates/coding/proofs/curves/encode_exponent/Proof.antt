@@ -19,28 +19,11 @@ small c =
 pub encode-exponent-spec : {M : Type 1} → statement M
 encode-exponent-spec =
     tie.close
-    (tie.spec
+    (tie.spec (λ c κs. search needs)
+    (λ c. let s = c .before .before in c .wrong-curve .ensures ∙ exponent-refused (before s) (s .args .place) (pos 10 *ℤ s .args .exponent) (follows-none (before s) (pos 10 *ℤ s .args .exponent) (below-zero (s .args .exponent) (rw (toZ-ofZ (s .fits .exponent)) at (c .before .if1 .taken)))))
     (λ c κs. search needs)
-    (λ c.
-    let s = c .before .before in
-    c .wrong-curve .ensures ∙ exponent-refused (before s) (s .args .place) (pos 10 *ℤ s .args .exponent) (follows-none (before s) (pos 10 *ℤ s .args .exponent) (below-zero (s .args .exponent) (rw (toZ-ofZ (s .fits .exponent)) at (c .before .if1 .taken)))))
+    (λ c. let s = c .before .before .before in c .wrong-curve2 .ensures ∙ exponent-refused (before s) (s .args .place) (pos 10 *ℤ s .args .exponent) (follows-none (before s) (pos 10 *ℤ s .args .exponent) (above-five (s .args .exponent) (rw (toZ-ofZ (s .fits .exponent)) at (c .before .if2 .taken)))))
+    (λ c κs. search needs) (λ c. search needs) (λ c. record { fits = omega (arith, small c) }) (λ c κs. search needs)
+    (λ c. let s = c .before .before .before .before .before in let z = toZ-ofZ (s .fits .exponent) in ap good (code (c .before)) ∙ exponent-taken (before s) (s .args .place) (s .args .exponent) (rw z at (c .before .before .before .before .if1 .left)) (rw z at (c .before .before .before .if2 .left)) (sym (c .if3 .taken) ∙ (c .before .exponent-follows .ensures ∙ ap (λ (n : ℕ). exponentFollows (before s) (tenthsOf n)) (code (c .before)))))
     (λ c κs. search needs)
-    (λ c.
-    let s = c .before .before .before in
-    c .wrong-curve2 .ensures ∙ exponent-refused (before s) (s .args .place) (pos 10 *ℤ s .args .exponent) (follows-none (before s) (pos 10 *ℤ s .args .exponent) (above-five (s .args .exponent) (rw (toZ-ofZ (s .fits .exponent)) at (c .before .if2 .taken)))))
-    (λ c κs. search needs)
-    (λ c. search needs)
-    (λ c. record { fits = omega (arith, small c) })
-    (λ c κs. search needs)
-    (λ c.
-    let s = c .before .before .before .before .before in
-    let z = toZ-ofZ (s .fits .exponent) in
-    ap good (code (c .before)) ∙ exponent-taken (before s) (s .args .place) (s .args .exponent) (rw z at (c .before .before .before .before .if1 .left)) (rw z at (c .before .before .before .if2 .left))
-    (sym (c .if3 .taken) ∙ (c .before .exponent-follows .ensures ∙ ap (λ (n : ℕ). exponentFollows (before s) (tenthsOf n)) (code (c .before)))))
-    (λ c κs. search needs)
-    (λ c.
-    let s = c .before .before .before .before .before .before in
-    let z = toZ-ofZ (s .fits .exponent) in
-    c .wrong-curve3 .ensures ∙
-    exponent-turned (before s) (s .args .place) (s .args .exponent) (rw z at (c .before .before .before .before .before .if1 .left)) (rw z at (c .before .before .before .before .if2 .left))
-    (sym (c .before .if3 .left) ∙ (c .before .before .exponent-follows .ensures ∙ ap (λ (n : ℕ). exponentFollows (before s) (tenthsOf n)) (code (c .before .before))))))
+    (λ c. let s = c .before .before .before .before .before .before in let z = toZ-ofZ (s .fits .exponent) in c .wrong-curve3 .ensures ∙ exponent-turned (before s) (s .args .place) (s .args .exponent) (rw z at (c .before .before .before .before .before .if1 .left)) (rw z at (c .before .before .before .before .if2 .left)) (sym (c .before .if3 .left) ∙ (c .before .before .exponent-follows .ensures ∙ ap (λ (n : ℕ). exponentFollows (before s) (tenthsOf n)) (code (c .before .before))))))

@@ -5,10 +5,6 @@ use Rattle.coding.proofs.decoding.plain.Tie as tie
 pub plain-spec : {M : Type 1} → statement M
 plain-spec =
     tie.close
-    (tie.spec
-    (λ c κs. search needs)
-    (λ c. search needs)
-    (λ c. turned _ (c .before .before .before .in-table .ensures) (c .before .r .given .1))
-    (λ c. search needs)
-    (λ c. search needs)
+    (tie.spec (λ c κs. search needs) (λ c. search needs) (λ c. turned _ (c .before .before .before .in-table .ensures) (c .before .r .given .1))
+    (λ c. search needs) (λ c. search needs)
     (λ c. rw (toZ-pos w64 {n = c .before .before .before .args .code} (omega arith)) (stood _ (c .before .before .in-table .ensures) (c .enum-told .given .1))))

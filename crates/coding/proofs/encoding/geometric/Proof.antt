@@ -18,14 +18,7 @@ number c =
 pub geometric-spec : {M : Type 1} → statement M
 geometric-spec =
     tie.close
-    (tie.spec
-    (λ c κs. search needs)
-    (λ c κs. search needs)
-    (λ c κs. search needs)
-    (λ c κs. search needs)
-    (λ c. rw (← (range (c .before .before)), c .before .if1 .taken) (c .out-of-range .ensures))
-    (λ c κs. search needs)
+    (tie.spec (λ c κs. search needs) (λ c κs. search needs) (λ c κs. search needs) (λ c κs. search needs)
+    (λ c. rw (← (range (c .before .before)), c .before .if1 .taken) (c .out-of-range .ensures)) (λ c κs. search needs)
     (λ c κs. rw (number c .0, ← (c .before .before .before .before .before .pre .1)) (number c .1))
-    (λ c.
-    let s = c .before .before .before .before .before .before in
-    rw (sym (range (c .before .before .before)) ∙ c .before .before .if1 .left) (ap good (c .stored-code .ensures ∙ rw (number (c .before) .0, s .pre .1)))))
+    (λ c. let s = c .before .before .before .before .before .before in rw (sym (range (c .before .before .before)) ∙ c .before .before .if1 .left) (ap good (c .stored-code .ensures ∙ rw (number (c .before) .0, s .pre .1)))))

@@ -6,8 +6,5 @@ pub missing-code-spec : {M : Type 1} → statement M
 unfolding encode
 missing-code-spec =
     tie.close
-    (tie.spec
-    (λ c κs. search needs)
-    (λ c. rw (c .before .if1 .taken, c .all-ones .ensures))
-    (λ c κs. search needs)
+    (tie.spec (λ c κs. search needs) (λ c. rw (c .before .if1 .taken, c .all-ones .ensures)) (λ c κs. search needs)
     (λ c. rw (c .before .if1 .left) (c .wrong-sort .ensures)))

@@ -8,14 +8,6 @@ range c = same-range (c .is-outside .ensures) (toZ-pos w64 {n = c .before .args 
 pub plain-spec : {M : Type 1} → statement M
 plain-spec =
     tie.close
-    (tie.spec
-    (λ c. search needs)
-    (λ c. search needs)
-    (λ c κs. search needs)
-    (λ c κs. search needs)
-    (λ c. rw (← (range (c .before .before)), c .before .if1 .taken) (c .out-of-range .ensures))
-    (λ c κs. search needs)
-    (λ c.
-    let s = c .before .before .before in
-    let inside = sym (range (c .before .before)) ∙ c .before .if1 .left in
-    rw inside (ap good (c .plus .ensures .0 ∙ (seen (s .fits .figure) .0 ∙ in-range (s .args .figure) (s .args .least) (s .args .greatest) inside .0)))))
+    (tie.spec (λ c. search needs) (λ c. search needs) (λ c κs. search needs) (λ c κs. search needs)
+    (λ c. rw (← (range (c .before .before)), c .before .if1 .taken) (c .out-of-range .ensures)) (λ c κs. search needs)
+    (λ c. let s = c .before .before .before in let inside = sym (range (c .before .before)) ∙ c .before .if1 .left in rw inside (ap good (c .plus .ensures .0 ∙ (seen (s .fits .figure) .0 ∙ in-range (s .args .figure) (s .args .least) (s .args .greatest) inside .0)))))

@@ -11,17 +11,8 @@ range c = same-range (c .is-outside .ensures) (toZ-ofZ (c .before .before .befor
 pub stepped-spec : {M : Type 1} → statement M
 stepped-spec =
     tie.close
-    (tie.spec
-    (λ c κs. search needs)
-    (λ c κs.
-    let s = c .before in
-    rw (toZ-ofZ (s .fits .start)) (s .pre .1 .1 .0, product (s .args .step) (s .args .width) (top-below (s .args .width) (c .top-code .ensures)) (s .pre .1 .1 .1)))
-    (λ c κs. search needs)
-    (λ c κs. search needs)
-    (λ c. rw (← (range (c .before .before)), c .before .if1 .taken) (c .out-of-range .ensures))
-    (λ c κs.
-    let s = c .before .before .before .before in
-    rw (toZ-ofZ (s .fits .figure), toZ-ofZ (s .fits .start)) (s .pre .1 .0, neither (ltZ (s .args .figure) (s .args .start)) _ (sym (range (c .before)) ∙ c .if1 .left) .0))
-    (λ c.
-    let s = c .before .before .before .before .before in
-    rw (sym (range (c .before .before)) ∙ c .before .if1 .left) (ap good (rw (toZ-ofZ (s .fits .figure), toZ-ofZ (s .fits .start)) at (c .step-code .ensures)))))
+    (tie.spec (λ c κs. search needs)
+    (λ c κs. let s = c .before in rw (toZ-ofZ (s .fits .start)) (s .pre .1 .1 .0, product (s .args .step) (s .args .width) (top-below (s .args .width) (c .top-code .ensures)) (s .pre .1 .1 .1)))
+    (λ c κs. search needs) (λ c κs. search needs) (λ c. rw (← (range (c .before .before)), c .before .if1 .taken) (c .out-of-range .ensures))
+    (λ c κs. let s = c .before .before .before .before in rw (toZ-ofZ (s .fits .figure), toZ-ofZ (s .fits .start)) (s .pre .1 .0, neither (ltZ (s .args .figure) (s .args .start)) _ (sym (range (c .before)) ∙ c .if1 .left) .0))
+    (λ c. let s = c .before .before .before .before .before in rw (sym (range (c .before .before)) ∙ c .before .if1 .left) (ap good (rw (toZ-ofZ (s .fits .figure), toZ-ofZ (s .fits .start)) at (c .step-code .ensures)))))

@@ -7,7 +7,5 @@ use Rattle.coding.proofs.encoding.swift_missing.Tie as tie
 pub swift-missing-spec : {M : Type 1} → statement M
 swift-missing-spec =
     tie.close
-    (tie.spec
-    (λ c κs. search needs)
-    (λ c κs. search needs)
+    (tie.spec (λ c κs. search needs) (λ c κs. search needs)
     (λ c. tells _ 0 _ _ _ (c .before .before .pre) tt (c .before .missing-code .ensures) (c .code-or-none .ensures)))

@@ -8,16 +8,6 @@ pub swift-single-spec : {M : Type 1} → statement M
 unfolding encode
 swift-single-spec =
     tie.close
-    (tie.spec
-    (λ c. search needs)
-    (λ c. search needs)
-    (λ c. search needs)
-    (λ c. search needs)
-    (λ c κs. search needs)
-    (λ c κs. search needs)
-    (λ c. λ h. absurd (omega (arith, h)))
-    (λ c. λ h. absurd (omega (arith, h)))
-    (λ c. λ h. absurd (omega (arith, h)))
-    (λ c.
-    let s = c .before .before .before .before in
-    tells (s .args .row) 0 (Single (s .args .x)) _ _ (s .pre) (search needs) (rw (c .before .before .enum-told4 .given .1) (c .before .bits .ensures)) (c .code-or-none .ensures)))
+    (tie.spec (λ c. search needs) (λ c. search needs) (λ c. search needs) (λ c. search needs) (λ c κs. search needs) (λ c κs. search needs)
+    (λ c. λ h. absurd (omega (arith, h))) (λ c. λ h. absurd (omega (arith, h))) (λ c. λ h. absurd (omega (arith, h)))
+    (λ c. let s = c .before .before .before .before in tells (s .args .row) 0 (Single (s .args .x)) _ _ (s .pre) (search needs) (rw (c .before .before .enum-told4 .given .1) (c .before .bits .ensures)) (c .code-or-none .ensures)))

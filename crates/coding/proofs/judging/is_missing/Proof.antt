@@ -5,7 +5,4 @@ use Rattle.coding.proofs.judging.is_missing.Tie as tie
 pub is-missing-spec : {M : Type 1} → statement M
 is-missing-spec =
     tie.close
-    (tie.spec
-    (λ c κs. search needs)
-    (λ c. rw (c .before .if1 .taken, c .all-ones .ensures))
-    (λ c. search needs))
+    (tie.spec (λ c κs. search needs) (λ c. rw (c .before .if1 .taken, c .all-ones .ensures)) (λ c. search needs))

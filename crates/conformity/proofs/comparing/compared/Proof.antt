@@ -32,14 +32,8 @@ returns c =
 pub compared-spec : {M : Type 1} → statement M
 compared-spec =
     tie.close
-    (tie.spec
-    (λ c. omega (arith, few c))
-    (λ c κs. search needs)
-    (λ c. omega (arith, few (c .before)))
-    slice-aggregate-stored
+    (tie.spec (λ c. omega (arith, few c)) (λ c κs. search needs) (λ c. omega (arith, few (c .before))) slice-aggregate-stored
     (λ c κs. (front-table (c .before), c .before .before .before .before .pre .1))
-    (λ c κs. (c .before .before .before .before .before .pre .1, front-table (c .before .before)))
-    (λ c κs. search needs)
-    (λ c. search needs)
+    (λ c κs. (c .before .before .before .before .before .pre .1, front-table (c .before .before))) (λ c κs. search needs) (λ c. search needs)
     (λ c. omega (arith, c .greater .ensures, c .before .greatest2 .ensures .1, c .before .before .greatest .ensures .1, c .before .before .before .before .before .before .before .pre .2))
     returns)

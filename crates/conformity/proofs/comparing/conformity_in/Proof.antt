@@ -29,14 +29,5 @@ conformity-to-requires c κs =
 pub conformity-in-spec : {M : Type 1} → statement M
 conformity-in-spec =
     tie.close
-    (tie.spec
-    (λ c. search needs)
-    (λ c κs. search needs)
-    (λ c. search needs)
-    (λ c κs. search needs)
-    (λ c. search needs)
-    (λ c. search needs)
-    conformity-to-requires
-    returns
-    returns-2
-    (λ c. c .conformity-to .ensures))
+    (tie.spec (λ c. search needs) (λ c κs. search needs) (λ c. search needs) (λ c κs. search needs) (λ c. search needs) (λ c. search needs)
+    conformity-to-requires returns returns-2 (λ c. c .conformity-to .ensures))

@@ -67,14 +67,5 @@ returns c =
 pub between-spec : {M : Type 1} → statement M
 between-spec =
     tie.close
-    (tie.spec
-    gap-requires
-    (λ c κs. search needs)
-    (λ c κs. search needs)
-    (λ c κs. search needs)
-    weighed-requires
-    (λ c κs. search needs)
-    (λ c κs. search needs)
-    weighed-requires-2
-    add-t14
-    returns)
+    (tie.spec gap-requires (λ c κs. search needs) (λ c κs. search needs) (λ c κs. search needs) weighed-requires (λ c κs. search needs)
+    (λ c κs. search needs) weighed-requires-2 add-t14 returns)

@@ -59,15 +59,5 @@ returns-4 c =
 pub correction-at-spec : {M : Type 1} → statement M
 correction-at-spec =
     tie.close
-    (tie.spec
-    returns
-    (λ c κs. search needs)
-    held-requires
-    returns-2
-    (λ c. search needs)
-    pair-at-requires-2
-    held-requires-2
-    returns-3
-    pair-at-requires-3
-    between-requires
-    returns-4)
+    (tie.spec returns (λ c κs. search needs) held-requires returns-2 (λ c. search needs) pair-at-requires-2 held-requires-2 returns-3
+    pair-at-requires-3 between-requires returns-4)

@@ -33,13 +33,8 @@ returns c =
 pub difference-spec : {M : Type 1} → statement M
 difference-spec =
     tie.close
-    (tie.spec
-    (λ c κs. search needs)
-    (λ c. omega (arith, above c, c .before .pre .1 .run))
-    (λ c. let s = c .before .before in omega (arith, above (c .before), s .pre .1 .run, s .pre .1 .below))
-    (λ c κs. search needs)
+    (tie.spec (λ c κs. search needs) (λ c. omega (arith, above c, c .before .pre .1 .run))
+    (λ c. let s = c .before .before in omega (arith, above (c .before), s .pre .1 .run, s .pre .1 .below)) (λ c κs. search needs)
     (λ c. omega (arith, below c, c .before .before .before .pre .1 .run))
-    (λ c. let s = c .before .before .before .before in omega (arith, below (c .before), s .pre .1 .run, s .pre .1 .above))
-    (λ c κs. search needs)
-    upward-requires
-    returns)
+    (λ c. let s = c .before .before .before .before in omega (arith, below (c .before), s .pre .1 .run, s .pre .1 .above)) (λ c κs. search needs)
+    upward-requires returns)

@@ -10,9 +10,6 @@ Inv-loop points from p count n₀ n = Passed points (toZ w64 p) n
 abbrev μ-loop : tie.MeasureT-loop
 μ-loop points from p count n₀ n = length points / 2 - n
 
-loop-holds : tie.Need-loop-holds Inv-loop μ-loop
-loop-holds c = rw (toZ-ofZ (c .fits .p)) (record { most = c .pre .0; below = c .pre .1 })
-
 returns : tie.Need-returns Inv-loop μ-loop
 returns c =
     let l = c .before .before .before in
@@ -36,15 +33,5 @@ returns-2 c =
 pub passed-spec : {M : Type 1} → statement M
 passed-spec =
     tie.close
-    (tie.spec
-    Inv-loop
-    μ-loop
-    loop-holds
-    (λ c. search needs)
-    (λ c. search needs)
-    (λ c. search needs)
-    returns
-    (λ c. search needs)
-    (λ c. search needs)
-    loop-again
-    returns-2)
+    (tie.spec Inv-loop μ-loop (λ c. rw (toZ-ofZ (c .fits .p)) (record { most = c .pre .0; below = c .pre .1 })) (λ c. search needs)
+    (λ c. search needs) (λ c. search needs) returns (λ c. search needs) (λ c. search needs) loop-again returns-2)

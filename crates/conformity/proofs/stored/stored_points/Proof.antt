@@ -11,9 +11,6 @@ Inv-loop sheet image count room₀ i₀ room i =
 abbrev μ-loop : tie.MeasureT-loop
 μ-loop sheet image count room₀ i₀ room i = sheet .summary .points - i
 
-loop-holds : tie.Need-loop-holds Inv-loop μ-loop
-loop-holds c = (omega arith, refl, λ kind x h k l. absurd (omega arith))
-
 -- There is room for the pair.
 fits : (c : tie.In-loop Inv-loop μ-loop) → 2 * c .before .loop .i + 1 < 254
 fits c = omega (arith, c .loop-test .taken, points-few (c .before .before .before .before .pre .opens))
@@ -44,18 +41,8 @@ returns c =
 pub stored-points-spec : {M : Type 1} → statement M
 stored-points-spec =
     tie.close
-    (tie.spec
-    Inv-loop
-    μ-loop
-    loop-holds
-    (λ c κs. search needs)
-    (λ c. omega (arith, fits (c .before)))
-    (λ c. omega (arith, fits (c .before .before .before)))
-    (λ c. omega (arith, fits (c .before .before .before)))
-    (λ c. omega (arith, fits (c .before .before .before)))
-    (λ c. omega (arith, fits (c .before .before .before)))
-    (λ c. omega (arith, fits (c .before .before .before)))
-    (λ c. omega (arith, fits (c .before .before .before)))
-    (λ c. omega (arith, c .before .before .before .loop-test .taken))
-    loop-again
-    returns)
+    (tie.spec Inv-loop μ-loop (λ c. (omega arith, refl, λ kind x h k l. absurd (omega arith))) (λ c κs. search needs)
+    (λ c. omega (arith, fits (c .before))) (λ c. omega (arith, fits (c .before .before .before)))
+    (λ c. omega (arith, fits (c .before .before .before))) (λ c. omega (arith, fits (c .before .before .before)))
+    (λ c. omega (arith, fits (c .before .before .before))) (λ c. omega (arith, fits (c .before .before .before)))
+    (λ c. omega (arith, fits (c .before .before .before))) (λ c. omega (arith, c .before .before .before .loop-test .taken)) loop-again returns)

@@ -31,14 +31,6 @@ returns-3 c =
 pub distance-spec : {M : Type 1} → statement M
 distance-spec =
     tie.close
-    (tie.spec
-    (λ c κs. search needs)
-    (λ c κs. search needs)
-    returns
-    (λ c κs. search needs)
-    (λ c. search needs)
-    (λ c. search needs)
+    (tie.spec (λ c κs. search needs) (λ c κs. search needs) returns (λ c κs. search needs) (λ c. search needs) (λ c. search needs)
     (λ c κs. table-steps Electrical (pairsLent (c .before .before .before .before .before .args .points .now)) _ (table c))
-    (λ c κs. c .steepest .ensures .1)
-    returns-2
-    returns-3)
+    (λ c κs. c .steepest .ensures .1) returns-2 returns-3)

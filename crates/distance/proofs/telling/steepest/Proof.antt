@@ -42,14 +42,5 @@ returns c =
 pub steepest-spec : {M : Type 1} → statement M
 steepest-spec =
     tie.close
-    (tie.spec
-    Inv-loop
-    μ-loop
-    (λ c. (search needs, search needs, c .pre, omega arith))
-    (λ c. omega arith)
-    slope-at-requires
-    (λ c κs. search needs)
-    (λ c. omega arith)
-    (λ c. omega arith)
-    loop-again
-    returns)
+    (tie.spec Inv-loop μ-loop (λ c. (search needs, search needs, c .pre, omega arith)) (λ c. omega arith) slope-at-requires (λ c κs. search needs)
+    (λ c. omega arith) (λ c. omega arith) loop-again returns)

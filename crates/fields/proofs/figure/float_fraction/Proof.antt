@@ -7,6 +7,5 @@ pub float-fraction-spec : {M : Type 1} → statement M
 unfolding floatFraction
 float-fraction-spec =
     tie.close
-    (tie.spec
-    (λ c. rw (toZ-ofZ (c .before .fits .q)) (in-float (c .before .args .q) (c .before .pre)))
+    (tie.spec (λ c. rw (toZ-ofZ (c .before .fits .q)) (in-float (c .before .args .q) (c .before .pre)))
     (λ c. rw (toZ-ofZ (c .before .fits .q), billion-is)))

@@ -6,7 +6,5 @@ use Rattle.fields.proofs.limits.top_code.Tie as tie
 pub top-code-spec : {M : Type 1} → statement M
 top-code-spec =
     tie.close
-    (tie.spec
-    (λ c. search needs)
-    (λ c. rw (shifted (c .args .width) (c .pre .1)) (two-codes (c .args .width) (c .pre .0)))
+    (tie.spec (λ c. search needs) (λ c. rw (shifted (c .args .width) (c .pre .1)) (two-codes (c .args .width) (c .pre .0)))
     (λ c. rw (shifted (c .args .width) (c .pre .1))))

@@ -11,20 +11,11 @@ pub bits-before-spec : {M : Type 1} → statement M
 unfolding basic template33 template32 linesOf
 bits-before-spec =
     tie.close
-    (tie.spec
-    (λ c. search needs)
-    (λ c κs. (c .before .before .pre .0, rw (c .enum-told .given .1) at (c .before .before .pre .1)))
-    (λ c κs. search needs)
-    (λ c κs. rw (c .bridge-end .ensures) (bridge-sound (c .before .before .before .before .args .layout .precision) .most))
-    (λ c. search needs)
-    (λ c. search needs)
-    (λ c κs. (c .before .before .pre .0, rw (c .enum-told2 .given .1) at (c .before .before .pre .1)))
+    (tie.spec (λ c. search needs) (λ c κs. (c .before .before .pre .0, rw (c .enum-told .given .1) at (c .before .before .pre .1)))
+    (λ c κs. search needs) (λ c κs. rw (c .bridge-end .ensures) (bridge-sound (c .before .before .before .before .args .layout .precision) .most))
+    (λ c. search needs) (λ c. search needs) (λ c κs. (c .before .before .pre .0, rw (c .enum-told2 .given .1) at (c .before .before .pre .1)))
     (λ c κs. search needs)
     (λ c κs. rw (c .resistance-end .ensures) (resistance-sound (c .before .before .before .before .args .layout .precision) .most))
     (λ c. search needs)
-    (λ c.
-    rw (c .before .before .before .enum-told .given .1)
-    (placed _ _ (c .before .before .bridge-bits .ensures .0 _) (c .before .bridge-end .ensures) (c .ends-before .ensures .0)))
-    (λ c.
-    rw (c .before .before .before .enum-told2 .given .1)
-    (placed _ _ (c .before .before .resistance-bits .ensures .0 _) (c .before .resistance-end .ensures) (c .ends-before2 .ensures .0))))
+    (λ c. rw (c .before .before .before .enum-told .given .1) (placed _ _ (c .before .before .bridge-bits .ensures .0 _) (c .before .bridge-end .ensures) (c .ends-before .ensures .0)))
+    (λ c. rw (c .before .before .before .enum-told2 .given .1) (placed _ _ (c .before .before .resistance-bits .ensures .0 _) (c .before .resistance-end .ensures) (c .ends-before2 .ensures .0))))

@@ -8,8 +8,7 @@ pub bridge-mark-spec : {M : Type 1} → statement M
 unfolding basic template33 linesOf
 bridge-mark-spec =
     tie.close
-    (tie.spec
-    (λ c. mark-in Bridge Id 1 5 tt (c .before .args .field) (omega arith) (omega arith))
+    (tie.spec (λ c. mark-in Bridge Id 1 5 tt (c .before .args .field) (omega arith) (omega arith))
     (λ c. mark-in Bridge Cal 7 4 tt (c .before .before .args .field) (omega arith) (omega arith))
     (λ c. mark-in Bridge Id 12 5 tt (c .before .before .before .args .field) (omega arith) (omega arith))
     (λ c. mark-in Bridge Cal 18 2 tt (c .before .before .before .before .args .field) (omega arith) (omega arith))

@@ -8,8 +8,7 @@ pub resistance-mark-spec : {M : Type 1} → statement M
 unfolding basic template32 linesOf
 resistance-mark-spec =
     tie.close
-    (tie.spec
-    (λ c. mark-in Resistance Id 1 5 tt (c .before .args .field) (omega arith) (omega arith))
+    (tie.spec (λ c. mark-in Resistance Id 1 5 tt (c .before .args .field) (omega arith) (omega arith))
     (λ c. mark-in Resistance Cal 7 4 tt (c .before .before .args .field) (omega arith) (omega arith))
     (λ c. mark-in Resistance Id 12 1 tt (c .before .before .before .args .field) (omega arith) (omega arith))
     (λ c. mark-in Resistance Cal 14 0 tt (c .before .before .before .before .args .field) (omega arith) (omega arith))

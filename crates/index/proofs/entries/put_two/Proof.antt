@@ -4,9 +4,6 @@ use Rattle.index.proofs.Laying.{two-laid}
 use Rattle.index.proofs.entries.put_two.Statement.{statement}
 use Rattle.index.proofs.entries.put_two.Tie as tie
 
-slice-write-index-2 : tie.Need-slice-write-index-2
-slice-write-index-2 c = simp length-set (omega arith)
-
 returns : tie.Need-returns
 returns c =
     let a = c .before .before .before .args in
@@ -15,11 +12,5 @@ returns c =
 pub put-two-spec : {M : Type 1} → statement M
 put-two-spec =
     tie.close
-    (tie.spec
-    (λ c κs. search needs)
-    (λ c. search needs)
-    (λ c κs. search needs)
-    (λ c. search needs)
-    slice-write-index-2
-    (λ c. search needs)
-    returns)
+    (tie.spec (λ c κs. search needs) (λ c. search needs) (λ c κs. search needs) (λ c. search needs) (λ c. simp length-set (omega arith))
+    (λ c. search needs) returns)

@@ -4,9 +4,6 @@ use Rattle.index.proofs.FetchLaws.{bits-past, bits-fit, bits-decoded}
 use Rattle.index.proofs.fetching.bits_at.Statement.{statement}
 use Rattle.index.proofs.fetching.bits_at.Tie as tie
 
-take-requires : tie.Need-take-requires
-take-requires c κs = search needs
-
 decode-requires : tie.Need-decode-requires
 decode-requires c κs =
     let t = c .before .before .before in
@@ -37,14 +34,5 @@ returns-3 c =
 pub bits-at-spec : {M : Type 1} → statement M
 bits-at-spec =
     tie.close
-    (tie.spec
-    take-requires
-    (λ c. search needs)
-    (λ c κs. search needs)
-    (λ c. search needs)
-    decode-requires
-    (λ c. search needs)
-    (λ c. search needs)
-    returns
-    returns-2
-    returns-3)
+    (tie.spec (λ c κs. search needs) (λ c. search needs) (λ c κs. search needs) (λ c. search needs) decode-requires (λ c. search needs)
+    (λ c. search needs) returns returns-2 returns-3)

@@ -10,12 +10,6 @@ Inv-loop template field entry precision₀ precision = (precision ≤ 4) × (len
 abbrev μ-loop : tie.MeasureT-loop
 μ-loop template field entry precision₀ precision = 4 - precision
 
-loop-holds : tie.Need-loop-holds Inv-loop μ-loop
-loop-holds c = (search needs, refl)
-
-row-of-requires : tie.Need-row-of-requires Inv-loop μ-loop
-row-of-requires c κs = search needs
-
 returns : tie.Need-returns Inv-loop μ-loop
 returns c =
     let a = c .before .before .before .before .before .before .args in
@@ -24,12 +18,6 @@ returns c =
     ap good row
     ∙ length-found (lineOf (a .template) (a .field)) (a .entry) (l .precision) (c .before .before .before .before .loop-test .taken) (sym (ap (λ r. r .width) row) ∙ c .if1 .taken)
     ∙ l .inv .1
-
-add-precision : tie.Need-add-precision Inv-loop μ-loop
-add-precision c = search needs
-
-loop-less : tie.Need-loop-less Inv-loop μ-loop
-loop-less c = search needs
 
 loop-again : tie.Need-loop-again Inv-loop μ-loop
 loop-again c =
@@ -51,14 +39,5 @@ returns-2 c =
 pub row-of-length-spec : {M : Type 1} → statement M
 row-of-length-spec =
     tie.close
-    (tie.spec
-    Inv-loop
-    μ-loop
-    loop-holds
-    row-of-requires
-    returns
-    add-precision
-    loop-less
-    loop-again
-    (λ c κs. search needs)
-    returns-2)
+    (tie.spec Inv-loop μ-loop (λ c. (search needs, refl)) (λ c κs. search needs) returns (λ c. search needs) (λ c. search needs) loop-again
+    (λ c κs. search needs) returns-2)

@@ -59,17 +59,5 @@ returns-3 c =
 pub make-index-spec : {M : Type 1} → statement M
 make-index-spec =
     tie.close
-    (tie.spec
-    (λ c κs. search needs)
-    (λ c. search needs)
-    (λ c. search needs)
-    (λ c κs. search needs)
-    add-count
-    mul-if1
-    mul-short-index
-    (λ c κs. search needs)
-    returns
-    write-entries-requires
-    returns-2
-    (λ c. search needs)
-    returns-3)
+    (tie.spec (λ c κs. search needs) (λ c. search needs) (λ c. search needs) (λ c κs. search needs) add-count mul-if1 mul-short-index
+    (λ c κs. search needs) returns write-entries-requires returns-2 (λ c. search needs) returns-3)

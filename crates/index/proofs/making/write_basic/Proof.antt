@@ -14,12 +14,6 @@ Inv-loop buffer₀ last cursor₀ i₀ buffer cursor i =
 abbrev μ-loop : tie.MeasureT-loop
 μ-loop buffer₀ last cursor₀ i₀ buffer cursor i = last - i
 
-loop-holds : tie.Need-loop-holds Inv-loop μ-loop
-loop-holds c = (omega arith, refl, λ layout. (c .start .ensures ∙ none-before layout, refl))
-
-basic-row-requires : tie.Need-basic-row-requires Inv-loop μ-loop
-basic-row-requires c κs = omega (arith, c .before .before .before .basic-fields .ensures)
-
 over-requires : tie.Need-over-requires Inv-loop μ-loop
 over-requires c κs =
     let l = c .before .before in
@@ -32,9 +26,6 @@ over-requires c κs =
       field-next layout i (omega (arith, basic-most Bridge)) (c .basic-row .ensures layout),
       place-few layout (i + 1),
     )
-
-put-entry-requires : tie.Need-put-entry-requires Inv-loop μ-loop
-put-entry-requires c κs = omega (arith, c .before .before .before .before .before .before .basic-fields .ensures)
 
 loop-again : tie.Need-loop-again Inv-loop μ-loop
 loop-again c =
@@ -64,19 +55,9 @@ returns c layout =
 pub write-basic-spec : {M : Type 1} → statement M
 write-basic-spec =
     tie.close
-    (tie.spec
-    Inv-loop
-    μ-loop
-    (λ c κs. search needs)
-    (λ c κs. search needs)
-    loop-holds
+    (tie.spec Inv-loop μ-loop (λ c κs. search needs) (λ c κs. search needs)
+    (λ c. (omega arith, refl, λ layout. (c .start .ensures ∙ none-before layout, refl)))
     (λ c. omega (arith, c .before .before .before .basic-fields .ensures, basic-most Bridge, last-most Bridge))
-    basic-row-requires
-    over-requires
-    (λ c. search needs)
-    put-entry-requires
-    (λ c. search needs)
-    (λ c. search needs)
-    loop-again
-    (λ c. search needs)
-    returns)
+    (λ c κs. omega (arith, c .before .before .before .basic-fields .ensures)) over-requires (λ c. search needs)
+    (λ c κs. omega (arith, c .before .before .before .before .before .before .basic-fields .ensures)) (λ c. search needs) (λ c. search needs)
+    loop-again (λ c. search needs) returns)

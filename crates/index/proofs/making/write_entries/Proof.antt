@@ -4,9 +4,6 @@ use Rattle.index.proofs.Laying.{first-over, first-begun}
 use Rattle.index.proofs.making.write_entries.Statement.{statement}
 use Rattle.index.proofs.making.write_entries.Tie as tie
 
-write-basic-requires : tie.Need-write-basic-requires
-write-basic-requires c κs = omega (arith, basic-most (c .before .before .args .layout .template))
-
 write-own-requires : tie.Need-write-own-requires
 write-own-requires c κs =
     let first = c .before .before .before in
@@ -36,9 +33,5 @@ returns c =
 pub write-entries-spec : {M : Type 1} → statement M
 write-entries-spec =
     tie.close
-    (tie.spec
-    write-basic-requires
-    write-own-requires
-    write-points-requires
-    (λ c. search needs)
-    returns)
+    (tie.spec (λ c κs. omega (arith, basic-most (c .before .before .args .layout .template))) write-own-requires write-points-requires
+    (λ c. search needs) returns)

@@ -34,12 +34,5 @@ returns-2 c =
 pub write-own-spec : {M : Type 1} → statement M
 write-own-spec =
     tie.close
-    (tie.spec
-    (λ c. search needs)
-    write-bridge-requires
-    (λ c. search needs)
-    write-resistance-requires
-    (λ c. search needs)
-    returns
-    (λ c. search needs)
+    (tie.spec (λ c. search needs) write-bridge-requires (λ c. search needs) write-resistance-requires (λ c. search needs) returns (λ c. search needs)
     returns-2)

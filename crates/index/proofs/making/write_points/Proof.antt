@@ -23,9 +23,6 @@ loop-holds c = (
   λ layout e place begun. begun ∙ ap (λ (k : ℕ). laid (c .before .before .before .args .buffer .now) 0 (entryBytes (firstEntries layout k))) (sym e),
 )
 
-locate-pair-requires : tie.Need-locate-pair-requires Inv-loop μ-loop
-locate-pair-requires c κs = let b = c .before in (omega (arith, b .pre .0 .0, end-few (b .args .layout)), omega arith)
-
 over-requires : tie.Need-over-requires Inv-loop μ-loop
 over-requires c κs =
     let l = c .before in
@@ -61,17 +58,6 @@ returns c =
 pub write-points-spec : {M : Type 1} → statement M
 write-points-spec =
     tie.close
-    (tie.spec
-    Inv-loop
-    μ-loop
-    locate-pair-requires
-    (λ c κs. search needs)
-    loop-holds
-    over-requires
-    (λ c. search needs)
-    (λ c κs. search needs)
-    (λ c. search needs)
-    (λ c. search needs)
-    loop-again
-    (λ c. search needs)
-    returns)
+    (tie.spec Inv-loop μ-loop (λ c κs. let b = c .before in (omega (arith, b .pre .0 .0, end-few (b .args .layout)), omega arith))
+    (λ c κs. search needs) loop-holds over-requires (λ c. search needs) (λ c κs. search needs) (λ c. search needs) (λ c. search needs) loop-again
+    (λ c. search needs) returns)

@@ -11,8 +11,5 @@ returns c =
 pub fields-end-spec : {M : Type 1} → statement M
 fields-end-spec =
     tie.close
-    (tie.spec
-    (λ c κs. search needs)
-    (λ c. omega (arith, c .last-field .ensures, last-most (c .before .args .layout .template)))
-    (λ c κs. omega (arith, c .last-field .ensures))
-    returns)
+    (tie.spec (λ c κs. search needs) (λ c. omega (arith, c .last-field .ensures, last-most (c .before .args .layout .template)))
+    (λ c κs. omega (arith, c .last-field .ensures)) returns)

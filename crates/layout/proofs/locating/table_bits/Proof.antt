@@ -6,8 +6,5 @@ use Rattle.layout.proofs.locating.table_bits.Tie as tie
 pub table-bits-spec : {M : Type 1} → statement M
 table-bits-spec =
     tie.close
-    (tie.spec
-    (λ c. sym (ap tableBits (c .if1 .taken)))
-    (λ c. search needs)
-    (λ c. search needs)
+    (tie.spec (λ c. sym (ap tableBits (c .if1 .taken))) (λ c. search needs) (λ c. search needs)
     (λ c. table-some (c .before .args .points) (c .if1 .left)))

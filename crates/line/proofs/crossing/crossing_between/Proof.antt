@@ -55,13 +55,5 @@ returns c =
 pub crossing-between-spec : {M : Type 1} → statement M
 crossing-between-spec =
     tie.close
-    (tie.spec
-    (λ c κs. search needs)
-    gap-requires
-    (λ c κs. search needs)
-    gap-requires-2
-    gap-requires-3
-    (λ c. omega (arith, gaps c .fits))
-    (λ c κs. (gaps c .some, omega (arith, gaps c .fits)))
-    onward-requires
-    returns)
+    (tie.spec (λ c κs. search needs) gap-requires (λ c κs. search needs) gap-requires-2 gap-requires-3 (λ c. omega (arith, gaps c .fits))
+    (λ c κs. (gaps c .some, omega (arith, gaps c .fits))) onward-requires returns)

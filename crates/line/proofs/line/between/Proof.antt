@@ -17,15 +17,6 @@ gap-requires c κs =
     let s = c .before in
     told-≤ (sfits-of (c .struct-told .given .0 .1)) (s .fits .p) (less (s .args .before .point) (s .args .p) (s .pre .past))
 
-gap-requires-2 : tie.Need-gap-requires-2
-gap-requires-2 c κs = search needs
-
-plus-requires : tie.Need-plus-requires
-plus-requires c κs = search needs
-
-plus-requires-2 : tie.Need-plus-requires-2
-plus-requires-2 c κs = search needs
-
 weighed-requires : tie.Need-weighed-requires
 weighed-requires c κs =
     let h = c .before .before .before .before .before .before .before .before .pre in
@@ -36,12 +27,6 @@ weighed-requires c κs =
       second = omega (arith, c .plus2 .ensures .0, s .0, t .0);
       run = distances (c .before .before .before .before) .run .1;
     }
-
-minus-requires : tie.Need-minus-requires
-minus-requires c κs = search needs
-
-minus-requires-2 : tie.Need-minus-requires-2
-minus-requires-2 c κs = search needs
 
 weighed-requires-2 : tie.Need-weighed-requires-2
 weighed-requires-2 c κs =
@@ -76,15 +61,5 @@ returns c =
 pub between-spec : {M : Type 1} → statement M
 between-spec =
     tie.close
-    (tie.spec
-    gap-requires
-    gap-requires-2
-    plus-requires
-    plus-requires-2
-    weighed-requires
-    minus-requires
-    minus-requires-2
-    weighed-requires-2
-    add-nearest
-    nearest-requires
-    returns)
+    (tie.spec gap-requires (λ c κs. search needs) (λ c κs. search needs) (λ c κs. search needs) weighed-requires (λ c κs. search needs)
+    (λ c κs. search needs) weighed-requires-2 add-nearest nearest-requires returns)

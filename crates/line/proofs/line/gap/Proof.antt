@@ -12,39 +12,8 @@ made c =
     (told-dn (s .fits .a) (c .before .minus2 .ensures))
     (told-up (s .fits .b) (c .plus2 .ensures))
 
-plus-requires : tie.Need-plus-requires
-plus-requires c κs = search needs
-
-minus-requires : tie.Need-minus-requires
-minus-requires c κs = search needs
-
-add-result : tie.Need-add-result
-add-result c = search needs
-
-minus-requires-2 : tie.Need-minus-requires-2
-minus-requires-2 c κs = search needs
-
-plus-requires-2 : tie.Need-plus-requires-2
-plus-requires-2 c κs = search needs
-
-add-result-2 : tie.Need-add-result-2
-add-result-2 c = search needs
-
-sub-result : tie.Need-sub-result
-sub-result c = made c .0
-
-returns : tie.Need-returns
-returns c = made c .1
-
 pub gap-spec : {M : Type 1} → statement M
 gap-spec =
     tie.close
-    (tie.spec
-    plus-requires
-    minus-requires
-    add-result
-    minus-requires-2
-    plus-requires-2
-    add-result-2
-    sub-result
-    returns)
+    (tie.spec (λ c κs. search needs) (λ c κs. search needs) (λ c. search needs) (λ c κs. search needs) (λ c κs. search needs) (λ c. search needs)
+    (λ c. made c .0) (λ c. made c .1))

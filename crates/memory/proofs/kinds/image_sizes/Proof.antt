@@ -4,27 +4,6 @@ use Rattle.memory.proofs.Chips.{sizes-kind, sizes-others}
 use Rattle.memory.proofs.kinds.image_sizes.Statement.{statement}
 use Rattle.memory.proofs.kinds.image_sizes.Tie as tie
 
-fitting-requires : tie.Need-fitting-requires
-fitting-requires c κs = search needs
-
-fitting-requires-2 : tie.Need-fitting-requires-2
-fitting-requires-2 c κs = search needs
-
-fitting-requires-3 : tie.Need-fitting-requires-3
-fitting-requires-3 c κs = search needs
-
-wrong-image-requires : tie.Need-wrong-image-requires
-wrong-image-requires c κs = search needs
-
-returns : tie.Need-returns
-returns c = rw (c .before .match .keys1) (c .fitting .ensures ∙ sym (sizes-kind 0 _ _ refl))
-
-returns-2 : tie.Need-returns-2
-returns-2 c = rw (c .before .match .keys2) (c .fitting2 .ensures ∙ sym (sizes-kind 1 _ _ refl))
-
-returns-3 : tie.Need-returns-3
-returns-3 c = rw (c .before .match .keys3) (c .fitting3 .ensures ∙ sym (sizes-kind 2 _ _ refl))
-
 returns-4 : tie.Need-returns-4
 returns-4 c =
     let h = c .before .match .rest in
@@ -33,12 +12,7 @@ returns-4 c =
 pub image-sizes-spec : {M : Type 1} → statement M
 image-sizes-spec =
     tie.close
-    (tie.spec
-    fitting-requires
-    fitting-requires-2
-    fitting-requires-3
-    wrong-image-requires
-    returns
-    returns-2
-    returns-3
-    returns-4)
+    (tie.spec (λ c κs. search needs) (λ c κs. search needs) (λ c κs. search needs) (λ c κs. search needs)
+    (λ c. rw (c .before .match .keys1) (c .fitting .ensures ∙ sym (sizes-kind 0 _ _ refl)))
+    (λ c. rw (c .before .match .keys2) (c .fitting2 .ensures ∙ sym (sizes-kind 1 _ _ refl)))
+    (λ c. rw (c .before .match .keys3) (c .fitting3 .ensures ∙ sym (sizes-kind 2 _ _ refl))) returns-4)

@@ -9,24 +9,12 @@ Inv-loop bytes i₀ i = (i ≤ length bytes) × (allFF (drop i bytes) ≡ allFF 
 abbrev μ-loop : tie.MeasureT-loop
 μ-loop bytes i₀ i = length bytes - i
 
-loop-holds : tie.Need-loop-holds Inv-loop μ-loop
-loop-holds c = search needs
-
-shared-slice-read-if1 : tie.Need-shared-slice-read-if1 Inv-loop μ-loop
-shared-slice-read-if1 c = search needs
-
 returns : tie.Need-returns Inv-loop μ-loop
 returns c =
     let bytes = c .before .before .before .before .args .bytes .now in
     let i = c .before .before .before .loop .i in
     sym (ap allFF (drop-cons bytes i 0 (omega arith)) ∙ ap (λ (b : Bool). b && allFF (drop (suc i) bytes)) (ne-eqb (getD bytes i 0) 255 (λ e. c .if1 .taken e)))
     ∙ c .before .before .before .loop .inv .1
-
-add-i : tie.Need-add-i Inv-loop μ-loop
-add-i c = search needs
-
-loop-less : tie.Need-loop-less Inv-loop μ-loop
-loop-less c = search needs
 
 loop-again : tie.Need-loop-again Inv-loop μ-loop
 loop-again c =
@@ -47,13 +35,4 @@ returns-2 c =
 pub all-ff-spec : {M : Type 1} → statement M
 all-ff-spec =
     tie.close
-    (tie.spec
-    Inv-loop
-    μ-loop
-    loop-holds
-    shared-slice-read-if1
-    returns
-    add-i
-    loop-less
-    loop-again
-    returns-2)
+    (tie.spec Inv-loop μ-loop (λ c. search needs) (λ c. search needs) returns (λ c. search needs) (λ c. search needs) loop-again returns-2)

@@ -4,24 +4,6 @@ use Rattle.memory.proofs.PageParts.{chip, part-none, part-past, part-pa
 use Rattle.memory.proofs.pages.page_bytes.Statement.{statement}
 use Rattle.memory.proofs.pages.page_bytes.Tie as tie
 
-image-sizes-requires : tie.Need-image-sizes-requires
-image-sizes-requires c κs = search needs
-
-enum-known-sizes : tie.Need-enum-known-sizes
-enum-known-sizes c = search needs
-
-enum-told : tie.Need-enum-told
-enum-told c = search needs
-
-sub-result : tie.Need-sub-result
-sub-result c = search needs
-
-part-result-start : tie.Need-part-result-start
-part-result-start c = search needs
-
-part-result-end : tie.Need-part-result-end
-part-result-end c = search needs
-
 returns : tie.Need-returns
 returns c =
     let a = c .before .before .before .before .before .args in
@@ -56,12 +38,6 @@ add-end c =
     let h = chip (a .kind) (a .image .now) (s .result) (s .ensures) _ (c .before .before .before .sizes .given .1) in
     omega arith
 
-sub-result-2 : tie.Need-sub-result-2
-sub-result-2 c = search needs
-
-part-result-start-2 : tie.Need-part-result-start-2
-part-result-start-2 c = search needs
-
 part-result-end-2 : tie.Need-part-result-end-2
 part-result-end-2 c =
     let a = c .before .before .before .before .before .before .before .args in
@@ -75,15 +51,6 @@ returns-2 c =
     let s = c .before .before .before .before .before .before .image-sizes in
     part-page (a .kind) (a .image .now) (s .result) (s .ensures) (a .page) _ (c .before .before .before .before .sizes .given .1) (c .before .before .if1 .taken)
 
-sub-result-3 : tie.Need-sub-result-3
-sub-result-3 c = search needs
-
-part-result-start-3 : tie.Need-part-result-start-3
-part-result-start-3 c = search needs
-
-part-result-end-3 : tie.Need-part-result-end-3
-part-result-end-3 c = search needs
-
 returns-3 : tie.Need-returns-3
 returns-3 c =
     let a = c .before .before .before .before .before .before .before .args in
@@ -93,23 +60,6 @@ returns-3 c =
 pub page-bytes-spec : {M : Type 1} → statement M
 page-bytes-spec =
     tie.close
-    (tie.spec
-    image-sizes-requires
-    enum-known-sizes
-    enum-told
-    sub-result
-    part-result-start
-    part-result-end
-    returns
-    mul-from
-    add-from
-    add-from-2
-    add-end
-    sub-result-2
-    part-result-start-2
-    part-result-end-2
-    returns-2
-    sub-result-3
-    part-result-start-3
-    part-result-end-3
-    returns-3)
+    (tie.spec (λ c κs. search needs) (λ c. search needs) (λ c. search needs) (λ c. search needs) (λ c. search needs) (λ c. search needs) returns
+    mul-from add-from add-from-2 add-end (λ c. search needs) (λ c. search needs) part-result-end-2 returns-2 (λ c. search needs) (λ c. search needs)
+    (λ c. search needs) returns-3)

@@ -4,16 +4,10 @@ use Rattle.memory.proofs.SumLaws.{test-blank, test-good, test-wrong}
 use Rattle.memory.proofs.pages.test_page.Statement.{statement}
 use Rattle.memory.proofs.pages.test_page.Tie as tie
 
-is-blank-requires : tie.Need-is-blank-requires
-is-blank-requires c κs = search needs
-
 returns : tie.Need-returns
 returns c =
     let a = c .before .before .before .args in
     sym (test-blank (a .sizes) (a .image .now) (a .page) (sym (c .before .is-blank .ensures) ∙ c .if1 .taken))
-
-page-sum-requires : tie.Need-page-sum-requires
-page-sum-requires c κs = search needs
 
 returns-2 : tie.Need-returns-2
 returns-2 c =
@@ -30,4 +24,4 @@ returns-3 c =
     (λ e. c .if2 .left (c .before .page-sum .ensures ∙ e)))
 
 pub test-page-spec : {M : Type 1} → statement M
-test-page-spec = tie.close (tie.spec is-blank-requires returns page-sum-requires returns-2 returns-3)
+test-page-spec = tie.close (tie.spec (λ c κs. search needs) returns (λ c κs. search needs) returns-2 returns-3)

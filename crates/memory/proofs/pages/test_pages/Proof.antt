@@ -10,9 +10,6 @@ Inv-loop sizes image pages page₀ page = (page ≤ pages) × (sumsFrom sizes im
 abbrev μ-loop : tie.MeasureT-loop
 μ-loop sizes image pages page₀ page = pages - page
 
-loop-holds : tie.Need-loop-holds Inv-loop μ-loop
-loop-holds c = (search needs, simp sub-zero)
-
 returns : tie.Need-returns Inv-loop μ-loop
 returns c =
     let a = c .before .before .before .before .before .before .args in
@@ -43,14 +40,5 @@ returns-2 c =
 pub test-pages-spec : {M : Type 1} → statement M
 test-pages-spec =
     tie.close
-    (tie.spec
-    Inv-loop
-    μ-loop
-    loop-holds
-    (λ c κs. search needs)
-    (λ c κs. search needs)
-    returns
-    (λ c. search needs)
-    (λ c. search needs)
-    loop-again
-    returns-2)
+    (tie.spec Inv-loop μ-loop (λ c. (search needs, simp sub-zero)) (λ c κs. search needs) (λ c κs. search needs) returns (λ c. search needs)
+    (λ c. search needs) loop-again returns-2)

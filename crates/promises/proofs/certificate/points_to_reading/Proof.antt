@@ -19,5 +19,4 @@ returns c =
     (rw (toZ-ofZ (start .fits .input)) at (c .take-reading .ensures))
 
 pub points-to-reading-spec : {M : Type 1} → statement M
-points-to-reading-spec =
-    tie.close (tie.spec (λ c κs. search needs) (λ c κs. search needs) (λ c κs. search needs) (λ c. search needs) returns)
+points-to-reading-spec = tie.close (tie.spec (λ c κs. search needs) (λ c κs. search needs) (λ c κs. search needs) (λ c. search needs) returns)

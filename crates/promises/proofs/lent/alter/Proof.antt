@@ -23,13 +23,5 @@ returns c = let l = c .before .loop in all-of-them _ _ _ _ _ _ _ _ _ _ (l .i) (o
 pub alter-spec : {M : Type 1} → statement M
 alter-spec =
     tie.close
-    (tie.spec
-    Inv-loop
-    μ-loop
-    (λ c. (search needs, search needs, record { bytes = refl; real = tt }))
-    (λ c κs. search needs)
-    (λ c. search needs)
-    (λ c. search needs)
-    loop-again
-    (λ c. search needs)
-    returns)
+    (tie.spec Inv-loop μ-loop (λ c. (search needs, search needs, record { bytes = refl; real = tt })) (λ c κs. search needs) (λ c. search needs)
+    (λ c. search needs) loop-again (λ c. search needs) returns)

@@ -32,15 +32,7 @@ returns-6 c =
 pub value-at-spec : {M : Type 1} → statement M
 value-at-spec =
     tie.close
-    (tie.spec
-    (λ c. let a = c .before .args in (value-out (a .sorts .now) (a .wholes .now) (a .singles .now) (a .i) (λ h i j. omega arith), tt))
+    (tie.spec (λ c. let a = c .before .args in (value-out (a .sorts .now) (a .wholes .now) (a .singles .now) (a .i) (λ h i j. omega arith), tt))
     (λ c. let a = c .before .before .args in (value-out (a .sorts .now) (a .wholes .now) (a .singles .now) (a .i) (λ h i j. omega arith), tt))
     (λ c. let a = c .before .before .before .args in (value-out (a .sorts .now) (a .wholes .now) (a .singles .now) (a .i) (λ h i j. omega arith), tt))
-    (λ c. search needs)
-    (λ c. search needs)
-    (λ c. search needs)
-    (λ c. search needs)
-    (λ c. search needs)
-    returns-4
-    returns-5
-    returns-6)
+    (λ c. search needs) (λ c. search needs) (λ c. search needs) (λ c. search needs) (λ c. search needs) returns-4 returns-5 returns-6)

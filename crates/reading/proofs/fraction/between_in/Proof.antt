@@ -33,11 +33,6 @@ returns-2 c =
 pub between-in-spec : {M : Type 1} → statement M
 between-in-spec =
     tie.close
-    (tie.spec
-    (λ c. search needs)
-    (λ c κs. rw (toZ-ofZ (c .before .before .fits .p)) (points c))
+    (tie.spec (λ c. search needs) (λ c κs. rw (toZ-ofZ (c .before .before .fits .p)) (points c))
     (λ c. let s = c .before .before .before in plus-fits (s .args .p) (c .between .result) (s .fits .p) (sfits-of (c .between .ok)) (omega (arith, small c, s .pre .1)))
-    (λ c. search needs)
-    (λ c κs. rw (toZ-ofZ (c .before .before .fits .p)) (sums c))
-    returns
-    returns-2)
+    (λ c. search needs) (λ c κs. rw (toZ-ofZ (c .before .before .fits .p)) (sums c)) returns returns-2)

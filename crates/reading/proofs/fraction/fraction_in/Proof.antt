@@ -75,16 +75,5 @@ returns-4 c =
 pub fraction-in-spec : {M : Type 1} → statement M
 fraction-in-spec =
     tie.close
-    (tie.spec
-    returns
-    (λ c κs. search needs)
-    (λ c κs. search needs)
-    held-in-requires
-    returns-2
-    (λ c. search needs)
-    (λ c κs. search needs)
-    held-in-requires-2
-    returns-3
-    (λ c κs. search needs)
-    between-in-requires
-    returns-4)
+    (tie.spec returns (λ c κs. search needs) (λ c κs. search needs) held-in-requires returns-2 (λ c. search needs) (λ c κs. search needs)
+    held-in-requires-2 returns-3 (λ c κs. search needs) between-in-requires returns-4)

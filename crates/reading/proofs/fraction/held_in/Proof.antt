@@ -21,10 +21,5 @@ returns-2 c =
 pub held-in-spec : {M : Type 1} → statement M
 held-in-spec =
     tie.close
-    (tie.spec
-    (λ c. search needs)
-    add-result
-    (λ c. search needs)
-    (λ c κs. let s = c .before .before in (s .pre .0, told-small (s .fits .p) (omega (arith, s .pre .1))))
-    returns
-    returns-2)
+    (tie.spec (λ c. search needs) add-result (λ c. search needs)
+    (λ c κs. let s = c .before .before in (s .pre .0, told-small (s .fits .p) (omega (arith, s .pre .1)))) returns returns-2)

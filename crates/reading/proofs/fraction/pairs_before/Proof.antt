@@ -54,17 +54,8 @@ returns c =
 pub pairs-before-spec : {M : Type 1} → statement M
 pairs-before-spec =
     tie.close
-    (tie.spec
-    Inv-loop
-    μ-loop
-    (λ c. (omega arith, omega arith, λ kind x h. search-all _ (points x) _ _ (points-are h)))
-    (λ c. omega (arith, c .loop-test .taken))
-    (λ c. omega (arith, c .loop-test .taken))
-    (λ c κs. (c .before .before .before .before .pre, omega (arith, c .loop-test .taken, c .before .loop .inv .1)))
-    figure-in-requires
-    (λ c. omega (arith, c .before .before .before .loop-test .taken))
-    loop-again
-    (λ c. omega (arith, c .before .before .before .loop-test .taken))
-    (λ c. omega (arith, c .before .before .before .loop-test .taken))
-    loop-again-2
-    returns)
+    (tie.spec Inv-loop μ-loop (λ c. (omega arith, omega arith, λ kind x h. search-all _ (points x) _ _ (points-are h)))
+    (λ c. omega (arith, c .loop-test .taken)) (λ c. omega (arith, c .loop-test .taken))
+    (λ c κs. (c .before .before .before .before .pre, omega (arith, c .loop-test .taken, c .before .loop .inv .1))) figure-in-requires
+    (λ c. omega (arith, c .before .before .before .loop-test .taken)) loop-again (λ c. omega (arith, c .before .before .before .loop-test .taken))
+    (λ c. omega (arith, c .before .before .before .loop-test .taken)) loop-again-2 returns)

@@ -3,9 +3,6 @@ use Rattle.reading.proofs.Positions.{Inside, Small, offset-small, far-l
 use Rattle.reading.proofs.position.is_too_far.Statement.{statement}
 use Rattle.reading.proofs.position.is_too_far.Tie as tie
 
-returns : tie.Need-returns
-returns c = let t = rw (toZ-ofZ (c .before .fits .v)) at (c .if1 .taken) in rw t
-
 returns-2 : tie.Need-returns-2
 returns-2 c =
     let f = c .before .before .fits .v in
@@ -33,16 +30,9 @@ returns-4 c =
 pub is-too-far-spec : {M : Type 1} → statement M
 is-too-far-spec =
     tie.close
-    (tie.spec
-    returns
-    returns-2
-    (λ c κs. search needs)
-    (λ c. omega (arith, small (c .before)))
-    (λ c. omega (arith, small (c .before .before)))
-    (λ c. omega (arith, small (c .before .before .before)))
-    returns-3
-    (λ c. omega (arith, small (c .before .before .before .before .before)))
+    (tie.spec (λ c. let t = rw (toZ-ofZ (c .before .fits .v)) at (c .if1 .taken) in rw t) returns-2 (λ c κs. search needs)
+    (λ c. omega (arith, small (c .before))) (λ c. omega (arith, small (c .before .before))) (λ c. omega (arith, small (c .before .before .before)))
+    returns-3 (λ c. omega (arith, small (c .before .before .before .before .before)))
     (λ c. omega (arith, small (c .before .before .before .before .before .before)))
     (λ c. omega (arith, small (c .before .before .before .before .before .before)))
-    (λ c. omega (arith, small (c .before .before .before .before .before .before .before)))
-    returns-4)
+    (λ c. omega (arith, small (c .before .before .before .before .before .before .before))) returns-4)

@@ -16,9 +16,5 @@ returns c =
 pub position-spec : {M : Type 1} → statement M
 position-spec =
     tie.close
-    (tie.spec
-    (λ c κs. search needs)
-    (λ c. omega (arith, small (c .before)))
-    (λ c. omega (arith, small (c .before .before)))
-    (λ c κs. omega (arith, small (c .before .before)))
-    returns)
+    (tie.spec (λ c κs. search needs) (λ c. omega (arith, small (c .before))) (λ c. omega (arith, small (c .before .before)))
+    (λ c κs. omega (arith, small (c .before .before))) returns)

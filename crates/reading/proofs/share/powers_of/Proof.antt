@@ -50,16 +50,10 @@ returns c =
 pub powers-of-spec : {M : Type 1} → statement M
 powers-of-spec =
     tie.close
-    (tie.spec
-    Inv-loop
-    μ-loop
-    (λ c κs. tt)
+    (tie.spec Inv-loop μ-loop (λ c κs. tt)
     (λ c. (omega arith, rw (c .none .ensures) (omega arith), rw (c .none .ensures) (all-left _ (c .before .before .args .run .cursor .at) (c .before .before .args .run .terms) noPowers)))
     (λ c κs. let s = c .before .before .before .before .before in (omega (arith, s .pre .1), omega (arith, c .if1 .taken, s .pre .2)))
     (λ c κs. let s = c .before .before .before .before .before .before in (s .pre .0, omega (arith, c .segment-end .ensures, c .before .if1 .taken, s .pre .1, s .pre .2)))
-    cast-with
-    (λ c κs. tt)
+    cast-with (λ c κs. tt)
     (λ c. omega (arith, c .before .before .before .before .before .if1 .taken, c .before .before .before .before .before .before .before .before .before .before .pre .2))
-    (λ c. omega (arith, c .before .before .before .before .before .if1 .taken))
-    loop-again
-    returns)
+    (λ c. omega (arith, c .before .before .before .before .before .if1 .taken)) loop-again returns)

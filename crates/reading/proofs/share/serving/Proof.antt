@@ -85,19 +85,9 @@ returns-2 c =
 pub serving-spec : {M : Type 1} → statement M
 serving-spec =
     tie.close
-    (tie.spec
-    Inv-loop
-    μ-loop
-    (λ c κs. omega (arith, behind-few (c .before .before .before .pre .0 .opens)))
-    (λ c κs. (held-whole (c .before .before .before .before .pre .0 .opens), omega (arith, few c)))
-    loop-holds
+    (tie.spec Inv-loop μ-loop (λ c κs. omega (arith, behind-few (c .before .before .before .pre .0 .opens)))
+    (λ c κs. (held-whole (c .before .before .before .before .pre .0 .opens), omega (arith, few c))) loop-holds
     (λ c κs. let l = c .before in (omega (arith, l .loop .inv .0, few (l .before .before)), omega (arith, l .loop .inv .1)))
-    (λ c κs.
-    let l = c .before .before in
-    let k = l .before .before in
-    (held-whole (k .before .before .before .before .pre .0 .opens), omega (arith, c .segment-end .ensures, l .loop .inv .0, l .loop .inv .1, few k)))
-    returns
-    (λ c. omega (arith, c .before .before .before .before .before .loop-test .taken))
-    (λ c. omega (arith, c .before .before .before .before .before .loop-test .taken))
-    loop-again
-    returns-2)
+    (λ c κs. let l = c .before .before in let k = l .before .before in (held-whole (k .before .before .before .before .pre .0 .opens), omega (arith, c .segment-end .ensures, l .loop .inv .0, l .loop .inv .1, few k)))
+    returns (λ c. omega (arith, c .before .before .before .before .before .loop-test .taken))
+    (λ c. omega (arith, c .before .before .before .before .before .loop-test .taken)) loop-again returns-2)

@@ -23,10 +23,7 @@ returns-2 c =
 pub share-spec : {M : Type 1} → statement M
 share-spec =
     tie.close
-    (tie.spec
-    (λ c κs. let s = c .before .before .before .before in rw (toZ-ofZ (s .fits .q)) (s .pre .1))
-    returns
+    (tie.spec (λ c κs. let s = c .before .before .before .before in rw (toZ-ofZ (s .fits .q)) (s .pre .1)) returns
     (λ c κs. (c .before .before .before .before .before .pre .0, omega (arith, c .before .if1 .left)))
     (λ c κs. (held-whole (c .before .before .before .before .before .before .pre .0 .opens), c .serving .ensures .0, c .serving .ensures .1))
-    (λ c κs. c .powers-of .ensures .0)
-    returns-2)
+    (λ c κs. c .powers-of .ensures .0) returns-2)

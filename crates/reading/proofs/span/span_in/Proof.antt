@@ -37,19 +37,10 @@ returns-4 c =
 pub span-in-spec : {M : Type 1} → statement M
 span-in-spec =
     tie.close
-    (tie.spec
-    (λ c κs. ((search needs, search needs, span-listed _ (omega arith)), span-unscaled _ (bridge _ (c .before .pre .1)) .0))
-    (λ c. search needs)
-    (λ c κs. search needs)
-    returns
+    (tie.spec (λ c κs. ((search needs, search needs, span-listed _ (omega arith)), span-unscaled _ (bridge _ (c .before .pre .1)) .0))
+    (λ c. search needs) (λ c κs. search needs) returns
     (λ c κs. ((search needs, search needs, span-listed _ (omega arith)), span-unscaled _ (bridge _ (c .before .before .before .before .before .pre .1)) .1))
-    (λ c. search needs)
-    (λ c κs. search needs)
-    returns-2
+    (λ c. search needs) (λ c κs. search needs) returns-2
     (λ c κs. ((search needs, search needs, span-listed _ (omega arith)), span-unscaled _ (bridge _ (c .before .before .before .before .before .before .before .before .before .pre .1)) .2))
     (λ c κs. ((search needs, search needs, span-listed _ (omega arith)), span-unscaled _ (bridge _ (c .before .before .before .before .before .before .before .before .before .before .pre .1)) .3))
-    (λ c κs. search needs)
-    (λ c. search needs)
-    (λ c. search needs)
-    returns-3
-    returns-4)
+    (λ c κs. search needs) (λ c. search needs) (λ c. search needs) returns-3 returns-4)

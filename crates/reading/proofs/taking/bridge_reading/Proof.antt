@@ -37,13 +37,6 @@ returns-3 c =
 pub bridge-reading-spec : {M : Type 1} → statement M
 bridge-reading-spec =
     tie.close
-    (tie.spec
-    (λ c κs. search needs)
-    (λ c. search needs)
-    (λ c. search needs)
-    (λ c κs. ready c)
-    (λ c κs. search needs)
-    returns
+    (tie.spec (λ c κs. search needs) (λ c. search needs) (λ c. search needs) (λ c κs. ready c) (λ c κs. search needs) returns
     (λ c κs. let m = c .before in (m .before .before .before .before .before .before .pre .0, ready (m .before), sym (m .is-too-far .ensures) ∙ c .if1 .left))
-    returns-2
-    returns-3)
+    returns-2 returns-3)

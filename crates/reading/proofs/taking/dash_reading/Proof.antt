@@ -22,9 +22,5 @@ returns-2 c =
 pub dash-reading-spec : {M : Type 1} → statement M
 dash-reading-spec =
     tie.close
-    (tie.spec
-    (λ c κs. search needs)
-    (λ c κs. search needs)
-    returns
-    (λ c κs. let s = c .before .before .before in (s .pre .0, s .pre .1, sym (c .before .is-too-many .ensures) ∙ c .if1 .left))
-    returns-2)
+    (tie.spec (λ c κs. search needs) (λ c κs. search needs) returns
+    (λ c κs. let s = c .before .before .before in (s .pre .0, s .pre .1, sym (c .before .is-too-many .ensures) ∙ c .if1 .left)) returns-2)

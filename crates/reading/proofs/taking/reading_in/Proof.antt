@@ -20,9 +20,5 @@ returns-2 c =
 pub reading-in-spec : {M : Type 1} → statement M
 reading-in-spec =
     tie.close
-    (tie.spec
-    (λ c κs. search needs)
-    (λ c κs. search needs)
-    returns
-    (λ c κs. (c .before .before .before .before .pre, sym (c .before .is-resistance .ensures) ∙ c .if1 .left))
-    returns-2)
+    (tie.spec (λ c κs. search needs) (λ c κs. search needs) returns
+    (λ c κs. (c .before .before .before .before .pre, sym (c .before .is-resistance .ensures) ∙ c .if1 .left)) returns-2)

@@ -35,9 +35,7 @@ returns c =
 pub shown-spec : {M : Type 1} → statement M
 shown-spec =
     tie.close
-    (tie.spec
-    (λ c κs. let s = c .before in (s .pre .1, rw (toZ-ofZ (s .fits .input)) (s .pre .2)))
+    (tie.spec (λ c κs. let s = c .before in (s .pre .1, rw (toZ-ofZ (s .fits .input)) (s .pre .2)))
     (λ c κs. (c .before .before .pre .0, told-small {z = c .position .result} (sfits-of (c .position .ok)) (near c)))
     (λ c κs. (c .before .before .before .pre .0, told-small {z = c .fraction .result} (sfits-of (c .fraction .ok)) (omega (arith, small c))))
-    (λ c κs. search needs)
-    returns)
+    (λ c κs. search needs) returns)

@@ -21,9 +21,5 @@ returns-2 c =
 pub compare-in-spec : {M : Type 1} → statement M
 compare-in-spec =
     tie.close
-    (tie.spec
-    (λ c κs. search needs)
-    (λ c κs. search needs)
-    returns
-    (λ c κs. (c .before .before .before .pre, sym (c .before .is-unlike .ensures) ∙ c .if1 .left))
-    returns-2)
+    (tie.spec (λ c κs. search needs) (λ c κs. search needs) returns
+    (λ c κs. (c .before .before .before .pre, sym (c .before .is-unlike .ensures) ∙ c .if1 .left)) returns-2)

@@ -45,13 +45,4 @@ returns-2 c =
 pub compare-ticks-spec : {M : Type 1} → statement M
 compare-ticks-spec =
     tie.close
-    (tie.spec
-    Inv-loop
-    μ-loop
-    (λ c kind x h. cc)
-    is-right-requires
-    returns
-    (λ c. omega arith)
-    (λ c. omega arith)
-    loop-again
-    returns-2)
+    (tie.spec Inv-loop μ-loop (λ c kind x h. cc) is-right-requires returns (λ c. omega arith) (λ c. omega arith) loop-again returns-2)

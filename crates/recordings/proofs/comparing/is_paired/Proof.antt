@@ -29,21 +29,6 @@ returns-3 c =
 pub is-paired-spec : {M : Type 1} → statement M
 is-paired-spec =
     tie.close
-    (tie.spec
-    (λ c. unpaired (c .before .args .slow .now) (c .before .args .fast .now) (c .before .args .tick) (c .if1 .taken))
-    (λ c. search needs)
-    (λ c. search needs)
-    (λ c. search needs)
-    (λ c. search needs)
-    (λ c. search needs)
-    (λ c. search needs)
-    (λ c κs. search needs)
-    (λ c. search needs)
-    (λ c. search needs)
-    (λ c. search needs)
-    (λ c. search needs)
-    (λ c. search needs)
-    (λ c. search needs)
-    (λ c κs. search needs)
-    returns-2
-    returns-3)
+    (tie.spec (λ c. unpaired (c .before .args .slow .now) (c .before .args .fast .now) (c .before .args .tick) (c .if1 .taken)) (λ c. search needs)
+    (λ c. search needs) (λ c. search needs) (λ c. search needs) (λ c. search needs) (λ c. search needs) (λ c κs. search needs) (λ c. search needs)
+    (λ c. search needs) (λ c. search needs) (λ c. search needs) (λ c. search needs) (λ c. search needs) (λ c κs. search needs) returns-2 returns-3)

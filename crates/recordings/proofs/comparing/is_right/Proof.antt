@@ -16,8 +16,4 @@ returns-2 c = λ kind x h. rw (sym (c .before .is-paired .ensures) ∙ c .if1 .l
 pub is-right-spec : {M : Type 1} → statement M
 is-right-spec =
     tie.close
-    (tie.spec
-    (λ c κs. search needs)
-    (λ c κs. search needs)
-    returns
-    returns-2)
+    (tie.spec (λ c κs. search needs) (λ c κs. search needs) returns returns-2)

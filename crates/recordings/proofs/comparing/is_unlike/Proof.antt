@@ -17,8 +17,4 @@ returns-4 c =
 pub is-unlike-spec : {M : Type 1} → statement M
 is-unlike-spec =
     tie.close
-    (tie.spec
-    (λ c. rw (eq-eqb _ 1 (c .if1 .taken)))
-    (λ c. rw (ne-eqb _ 1 (c .before .if1 .left), eq-eqb _ 1 (c .if2 .taken)))
-    returns-3
-    returns-4)
+    (tie.spec (λ c. rw (eq-eqb _ 1 (c .if1 .taken))) (λ c. rw (ne-eqb _ 1 (c .before .if1 .left), eq-eqb _ 1 (c .if2 .taken))) returns-3 returns-4)

@@ -6,8 +6,5 @@ use Rattle.report.proofs.lines.total_line.Tie as tie
 pub total-line-spec : {M : Type 1} → statement M
 total-line-spec =
     tie.close
-    (tie.spec
-    (λ c κs. search needs)
-    (λ c. search needs)
-    (λ c κs. search needs)
+    (tie.spec (λ c κs. search needs) (λ c. search needs) (λ c κs. search needs)
     (λ c. longer-reads _ (c .before .before .empty .ensures .0) (c .ended .ensures)))

@@ -10,11 +10,6 @@ pub goes-up-spec : {M : Type 1} → statement M
 unfolding goesUp
 goes-up-spec =
     tie.close
-    (tie.spec
-    (λ c κs. search needs)
-    (λ c κs. search needs)
-    (λ c. product _ _ (omega arith) (omega arith))
-    (λ c κs. search needs)
-    (λ c κs. search needs)
-    (λ c. product _ _ (omega arith) (omega arith))
+    (tie.spec (λ c κs. search needs) (λ c κs. search needs) (λ c. product _ _ (omega arith) (omega arith)) (λ c κs. search needs)
+    (λ c κs. search needs) (λ c. product _ _ (omega arith) (omega arith))
     (λ c. rw (c .before .before .before .wide .ensures, c .before .before .wide2 .ensures, c .before .wide3 .ensures, c .wide4 .ensures)))

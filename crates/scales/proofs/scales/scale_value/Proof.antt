@@ -27,14 +27,5 @@ returns-2 c =
 pub scale-value-spec : {M : Type 1} → statement M
 scale-value-spec =
     tie.close
-    (tie.spec
-    (λ c. search needs)
-    (λ c κs. search needs)
-    (λ c. search needs)
-    value-in-requires
-    (λ c. search needs)
-    (λ c κs. search needs)
-    (λ c. search needs)
-    value-in-requires-2
-    returns
-    returns-2)
+    (tie.spec (λ c. search needs) (λ c κs. search needs) (λ c. search needs) value-in-requires (λ c. search needs) (λ c κs. search needs)
+    (λ c. search needs) value-in-requires-2 returns returns-2)

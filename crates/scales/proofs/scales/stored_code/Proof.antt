@@ -27,14 +27,5 @@ returns-2 c =
 pub stored-code-spec : {M : Type 1} → statement M
 stored-code-spec =
     tie.close
-    (tie.spec
-    (λ c. search needs)
-    (λ c κs. search needs)
-    (λ c. search needs)
-    stored-in-requires
-    (λ c. search needs)
-    (λ c κs. search needs)
-    (λ c. search needs)
-    stored-in-requires-2
-    returns
-    returns-2)
+    (tie.spec (λ c. search needs) (λ c κs. search needs) (λ c. search needs) stored-in-requires (λ c. search needs) (λ c κs. search needs)
+    (λ c. search needs) stored-in-requires-2 returns returns-2)

@@ -14,30 +14,10 @@ pub stored-in-spec : {M : Type 1} → statement M
 unfolding listed
 stored-in-spec =
     tie.close
-    (tie.spec
-    Inv-loop
-    μ-loop
-    (λ c. omega (arith, c .shared-slice-known .given (length (c .before .args .values .now) - 1)))
+    (tie.spec Inv-loop μ-loop (λ c. omega (arith, c .shared-slice-known .given (length (c .before .args .values .now) - 1))) (λ c. search needs)
+    (λ c. (omega arith, omega arith, inside _ _ _)) (λ c. search needs) (λ c. search needs) (λ c. search needs) (λ c. search needs)
+    (λ c. search needs) (λ c. search needs) (λ c κs. search needs) (λ c. search needs) (λ c. search needs)
+    (λ c. let s = c .before .before .before .before .before .before .before in let l = c .before .before .before .before .before .loop in let first = reached _ _ _ (s .pre .0 .rising) ((l .low + l .high) / 2) (omega arith) (rw add-one at (sym (c .before .goes-up .ensures) ∙ c .if1 .taken)) in omega arith)
     (λ c. search needs)
-    (λ c. (omega arith, omega arith, inside _ _ _))
-    (λ c. search needs)
-    (λ c. search needs)
-    (λ c. search needs)
-    (λ c. search needs)
-    (λ c. search needs)
-    (λ c. search needs)
-    (λ c κs. search needs)
-    (λ c. search needs)
-    (λ c. search needs)
-    (λ c.
-    let s = c .before .before .before .before .before .before .before in
-    let l = c .before .before .before .before .before .loop in
-    let first = reached _ _ _ (s .pre .0 .rising) ((l .low + l .high) / 2) (omega arith) (rw add-one at (sym (c .before .goes-up .ensures) ∙ c .if1 .taken)) in
-    omega arith)
-    (λ c. search needs)
-    (λ c.
-    let s = c .before .before .before .before .before .before .before in
-    let l = c .before .before .before .before .before .loop in
-    let last = not-reached _ _ _ (s .pre .0 .rising) ((l .low + l .high) / 2) (omega arith) (rw add-one at (sym (c .before .goes-up .ensures) ∙ c .if1 .left)) in
-    omega arith)
+    (λ c. let s = c .before .before .before .before .before .before .before in let l = c .before .before .before .before .before .loop in let last = not-reached _ _ _ (s .pre .0 .rising) ((l .low + l .high) / 2) (omega arith) (rw add-one at (sym (c .before .goes-up .ensures) ∙ c .if1 .left)) in omega arith)
     (λ c. search needs))

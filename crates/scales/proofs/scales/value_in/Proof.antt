@@ -6,8 +6,5 @@ pub value-in-spec : {M : Type 1} → statement M
 unfolding listed
 value-in-spec =
     tie.close
-    (tie.spec
-    (λ c. search needs)
-    (λ c. search needs)
-    (λ c. omega (arith, c .shared-slice-known .given (c .before .args .code)))
+    (tie.spec (λ c. search needs) (λ c. search needs) (λ c. omega (arith, c .shared-slice-known .given (c .before .args .code)))
     (λ c. toZ-pos w64 (omega (arith, c .shared-slice-known .given (c .before .args .code)))))

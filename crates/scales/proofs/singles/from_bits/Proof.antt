@@ -15,14 +15,6 @@ returns-3 c =
 pub from-bits-spec : {M : Type 1} → statement M
 from-bits-spec =
     tie.close
-    (tie.spec
-    (λ c. search needs)
-    (λ c. zero-bits (c .before .args .bits) (c .if1 .taken))
-    (λ c. search needs)
-    (λ c. search needs)
-    (λ c. search needs)
-    (λ c. search needs)
-    (λ c κs. (den-pos _ (c .before .if1 .left), omega arith))
-    returns-2
-    (λ c κs. (den-pos _ (c .before .if1 .left), omega arith))
+    (tie.spec (λ c. search needs) (λ c. zero-bits (c .before .args .bits) (c .if1 .taken)) (λ c. search needs) (λ c. search needs) (λ c. search needs)
+    (λ c. search needs) (λ c κs. (den-pos _ (c .before .if1 .left), omega arith)) returns-2 (λ c κs. (den-pos _ (c .before .if1 .left), omega arith))
     returns-3)

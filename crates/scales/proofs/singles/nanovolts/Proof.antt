@@ -10,9 +10,6 @@ returns-3 c =
 pub nanovolts-spec : {M : Type 1} → statement M
 nanovolts-spec =
     tie.close
-    (tie.spec
-    (λ c. rw (not-finite-far (c .before .args .x) (nan-is (c .before .args .x) (c .if1 .taken))))
-    (λ c. not-nan (c .before .args .x) (c .if1 .left))
-    (λ c. rw (far-single (c .before .before .args .x) (search needs) (c .if2 .taken)))
-    (λ c κs. search needs)
-    returns-3)
+    (tie.spec (λ c. rw (not-finite-far (c .before .args .x) (nan-is (c .before .args .x) (c .if1 .taken))))
+    (λ c. not-nan (c .before .args .x) (c .if1 .left)) (λ c. rw (far-single (c .before .before .args .x) (search needs) (c .if2 .taken)))
+    (λ c κs. search needs) returns-3)

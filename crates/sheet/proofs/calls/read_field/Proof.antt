@@ -10,7 +10,7 @@ returns c =
     let o = c .before .before .before .before .before .before in
     let a = o .before .before .args in
     let (x, p) = opens (a .kind) (a .image .now) _ (o .«open» .ensures) (c .before .before .before .before .sheet .given .1) in
-    ap refused (c .no-such .ensures) ∙ sym (accepted-reads (a .kind) (a .image .now) x (p .accepted) .no-field (a .field) (inl (c .before .if1 .taken)))
+    ap refused (c .no-such .ensures) ∙ sym (accepted-reads (a .kind) (a .image .now) x (p .accepted) .noField (a .field) (inl (c .before .if1 .taken)))
 
 returns-2 : tie.Need-returns-2
 returns-2 c =
@@ -18,7 +18,7 @@ returns-2 c =
     let a = o .before .before .args in
     let (x, p) = opens (a .kind) (a .image .now) _ (o .«open» .ensures) (c .before .before .before .before .before .before .sheet .given .1) in
     ap refused (c .no-such2 .ensures)
-    ∙ sym (accepted-reads (a .kind) (a .image .now) x (p .accepted) .no-field (a .field) (inr (omega (arith, c .before .before .last-field .ensures, ap (λ l. lastField (l .template)) (layout-is p)))))
+    ∙ sym (accepted-reads (a .kind) (a .image .now) x (p .accepted) .noField (a .field) (inr (omega (arith, c .before .before .last-field .ensures, ap (λ l. lastField (l .template)) (layout-is p)))))
 
 value-in-requires : tie.Need-value-in-requires
 value-in-requires c κs =
@@ -43,15 +43,5 @@ returns-4 c =
 pub read-field-spec : {M : Type 1} → statement M
 read-field-spec =
     tie.close
-    (tie.spec
-    (λ c κs. search needs)
-    (λ c. search needs)
-    (λ c. search needs)
-    (λ c κs. search needs)
-    returns
-    (λ c κs. search needs)
-    (λ c κs. search needs)
-    returns-2
-    value-in-requires
-    returns-3
-    returns-4)
+    (tie.spec (λ c κs. search needs) (λ c. search needs) (λ c. search needs) (λ c κs. search needs) returns (λ c κs. search needs)
+    (λ c κs. search needs) returns-2 value-in-requires returns-3 returns-4)

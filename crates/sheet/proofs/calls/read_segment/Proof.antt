@@ -16,7 +16,7 @@ returns c =
     let o = c .before .before .before in
     let a = o .before .before .args in
     ⊎-elim (λ e. sym (refused-reads (a .kind) (a .image .now) _ e .segment (a .index)))
-    (λ w. ap refused (w .3) ∙ sym (accepted-reads (a .kind) (a .image .now) (w .0) (w .1) .no-segment (a .index) (w .2)))
+    (λ w. ap refused (w .3) ∙ sym (accepted-reads (a .kind) (a .image .now) (w .0) (w .1) .noSegments (a .index) (w .2)))
     (item-none (a .kind) (a .image .now) Segment (a .index) _ (o .open-at .ensures) (c .before .r .given .1))
 
 returns-2 : tie.Need-returns-2

@@ -21,17 +21,6 @@ returns-3 c r =
 pub is-term-spec : {M : Type 1} → statement M
 is-term-spec =
     tie.close
-    (tie.spec
-    (λ c κs. search needs)
-    (λ c κs. rw (c .term-exponent .ensures) exponent-sound)
-    (λ c. search needs)
-    (λ c. no)
-    (λ c. search needs)
-    (λ c κs. search needs)
-    (λ c. search needs)
-    (λ c κs. rw (c .term-coefficient .ensures) coefficient-sound)
-    (λ c. search needs)
-    (λ c. no)
-    (λ c. search needs)
-    (λ c κs. search needs)
-    returns-3)
+    (tie.spec (λ c κs. search needs) (λ c κs. rw (c .term-exponent .ensures) exponent-sound) (λ c. search needs) (λ c. no) (λ c. search needs)
+    (λ c κs. search needs) (λ c. search needs) (λ c κs. rw (c .term-coefficient .ensures) coefficient-sound) (λ c. search needs) (λ c. no)
+    (λ c. search needs) (λ c κs. search needs) returns-3)

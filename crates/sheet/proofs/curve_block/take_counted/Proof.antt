@@ -14,11 +14,6 @@ add-take-own-terms c =
 pub take-counted-spec : {M : Type 1} → statement M
 take-counted-spec =
     tie.close
-    (tie.spec
-    (λ c κs. search needs)
-    (λ c. search needs)
-    (λ c. search needs)
-    add-take-own-terms
-    (λ c κs. search needs)
+    (tie.spec (λ c κs. search needs) (λ c. search needs) (λ c. search needs) add-take-own-terms (λ c κs. search needs)
     (λ c. carried (codeSaid _) _ (c .before .r .given .1) (c .before .before .before .take-ruled .ensures))
     (λ c. c .take-own-terms .ensures ∙ carried (codeSaid _) _ (c .before .before .count .given .1) (c .before .before .before .before .take-ruled .ensures)))

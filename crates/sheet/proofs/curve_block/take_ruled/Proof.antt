@@ -19,12 +19,5 @@ returns-2 c =
 pub take-ruled-spec : {M : Type 1} → statement M
 take-ruled-spec =
     tie.close
-    (tie.spec
-    (λ c κs. search needs)
-    (λ c κs. (c .before .before .pre, rw (c .curve-row .ensures) (curve-sound (c .before .before .args .field))))
-    (λ c. search needs)
-    (λ c. search needs)
-    (λ c κs. search needs)
-    (λ c κs. search needs)
-    returns
-    returns-2)
+    (tie.spec (λ c κs. search needs) (λ c κs. (c .before .before .pre, rw (c .curve-row .ensures) (curve-sound (c .before .before .args .field))))
+    (λ c. search needs) (λ c. search needs) (λ c κs. search needs) (λ c κs. search needs) returns returns-2)

@@ -39,15 +39,5 @@ returns-2 c =
 pub take-segments-spec : {M : Type 1} → statement M
 take-segments-spec =
     tie.close
-    (tie.spec
-    Inv-loop
-    μ-loop
-    (λ c. (omega arith, refl))
-    (λ c κs. (c .before .before .before .pre, c .before .loop .inv .0))
-    (λ c. search needs)
-    returns
-    (λ c. search needs)
-    (λ c. search needs)
-    (λ c. search needs)
-    loop-again
-    returns-2)
+    (tie.spec Inv-loop μ-loop (λ c. (omega arith, refl)) (λ c κs. (c .before .before .before .pre, c .before .loop .inv .0)) (λ c. search needs)
+    returns (λ c. search needs) (λ c. search needs) (λ c. search needs) loop-again returns-2)

@@ -27,13 +27,5 @@ returns c =
 pub take-term-spec : {M : Type 1} → statement M
 take-term-spec =
     tie.close
-    (tie.spec
-    (λ c κs. search needs)
-    (λ c. search needs)
-    (λ c κs. search needs)
-    (λ c. search needs)
-    is-term-requires
-    returns
-    (λ c κs. search needs)
-    (λ c. c .take-term-apart .ensures)
-    (λ c. c .take-term-apart2 .ensures))
+    (tie.spec (λ c κs. search needs) (λ c. search needs) (λ c κs. search needs) (λ c. search needs) is-term-requires returns (λ c κs. search needs)
+    (λ c. c .take-term-apart .ensures) (λ c. c .take-term-apart2 .ensures))

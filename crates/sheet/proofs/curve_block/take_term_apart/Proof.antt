@@ -31,14 +31,5 @@ returns-3 c =
 pub take-term-apart-spec : {M : Type 1} → statement M
 take-term-apart-spec =
     tie.close
-    (tie.spec
-    (λ c κs. search needs)
-    (λ c. search needs)
-    (λ c. search needs)
-    (λ c κs. search needs)
-    take-code-requires
-    (λ c. search needs)
-    (λ c. search needs)
-    returns
-    returns-2
-    returns-3)
+    (tie.spec (λ c κs. search needs) (λ c. search needs) (λ c. search needs) (λ c κs. search needs) take-code-requires (λ c. search needs)
+    (λ c. search needs) returns returns-2 returns-3)

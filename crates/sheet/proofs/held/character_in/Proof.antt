@@ -35,5 +35,4 @@ returns-2 c =
     (got (a .sheet .sizes) (a .image .now) _ 7 _ (t .take .ensures) (c .before .character .given .1) ∙ held-character h (a .index) (b .pre .1) (t .before .locate-character .ensures)))
 
 pub character-in-spec : {M : Type 1} → statement M
-character-in-spec =
-    tie.close (tie.spec locate-character-requires take-requires (λ c. search needs) (λ c. search needs) cast-result returns returns-2)
+character-in-spec = tie.close (tie.spec locate-character-requires take-requires (λ c. search needs) (λ c. search needs) cast-result returns returns-2)

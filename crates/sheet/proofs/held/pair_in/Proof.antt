@@ -8,9 +8,6 @@ use Rattle.sheet.proofs.held.pair_in.Tie as tie
 locate-pair-requires : tie.Need-locate-pair-requires
 locate-pair-requires c κs = let b = c .before .before in (omega (arith, behind-few (b .pre .0 .opens)), index-few (b .pre .0 .opens) (b .args .index) (b .pre .1))
 
-take-requires : tie.Need-take-requires
-take-requires c κs = (held-whole (c .before .before .before .pre .0 .opens), search needs, search needs)
-
 pair-of-requires : tie.Need-pair-of-requires
 pair-of-requires c κs =
     let t = c .before .before .before in
@@ -39,4 +36,6 @@ returns-2 c =
 
 pub pair-in-spec : {M : Type 1} → statement M
 pair-in-spec =
-    tie.close (tie.spec locate-pair-requires take-requires (λ c. search needs) (λ c. search needs) pair-of-requires returns returns-2)
+    tie.close
+    (tie.spec locate-pair-requires (λ c κs. (held-whole (c .before .before .before .pre .0 .opens), search needs, search needs)) (λ c. search needs)
+    (λ c. search needs) pair-of-requires returns returns-2)

@@ -32,13 +32,5 @@ returns-3 c =
 pub value-at-spec : {M : Type 1} → statement M
 value-at-spec =
     tie.close
-    (tie.spec
-    (λ c κs. search needs)
-    (λ c. search needs)
-    (λ c. search needs)
-    decode-requires
-    (λ c. search needs)
-    (λ c. search needs)
-    returns
-    returns-2
+    (tie.spec (λ c κs. search needs) (λ c. search needs) (λ c. search needs) decode-requires (λ c. search needs) (λ c. search needs) returns returns-2
     returns-3)

@@ -11,10 +11,6 @@ open-calibration-requires c κs =
 pub open-own-spec : {M : Type 1} → statement M
 open-own-spec =
     tie.close
-    (tie.spec
-    (λ c κs. search needs)
-    (λ c. search needs)
-    (λ c. search needs)
-    open-calibration-requires
+    (tie.spec (λ c κs. search needs) (λ c. search needs) (λ c. search needs) open-calibration-requires
     (λ c. carried choiceSaid _ (c .before .r .given .1) (c .before .before .before .take-own .ensures .0))
     (λ c. c .open-calibration .ensures ∙ carried choiceSaid _ (c .before .before .precision .given .1) (c .before .before .before .before .take-own .ensures .0)))

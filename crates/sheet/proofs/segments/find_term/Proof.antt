@@ -42,15 +42,9 @@ returns-2 c =
 pub find-term-spec : {M : Type 1} → statement M
 find-term-spec =
     tie.close
-    (tie.spec
-    Inv-loop
-    μ-loop
-    (λ c. (omega arith, refl))
+    (tie.spec Inv-loop μ-loop (λ c. (omega arith, refl))
     (λ c κs. let b = c .before .before .before in (b .pre .0, omega (arith, c .before .loop .inv .0, b .pre .1, b .pre .2)))
     (λ c κs. let b = c .before .before .before .before .before in (omega (arith, c .before .before .before .loop .inv .0, b .pre .1, b .pre .2), omega (arith, c .before .terms-at .ensures .1, c .if1 .taken)))
     returns
     (λ c κs. let b = c .before .before .before .before .before in (omega (arith, c .before .before .before .loop .inv .0, b .pre .1, b .pre .2), omega (arith, c .before .terms-at .ensures .1)))
-    (λ c. search needs)
-    (λ c. search needs)
-    loop-again
-    returns-2)
+    (λ c. search needs) (λ c. search needs) loop-again returns-2)

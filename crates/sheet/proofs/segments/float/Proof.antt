@@ -5,10 +5,5 @@ use Rattle.sheet.proofs.segments.float.Tie as tie
 pub float-spec : {M : Type 1} → statement M
 float-spec =
     tie.close
-    (tie.spec
-    (λ c. search needs)
-    (λ c. search needs)
-    (λ c. search needs)
-    (λ c. no-number ∙ ap float (sym (c .enum-told .given .1)))
-    (λ c. ap float (sym (c .before .value .given .1)))
-    (λ c. no-number ∙ ap float (sym (c .enum-told2 .given .1))))
+    (tie.spec (λ c. search needs) (λ c. search needs) (λ c. search needs) (λ c. no-number ∙ ap float (sym (c .enum-told .given .1)))
+    (λ c. ap float (sym (c .before .value .given .1))) (λ c. no-number ∙ ap float (sym (c .enum-told2 .given .1))))

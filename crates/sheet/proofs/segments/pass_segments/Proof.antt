@@ -30,13 +30,7 @@ returns c =
 pub pass-segments-spec : {M : Type 1} → statement M
 pass-segments-spec =
     tie.close
-    (tie.spec
-    Inv-loop
-    μ-loop
-    (λ c. (omega arith, refl))
+    (tie.spec Inv-loop μ-loop (λ c. (omega arith, refl))
     (λ c κs. let b = c .before .before .before in (b .pre .0, omega (arith, c .before .loop .inv .0, b .pre .1, b .pre .2)))
     (λ c κs. let b = c .before .before .before .before in (omega (arith, c .before .before .loop .inv .0, b .pre .1, b .pre .2), omega (arith, c .terms-at .ensures .1)))
-    (λ c. search needs)
-    (λ c. search needs)
-    loop-again
-    returns)
+    (λ c. search needs) (λ c. search needs) loop-again returns)

@@ -14,9 +14,6 @@ returns c =
 pub segment-at-spec : {M : Type 1} → statement M
 segment-at-spec =
     tie.close
-    (tie.spec
-    (λ c κs. search needs)
-    (λ c κs. (c .before .before .pre .0, rw (c .segment-start .ensures) start-sound, rw (c .segment-start .ensures) tt))
-    (λ c κs. search needs)
-    (λ c κs. search needs)
-    returns)
+    (tie.spec (λ c κs. search needs)
+    (λ c κs. (c .before .before .pre .0, rw (c .segment-start .ensures) start-sound, rw (c .segment-start .ensures) tt)) (λ c κs. search needs)
+    (λ c κs. search needs) returns)

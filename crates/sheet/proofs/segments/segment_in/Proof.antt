@@ -22,8 +22,5 @@ returns c =
 pub segment-in-spec : {M : Type 1} → statement M
 segment-in-spec =
     tie.close
-    (tie.spec
-    (λ c κs. omega (arith, behind-few (c .before .before .pre .0 .opens)))
-    pass-segments-requires
-    (λ c κs. (held-whole (c .before .before .before .before .pre .0 .opens), c .pass-segments .ensures .1))
-    returns)
+    (tie.spec (λ c κs. omega (arith, behind-few (c .before .before .pre .0 .opens))) pass-segments-requires
+    (λ c κs. (held-whole (c .before .before .before .before .pre .0 .opens), c .pass-segments .ensures .1)) returns)

@@ -19,13 +19,8 @@ returns c =
 pub term-at-spec : {M : Type 1} → statement M
 term-at-spec =
     tie.close
-    (tie.spec
-    (λ c κs. search needs)
-    (λ c κs. (c .before .before .pre .0, rw (c .term-exponent .ensures) exponent-sound, rw (c .term-exponent .ensures) tt))
-    (λ c κs. search needs)
+    (tie.spec (λ c κs. search needs)
+    (λ c κs. (c .before .before .pre .0, rw (c .term-exponent .ensures) exponent-sound, rw (c .term-exponent .ensures) tt)) (λ c κs. search needs)
     (λ c κs. search needs)
     (λ c κs. (c .before .before .before .before .before .pre .0, rw (c .term-coefficient .ensures) coefficient-sound, rw (c .term-coefficient .ensures) tt))
-    (λ c κs. search needs)
-    (λ c κs. search needs)
-    (λ c κs. search needs)
-    returns)
+    (λ c κs. search needs) (λ c κs. search needs) (λ c κs. search needs) returns)

@@ -22,8 +22,5 @@ returns c =
 pub term-in-spec : {M : Type 1} → statement M
 term-in-spec =
     tie.close
-    (tie.spec
-    (λ c κs. omega (arith, behind-few (c .before .before .before .pre .0 .opens)))
-    find-term-requires
-    (λ c κs. (held-whole (c .before .before .before .before .before .pre .0 .opens), c .find-term .ensures .1))
-    returns)
+    (tie.spec (λ c κs. omega (arith, behind-few (c .before .before .before .pre .0 .opens))) find-term-requires
+    (λ c κs. (held-whole (c .before .before .before .before .before .pre .0 .opens), c .find-term .ensures .1)) returns)

@@ -68,23 +68,5 @@ no e = absurd (let z : _≡_ {A = ℕ} 0 1 = cc in omega arith)
 pub all-rise-spec : {M : Type 1} → statement M
 all-rise-spec =
     tie.close
-    (tie.spec
-    Inv-loop
-    μ-loop
-    loop-holds
-    read-requires
-    (λ c. no)
-    (λ c. no)
-    (λ c. no)
-    (λ c. search needs)
-    cast-t16
-    cast-t17
-    (λ c κs. search needs)
-    (λ c. no)
-    add-floor
-    (λ c. search needs)
-    add-least
-    (λ c. search needs)
-    (λ c. search needs)
-    loop-again
-    returns-5)
+    (tie.spec Inv-loop μ-loop loop-holds read-requires (λ c. no) (λ c. no) (λ c. no) (λ c. search needs) cast-t16 cast-t17 (λ c κs. search needs)
+    (λ c. no) add-floor (λ c. search needs) add-least (λ c. search needs) (λ c. search needs) loop-again returns-5)

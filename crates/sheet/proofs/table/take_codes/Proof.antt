@@ -64,21 +64,6 @@ returns-4 c =
 pub take-codes-spec : {M : Type 1} → statement M
 take-codes-spec =
     tie.close
-    (tie.spec
-    (λ c κs. search needs)
-    (λ c κs. (c .before .before .pre, rw (c .cal-point .ensures) point-sound))
-    (λ c. search needs)
-    (λ c. search needs)
-    (λ c κs. search needs)
-    take-code-requires-2
-    (λ c. search needs)
-    (λ c. search needs)
-    cast-t20
-    cast-t21
-    (λ c κs. search needs)
-    (λ c. search needs)
-    (λ c. search needs)
-    returns
-    returns-2
-    returns-3
-    returns-4)
+    (tie.spec (λ c κs. search needs) (λ c κs. (c .before .before .pre, rw (c .cal-point .ensures) point-sound)) (λ c. search needs)
+    (λ c. search needs) (λ c κs. search needs) take-code-requires-2 (λ c. search needs) (λ c. search needs) cast-t20 cast-t21 (λ c κs. search needs)
+    (λ c. search needs) (λ c. search needs) returns returns-2 returns-3 returns-4)

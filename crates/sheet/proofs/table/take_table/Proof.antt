@@ -34,17 +34,6 @@ returns-3 c =
 pub take-table-spec : {M : Type 1} → statement M
 take-table-spec =
     tie.close
-    (tie.spec
-    (λ c κs. search needs)
-    (λ c κs. (c .before .before .pre, rw (c .cal-domain .ensures) domain-sound))
-    (λ c. search needs)
-    (λ c. search needs)
-    (λ c κs. search needs)
-    take-code-requires-2
-    (λ c. search needs)
-    (λ c. search needs)
-    (λ c κs. search needs)
-    (λ c κs. search needs)
-    returns
-    returns-2
-    returns-3)
+    (tie.spec (λ c κs. search needs) (λ c κs. (c .before .before .pre, rw (c .cal-domain .ensures) domain-sound)) (λ c. search needs)
+    (λ c. search needs) (λ c κs. search needs) take-code-requires-2 (λ c. search needs) (λ c. search needs) (λ c κs. search needs)
+    (λ c κs. search needs) returns returns-2 returns-3)

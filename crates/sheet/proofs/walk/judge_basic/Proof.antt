@@ -1,6 +1,6 @@
 -- `walk::judge_basic` meets its contract: a row that refuses ends the judging, and behind the last that can all is open.
-use Rattle.sheet.proofs.Names.{needs, suc, _-_, _+_, arith, length, Bridge, Stands, Turned, basic, last-most, streamIn, judged, layoutAt}
-use Rattle.sheet.proofs.WalkSteps.{basic-most, BasicCome, basic-start, basic-turn, judged-all, Turn, basic-stood}
+use Rattle.sheet.proofs.Names.{needs, suc, _-_, _+_, arith, length, Bridge, Stands, Turned, basic, last-most, streamIn, judged, layoutAt, basic-most}
+use Rattle.sheet.proofs.WalkSteps.{BasicCome, basic-start, basic-turn, judged-all, Turn, basic-stood}
 use Rattle.sheet.proofs.walk.judge_basic.Statement.{statement}
 use Rattle.sheet.proofs.walk.judge_basic.Tie as tie
 
@@ -43,19 +43,9 @@ returns-2 c =
 pub judge-basic-spec : {M : Type 1} → statement M
 judge-basic-spec =
     tie.close
-    (tie.spec
-    Inv-loop
-    μ-loop
-    (λ c κs. search needs)
-    (λ c κs. search needs)
-    loop-holds
+    (tie.spec Inv-loop μ-loop (λ c κs. search needs) (λ c κs. search needs) loop-holds
     (λ c κs. (c .before .loop .inv .0, omega (arith, c .before .before .before .basic-closed .ensures .0)))
-    (λ c κs. let (w, s, fits) = turn c .fits in omega (arith, w .small))
-    (λ c κs. rw (c .over .ensures) (turn (c .before) .fits))
-    (λ c. search needs)
-    returns
-    (λ c. search needs)
+    (λ c κs. let (w, s, fits) = turn c .fits in omega (arith, w .small)) (λ c κs. rw (c .over .ensures) (turn (c .before) .fits)) (λ c. search needs)
+    returns (λ c. search needs)
     (λ c. omega (arith, c .before .before .before .before .before .before .before .before .before .basic-closed .ensures .0, basic-most Bridge, last-most Bridge))
-    (λ c. omega arith)
-    loop-again
-    returns-2)
+    (λ c. omega arith) loop-again returns-2)

@@ -1,6 +1,6 @@
 -- `walk::judge_bridge` meets its contract, as `judge_basic` does.
-use Rattle.sheet.proofs.Names.{needs, suc, _-_, _+_, arith, Bridge, lastField, last-most, streamIn, ownJudged, layoutAt}
-use Rattle.sheet.proofs.WalkSteps.{basic-most, OwnCome, own-start, own-turn, judged-all, Turn}
+use Rattle.sheet.proofs.Names.{needs, suc, _-_, arith, Bridge, lastField, last-most, basic-most, layoutAt}
+use Rattle.sheet.proofs.WalkSteps.{OwnCome, own-start, OwnTurn, own-turn, judged-all}
 use Rattle.sheet.proofs.walk.judge_bridge.Statement.{statement}
 use Rattle.sheet.proofs.walk.judge_bridge.Tie as tie
 
@@ -11,42 +11,23 @@ abbrev μ-loop : tie.MeasureT-loop
 μ-loop sizes image precision last cursor₀ field₀ cursor field = suc last - field
 
 turn : (c : tie.After-bridge-row Inv-loop μ-loop) → let l = c .before .before in let a = l .before .before .before .before .args in
-    Turn (a .sizes) (a .image .now) (c .bridge-row .result) (l .loop .cursor .at) (ownJudged (streamIn (a .sizes) (a .image .now)) (layoutAt Bridge (a .precision)))
-    (OwnCome (a .sizes) (a .image .now) (layoutAt Bridge (a .precision)) (l .loop .field + 1))
+    OwnTurn (a .sizes) (a .image .now) (layoutAt Bridge (a .precision)) (c .bridge-row .result) (l .loop .field) (l .loop .cursor .at)
 turn c =
     let l = c .before .before in
     let b = l .before .before in
-    own-turn (layoutAt Bridge (b .before .before .args .precision)) (b .before .before .pre) _ _ (l .loop .inv) (c .before .loop-test .taken) (b .last-closed .ensures .0) (c .bridge-row .ensures)
-
-returns : tie.Need-returns Inv-loop μ-loop
-returns c =
-    let j = c .before .before .before in
-    let o = j .before in
-    turn (o .before) .halt _ (rw (o .over .ensures) at (j .judge-at .ensures)) (c .before .r .given .1)
-
-loop-again : tie.Need-loop-again Inv-loop μ-loop
-loop-again c =
-    let j = c .before .before .before in
-    let o = j .before in
-    rw (o .over .ensures) (turn (o .before) .next _ (rw (o .over .ensures) at (j .judge-at .ensures)) (c .before .enum-told .given .1))
+    own-turn (layoutAt Bridge _) (b .before .before .pre) _ _ (l .loop .inv) (c .before .loop-test .taken) (b .last-closed .ensures .0) (c .bridge-row .ensures)
 
 pub judge-bridge-spec : {M : Type 1} → statement M
 judge-bridge-spec =
     tie.close
-    (tie.spec
-    Inv-loop
-    μ-loop
-    (λ c κs. search needs)
-    (λ c κs. search needs)
+    (tie.spec Inv-loop μ-loop (λ c κs. search needs) (λ c κs. search needs)
     (λ c. omega (arith, c .basic-fields .ensures, basic-most Bridge, last-most Bridge))
     (λ c. let a = c .before .before .before .args in own-start (layoutAt Bridge (a .precision)) (a .sizes) (a .image .now) (c .basic-fields .ensures))
     (λ c κs. (c .before .loop .inv .0, omega (arith, c .before .before .before .last-closed .ensures .0)))
-    (λ c κs. let (w, s, fits) = turn c .fits in omega (arith, w .small))
-    (λ c κs. rw (c .over .ensures) (turn (c .before) .fits))
-    (λ c. search needs)
-    returns
+    (λ c κs. let (w, s, fits) = turn c .fits in omega (arith, w .small)) (λ c κs. rw (c .over .ensures) (turn (c .before) .fits)) (λ c. search needs)
+    (λ c. let j = c .before .before .before in turn (j .before .before) .halt _ (rw (j .before .over .ensures) at (j .judge-at .ensures)) (c .before .r .given .1))
     (λ c. search needs)
     (λ c. omega (arith, c .before .before .before .before .before .before .before .before .before .last-closed .ensures .0, last-most Bridge))
     (λ c. omega arith)
-    loop-again
+    (λ c. let j = c .before .before .before in let o = j .before in rw (o .over .ensures) (turn (o .before) .next _ (rw (o .over .ensures) at (j .judge-at .ensures)) (c .before .enum-told .given .1)))
     (λ c. let l = c .before in judged-all Bridge _ (lastField Bridge - 1) _ (l .loop .inv .1) (l .before .before .last-closed .ensures .1) (omega arith) (c .loop-test .left)))

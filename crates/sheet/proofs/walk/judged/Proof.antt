@@ -18,4 +18,6 @@ returns-3 c =
     stood _ (d .judge .ensures) (c .enum-told .given .1) ∙ ap (judgedAt (a .row) (a .at)) (sym (d .before .before .taken2 .given .1))
 
 pub judged-spec : {M : Type 1} → statement M
-judged-spec = tie.close (tie.spec (λ c. search needs) (λ c. search needs) (λ c κs. search needs) (λ c. search needs) (λ c. search needs) returns returns-2 returns-3)
+judged-spec =
+    tie.close
+    (tie.spec (λ c. search needs) (λ c. search needs) (λ c κs. search needs) (λ c. search needs) (λ c. search needs) returns returns-2 returns-3)

@@ -4,29 +4,11 @@ use Rattle.stream.proofs.Runs.{eight-in, eight-fits, joined}
 use Rattle.stream.proofs.bitfields.eight.Statement.{statement}
 use Rattle.stream.proofs.bitfields.eight.Tie as tie
 
-shared-slice-read-wide : tie.Need-shared-slice-read-wide
-shared-slice-read-wide c = search needs
-
-wide-requires : tie.Need-wide-requires
-wide-requires c κs = tt
-
 add-wide : tie.Need-add-wide
 add-wide c = eight-fits _ 1 _ (c .before .before .before .pre) (c .before .before .before .good .0 .0) (lit< tt)
 
-shared-slice-read-wide-2 : tie.Need-shared-slice-read-wide-2
-shared-slice-read-wide-2 c = eight-in _ 1 _ (c .before .before .before .before .pre) (lit< tt)
-
-wide-requires-2 : tie.Need-wide-requires-2
-wide-requires-2 c κs = tt
-
 add-wide-2 : tie.Need-add-wide-2
 add-wide-2 c = eight-fits _ 2 _ (c .before .before .before .before .before .pre) (c .before .before .before .before .before .good .0 .0) (lit< tt)
-
-shared-slice-read-wide-3 : tie.Need-shared-slice-read-wide-3
-shared-slice-read-wide-3 c = eight-in _ 2 _ (c .before .before .before .before .before .before .pre) (lit< tt)
-
-wide-requires-3 : tie.Need-wide-requires-3
-wide-requires-3 c κs = tt
 
 add-wide-3 : tie.Need-add-wide-3
 add-wide-3 c = eight-fits _ 3 _ (c .before .before .before .before .before .before .before .pre) (c .before .before .before .before .before .before .before .good .0 .0) (lit< tt)
@@ -34,17 +16,11 @@ add-wide-3 c = eight-fits _ 3 _ (c .before .before .before .before .before .befo
 shared-slice-read-wide-4 : tie.Need-shared-slice-read-wide-4
 shared-slice-read-wide-4 c = eight-in _ 3 _ (c .before .before .before .before .before .before .before .before .pre) (lit< tt)
 
-wide-requires-4 : tie.Need-wide-requires-4
-wide-requires-4 c κs = tt
-
 add-wide-4 : tie.Need-add-wide-4
 add-wide-4 c = eight-fits _ 4 _ (c .before .before .before .before .before .before .before .before .before .pre) (c .before .before .before .before .before .before .before .before .before .good .0 .0) (lit< tt)
 
 shared-slice-read-wide-5 : tie.Need-shared-slice-read-wide-5
 shared-slice-read-wide-5 c = eight-in _ 4 _ (c .before .before .before .before .before .before .before .before .before .before .pre) (lit< tt)
-
-wide-requires-5 : tie.Need-wide-requires-5
-wide-requires-5 c κs = tt
 
 add-wide-5 : tie.Need-add-wide-5
 add-wide-5 c = eight-fits _ 5 _ (c .before .before .before .before .before .before .before .before .before .before .before .pre) (c .before .before .before .before .before .before .before .before .before .before .before .good .0 .0) (lit< tt)
@@ -52,26 +28,17 @@ add-wide-5 c = eight-fits _ 5 _ (c .before .before .before .before .before .befo
 shared-slice-read-wide-6 : tie.Need-shared-slice-read-wide-6
 shared-slice-read-wide-6 c = eight-in _ 5 _ (c .before .before .before .before .before .before .before .before .before .before .before .before .pre) (lit< tt)
 
-wide-requires-6 : tie.Need-wide-requires-6
-wide-requires-6 c κs = tt
-
 add-wide-6 : tie.Need-add-wide-6
 add-wide-6 c = eight-fits _ 6 _ (c .before .before .before .before .before .before .before .before .before .before .before .before .before .pre) (c .before .before .before .before .before .before .before .before .before .before .before .before .before .good .0 .0) (lit< tt)
 
 shared-slice-read-wide-7 : tie.Need-shared-slice-read-wide-7
 shared-slice-read-wide-7 c = eight-in _ 6 _ (c .before .before .before .before .before .before .before .before .before .before .before .before .before .before .pre) (lit< tt)
 
-wide-requires-7 : tie.Need-wide-requires-7
-wide-requires-7 c κs = tt
-
 add-wide-7 : tie.Need-add-wide-7
 add-wide-7 c = eight-fits _ 7 _ (c .before .before .before .before .before .before .before .before .before .before .before .before .before .before .before .pre) (c .before .before .before .before .before .before .before .before .before .before .before .before .before .before .before .good .0 .0) (lit< tt)
 
 shared-slice-read-wide-8 : tie.Need-shared-slice-read-wide-8
 shared-slice-read-wide-8 c = eight-in _ 7 _ (c .before .before .before .before .before .before .before .before .before .before .before .before .before .before .before .before .pre) (lit< tt)
-
-wide-requires-8 : tie.Need-wide-requires-8
-wide-requires-8 c κs = tt
 
 returns : tie.Need-returns
 returns c =
@@ -89,28 +56,7 @@ returns c =
 pub eight-spec : {M : Type 1} → statement M
 eight-spec =
     tie.close
-    (tie.spec
-    shared-slice-read-wide
-    wide-requires
-    add-wide
-    shared-slice-read-wide-2
-    wide-requires-2
-    add-wide-2
-    shared-slice-read-wide-3
-    wide-requires-3
-    add-wide-3
-    shared-slice-read-wide-4
-    wide-requires-4
-    add-wide-4
-    shared-slice-read-wide-5
-    wide-requires-5
-    add-wide-5
-    shared-slice-read-wide-6
-    wide-requires-6
-    add-wide-6
-    shared-slice-read-wide-7
-    wide-requires-7
-    add-wide-7
-    shared-slice-read-wide-8
-    wide-requires-8
-    returns)
+    (tie.spec (λ c. search needs) (λ c κs. tt) add-wide (λ c. eight-in _ 1 _ (c .before .before .before .before .pre) (lit< tt)) (λ c κs. tt)
+    add-wide-2 (λ c. eight-in _ 2 _ (c .before .before .before .before .before .before .pre) (lit< tt)) (λ c κs. tt) add-wide-3
+    shared-slice-read-wide-4 (λ c κs. tt) add-wide-4 shared-slice-read-wide-5 (λ c κs. tt) add-wide-5 shared-slice-read-wide-6 (λ c κs. tt) add-wide-6
+    shared-slice-read-wide-7 (λ c κs. tt) add-wide-7 shared-slice-read-wide-8 (λ c κs. tt) returns)

@@ -5,32 +5,11 @@ use Rattle.stream.proofs.Laying.{laid-word}
 use Rattle.stream.proofs.bitfields.lay_eight.Statement.{statement}
 use Rattle.stream.proofs.bitfields.lay_eight.Tie as tie
 
-byte-requires : tie.Need-byte-requires
-byte-requires c κs = tt
-
-slice-write-image : tie.Need-slice-write-image
-slice-write-image c = search needs
-
-byte-requires-2 : tie.Need-byte-requires-2
-byte-requires-2 c κs = tt
-
 add-image : tie.Need-add-image
 add-image c = eight-fits _ 1 _ (c .before .before .before .pre) (c .before .before .before .good .0 .0) (lit< tt)
 
-slice-write-image-2 : tie.Need-slice-write-image-2
-slice-write-image-2 c = simp length-set (eight-in _ 1 _ (c .before .before .before .pre) (lit< tt))
-
-byte-requires-3 : tie.Need-byte-requires-3
-byte-requires-3 c κs = tt
-
 add-image-2 : tie.Need-add-image-2
 add-image-2 c = eight-fits _ 2 _ (c .before .before .before .before .pre) (c .before .before .before .before .good .0 .0) (lit< tt)
-
-slice-write-image-3 : tie.Need-slice-write-image-3
-slice-write-image-3 c = simp length-set (eight-in _ 2 _ (c .before .before .before .before .pre) (lit< tt))
-
-byte-requires-4 : tie.Need-byte-requires-4
-byte-requires-4 c κs = tt
 
 add-image-3 : tie.Need-add-image-3
 add-image-3 c = eight-fits _ 3 _ (c .before .before .before .before .before .pre) (c .before .before .before .before .before .good .0 .0) (lit< tt)
@@ -38,17 +17,11 @@ add-image-3 c = eight-fits _ 3 _ (c .before .before .before .before .before .pre
 slice-write-image-4 : tie.Need-slice-write-image-4
 slice-write-image-4 c = simp length-set (eight-in _ 3 _ (c .before .before .before .before .before .pre) (lit< tt))
 
-byte-requires-5 : tie.Need-byte-requires-5
-byte-requires-5 c κs = tt
-
 add-image-4 : tie.Need-add-image-4
 add-image-4 c = eight-fits _ 4 _ (c .before .before .before .before .before .before .pre) (c .before .before .before .before .before .before .good .0 .0) (lit< tt)
 
 slice-write-image-5 : tie.Need-slice-write-image-5
 slice-write-image-5 c = simp length-set (eight-in _ 4 _ (c .before .before .before .before .before .before .pre) (lit< tt))
-
-byte-requires-6 : tie.Need-byte-requires-6
-byte-requires-6 c κs = tt
 
 add-image-5 : tie.Need-add-image-5
 add-image-5 c = eight-fits _ 5 _ (c .before .before .before .before .before .before .before .pre) (c .before .before .before .before .before .before .before .good .0 .0) (lit< tt)
@@ -56,26 +29,17 @@ add-image-5 c = eight-fits _ 5 _ (c .before .before .before .before .before .bef
 slice-write-image-6 : tie.Need-slice-write-image-6
 slice-write-image-6 c = simp length-set (eight-in _ 5 _ (c .before .before .before .before .before .before .before .pre) (lit< tt))
 
-byte-requires-7 : tie.Need-byte-requires-7
-byte-requires-7 c κs = tt
-
 add-image-6 : tie.Need-add-image-6
 add-image-6 c = eight-fits _ 6 _ (c .before .before .before .before .before .before .before .before .pre) (c .before .before .before .before .before .before .before .before .good .0 .0) (lit< tt)
 
 slice-write-image-7 : tie.Need-slice-write-image-7
 slice-write-image-7 c = simp length-set (eight-in _ 6 _ (c .before .before .before .before .before .before .before .before .pre) (lit< tt))
 
-byte-requires-8 : tie.Need-byte-requires-8
-byte-requires-8 c κs = tt
-
 add-image-7 : tie.Need-add-image-7
 add-image-7 c = eight-fits _ 7 _ (c .before .before .before .before .before .before .before .before .before .pre) (c .before .before .before .before .before .before .before .before .before .good .0 .0) (lit< tt)
 
 slice-write-image-8 : tie.Need-slice-write-image-8
 slice-write-image-8 c = simp length-set (eight-in _ 7 _ (c .before .before .before .before .before .before .before .before .before .pre) (lit< tt))
-
-same-length : tie.Need-same-length
-same-length c = simp length-set
 
 returns : tie.Need-returns
 returns c =
@@ -97,29 +61,8 @@ returns c =
 pub lay-eight-spec : {M : Type 1} → statement M
 lay-eight-spec =
     tie.close
-    (tie.spec
-    byte-requires
-    slice-write-image
-    byte-requires-2
-    add-image
-    slice-write-image-2
-    byte-requires-3
-    add-image-2
-    slice-write-image-3
-    byte-requires-4
-    add-image-3
-    slice-write-image-4
-    byte-requires-5
-    add-image-4
-    slice-write-image-5
-    byte-requires-6
-    add-image-5
-    slice-write-image-6
-    byte-requires-7
-    add-image-6
-    slice-write-image-7
-    byte-requires-8
-    add-image-7
-    slice-write-image-8
-    same-length
-    returns)
+    (tie.spec (λ c κs. tt) (λ c. search needs) (λ c κs. tt) add-image
+    (λ c. simp length-set (eight-in _ 1 _ (c .before .before .before .pre) (lit< tt))) (λ c κs. tt) add-image-2
+    (λ c. simp length-set (eight-in _ 2 _ (c .before .before .before .before .pre) (lit< tt))) (λ c κs. tt) add-image-3 slice-write-image-4
+    (λ c κs. tt) add-image-4 slice-write-image-5 (λ c κs. tt) add-image-5 slice-write-image-6 (λ c κs. tt) add-image-6 slice-write-image-7
+    (λ c κs. tt) add-image-7 slice-write-image-8 (λ c. simp length-set) returns)

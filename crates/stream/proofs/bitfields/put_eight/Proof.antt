@@ -4,24 +4,6 @@ use Rattle.stream.proofs.Laying.{eight-put}
 use Rattle.stream.proofs.bitfields.put_eight.Statement.{statement}
 use Rattle.stream.proofs.bitfields.put_eight.Tie as tie
 
-eight-requires : tie.Need-eight-requires
-eight-requires c κs = omega arith
-
-mul-replaced : tie.Need-mul-replaced
-mul-replaced c = omega arith
-
-sub-replaced : tie.Need-sub-replaced
-sub-replaced c = omega arith
-
-replaced-requires : tie.Need-replaced-requires
-replaced-requires c κs = omega arith
-
-lay-eight-requires : tie.Need-lay-eight-requires
-lay-eight-requires c κs = omega arith
-
-same-length : tie.Need-same-length
-same-length c = c .before .before .lay-eight .kept .0
-
 returns : tie.Need-returns
 returns c =
     let s = c .before .before .before .before .before .before .before .before in
@@ -32,11 +14,5 @@ returns c =
 pub put-eight-spec : {M : Type 1} → statement M
 put-eight-spec =
     tie.close
-    (tie.spec
-    eight-requires
-    mul-replaced
-    sub-replaced
-    replaced-requires
-    lay-eight-requires
-    same-length
-    returns)
+    (tie.spec (λ c κs. omega arith) (λ c. omega arith) (λ c. omega arith) (λ c κs. omega arith) (λ c κs. omega arith)
+    (λ c. c .before .before .lay-eight .kept .0) returns)

@@ -4,27 +4,6 @@ use Rattle.stream.proofs.Runs.{window-end}
 use Rattle.stream.proofs.bitfields.window.Statement.{statement}
 use Rattle.stream.proofs.bitfields.window.Tie as tie
 
-sub-last : tie.Need-sub-last
-sub-last c = omega arith
-
-eight-requires : tie.Need-eight-requires
-eight-requires c κs = omega arith
-
-returns : tie.Need-returns
-returns c = c .eight .ensures
-
-eight-requires-2 : tie.Need-eight-requires-2
-eight-requires-2 c κs = omega arith
-
-sub-result : tie.Need-sub-result
-sub-result c = omega arith
-
-mul-result : tie.Need-mul-result
-mul-result c = omega arith
-
-shr-result : tie.Need-shr-result
-shr-result c = omega arith
-
 returns-2 : tie.Need-returns-2
 returns-2 c =
     let a = c .before .before .before .args in
@@ -33,12 +12,5 @@ returns-2 c =
 pub window-spec : {M : Type 1} → statement M
 window-spec =
     tie.close
-    (tie.spec
-    sub-last
-    eight-requires
-    returns
-    eight-requires-2
-    sub-result
-    mul-result
-    shr-result
-    returns-2)
+    (tie.spec (λ c. omega arith) (λ c κs. omega arith) (λ c. c .eight .ensures) (λ c κs. omega arith) (λ c. omega arith) (λ c. omega arith)
+    (λ c. omega arith) returns-2)

@@ -4,19 +4,10 @@ use Rattle.stream.proofs.Words.{one-shl-pos, put-between}
 use Rattle.stream.proofs.bitfields.with_check.Statement.{statement}
 use Rattle.stream.proofs.bitfields.with_check.Tie as tie
 
-shl-near : tie.Need-shl-near
-shl-near c = omega arith
-
-sub-near : tie.Need-sub-near
-sub-near c = one-shl-pos _ (omega arith)
-
-shl-result : tie.Need-shl-result
-shl-result c = omega arith
-
 returns : tie.Need-returns
 returns c =
     let a = c .args in
     put-between (a .word) (a .bits) (a .check) (c .pre .0) (c .pre .1) (c .pre .2)
 
 pub with-check-spec : {M : Type 1} → statement M
-with-check-spec = tie.close (tie.spec shl-near sub-near shl-result returns)
+with-check-spec = tie.close (tie.spec (λ c. omega arith) (λ c. one-shl-pos _ (omega arith)) (λ c. omega arith) returns)

@@ -18,20 +18,11 @@ seal-requires c κs =
     let whole = c .before .before .before .before .pre in
     (record { long = c .before .before .loop .inv .1 .1 .whole; small = whole .small; paged = whole .paged; few = whole .few }, c .before .loop-test .taken)
 
-add-page : tie.Need-add-page Inv-loop μ-loop
-add-page c = omega arith
-
-loop-less : tie.Need-loop-less Inv-loop μ-loop
-loop-less c = omega arith
-
 loop-again : tie.Need-loop-again Inv-loop μ-loop
 loop-again c =
     let s = c .before .before .before .before .before .before .before in
     let l = c .before .before .before .before .before .loop in
     (omega arith, (omega (arith, c .before .before .seal .kept), rw (c .before .before .seal .ensures) (sealed-more (s .args .sizes) (l .page) (c .before .before .before .before .loop-test .taken) (l .inv .1 .1))))
-
-same-length : tie.Need-same-length Inv-loop μ-loop
-same-length c = c .before .loop .inv .1 .0
 
 returns : tie.Need-returns Inv-loop μ-loop
 returns c =
@@ -41,13 +32,4 @@ returns c =
 pub seal-pages-spec : {M : Type 1} → statement M
 seal-pages-spec =
     tie.close
-    (tie.spec
-    Inv-loop
-    μ-loop
-    loop-holds
-    seal-requires
-    add-page
-    loop-less
-    loop-again
-    same-length
-    returns)
+    (tie.spec Inv-loop μ-loop loop-holds seal-requires (λ c. omega arith) (λ c. omega arith) loop-again (λ c. c .before .loop .inv .1 .0) returns)

@@ -5,26 +5,11 @@ use Rattle.texts.proofs.Digits.{read}
 use Rattle.texts.proofs.dates.code_of.Statement.{statement}
 use Rattle.texts.proofs.dates.code_of.Tie as tie
 
-two-digits-requires : tie.Need-two-digits-requires
-two-digits-requires c κs = search needs
-
 mul-year : tie.Need-mul-year
 mul-year c = omega (arith, c .before .shared-slice-known .given 0, c .before .shared-slice-known .given 1)
 
-two-digits-requires-2 : tie.Need-two-digits-requires-2
-two-digits-requires-2 c κs = search needs
-
 add-year : tie.Need-add-year
 add-year c = omega (arith, c .before .before .shared-slice-known .given 0, c .before .before .shared-slice-known .given 1, c .before .before .shared-slice-known .given 2, c .before .before .shared-slice-known .given 3)
-
-two-digits-requires-3 : tie.Need-two-digits-requires-3
-two-digits-requires-3 c κs = search needs
-
-two-digits-requires-4 : tie.Need-two-digits-requires-4
-two-digits-requires-4 c κs = search needs
-
-day-code-requires : tie.Need-day-code-requires
-day-code-requires c κs = search needs
 
 returns : tie.Need-returns
 returns c code le e = c .day-code .ensures code le (read _ code _ _ _ _ (c .before .before .before .before .two-digits .ensures) (c .before .before .before .two-digits2 .ensures) (c .before .before .two-digits3 .ensures) (c .before .two-digits4 .ensures) le e)
@@ -32,12 +17,5 @@ returns c code le e = c .day-code .ensures code le (read _ code _ _ _ _ (c .befo
 pub code-of-spec : {M : Type 1} → statement M
 code-of-spec =
     tie.close
-    (tie.spec
-    two-digits-requires
-    mul-year
-    two-digits-requires-2
-    add-year
-    two-digits-requires-3
-    two-digits-requires-4
-    day-code-requires
+    (tie.spec (λ c κs. search needs) mul-year (λ c κs. search needs) add-year (λ c κs. search needs) (λ c κs. search needs) (λ c κs. search needs)
     returns)

@@ -5,29 +5,11 @@ use Rattle.texts.proofs.Finding.{year-near, rest-of-year, found}
 use Rattle.texts.proofs.dates.date_of.Statement.{statement}
 use Rattle.texts.proofs.dates.date_of.Tie as tie
 
-year-of-requires : tie.Need-year-of-requires
-year-of-requires c κs = search needs
-
-days-before-year-requires : tie.Need-days-before-year-requires
-days-before-year-requires c κs = omega (arith, year-near (c .year-of .result) (omega arith))
-
-sub-rest : tie.Need-sub-rest
-sub-rest c = search needs
-
 month-of-requires : tie.Need-month-of-requires
 month-of-requires c κs = rest-of-year _ _ _ (c .before .year-of .ensures .0) (c .days-before-year .ensures) (omega arith) (c .before .year-of .ensures .2)
 
-leap-requires : tie.Need-leap-requires
-leap-requires c κs = search needs
-
-days-before-month-requires : tie.Need-days-before-month-requires
-days-before-month-requires c κs = search needs
-
 sub-day : tie.Need-sub-day
 sub-day c = omega (arith, c .days-before-month .ensures (c .before .before .before .before .year-of .result) (sym (c .before .leap .ensures)))
-
-add-day : tie.Need-add-day
-add-day c = search needs
 
 returns : tie.Need-returns
 returns c = found _ _ _ _ _ (c .before .before .before .days-before-year .ensures) (c .days-before-month .ensures (c .before .before .before .before .year-of .result) (sym (c .before .leap .ensures))) (c .before .before .before .before .year-of .ensures .0) (omega arith) (c .before .before .month-of .ensures .0) (c .before .before .month-of .ensures .1) (c .before .before .month-of .ensures .2) (c .before .before .month-of .ensures .3)
@@ -35,13 +17,5 @@ returns c = found _ _ _ _ _ (c .before .before .before .days-before-year .ensure
 pub date-of-spec : {M : Type 1} → statement M
 date-of-spec =
     tie.close
-    (tie.spec
-    year-of-requires
-    days-before-year-requires
-    sub-rest
-    month-of-requires
-    leap-requires
-    days-before-month-requires
-    sub-day
-    add-day
-    returns)
+    (tie.spec (λ c κs. search needs) (λ c κs. omega (arith, year-near (c .year-of .result) (omega arith))) (λ c. search needs) month-of-requires
+    (λ c κs. search needs) (λ c κs. search needs) sub-day (λ c. search needs) returns)

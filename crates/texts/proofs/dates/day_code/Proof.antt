@@ -23,15 +23,6 @@ returns-5 c code le e = absurd (omega (arith, c .if5 .taken, ranged code _ _ _ l
 returns-6 : tie.Need-returns-6
 returns-6 c code le e = absurd (omega (arith, c .if6 .taken, ranged code _ _ _ le e))
 
-days-before-year-requires : tie.Need-days-before-year-requires
-days-before-year-requires c κs = search needs
-
-leap-requires : tie.Need-leap-requires
-leap-requires c κs = search needs
-
-days-before-month-requires : tie.Need-days-before-month-requires
-days-before-month-requires c κs = search needs
-
 add-result : tie.Need-add-result
 add-result c =
     let given = c .before .before .before .before .before .before .before .before .before .args in
@@ -50,9 +41,6 @@ add-result-2 c =
       few (given .year) (given .month) (c .before .before .before .before .before .before .before .if2 .left) (c .before .before .before .before .before .if4 .left),
     )
 
-sub-result : tie.Need-sub-result
-sub-result c = search needs
-
 returns-7 : tie.Need-returns-7
 returns-7 c code le e =
     let given = c .before .before .before .before .before .before .before .before .before .args in
@@ -61,17 +49,5 @@ returns-7 c code le e =
 pub day-code-spec : {M : Type 1} → statement M
 day-code-spec =
     tie.close
-    (tie.spec
-    returns
-    returns-2
-    returns-3
-    returns-4
-    returns-5
-    returns-6
-    days-before-year-requires
-    leap-requires
-    days-before-month-requires
-    add-result
-    add-result-2
-    sub-result
-    returns-7)
+    (tie.spec returns returns-2 returns-3 returns-4 returns-5 returns-6 (λ c κs. search needs) (λ c κs. search needs) (λ c κs. search needs)
+    add-result add-result-2 (λ c. search needs) returns-7)

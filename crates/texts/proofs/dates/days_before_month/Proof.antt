@@ -38,15 +38,6 @@ found year month long e h =
     subst (λ (l : List ℕ). given long month ≡ foldr _+_ 0 (take (month - 1) l)) (sym (like-model year long e))
     (eqb→eq _ _ (tested month long h .1))
 
-sub-days : tie.Need-sub-days
-sub-days c = search needs
-
-mul-days : tie.Need-mul-days
-mul-days c = search needs
-
-array-read-days : tie.Need-array-read-days
-array-read-days c = search needs
-
 returns : tie.Need-returns
 returns c year e = omega (arith, rw (lt-ltb _ _ (c .if1 .taken)) at (found year _ _ e (c .before .pre .1)))
 
@@ -56,13 +47,11 @@ returns-2 c year e = omega (arith, rw (le-ltb _ _ (c .before .if1 .left)) at (fo
 returns-3 : tie.Need-returns-3
 returns-3 c year e = omega (arith, rw (le-ltb _ _ (c .before .if1 .left)) at (found year _ _ (e ∙ c .if2 .left) (c .before .before .pre .1)))
 
-cast-days : tie.Need-cast-days
-cast-days c = record { fits = omega (arith, small (c .args .month) (c .pre .1)) }
-
 add-result : tie.Need-add-result
 add-result c = record { fits = omega (arith, small (c .before .before .args .month) (c .before .before .pre .1)) }
 
 pub days-before-month-spec : {M : Type 1} → statement M
 days-before-month-spec =
     tie.close
-    (tie.spec sub-days mul-days array-read-days cast-days returns add-result returns-2 returns-3)
+    (tie.spec (λ c. search needs) (λ c. search needs) (λ c. search needs) (λ c. record { fits = omega (arith, small (c .args .month) (c .pre .1)) })
+    returns add-result returns-2 returns-3)

@@ -11,21 +11,6 @@ Inv-loop year day long month₀ month = (1 ≤ month) × (month ≤ 12) × (day 
 abbrev μ-loop : tie.MeasureT-loop
 μ-loop year day long month₀ month = month
 
-leap-requires : tie.Need-leap-requires Inv-loop μ-loop
-leap-requires c κs = search needs
-
-loop-holds : tie.Need-loop-holds Inv-loop μ-loop
-loop-holds c = (search needs, search needs, c .before .pre)
-
-days-before-month-requires : tie.Need-days-before-month-requires Inv-loop μ-loop
-days-before-month-requires c κs = search needs
-
-sub-month : tie.Need-sub-month Inv-loop μ-loop
-sub-month c = search needs
-
-loop-less : tie.Need-loop-less Inv-loop μ-loop
-loop-less c = search needs
-
 loop-again : tie.Need-loop-again Inv-loop μ-loop
 loop-again c = month-turn (c .before .before .before .before .args .year) _ _ _ (c .before .before .loop .inv .0) (c .before .before .loop .inv .1) (c .before .days-before-month .ensures (c .before .before .before .before .args .year) (sym (c .before .before .before .leap .ensures))) (c .if1 .taken)
 
@@ -35,13 +20,5 @@ returns c = (c .before .before .loop .inv .0, c .before .before .loop .inv .1, o
 pub month-of-spec : {M : Type 1} → statement M
 month-of-spec =
     tie.close
-    (tie.spec
-    Inv-loop
-    μ-loop
-    leap-requires
-    loop-holds
-    days-before-month-requires
-    sub-month
-    loop-less
-    loop-again
-    returns)
+    (tie.spec Inv-loop μ-loop (λ c κs. search needs) (λ c. (search needs, search needs, c .before .pre)) (λ c κs. search needs) (λ c. search needs)
+    (λ c. search needs) loop-again returns)

@@ -11,37 +11,12 @@ Inv-loop character at₀ at = (at ≤ 32) × ((k : ℕ) → k < at → getD lett
 abbrev μ-loop : tie.MeasureT-loop
 μ-loop character at₀ at = 32 - at
 
-loop-holds : tie.Need-loop-holds Inv-loop μ-loop
-loop-holds c = search needs
-
-array-read-if1 : tie.Need-array-read-if1 Inv-loop μ-loop
-array-read-if1 c = search needs
-
 returns : tie.Need-returns Inv-loop μ-loop
 returns c = (search needs, λ code below e. distinct _ code (c .before .loop-test .taken) (omega arith) (c .if1 .taken ∙ sym e))
-
-add-at : tie.Need-add-at Inv-loop μ-loop
-add-at c = search needs
-
-loop-less : tie.Need-loop-less Inv-loop μ-loop
-loop-less c = search needs
-
-loop-again : tie.Need-loop-again Inv-loop μ-loop
-loop-again c = (search needs, below-more _ _ (c .before .before .loop .inv .1) (c .if1 .left))
-
-returns-2 : tie.Need-returns-2 Inv-loop μ-loop
-returns-2 c = (search needs, λ code below e. absurd (c .before .loop .inv .1 code (omega arith) e))
 
 pub letter-code-spec : {M : Type 1} → statement M
 letter-code-spec =
     tie.close
-    (tie.spec
-    Inv-loop
-    μ-loop
-    loop-holds
-    array-read-if1
-    returns
-    add-at
-    loop-less
-    loop-again
-    returns-2)
+    (tie.spec Inv-loop μ-loop (λ c. search needs) (λ c. search needs) returns (λ c. search needs) (λ c. search needs)
+    (λ c. (search needs, below-more _ _ (c .before .before .loop .inv .1) (c .if1 .left)))
+    (λ c. (search needs, λ code below e. absurd (c .before .loop .inv .1 code (omega arith) e))))

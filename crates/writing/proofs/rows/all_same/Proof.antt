@@ -10,9 +10,6 @@ Inv-loop present wanted rows i₀ i = (i ≤ rows) × ((k : ℕ) → k < i → d
 abbrev μ-loop : tie.MeasureT-loop
 μ-loop present wanted rows i₀ i = rows - i
 
-loop-holds : tie.Need-loop-holds Inv-loop μ-loop
-loop-holds c = (omega arith, λ k h. absurd (omega arith))
-
 returns : tie.Need-returns Inv-loop μ-loop
 returns c =
     let l = c .before .before .before in
@@ -34,13 +31,5 @@ returns-2 c =
 pub all-same-spec : {M : Type 1} → statement M
 all-same-spec =
     tie.close
-    (tie.spec
-    Inv-loop
-    μ-loop
-    loop-holds
-    (λ c κs. search needs)
-    returns
-    (λ c. search needs)
-    (λ c. search needs)
-    loop-again
-    returns-2)
+    (tie.spec Inv-loop μ-loop (λ c. (omega arith, λ k h. absurd (omega arith))) (λ c κs. search needs) returns (λ c. search needs) (λ c. search needs)
+    loop-again returns-2)

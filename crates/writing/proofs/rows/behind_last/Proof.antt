@@ -10,9 +10,6 @@ Inv-loop present wanted at r₀ r = (r ≤ length present / 8) × ((k : ℕ) →
 abbrev μ-loop : tie.MeasureT-loop
 μ-loop present wanted at r₀ r = r
 
-loop-holds : tie.Need-loop-holds Inv-loop μ-loop
-loop-holds c = (omega arith, λ k h l. absurd (omega arith))
-
 returns : tie.Need-returns Inv-loop μ-loop
 returns c =
     let l = c .before .before .before in
@@ -37,14 +34,5 @@ returns-2 c =
 pub behind-last-spec : {M : Type 1} → statement M
 behind-last-spec =
     tie.close
-    (tie.spec
-    Inv-loop
-    μ-loop
-    loop-holds
-    (λ c. search needs)
-    (λ c κs. search needs)
-    returns
-    (λ c. search needs)
-    (λ c. search needs)
-    loop-again
-    returns-2)
+    (tie.spec Inv-loop μ-loop (λ c. (omega arith, λ k h l. absurd (omega arith))) (λ c. search needs) (λ c κs. search needs) returns
+    (λ c. search needs) (λ c. search needs) loop-again returns-2)

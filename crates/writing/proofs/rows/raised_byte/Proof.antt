@@ -18,9 +18,4 @@ returns-2 c =
 pub raised-byte-spec : {M : Type 1} → statement M
 raised-byte-spec =
     tie.close
-    (tie.spec
-    (λ c. search needs)
-    (λ c κs. search needs)
-    returns
-    (λ c. search needs)
-    returns-2)
+    (tie.spec (λ c. search needs) (λ c κs. search needs) returns (λ c. search needs) returns-2)

@@ -10,9 +10,6 @@ Inv-loop present wanted rows check t₀ i₀ t i = (i ≤ rows) × (t ≡ tallyT
 abbrev μ-loop : tie.MeasureT-loop
 μ-loop present wanted rows check t₀ i₀ t i = rows - i
 
-loop-holds : tie.Need-loop-holds Inv-loop μ-loop
-loop-holds c = (omega arith, refl)
-
 with-row-requires : tie.Need-with-row-requires Inv-loop μ-loop
 with-row-requires c κs =
     let l = c .before .before in
@@ -35,13 +32,5 @@ returns c =
 pub tally-rows-spec : {M : Type 1} → statement M
 tally-rows-spec =
     tie.close
-    (tie.spec
-    Inv-loop
-    μ-loop
-    loop-holds
-    (λ c κs. search needs)
-    with-row-requires
-    (λ c. search needs)
-    (λ c. search needs)
-    loop-again
+    (tie.spec Inv-loop μ-loop (λ c. (omega arith, refl)) (λ c κs. search needs) with-row-requires (λ c. search needs) (λ c. search needs) loop-again
     returns)

@@ -4,30 +4,15 @@ use Rattle.stream.proofs.Taking.{take-inside, take-past}
 use Rattle.stream.proofs.cursor.Cursor.take.Statement.{statement}
 use Rattle.stream.proofs.cursor.Cursor.take.Tie as tie
 
-sub-bits : tie.Need-sub-bits
-sub-bits c = search needs
-
-mul-bits : tie.Need-mul-bits
-mul-bits c = search needs
-
-past-end-requires : tie.Need-past-end-requires
-past-end-requires c κs = search needs
-
 returns : tie.Need-returns
 returns c =
     let a = c .before .before .before .before .args in
     rw (c .past-end .ensures, take-past (a .sizes) (a .image .now) (a .self .at) (a .width) (omega arith))
 
-past-end-requires-2 : tie.Need-past-end-requires-2
-past-end-requires-2 c κs = search needs
-
 returns-2 : tie.Need-returns-2
 returns-2 c =
     let a = c .before .before .before .before .before .args in
     rw (c .past-end2 .ensures, take-past (a .sizes) (a .image .now) (a .self .at) (a .width) (omega arith))
-
-read-requires : tie.Need-read-requires
-read-requires c κs = search needs
 
 returns-3 : tie.Need-returns-3
 returns-3 c =
@@ -36,4 +21,5 @@ returns-3 c =
 
 pub take-spec : {M : Type 1} → statement M
 take-spec =
-    tie.close (tie.spec sub-bits mul-bits past-end-requires returns past-end-requires-2 returns-2 read-requires returns-3)
+    tie.close
+    (tie.spec (λ c. search needs) (λ c. search needs) (λ c κs. search needs) returns (λ c κs. search needs) returns-2 (λ c κs. search needs) returns-3)
