@@ -1,6 +1,6 @@
 -- include/dartelm.h: the struct that a call answers, from its outcome. Each struct is made of a number, a place and the call's values.
 use mathlib.Core.Option.{Option, none, some}
-use mathlib.Core.List.{List, [], _++_, map}
+use mathlib.Core.List.{List, _++_}
 use Prim.Native.Nat.{ℕ, _-_, _*_}
 use lib.IntN.{pos}
 use lib.Ieee.{binary32, binary64}
@@ -24,7 +24,6 @@ use Rattle.distance.specs.declared.ToldDistance.{ToldDistance}
 use Rattle.writing.specs.Steps.{Step, done, write}
 use Rattle.dartelm.specs.declared.answers.DartelmCheckAnswer.{DartelmCheckAnswer}
 use Rattle.dartelm.specs.declared.answers.DartelmFieldAnswer.{DartelmFieldAnswer}
-use Rattle.dartelm.specs.declared.answers.DartelmSheetAnswer.{DartelmSheetAnswer}
 use Rattle.dartelm.specs.declared.answers.DartelmPairAnswer.{DartelmPairAnswer}
 use Rattle.dartelm.specs.declared.answers.DartelmSegmentAnswer.{DartelmSegmentAnswer}
 use Rattle.dartelm.specs.declared.answers.DartelmTermAnswer.{DartelmTermAnswer}

@@ -62,9 +62,6 @@ module _ (B : ℕ) (x : Fraction) where
   correction-within [] rises deviations = omega arith
   correction-within (p ∷ pairs) rises deviations = by-test x (p .point) (Small B x) (λ h. held-small p (deviations .0)) (λ h. after-small p pairs rises deviations (h .0))
 
-pub correction-small : (x : Fraction) (points : List Pair) → Table points → Small (2 ^ 32) x (correction (x .num) (x .den) points)
-correction-small x points t = correction-within (2 ^ 32) x points (t .rises) (table-deviations points (t .figures))
-
 pub deviation-within : (B : ℕ) (points : List Pair) (p : ℤ) → Rises points → Deviations B points → natAbs (deviation points p) ≤ B
 unfolding deviation
 deviation-within B points p rises deviations =

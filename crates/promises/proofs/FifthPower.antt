@@ -12,7 +12,7 @@ use lib.Ieee.Scale.{finite as isFinite, grid}
 use Rattle.figures.proofs.FigureLaws.{is-finite, value-real}
 use Rattle.figures.proofs.Operations.{isNegative, whole-is, div-value, round-value, in-units}
 use Rattle.figures.proofs.Sizes.{grid-most}
-use Rattle.figures.proofs.Zeros.{Alike, Alike.same, Alike.zeros, zero-times, mul-alike, zero-plus-zero, add-alike, plus-alike, zero-plus-held, grid-some}
+use Rattle.figures.proofs.Zeros.{Alike, Alike.same as same, Alike.zeros as zeros, zero-times, mul-alike, zero-plus-zero, add-alike, plus-alike, zero-plus-held, grid-some}
 use Rattle.layout.specs.Contents.{nothingPassed}
 use Rattle.promises.specs.Curves.{upToTheFifth, FromTheFifth}
 use Rattle.promises.proofs.CurveFigures.{zeroed, Ends, serve, all-serve}

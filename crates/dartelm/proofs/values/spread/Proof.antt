@@ -4,8 +4,6 @@ use Rattle.dartelm.proofs.Names.{_≡_, refl, sym, ap, _∙_, ⊎-elim,
 use Rattle.dartelm.proofs.Names.{spread-none, spread-whole, spread-single, spread-missing, spread-all, DartelmValue, valueOf, noValue, slotOf}
 use Rattle.dartelm.proofs.values.spread.Statement.{statement}
 use Rattle.dartelm.proofs.values.spread.Tie as tie
-use Rattle.dartelm.proofs.values.spread.Reads as reads
-use Rattle.dartelm.proofs.values.spread.Lts as lts
 
 -- The value of a slot, whatever stands for none.
 handed : (values : List DartelmValue) (i : ℕ) (none : DartelmValue) → i < length values → getD (map slotOf values) i (slotOf noValue) .value ≡ valueOf (getD values i none)
