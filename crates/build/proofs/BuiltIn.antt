@@ -8,10 +8,6 @@ use Rattle.build.proofs.EndingPlans.{ending-planned, character-lt}
 
 -- ---- the bits
 
-pub table-more : (n : ℕ) → (n ≡ 0 → ⊥) → 18 + 37 * n ≡ tableBits n
-table-more zero h = absurd (h refl)
-table-more (suc n) h = refl
-
 pub table-few : (n : ℕ) → n ≤ 127 → tableBits n ≤ 4_717
 table-few zero h = omega arith
 table-few (suc n) h = omega arith
