@@ -4,7 +4,7 @@ use Rattle.build.proofs.Names.{leb-true, not-false, leb, ℤ, pos, _*�
 use Rattle.build.proofs.Names.{refused, _>>=_, _>>_, wrongCurve, good-bind, good-same, no-value, passed, both, bind-good, bind-refused, Piece, piece, needed, needed-append, Whole, Single, Stands, Segment, Term}
 use Rattle.build.proofs.Names.{Curve, encode, segmentStart, termCount, exponent, coefficient, isSegmentCount, isExponent, exponentFollows, exponentCode, tenthsOf, below-zero, above-five, between, exponent-coded}
 use Rattle.build.proofs.Names.{judgedSaid, CodedField, CurvePlan, startCode, termPieces, segmentPieces, curvePieces, Fitting, Fit, fieldPiece, coded, segmentTwo, termTwo, firstFour, codedCurve, noCurve}
-use Rattle.build.proofs.Names.{CurvePlanned}
+use Rattle.build.proofs.Names.{wholeCurve, CurvePlanned}
 use Rattle.fields.specs.declared.Judged.the-variants.{Refused}
 use Rattle.build.proofs.Coding.{taken, fit-none, fit-more}
 use Rattle.build.proofs.SegmentPlans.{start-planned}
@@ -277,7 +277,7 @@ module _ (count : ℕ) (segments : List Segment) (terms : List Term) where
   -- ---- all of them
 
   pub done-all : count ≤ 20 → {codes : List CodedField} {before : Option ℕ} {last : Option ℤ} {i k : ℕ} → CurveDone codes before last i k 0 → length segments ≡ 20 → count ≤ i →
-      CurvePlanned curve (record { answer = Stands; codes = codes; count = 4 + 2 * (count + k); bits = 19 + 20 * count + 39 * k })
+      CurvePlanned curve (wholeCurve codes count k)
   unfolding termPieces segmentPieces
   done-all few {codes} {before} {last} {i} {k} d long h =
       let same : i ≡ count = omega (arith, d .inside) in

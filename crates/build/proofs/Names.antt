@@ -31,7 +31,7 @@ unfoldable pub use Rattle.build.specs.Build.{termPieces}
 pub use Rattle.build.specs.Filled.{Begun, Filled, Free, Room, codedEnding, codedPair, codedPairs, codedSheet}
 unfoldable pub use Rattle.build.specs.Filled.{fitted}
 pub use Rattle.build.specs.Tested.{Accepted, CodedTo, CurvePlanned, Encodes, FieldsCoded, FieldsPlanned, Fit, Fitting, Long, Quick, Spread, TwoCoded, blank, bySort, coded, codedCurve, codedFields, codedFrom}
-pub use Rattle.build.specs.Tested.{codesSaid, fieldPiece, fieldsLent, noCurve, pairAt, piecesOf, plannedSaid, sheetLent, slotsLent, tested, twoSaid, unpack, unpacked, valueLent}
+pub use Rattle.build.specs.Tested.{codesSaid, fieldPiece, fieldsLent, noCurve, pairAt, piecesOf, plannedSaid, sheetLent, slotsLent, tested, twoSaid, unpack, unpacked, valueLent, wholeCurve}
 unfoldable pub use Rattle.build.specs.Tested.{firstFour, segmentTwo, termTwo}
 pub use Rattle.build.specs.declared.Sheet.{Sheet}
 pub use Rattle.build.specs.declared.Slot.{Slot}

@@ -211,6 +211,10 @@ firstFour count = set (set (set (replicate 104 blank) 0 (record { width = 2; cod
 abbrev pub noCurve : Refusal → List CodedField → CurvePlan
 noCurve r codes = record { answer = TurnedDown r; codes = codes; count = 0; bits = 0 }
 
+-- A curve with all its pieces.
+abbrev pub wholeCurve : List CodedField → ℕ → ℕ → CurvePlan
+wholeCurve codes segments terms = record { answer = Stands; codes = codes; count = 4 + 2 * (segments + terms); bits = 19 + 20 * segments + 39 * terms }
+
 pub record CurvePlanned (curve : Curve) (r : CurvePlan) : Type 0 where
   pub said : (judgedSaid (r .answer) >> good (codedCurve r)) ≡ curvePieces curve
   pub fit : r .answer ≡ Stands → Fit 104 (r .codes)

@@ -1,4 +1,5 @@
 // Build an image in the caller's buffer.
+use crate::Options;
 use crate::Sheet;
 use crate::Slot;
 use crate::drawing::CurvePlan;
@@ -28,21 +29,9 @@ ghost use Rattle.memory.specs.Image.{imageBytes, streamBits};
 ghost use Rattle.memory.specs.Answers.{Whole};
 ghost use Rattle.memory.specs.Pieces.{needed};
 ghost use Rattle.fields.specs.declared.Level.{Level};
-ghost use Rattle.layout.specs.Places.{tableBits};
 ghost use Rattle.build.specs.Build.{pairsLent, tablePieces, listed, drawn, builtIn, build as buildOf, buildCurve};
 ghost use Rattle.build.specs.Tested.{piecesOf, Accepted, Fit, unpacked, codedFields, codedCurve, Tested, Long, Spread, sheetLent};
 ghost use Rattle.build.specs.Filled.{codedSheet, fitted};
-
-// The bits of a table of n pairs: none without one.
-fn table_bits(n: u64) -> u64
-    requires { ⌜ n ≤ 127 ⌝ }
-    ensures { λ r. ⌜ r ≡ tableBits n ⌝ }
-{
-    if n == 0 {
-        return 0;
-    }
-    18 + 37 * n
-}
 
 // The bits that fields, the block behind them and characters need. Where the characters are more than the 65,535 that row 11
 // names at most, so are the bits, and no more is said of them.
@@ -68,31 +57,31 @@ fn is_too_long(sizes: Sizes, bits: u64) -> bool
 fn finish_table(
     sizes: Sizes,
     image: &mut [u8],
-    template: Template,
+    options: Options,
     fields: &[u64],
     field_bits: u64,
-    end_bit: bool,
     text: &[u8],
-    domain: Domain,
     points: &[i64],
 ) -> Written
     requires { ⌜ Whole sizes (now image) × (imageBytes sizes ≤ 512) ⌝ }
-    requires { ⌜ Tested (unpacked (now fields)) (now text) × («field_bits» ≡ needed (codedFields template (unpacked (now fields)))) × («field_bits» < 2 ^ 16) ⌝ }
-    requires { ⌜ Accepted (tablePieces domain (pairsLent (now points))) × (length (now points) ≤ 254) ⌝ }
-    ensures { λ r. ⌜ (let outcome = fitted sizes (codedSheet template (unpacked (now (fields .entry))) «end_bit» (now (text .entry)) (piecesOf (tablePieces domain (pairsLent (now (points .entry)))))) in
+    requires { ⌜ Tested (unpacked (now fields)) (now text) × («field_bits» ≡ needed (codedFields (options .template) (unpacked (now fields)))) × («field_bits» < 2 ^ 16) ⌝ }
+    requires { ⌜ Accepted (tablePieces (options .domain) (pairsLent (now points))) × (length (now points) ≤ 254) ⌝ }
+    ensures { λ r. ⌜ (let outcome = fitted sizes (codedSheet (options .template) (unpacked (now (fields .entry))) (options .«end_bit») (now (text .entry)) (piecesOf (tablePieces (options .domain) (pairsLent (now (points .entry)))))) in
         (writtenSaid r (now (image .exit)) ≡ outcome) × (now (image .exit) ≡ afterwards (now (image .entry)) outcome)) ⌝ }
 {
-    let behind = table_bits(points.len() as u64 / 2);
+    let behind = layout::table_bits(points.len() as u64 / 2) as u64;
     let bits = bits_needed(field_bits, behind, text.len() as u64);
     if is_too_long(sizes, bits) {
         return Written::Refused(refusal::too_long(bits));
     }
+    let template = options.template;
+    let domain = options.domain;
     write_table(
         sizes,
         image,
         template,
         fields,
-        end_bit,
+        options.end_bit,
         text,
         domain,
         points,
@@ -129,20 +118,20 @@ fn finish_curve(
 fn build_in(
     sizes: Sizes,
     image: &mut [u8],
-    template: Template,
-    end_bit: bool,
+    options: Options,
     sorts: &[u8],
     wholes: &[i64],
     singles: &[f32],
     text: &[u8],
-    domain: Domain,
     points: &[i64],
 ) -> Written
     requires { ⌜ Whole sizes (now image) × (imageBytes sizes ≤ 512) × Long (now sorts) (now wholes) (now singles) ⌝ }
-    ensures { λ r. ⌜ ((level : Level) → (let outcome = builtIn sizes (sheetLent template «end_bit» level (now (sorts .entry)) (now (wholes .entry)) (now (singles .entry))) (now (text .entry)) (listed domain (now (points .entry))) in
+    ensures { λ r. ⌜ ((level : Level) → (let outcome = builtIn sizes (sheetLent (options .template) (options .«end_bit») level (now (sorts .entry)) (now (wholes .entry)) (now (singles .entry))) (now (text .entry)) (listed (options .domain) (now (points .entry))) in
         (writtenSaid r (now (image .exit)) ≡ outcome) × (now (image .exit) ≡ afterwards (now (image .entry)) outcome))) ⌝ }
 {
     let n = points.len();
+    let template = options.template;
+    let domain = options.domain;
     if is_wrong_list(n) {
         return Written::Refused(refusal::wrong_list(n as u64));
     }
@@ -150,23 +139,13 @@ fn build_in(
     match plan_fields(template, sorts, wholes, singles, &mut fields) {
         Planned::Refused(r) => Written::Refused(r),
         Planned::Bits(bits) => {
-            if let Judged::Refused(r) = check_ending(template, end_bit, text) {
+            if let Judged::Refused(r) = check_ending(template, options.end_bit, text) {
                 return Written::Refused(r);
             }
             if let Judged::Refused(r) = check_points(domain, points) {
                 return Written::Refused(r);
             }
-            finish_table(
-                sizes,
-                image,
-                template,
-                &fields,
-                bits,
-                end_bit,
-                text,
-                domain,
-                points,
-            )
+            finish_table(sizes, image, options, &fields, bits, text, points)
         }
     }
 }
@@ -175,8 +154,7 @@ fn build_in(
 fn build_curve_in(
     sizes: Sizes,
     image: &mut [u8],
-    template: Template,
-    end_bit: bool,
+    options: Options,
     sorts: &[u8],
     wholes: &[i64],
     singles: &[f32],
@@ -184,9 +162,11 @@ fn build_curve_in(
     curve: Curve,
 ) -> Written
     requires { ⌜ Whole sizes (now image) × (imageBytes sizes ≤ 512) × Long (now sorts) (now wholes) (now singles) ⌝ }
-    ensures { λ r. ⌜ ((level : Level) → (let outcome = builtIn sizes (sheetLent template «end_bit» level (now (sorts .entry)) (now (wholes .entry)) (now (singles .entry))) (now (text .entry)) (drawn curve) in
+    ensures { λ r. ⌜ ((level : Level) → (let outcome = builtIn sizes (sheetLent (options .template) (options .«end_bit») level (now (sorts .entry)) (now (wholes .entry)) (now (singles .entry))) (now (text .entry)) (drawn curve) in
         (writtenSaid r (now (image .exit)) ≡ outcome) × (now (image .exit) ≡ afterwards (now (image .entry)) outcome))) ⌝ }
 {
+    let template = options.template;
+    let end_bit = options.end_bit;
     let mut fields = [NO_CODE; 21];
     match plan_fields(template, sorts, wholes, singles, &mut fields) {
         Planned::Refused(r) => Written::Refused(r),
@@ -235,33 +215,22 @@ fn spread(slots: [Slot; 21], sorts: &mut [u8], wholes: &mut [i64], singles: &mut
 pub fn build_lent(
     kind: u8,
     image: &mut [u8],
-    template: Template,
-    end_bit: bool,
+    options: Options,
     sorts: &[u8],
     wholes: &[i64],
     singles: &[f32],
     text: &[u8],
-    domain: Domain,
     points: &[i64],
 ) -> Written
     requires { ⌜ Long (now sorts) (now wholes) (now singles) ⌝ }
-    ensures { λ r. ⌜ ((level : Level) → (let outcome = buildOf kind (now (image .entry)) (sheetLent template «end_bit» level (now (sorts .entry)) (now (wholes .entry)) (now (singles .entry))) (now (text .entry)) domain (now (points .entry)) in
+    ensures { λ r. ⌜ ((level : Level) → (let outcome = buildOf kind (now (image .entry)) (sheetLent (options .template) (options .«end_bit») level (now (sorts .entry)) (now (wholes .entry)) (now (singles .entry))) (now (text .entry)) (options .domain) (now (points .entry)) in
         (writtenSaid r (now (image .exit)) ≡ outcome) × (now (image .exit) ≡ afterwards (now (image .entry)) outcome))) ⌝ }
 {
     match memory::image_sizes(kind, image.len()) {
         SizesAnswer::Refused(r) => Written::Refused(r),
-        SizesAnswer::Are(sizes) => build_in(
-            sizes,
-            image,
-            template,
-            end_bit,
-            sorts,
-            wholes,
-            singles,
-            text,
-            domain,
-            points,
-        ),
+        SizesAnswer::Are(sizes) => {
+            build_in(sizes, image, options, sorts, wholes, singles, text, points)
+        }
     }
 }
 
@@ -269,8 +238,7 @@ pub fn build_lent(
 pub fn build_curve_lent(
     kind: u8,
     image: &mut [u8],
-    template: Template,
-    end_bit: bool,
+    options: Options,
     sorts: &[u8],
     wholes: &[i64],
     singles: &[f32],
@@ -278,22 +246,14 @@ pub fn build_curve_lent(
     curve: Curve,
 ) -> Written
     requires { ⌜ Long (now sorts) (now wholes) (now singles) ⌝ }
-    ensures { λ r. ⌜ ((level : Level) → (let outcome = buildCurve kind (now (image .entry)) (sheetLent template «end_bit» level (now (sorts .entry)) (now (wholes .entry)) (now (singles .entry))) (now (text .entry)) curve in
+    ensures { λ r. ⌜ ((level : Level) → (let outcome = buildCurve kind (now (image .entry)) (sheetLent (options .template) (options .«end_bit») level (now (sorts .entry)) (now (wholes .entry)) (now (singles .entry))) (now (text .entry)) curve in
         (writtenSaid r (now (image .exit)) ≡ outcome) × (now (image .exit) ≡ afterwards (now (image .entry)) outcome))) ⌝ }
 {
     match memory::image_sizes(kind, image.len()) {
         SizesAnswer::Refused(r) => Written::Refused(r),
-        SizesAnswer::Are(sizes) => build_curve_in(
-            sizes,
-            image,
-            template,
-            end_bit,
-            sorts,
-            wholes,
-            singles,
-            text,
-            curve,
-        ),
+        SizesAnswer::Are(sizes) => {
+            build_curve_in(sizes, image, options, sorts, wholes, singles, text, curve)
+        }
     }
 }
 
@@ -319,16 +279,19 @@ pub fn build(
     let slots = sheet.fields;
     spread(slots, &mut sorts, &mut wholes, &mut singles);
     let template = sheet.template;
+    let options = Options {
+        template,
+        end_bit: sheet.end_bit,
+        domain,
+    };
     build_lent(
         kind,
         image,
-        template,
-        sheet.end_bit,
+        options,
         &sorts,
         &wholes,
         &singles,
         text,
-        domain,
         points,
     )
 }
@@ -348,15 +311,10 @@ pub fn build_curve(kind: u8, image: &mut [u8], sheet: Sheet, text: &[u8], curve:
     let slots = sheet.fields;
     spread(slots, &mut sorts, &mut wholes, &mut singles);
     let template = sheet.template;
-    build_curve_lent(
-        kind,
-        image,
+    let options = Options {
         template,
-        sheet.end_bit,
-        &sorts,
-        &wholes,
-        &singles,
-        text,
-        curve,
-    )
+        end_bit: sheet.end_bit,
+        domain: Domain::Electrical,
+    };
+    build_curve_lent(kind, image, options, &sorts, &wholes, &singles, text, curve)
 }

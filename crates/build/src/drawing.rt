@@ -13,7 +13,7 @@ ghost use Prim.Native.Nat.{_≤_};
 ghost use Rattle.fields.specs.Curves.{isSegmentCount, tenthsBefore};
 ghost use Rattle.fields.specs.Answers.{encodedSaid, judgedSaid, earlierSaid};
 ghost use Rattle.build.specs.Build.{countTested, startCode};
-ghost use Rattle.build.specs.Tested.{segmentTwo, termTwo, TwoCoded, firstFour, noCurve, CurvePlanned};
+ghost use Rattle.build.specs.Tested.{segmentTwo, termTwo, TwoCoded, firstFour, noCurve, wholeCurve, CurvePlanned};
 
 // Two pieces, or 10, 24 or 25.
 pub enum TwoAnswer {
@@ -133,6 +133,19 @@ fn no_curve(because: Refusal, codes: [CodedField; 104]) -> CurvePlan
     }
 }
 
+// A curve with all its pieces, two a segment and two a term behind the first four.
+fn whole_curve(codes: [CodedField; 104], segments: u64, terms: u64) -> CurvePlan
+    requires { ⌜ (segments ≤ 20) × (terms ≤ 30) ⌝ }
+    ensures { λ r. ⌜ r ≡ wholeCurve codes segments terms ⌝ }
+{
+    CurvePlan {
+        answer: Judged::Stands,
+        codes,
+        count: 4 + 2 * (segments + terms),
+        bits: 19 + 20 * segments + 39 * terms,
+    }
+}
+
 // Behind the first four pieces, segment by segment its own two and those of its terms.
 fn plan_segments(curve: Curve) -> CurvePlan
     requires { ⌜ isSegmentCount (curve .count) ≡ true ⌝ }
@@ -177,12 +190,7 @@ fn plan_segments(curve: Curve) -> CurvePlan
             total += 1;
         }
     }
-    CurvePlan {
-        answer: Judged::Stands,
-        codes,
-        count: 4 + 2 * (count + total) as u64,
-        bits: 19 + 20 * count as u64 + 39 * total as u64,
-    }
+    whole_curve(codes, count as u64, total as u64)
 }
 
 // 24 for the segment count, then 10, 24 and 25 segment by segment.

@@ -10,6 +10,7 @@ pub use building::build;
 pub use building::build_curve;
 pub use building::build_curve_lent;
 pub use building::build_lent;
+use fields::Domain;
 use fields::Level;
 use fields::Template;
 use fields::Value;
@@ -29,4 +30,12 @@ pub struct Sheet {
     pub fields: [Slot; 21],
     pub end_bit: bool,
     pub level: Level,
+}
+
+// What a build takes beside the values that are lent: the template of the first block, the end bit, and the domain of the
+// points. An empty list and a curve have none, and the one handed in is not looked at.
+pub struct Options {
+    pub template: Template,
+    pub end_bit: bool,
+    pub domain: Domain,
 }

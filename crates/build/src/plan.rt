@@ -47,7 +47,7 @@ pub const CODE_BITS: u64 = 32;
 pub const CODES: u64 = 0xffff_ffff;
 
 // The code 0 in one bit.
-pub const NO_CODE: u64 = 0x1_0000_0000;
+pub const NO_CODE: u64 = 1 << CODE_BITS;
 
 // The codes of a pair, or 10, 7 or 22.
 pub enum PairAnswer {

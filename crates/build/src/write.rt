@@ -8,7 +8,9 @@ use crate::plan::CodedField;
 use crate::plan::PairAnswer;
 use crate::plan::code_pair;
 use fields::Domain;
+use fields::POINT_BITS;
 use fields::Template;
+use layout::PAIR_BITS;
 use memory::Sizes;
 use stream::Cursor;
 ghost use mathlib.Core.Path.{_≡_};
@@ -23,11 +25,6 @@ ghost use Rattle.layout.specs.Pieces.{blockPieces};
 ghost use Rattle.build.specs.Build.{pairsLent, codesFor, tablePieces};
 ghost use Rattle.build.specs.Tested.{piecesOf, Accepted, fieldPiece, unpacked, Fit, pairAt, codedFields, codedCurve, Tested};
 ghost use Rattle.build.specs.Filled.{Room, Filled, Begun, codedPair, codedPairs, codedEnding, codedSheet};
-
-// The bits of a point, and of a pair.
-const POINT_BITS: u64 = 16;
-
-const PAIR_BITS: usize = 37;
 
 // The fields from index `first` up to `end`, as many at a time as 49 bits hold.
 fn lay_fields(

@@ -1,6 +1,6 @@
 -- An array of n elements, each zero at first, that is filled from its start with what a function makes of the elements of a list.
 -- Assumes nothing.
-use Rattle.dartelm.proofs.Names.{_≡_, ap, _∙_, List, [], _∷_, _++_, map, map-append, append-assoc, append-nil, ℕ, suc, _+_, _-_, _≤_, _<_, arith, add-one, length, getD, take, set, replicate, length-map, take-suc}
+use Rattle.dartelm.proofs.Names.{_≡_, ap, _∙_, List, [], _∷_, _++_, map, map-append, append-assoc, ℕ, suc, _+_, _-_, _≤_, _<_, arith, add-one, length, getD, take, set, replicate, length-map, take-suc}
 use Rattle.dartelm.proofs.Names.{take-all, set-at, length-take-le, padded}
 
 -- The array when i elements are made.
@@ -20,9 +20,3 @@ module _ {A B : Type 0} (make : A → B) (n : ℕ) (zero : B) (from : List A) wh
 
   pub filled-whole : (i : ℕ) (array : List B) → length from ≤ i → array ≡ filled make n zero from i → array ≡ padded n zero (map make from)
   filled-whole i array h e = e ∙ ap (λ (l : List A). padded n zero (map make l)) (take-all i from h)
-
-  -- where there is an element for each
-  pub filled-full : (i : ℕ) (array : List B) → length from ≡ n → n ≤ i → array ≡ filled make n zero from i → array ≡ map make from
-  filled-full i array e h f =
-      let none : n - length (map make from) ≡ 0 = rw length-map (omega arith) in
-      filled-whole i array (omega arith) f ∙ rw (none, append-nil)

@@ -1,8 +1,8 @@
 -- What is told may be handed in again, and a kind goes by the image's length.
 -- Assumes nothing.
-use Rattle.dartelm.proofs.Names.{_≡_, refl, ap, ap₂, _∙_, Bool, true, false, not, List, [], _∷_, map, map-append, ℕ, zero, suc, _-_, _<_, arith, ℤ, pos, Float, eqb, replicate, length-map, eqb-true, good, _>>_}
-use Rattle.dartelm.proofs.Names.{refuse_if_, wrongImage, Sizes, imageSizes, Value, Whole, Single, Missing, Template, Bridge, Resistance, numberOf, slot, Spread, sheetLent, spread-sheet, endCode, DartelmFields}
-use Rattle.dartelm.proofs.Names.{yes, levelOf, templateBy, templateFlag, valueOf, byFlags, noValue, slotOf, sheetOf, kindOf, SheetAgain}
+use Rattle.dartelm.proofs.Names.{_≡_, refl, ap, _∙_, Bool, true, false, not, List, [], _∷_, map, map-append, ℕ, zero, suc, _-_, _<_, arith, ℤ, pos, Float, eqb, replicate, length-map, eqb-true, good, _>>_}
+use Rattle.dartelm.proofs.Names.{refuse_if_, wrongImage, Sizes, imageSizes, Value, Whole, Single, Missing, Template, Bridge, Resistance, numberOf, slot, Spread, sheetLent, spread-sheet, endCode, Domain, Options, DartelmFields}
+use Rattle.dartelm.proofs.Names.{yes, levelOf, templateBy, optionsOf, templateFlag, valueOf, byFlags, noValue, slotOf, sheetOf, kindOf, SheetAgain}
 
 pub value-again : (v : Value) → valueOf (byFlags v) ≡ v
 value-again (Whole z) = refl
@@ -35,10 +35,10 @@ sheet-again s =
     rw (template-again (s .summary .template), map-append, values-again (s .values), zeros-again, flag-again (s .summary .«end_bit»), length-map (s .values) byFlags, length-map (s .values) slot)
 
 -- The sheet record handed in is the one that its values are lent of.
-pub handed-sheet : (f : DartelmFields) {t : Template} {endBit : Bool} {sorts : List ℕ} {wholes : List ℤ} {singles : List Float} → t ≡ templateBy (f .«is_resistance») → endBit ≡ yes (f .«end_bit»)
-    → Spread (map slotOf (f .values)) sorts wholes singles → sheetLent t endBit (levelOf (f .level)) sorts wholes singles ≡ sheetOf f
-handed-sheet f {sorts = sorts} {wholes} {singles} e g s =
-    ap₂ (λ (x : Template) (b : Bool). sheetLent x b (levelOf (f .level)) sorts wholes singles) e g ∙ spread-sheet (sheetOf f) s
+pub handed-sheet : (f : DartelmFields) {o : Options} {d : Domain} {sorts : List ℕ} {wholes : List ℤ} {singles : List Float} → o ≡ optionsOf (f .«is_resistance») (f .«end_bit») d
+    → Spread (map slotOf (f .values)) sorts wholes singles → sheetLent (o .template) (o .«end_bit») (levelOf (f .level)) sorts wholes singles ≡ sheetOf f
+handed-sheet f {sorts = sorts} {wholes} {singles} e s =
+    ap (λ (x : Options). sheetLent (x .template) (x .«end_bit») (levelOf (f .level)) sorts wholes singles) e ∙ spread-sheet (sheetOf f) s
 
 -- ---- kinds
 

@@ -1,7 +1,7 @@
 -- What the proofs of this crate take from the kit, from the crates below and from its own definitions.
 pub use Prim.Native.Nat.{_+_, _-_, _<_, _≤_, suc, zero, ℕ}
 pub use mathlib.Core.Bool.{Bool, cond, false, not, true}
-pub use mathlib.Core.List.{List, [], _++_, _∷_, append-assoc, append-nil, map, map-append}
+pub use mathlib.Core.List.{List, [], _++_, _∷_, append-assoc, map, map-append}
 pub use mathlib.Core.Logic.{⊎-elim}
 pub use mathlib.Core.Path.{_∙_, _≡_, ap, ap₂, refl, sym}
 pub use borrow.Author.Needs.{needs}
@@ -19,6 +19,7 @@ pub use Rattle.build.proofs.BuiltIn.{end-byte}
 pub use Rattle.build.proofs.Spreading.{SpreadTo, spread-all, spread-missing, spread-none, spread-sheet, spread-single, spread-whole}
 pub use Rattle.build.specs.Build.{build, buildCurve, slot}
 pub use Rattle.build.specs.Tested.{Spread, sheetLent}
+pub use Rattle.build.specs.declared.Options.{Options}
 pub use Rattle.build.specs.declared.Sheet.{Sheet}
 pub use Rattle.change.specs.Change.{change, commit, proposalSaid, propose}
 pub use Rattle.conformity.specs.Conformity.{conformitySaid}
@@ -30,14 +31,13 @@ unfoldable pub use Rattle.dartelm.specs.Calls.{kindOf}
 pub use Rattle.dartelm.specs.Found.{foundFields, valueIn}
 pub use Rattle.dartelm.specs.Sheets.{SheetAgain, fieldNumbers, noFields, sheetAnswer}
 unfoldable pub use Rattle.dartelm.specs.Sheets.{fieldReads, readFields}
-pub use Rattle.dartelm.specs.Values.{byFlags, levelOf, noValue, segmentOf, sheetOf, slotOf, templateBy, templateFlag, termOf, valueOf, yes}
+pub use Rattle.dartelm.specs.Values.{byFlags, levelOf, noValue, optionsOf, sheetOf, slotOf, templateBy, templateFlag, valueOf, yes}
 pub use Rattle.dartelm.specs.declared.answers.DartelmWriteAnswer.{DartelmWriteAnswer}
 pub use Rattle.dartelm.specs.declared.values.DartelmFields.{DartelmFields}
 pub use Rattle.dartelm.specs.declared.values.DartelmValue.{DartelmValue}
 pub use Rattle.distance.specs.Distance.{distanceSaid}
 pub use Rattle.fields.proofs.TemplateFacts.{last-most}
 pub use Rattle.fields.specs.Lines.{lastField, numberOf}
-pub use Rattle.fields.specs.declared.Curve.{Curve}
 pub use Rattle.fields.specs.declared.Domain.{Domain}
 pub use Rattle.fields.specs.declared.Layout.{Layout}
 pub use Rattle.fields.specs.declared.Level.{Level}

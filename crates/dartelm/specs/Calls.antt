@@ -7,6 +7,7 @@ use Rattle.refusal.specs.Outcome.{Outcome, good, refused}
 use Rattle.memory.specs.declared.Sizes.{Sizes}
 use Rattle.memory.specs.Image.{imageSizes, pageBytes}
 use Rattle.fields.specs.declared.Value.the-variants.{Whole}
+use Rattle.fields.specs.declared.Curve.{Curve}
 use Rattle.fields.specs.Calibration.{domainOf}
 use Rattle.texts.specs.Text.{textOf, codeOf}
 use Rattle.sheet.specs.Check.{check, readField, readPair, readSegment, readTerm, readCharacter}
@@ -20,7 +21,6 @@ use Rattle.conformity.specs.Conformity.{conformity}
 use Rattle.writing.specs.Steps.{nextRow}
 use Rattle.dartelm.specs.declared.values.DartelmValue.{DartelmValue}
 use Rattle.dartelm.specs.declared.values.DartelmFields.{DartelmFields}
-use Rattle.dartelm.specs.declared.values.DartelmCurve.{DartelmCurve}
 use Rattle.dartelm.specs.declared.answers.DartelmCheckAnswer.{DartelmCheckAnswer}
 use Rattle.dartelm.specs.declared.answers.DartelmFieldAnswer.{DartelmFieldAnswer}
 use Rattle.dartelm.specs.declared.answers.DartelmPairAnswer.{DartelmPairAnswer}
@@ -36,7 +36,7 @@ use Rattle.dartelm.specs.declared.answers.DartelmRowAnswer.{DartelmRowAn
 use Rattle.dartelm.specs.declared.answers.DartelmTextAnswer.{DartelmTextAnswer}
 use Rattle.dartelm.specs.declared.answers.DartelmCodeAnswer.{DartelmCodeAnswer}
 use Rattle.dartelm.specs.declared.answers.DartelmPageAnswer.{DartelmPageAnswer}
-use Rattle.dartelm.specs.Values.{levelOf, dashBy, valueOf, sheetOf, curveOf}
+use Rattle.dartelm.specs.Values.{levelOf, dashBy, valueOf, sheetOf}
 use Rattle.dartelm.specs.Answers.{toldAs, told, numbers, noNumbers, checkAnswer, fieldAnswer, pairAnswer, noPair, segmentAnswer, noSegment, termAnswer, noTerm, characterAnswer, proposalAnswer, noProposal, readingAnswer, noReading, comparedAnswer, noComparison, distanceAnswer, noDistance, conformityAnswer, noConformity, textAnswer, codeAnswer, pageAnswer, rowAnswer, noRow}
 
 -- The number of this archive and its header.
@@ -87,8 +87,8 @@ characterCall kind image index = told characterAnswer 0 (readCharacter kind imag
 abbrev pub buildCall : ℕ → List ℕ → DartelmFields → List ℕ → ℕ → List ℤ → Outcome (List ℕ)
 buildCall kind image fields text domain points = build kind image (sheetOf fields) text (domainOf domain) points
 
-abbrev pub buildCurveCall : ℕ → List ℕ → DartelmFields → List ℕ → DartelmCurve → Outcome (List ℕ)
-buildCurveCall kind image fields text curve = buildCurve kind image (sheetOf fields) text (curveOf curve)
+abbrev pub buildCurveCall : ℕ → List ℕ → DartelmFields → List ℕ → Curve → Outcome (List ℕ)
+buildCurveCall kind image fields text curve = buildCurve kind image (sheetOf fields) text curve
 
 abbrev pub changeCall : ℕ → List ℕ → ℕ → ℕ → DartelmValue → Outcome (List ℕ)
 changeCall kind image level field value = change kind image (levelOf level) field (valueOf value)

@@ -1,4 +1,4 @@
--- include/dartelm.h: a field's value by two flags, and the sheet record and the curve that a build is handed. A flag is yes where it is not 0, so every byte handed in means something.
+-- include/dartelm.h: a field's value by two flags, and the sheet record that a build is handed. A flag is yes where it is not 0, so every byte handed in means something.
 use mathlib.Core.Bool.{Bool, not, cond}
 use mathlib.Core.List.{map}
 use Prim.Native.Nat.{ℕ, zero, suc}
@@ -9,21 +9,17 @@ use Rattle.fields.specs.declared.Value.{Value}
 use Rattle.fields.specs.declared.Value.the-variants.{Whole, Single, Missing}
 use Rattle.fields.specs.declared.Template.{Template}
 use Rattle.fields.specs.declared.Template.the-variants.{Bridge, Resistance}
+use Rattle.fields.specs.declared.Domain.{Domain}
 use Rattle.fields.specs.declared.Level.{Level}
 use Rattle.fields.specs.declared.Level.the-variants.{Owner, CalibrationRoom, Maker}
-use Rattle.fields.specs.declared.Segment.{Segment}
-use Rattle.fields.specs.declared.Term.{Term}
-use Rattle.fields.specs.declared.Curve.{Curve}
 use Rattle.reading.specs.declared.Dash.{Dash}
 use Rattle.reading.specs.declared.Dash.the-variants.{Large, Small}
 use Rattle.build.specs.declared.Slot.{Slot}
 use Rattle.build.specs.declared.Sheet.{Sheet}
+use Rattle.build.specs.declared.Options.{Options}
 use Rattle.build.specs.Build.{slot}
 use Rattle.dartelm.specs.declared.values.DartelmValue.{DartelmValue}
 use Rattle.dartelm.specs.declared.values.DartelmFields.{DartelmFields}
-use Rattle.dartelm.specs.declared.values.DartelmCurveSegment.{DartelmCurveSegment}
-use Rattle.dartelm.specs.declared.values.DartelmCurveTerm.{DartelmCurveTerm}
-use Rattle.dartelm.specs.declared.values.DartelmCurve.{DartelmCurve}
 
 abbrev pub yes : ℕ → Bool
 yes flag = not (eqb flag 0)
@@ -42,6 +38,10 @@ levelOf (suc (suc (suc n))) = Owner
 -- Note 7: a build takes the template as one of two cases, so that no third can be handed in. It is a flag: 0 is template 33, anything else 32.
 abbrev pub templateBy : ℕ → Template
 templateBy flag = cond (yes flag) Resistance Bridge
+
+-- What a build takes beside the values: template and end bit by their flags.
+abbrev pub optionsOf : ℕ → ℕ → Domain → Options
+optionsOf isResistance endBit domain = record { template = templateBy isResistance; «end_bit» = yes endBit; domain = domain }
 
 -- The flag that is returned.
 abbrev pub templateFlag : Template → ℕ
@@ -72,13 +72,3 @@ slotOf v = slot (valueOf v)
 
 abbrev pub sheetOf : DartelmFields → Sheet
 sheetOf f = record { template = templateBy (f .«is_resistance»); fields = map slotOf (f .values); «end_bit» = yes (f .«end_bit»); level = levelOf (f .level) }
-
--- The curve handed in.
-abbrev pub segmentOf : DartelmCurveSegment → Segment
-segmentOf s = record { start = s .start; terms = s .terms }
-
-abbrev pub termOf : DartelmCurveTerm → Term
-termOf t = record { exponent = t .exponent; coefficient = t .coefficient }
-
-abbrev pub curveOf : DartelmCurve → Curve
-curveOf c = record { count = c .count; segments = map segmentOf (c .segments); terms = map termOf (c .terms) }

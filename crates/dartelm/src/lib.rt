@@ -38,7 +38,7 @@ ghost use Rattle.dartelm.specs.Sheets.{sheetCall};
 
 mod answers; // answers.rt: the structs that calls answer
 mod sheets; // sheets.rt: all fields of an opened sheet
-mod values; // values.rt: a field's value by flags, the values of a sheet, and a curve
+mod values; // values.rt: a field's value by flags, and the values of a sheet
 
 use answers::DartelmCharacterAnswer;
 use answers::DartelmCheckAnswer;
@@ -60,6 +60,8 @@ use answers::DartelmWriteAnswer;
 use change::ProposalAnswer;
 use conformity::ConformityAnswer;
 use distance::DistanceAnswer;
+use fields::Curve;
+use fields::Domain;
 use reading::ReadingAnswer;
 use recordings::ComparedAnswer;
 use refusal::Written;
@@ -72,7 +74,6 @@ use sheet::SegmentAnswer;
 use sheet::TermAnswer;
 use texts::CodeAnswer;
 use texts::TextAnswer;
-use values::DartelmCurve;
 use values::DartelmFields;
 use values::DartelmValue;
 use writing::Answer;
@@ -298,7 +299,7 @@ pub extern "C" fn dartelm_build(
         (r ≡ told writeAnswer [] outcome) × (now (image .exit) ≡ afterwards (now (image .entry)) outcome)) ⌝ }
 {
     let found = coding::domain_of(domain as u64);
-    let template = values::template_of(fields.is_resistance);
+    let options = values::options_of(fields.is_resistance, fields.end_bit, found);
     let mut sorts = [0u8; 21];
     let mut wholes = [0i64; 21];
     let mut singles = [0.0f32; 21];
@@ -306,13 +307,11 @@ pub extern "C" fn dartelm_build(
     wrote(build::build_lent(
         kind,
         image,
-        template,
-        values::is_yes(fields.end_bit),
+        options,
         &sorts,
         &wholes,
         &singles,
         text,
-        found,
         points,
     ))
 }
@@ -324,28 +323,17 @@ pub extern "C" fn dartelm_build_curve(
     image: &mut [u8],
     fields: DartelmFields,
     text: &[u8],
-    curve: DartelmCurve,
+    curve: Curve,
 ) -> DartelmWriteAnswer
     ensures { λ r. ⌜ (let outcome = buildCurveCall kind (now (image .entry)) fields (now (text .entry)) curve in
         (r ≡ told writeAnswer [] outcome) × (now (image .exit) ≡ afterwards (now (image .entry)) outcome)) ⌝ }
 {
-    let drawn = values::curve_of(curve);
-    let template = values::template_of(fields.is_resistance);
+    let options = values::options_of(fields.is_resistance, fields.end_bit, Domain::Electrical);
     let mut sorts = [0u8; 21];
     let mut wholes = [0i64; 21];
     let mut singles = [0.0f32; 21];
     values::spread(fields, &mut sorts, &mut wholes, &mut singles);
-    wrote(build::build_curve_lent(
-        kind,
-        image,
-        template,
-        values::is_yes(fields.end_bit),
-        &sorts,
-        &wholes,
-        &singles,
-        text,
-        drawn,
-    ))
+    wrote(build::build_curve_lent(kind, image, options, &sorts, &wholes, &singles, text, curve))
 }
 
 // Changes one field, as a writer of a level.

@@ -1,5 +1,4 @@
-// A field's value by two flags, the values of a sheet, and a curve: what C hands in and is handed. A flag is yes where it is
-// not 0.
+// A field's value by two flags, and the values of a sheet: what C hands in and is handed. A flag is yes where it is not 0.
 ghost use mathlib.Core.Path.{_≡_};
 ghost use mathlib.Core.List.{map};
 ghost use Rattle.build.specs.Tested.{Long, Spread};
@@ -8,20 +7,17 @@ ghost use Rattle.dartelm.specs.Values.{
   levelOf,
   templateBy,
   templateFlag,
+  optionsOf,
   dashBy,
   valueOf,
   byFlags,
   noValue,
   slotOf,
-  segmentOf,
-  termOf,
-  curveOf,
 };
-use fields::Curve;
+use build::Options;
+use fields::Domain;
 use fields::Level;
-use fields::Segment;
 use fields::Template;
-use fields::Term;
 use fields::Value;
 use reading::Dash;
 
@@ -47,31 +43,8 @@ pub struct DartelmFields {
     pub is_resistance: u8,
 }
 
-// A segment of a curve that is handed in: its start in billionths of the span, and the number of its terms.
-#[repr(C)]
-pub struct DartelmCurveSegment {
-    pub start: i64,
-    pub terms: u64,
-}
-
-// A term of a curve that is handed in.
-#[repr(C)]
-pub struct DartelmCurveTerm {
-    pub exponent: i64,
-    pub coefficient: f32,
-}
-
-// The number of a curve's segments, the segments, and the terms of one after those of the other. What stands behind them is not
-// looked at.
-#[repr(C)]
-pub struct DartelmCurve {
-    pub count: u64,
-    pub segments: [DartelmCurveSegment; 20],
-    pub terms: [DartelmCurveTerm; 30],
-}
-
 // A flag as C hands it in.
-pub fn is_yes(given: u8) -> bool
+fn is_yes(given: u8) -> bool
     ensures { λ r. ⌜ r ≡ yes given ⌝ }
 {
     given != 0
@@ -96,6 +69,17 @@ pub fn template_of(is_resistance: u8) -> Template
         return Template::Bridge;
     }
     Template::Resistance
+}
+
+// What a build takes beside the values, by the flags that C hands in.
+pub fn options_of(is_resistance: u8, end_bit: u8, domain: Domain) -> Options
+    ensures { λ r. ⌜ r ≡ optionsOf «is_resistance» «end_bit» domain ⌝ }
+{
+    Options {
+        template: template_of(is_resistance),
+        end_bit: is_yes(end_bit),
+        domain,
+    }
 }
 
 // The flag of a template, as C is handed it.
@@ -188,65 +172,5 @@ pub fn spread(given: DartelmFields, sorts: &mut [u8], wholes: &mut [i64], single
             wholes[i] = whole;
         }
         i += 1;
-    }
-}
-
-fn segment_of(given: DartelmCurveSegment) -> Segment
-    ensures { λ r. ⌜ r ≡ segmentOf given ⌝ }
-{
-    Segment {
-        start: given.start,
-        terms: given.terms,
-    }
-}
-
-fn term_of(given: DartelmCurveTerm) -> Term
-    ensures { λ r. ⌜ r ≡ termOf given ⌝ }
-{
-    Term {
-        exponent: given.exponent,
-        coefficient: given.coefficient,
-    }
-}
-
-fn segments_of(given: [DartelmCurveSegment; 20]) -> [Segment; 20]
-    ensures { λ r. ⌜ r ≡ map segmentOf given ⌝ }
-{
-    let mut segments = [Segment { start: 0, terms: 0 }; 20];
-    let mut at: usize = 0;
-    while at < 20 {
-        let segment = given[at];
-        segments[at] = segment_of(segment);
-        at += 1;
-    }
-    segments
-}
-
-fn terms_of(given: [DartelmCurveTerm; 30]) -> [Term; 30]
-    ensures { λ r. ⌜ r ≡ map termOf given ⌝ }
-{
-    let mut terms = [Term {
-        exponent: 0,
-        coefficient: 0.0,
-    }; 30];
-    let mut at: usize = 0;
-    while at < 30 {
-        let term = given[at];
-        terms[at] = term_of(term);
-        at += 1;
-    }
-    terms
-}
-
-// The curve that C hands in.
-pub fn curve_of(given: DartelmCurve) -> Curve
-    ensures { λ r. ⌜ r ≡ curveOf given ⌝ }
-{
-    let segments = given.segments;
-    let terms = given.terms;
-    Curve {
-        count: given.count,
-        segments: segments_of(segments),
-        terms: terms_of(terms),
     }
 }

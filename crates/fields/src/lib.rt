@@ -135,12 +135,14 @@ pub enum Previous {
 }
 
 // A curve's segment: its start in billionths of the span, and the number of its terms.
+#[repr(C)]
 pub struct Segment {
     pub start: i64,
     pub terms: u64,
 }
 
 // A term of a segment: the power of the argument, and what it is multiplied by.
+#[repr(C)]
 pub struct Term {
     pub exponent: i64,
     pub coefficient: f32,
@@ -148,6 +150,7 @@ pub struct Term {
 
 // A curve: the number of its segments, the segments, and the terms of one after those of the other. What stands behind them
 // is not looked at.
+#[repr(C)]
 pub struct Curve {
     pub count: u64,
     pub segments: [Segment; 20],

@@ -11,6 +11,7 @@ pub mod PlannedPairs
 pub mod PlannedCurve
 pub mod PlannedSheet
 pub mod Written
+pub mod Grammars
 pub mod Rebuilt
 pub mod NeededBits
 pub mod ReadingLaws

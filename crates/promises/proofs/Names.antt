@@ -127,7 +127,7 @@ pub use Rattle.layout.proofs.CurveTerms.{coefficient-is, exponent-back, exponen
 pub use Rattle.layout.proofs.Curves.{SegmentAt, SegmentsAt, TermAt, TermsAt, segmentsPieces, termsPieces}
 pub use Rattle.layout.proofs.Endings.{Characters, charactersFrom, endPieces, text-needed, zero-needed, zero-pack, zeroIf}
 pub use Rattle.layout.proofs.Fields.{FieldAt, Laid, found, laid-length, pieceOf, plain-field, recoded, row-is, width-is}
-pub use Rattle.layout.proofs.Formats.{parses-fit}
+pub use Rattle.layout.proofs.Formats.{Parses, parses-fit}
 pub use Rattle.layout.proofs.Numbers.{parse-other, sheet-others}
 pub use Rattle.layout.proofs.PlaceSteps.{fields-end}
 pub use Rattle.layout.proofs.Places.{field-at, fields-count, fields-rows}
@@ -135,7 +135,7 @@ pub use Rattle.layout.proofs.Puts.{withField}
 pub use Rattle.layout.proofs.Sheets.{Formed, sheet-needed, sheet-parses, sheetPieces}
 pub use Rattle.layout.specs.Contents.{Calibration, Contents, Found, FoundPair, FoundSegment, FoundTerm, Passed, bare, behindSegment, codesIn, curve, curve as curveFound, nothingPassed, paired, table, table as tableFound}
 unfoldable pub use Rattle.layout.specs.Contents.{blockAt, calibrationOf, charactersOf, endingOf, fieldOf, fieldsOf, firstBlock, pairOf, pairsOf, selectorOf, sheetOf, tableOf}
-pub use Rattle.layout.specs.Format.{Parsed, parse}
+pub use Rattle.layout.specs.Format.{Format, Parsed, ends, looks, parse, stops, takes}
 pub use Rattle.layout.specs.Image.{allTerms, field, figure, float, layoutOf, nothing, numbered, pairIn, pairsIn, points, segmentIn, segments, segmentsIn, streamIn, termIn, terms}
 unfoldable pub use Rattle.layout.specs.Image.{contents}
 pub use Rattle.layout.specs.Pieces.{blockPieces, endCode}
@@ -185,6 +185,7 @@ pub use Rattle.promises.specs.Edges.{Edges, Examples}
 pub use Rattle.promises.specs.Figure.{CertificateFigure, CurveShownNear, DistanceFigure, FigureStraysAtMost, FigureWithin, FractionAtMost, NoCurve, ShownFinite, ShownFollows, ShownNear, ShownRises}
 pub use Rattle.promises.specs.Figure.{ShownRisesByPhysicalPoint, greatestFraction, high, highIn, low, lowIn, single}
 pub use Rattle.promises.specs.Geometric.{EncodedByRatio}
+pub use Rattle.promises.specs.Grammar.{OneGrammar, laid}
 pub use Rattle.promises.specs.Images.{ImageToStream, StreamSizes, StreamToImage}
 pub use Rattle.promises.specs.Index.{FetchedAfterChanges, FetchedAsRead, IndexFits, IndexKept, IndexSorted, RefusedAlike}
 pub use Rattle.promises.specs.Lent.{AllReal, AllRealTerms, Lendable, LendableCurve, LendableTable}

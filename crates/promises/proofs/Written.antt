@@ -18,7 +18,7 @@ zero-inside n S true h = go (leb (n + 7) S) refl
 
 -- ---- what was lent
 
-real-at : (slots : List Slot) → AllReal slots → (i : ℕ) → Real (valueAt slots i)
+pub real-at : (slots : List Slot) → AllReal slots → (i : ℕ) → Real (valueAt slots i)
 real-at [] h i = tt
 real-at (s ∷ slots) h zero = h .0
 real-at (s ∷ slots) h (suc i) = real-at slots (h .1) i

@@ -3,6 +3,7 @@ pub mod Stream
 pub mod Blank
 pub mod Reads
 pub mod Again
+pub mod Grammar
 pub mod Alterations
 pub mod AlterationsLent
 pub mod Proposals

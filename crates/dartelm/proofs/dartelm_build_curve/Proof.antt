@@ -1,6 +1,6 @@
 -- `dartelm_build_curve` meets its contract.
 -- Assumes nothing.
-use Rattle.dartelm.proofs.Names.{needs, ap₂, Curve, Sheet, buildCurve, levelOf}
+use Rattle.dartelm.proofs.Names.{needs, ap, Sheet, buildCurve, levelOf}
 use Rattle.dartelm.proofs.Telling.{tells-written}
 use Rattle.dartelm.proofs.Handing.{handed-sheet}
 use Rattle.dartelm.proofs.dartelm_build_curve.Statement.{statement}
@@ -8,24 +8,21 @@ use Rattle.dartelm.proofs.dartelm_build_curve.Tie as tie
 
 returns : tie.Need-returns
 returns c =
-    let a = c .before .before .before .before .before .before .before .before .before .before .before .before .before .before .before .before .before .before .before .before .args in
+    let a = c .before .before .before .before .before .before .before .before .before .before .before .before .before .before .before .before .before .before .args in
     let built = c .before .before .before .build-curve-lent in
     let same = built .ensures (levelOf (a .fields .level)) in
     tells-written (a .image .now) _ (built .result) (c .wrote .ensures) (same .0) (same .1)
-    (ap₂ (λ (s : Sheet) (d : Curve). buildCurve (a .kind) (a .image .now) s (a .text .now) d)
-    (handed-sheet (a .fields) (c .before .before .before .before .before .before .before .before .before .before .before .before .before .before .before .before .template-of .ensures) (c .before .before .before .before .before .before .before .is-yes .ensures) (c .before .before .before .before .before .before .before .before .before .before .before .before .spread .ensures))
-    (c .before .before .before .before .before .before .before .before .before .before .before .before .before .before .before .before .before .curve-of .ensures))
+    (ap (λ (s : Sheet). buildCurve (a .kind) (a .image .now) s (a .text .now) (a .curve))
+    (handed-sheet (a .fields) (c .before .before .before .before .before .before .before .before .before .before .before .before .before .before .before .options-of .ensures) (c .before .before .before .before .before .before .before .before .before .before .before .spread .ensures)))
 
 pub dartelm-build-curve-spec : {M : Type 1} → statement M
 dartelm-build-curve-spec =
     tie.close
     (tie.spec
     (λ c κs. search needs)
-    (λ c κs. search needs)
     (λ c. search needs)
     (λ c. search needs)
     (λ c. search needs)
-    (λ c κs. search needs)
     (λ c κs. search needs)
     (λ c. search needs)
     (λ c. search needs)

@@ -11,14 +11,14 @@ use Rattle.build.proofs.building.build_curve_in.Tie as tie
 returns : tie.Need-returns
 returns c level =
     let a = c .before .before .before .before .before .before .before .before .before .before .before .before .before .before .args in
-    let planned = planned-alike (a .template) (a .end-bit) level (a .sorts .now) (a .wholes .now) (a .singles .now) (c .before .before .before .before .before .before .before .before .plan-fields .ensures) in
+    let planned = planned-alike (a .options .template) (a .options .«end_bit») level (a .sorts .now) (a .wholes .now) (a .singles .now) (c .before .before .before .before .before .before .before .before .plan-fields .ensures) in
     let fields = fields-good planned (c .before .before .before .before .before .bits .given .1) in
     written-refused _ refl (built-ending (a .sizes) _ (a .text .now) (drawn (a .curve)) refl fields (turned-down _ (c .before .before .before .check-ending .ensures) (c .before .r2 .given .1)))
 
 returns-2 : tie.Need-returns-2
 returns-2 c level =
     let a = c .before .before .before .before .before .before .before .before .before .before .before .before .before .before .before .before .before .args in
-    let planned = planned-alike (a .template) (a .end-bit) level (a .sorts .now) (a .wholes .now) (a .singles .now) (c .before .before .before .before .before .before .before .before .before .before .before .plan-fields .ensures) in
+    let planned = planned-alike (a .options .template) (a .options .«end_bit») level (a .sorts .now) (a .wholes .now) (a .singles .now) (c .before .before .before .before .before .before .before .before .before .before .before .plan-fields .ensures) in
     let fields = fields-good planned (c .before .before .before .before .before .before .before .before .bits .given .1) in
     let ends = accepted _ (c .before .before .before .before .before .before .check-ending .ensures) (c .before .before .before .before .enum-told .given .1) in
     written-refused _ refl (built-behind (a .sizes) _ (a .text .now) (drawn (a .curve)) refl fields ends (curve-down (c .before .before .before .plan-curve .ensures) (c .before .drawn .given .1)))
@@ -36,13 +36,13 @@ finish-curve-requires c κs =
 returns-3 : tie.Need-returns-3
 returns-3 c level =
     let a = c .before .before .before .before .before .before .before .before .before .before .args in
-    let planned = planned-alike (a .template) (a .end-bit) level (a .sorts .now) (a .wholes .now) (a .singles .now) (c .before .before .before .before .plan-fields .ensures) in
+    let planned = planned-alike (a .options .template) (a .options .«end_bit») level (a .sorts .now) (a .wholes .now) (a .singles .now) (c .before .before .before .before .plan-fields .ensures) in
     written-refused _ refl (built-fields (a .sizes) _ (a .text .now) (drawn (a .curve)) refl (fields-down planned (c .before .r .given .1)))
 
 returns-4 : tie.Need-returns-4
 returns-4 c level =
     let a = c .before .before .before .before .before .before .before .before .before .before .before .before .before .before .before .before .before .before .before .before .before .args in
-    let planned = planned-alike (a .template) (a .end-bit) level (a .sorts .now) (a .wholes .now) (a .singles .now) (c .before .before .before .before .before .before .before .before .before .before .before .before .before .before .before .plan-fields .ensures) in
+    let planned = planned-alike (a .options .template) (a .options .«end_bit») level (a .sorts .now) (a .wholes .now) (a .singles .now) (c .before .before .before .before .before .before .before .before .before .before .before .before .before .before .before .plan-fields .ensures) in
     let fields = fields-good planned (c .before .before .before .before .before .before .before .before .before .before .before .before .bits .given .1) in
     let ends = accepted _ (c .before .before .before .before .before .before .before .before .before .before .check-ending .ensures) (c .before .before .before .before .before .before .before .before .enum-told .given .1) in
     let curve = curve-good (c .before .before .before .before .before .before .before .plan-curve .ensures) (c .before .before .before .before .before .enum-told2 .given .1) in

@@ -10,17 +10,17 @@ use Rattle.build.proofs.building.build_in.Tie as tie
 returns : tie.Need-returns
 returns c level =
     let a = c .before .before .before .before .before .before .before .args in
-    let wrong = list-wrong (a .domain) (a .points .now) (sym (c .before .before .is-wrong-list .ensures) ∙ c .before .if1 .taken) in
-    written-refused _ (ap Refused (c .wrong-list .ensures)) (built-list (a .sizes) _ (a .text .now) (listed (a .domain) (a .points .now)) wrong)
+    let wrong = list-wrong (a .options .domain) (a .points .now) (sym (c .before .before .is-wrong-list .ensures) ∙ c .before .if1 .taken) in
+    written-refused _ (ap Refused (c .wrong-list .ensures)) (built-list (a .sizes) _ (a .text .now) (listed (a .options .domain) (a .points .now)) wrong)
 
 returns-2 : tie.Need-returns-2
 returns-2 c level =
     let s = c .before .before .before .before .before .before .before .before .before .before .before .before .before .before .before .before in
     let a = s .args in
-    let t = listed (a .domain) (a .points .now) in
+    let t = listed (a .options .domain) (a .points .now) in
     let length = sym (c .before .before .before .before .before .before .before .before .before .before .before .is-wrong-list .ensures) ∙ c .before .before .before .before .before .before .before .before .before .before .if1 .left in
-    let right = list-right (a .domain) (a .points .now) length in
-    let planned = planned-alike (a .template) (a .end-bit) level (a .sorts .now) (a .wholes .now) (a .singles .now) (c .before .before .before .before .before .before .before .before .plan-fields .ensures) in
+    let right = list-right (a .options .domain) (a .points .now) length in
+    let planned = planned-alike (a .options .template) (a .options .«end_bit») level (a .sorts .now) (a .wholes .now) (a .singles .now) (c .before .before .before .before .before .before .before .before .plan-fields .ensures) in
     let fields = fields-good planned (c .before .before .before .before .before .bits .given .1) in
     written-refused _ refl (built-ending (a .sizes) _ (a .text .now) t right fields (turned-down _ (c .before .before .before .check-ending .ensures) (c .before .r2 .given .1)))
 
@@ -28,10 +28,10 @@ returns-3 : tie.Need-returns-3
 returns-3 c level =
     let s = c .before .before .before .before .before .before .before .before .before .before .before .before .before .before .before .before .before .before .before in
     let a = s .args in
-    let t = listed (a .domain) (a .points .now) in
+    let t = listed (a .options .domain) (a .points .now) in
     let length = sym (c .before .before .before .before .before .before .before .before .before .before .before .before .before .before .is-wrong-list .ensures) ∙ c .before .before .before .before .before .before .before .before .before .before .before .before .before .if1 .left in
-    let right = list-right (a .domain) (a .points .now) length in
-    let planned = planned-alike (a .template) (a .end-bit) level (a .sorts .now) (a .wholes .now) (a .singles .now) (c .before .before .before .before .before .before .before .before .before .before .before .plan-fields .ensures) in
+    let right = list-right (a .options .domain) (a .points .now) length in
+    let planned = planned-alike (a .options .template) (a .options .«end_bit») level (a .sorts .now) (a .wholes .now) (a .singles .now) (c .before .before .before .before .before .before .before .before .before .before .before .plan-fields .ensures) in
     let fields = fields-good planned (c .before .before .before .before .before .before .before .before .bits .given .1) in
     let ends = accepted _ (c .before .before .before .before .before .before .check-ending .ensures) (c .before .before .before .before .enum-told .given .1) in
     written-refused _ refl (built-behind (a .sizes) _ (a .text .now) t right fields ends (turned-down _ (c .before .before .before .check-points .ensures) (c .before .r3 .given .1)))
@@ -51,20 +51,20 @@ returns-4 : tie.Need-returns-4
 returns-4 c level =
     let s = c .before .before .before .before .before .before .before .before .before .before .before .before in
     let a = s .args in
-    let t = listed (a .domain) (a .points .now) in
+    let t = listed (a .options .domain) (a .points .now) in
     let length = sym (c .before .before .before .before .before .before .before .is-wrong-list .ensures) ∙ c .before .before .before .before .before .before .if1 .left in
-    let right = list-right (a .domain) (a .points .now) length in
-    let planned = planned-alike (a .template) (a .end-bit) level (a .sorts .now) (a .wholes .now) (a .singles .now) (c .before .before .before .before .plan-fields .ensures) in
+    let right = list-right (a .options .domain) (a .points .now) length in
+    let planned = planned-alike (a .options .template) (a .options .«end_bit») level (a .sorts .now) (a .wholes .now) (a .singles .now) (c .before .before .before .before .plan-fields .ensures) in
     written-refused _ refl (built-fields (a .sizes) _ (a .text .now) t right (fields-down planned (c .before .r .given .1)))
 
 returns-5 : tie.Need-returns-5
 returns-5 c level =
     let s = c .before .before .before .before .before .before .before .before .before .before .before .before .before .before .before .before .before .before .before .before .before .before .before in
     let a = s .args in
-    let t = listed (a .domain) (a .points .now) in
+    let t = listed (a .options .domain) (a .points .now) in
     let length = sym (c .before .before .before .before .before .before .before .before .before .before .before .before .before .before .before .before .before .before .is-wrong-list .ensures) ∙ c .before .before .before .before .before .before .before .before .before .before .before .before .before .before .before .before .before .if1 .left in
-    let right = list-right (a .domain) (a .points .now) length in
-    let planned = planned-alike (a .template) (a .end-bit) level (a .sorts .now) (a .wholes .now) (a .singles .now) (c .before .before .before .before .before .before .before .before .before .before .before .before .before .before .before .plan-fields .ensures) in
+    let right = list-right (a .options .domain) (a .points .now) length in
+    let planned = planned-alike (a .options .template) (a .options .«end_bit») level (a .sorts .now) (a .wholes .now) (a .singles .now) (c .before .before .before .before .before .before .before .before .before .before .before .before .before .before .before .plan-fields .ensures) in
     let fields = fields-good planned (c .before .before .before .before .before .before .before .before .before .before .before .before .bits .given .1) in
     let ends = accepted _ (c .before .before .before .before .before .before .before .before .before .before .check-ending .ensures) (c .before .before .before .before .before .before .before .before .enum-told .given .1) in
     let table = accepted _ (c .before .before .before .before .before .before .before .check-points .ensures) (c .before .before .before .before .before .enum-told2 .given .1) in

@@ -15,13 +15,13 @@ returns : tie.Need-returns
 returns c level =
     let a = c .before .before .before .before .before .before .before .before .args in
     let e = sym (told sizesSaid (c .before .r .given .1) (c .before .before .before .image-sizes .ensures)) in
-    written-refused _ refl (build-refused (a .kind) (a .image .now) _ (a .text .now) (listed (a .domain) (a .points .now)) e)
+    written-refused _ refl (build-refused (a .kind) (a .image .now) _ (a .text .now) (listed (a .options .domain) (a .points .now)) e)
 
 returns-2 : tie.Need-returns-2
 returns-2 c level =
     let a = c .before .before .before .before .before .before .before .before .before .before .before .before .args in
     let e = sym (told sizesSaid (c .before .before .before .before .before .sizes .given .1) (c .before .before .before .before .before .before .before .image-sizes .ensures)) in
-    rw (build-sized (a .kind) (a .image .now) _ (a .text .now) (listed (a .domain) (a .points .now)) e) (c .before .before .build-in .ensures level)
+    rw (build-sized (a .kind) (a .image .now) _ (a .text .now) (listed (a .options .domain) (a .points .now)) e) (c .before .before .build-in .ensures level)
 
 pub build-lent-spec : {M : Type 1} → statement M
 build-lent-spec =

@@ -71,9 +71,9 @@ loop2-again c =
 
 returns-3 : tie.Need-returns-3 Inv-loop2 μ-loop2 Inv-loop μ-loop
 returns-3 c =
-    let curve = c .before .before .before .before .before .args .curve in
-    let l = c .before .loop in
-    done-all (curve .count) (curve .segments) (curve .terms) (l .inv .0) (l .inv .3) (l .inv .1) (c .loop-test .left)
+    let curve = c .before .before .before .before .before .before .args .curve in
+    let l = c .before .before .loop in
+    rw (c .whole-curve .ensures) (done-all (curve .count) (curve .segments) (curve .terms) (l .inv .0) (l .inv .3) (l .inv .1) (c .before .loop-test .left))
 
 pub plan-segments-spec : {M : Type 1} → statement M
 plan-segments-spec =
@@ -123,11 +123,5 @@ plan-segments-spec =
     (λ c. omega arith)
     (λ c. omega arith)
     loop2-again
-    (λ c. omega arith)
-    (λ c. omega arith)
-    (λ c. omega arith)
-    (λ c. omega arith)
-    (λ c. omega arith)
-    (λ c. omega arith)
-    (λ c. omega arith)
+    (λ c κs. (c .before .loop .inv .0, omega (arith, c .before .loop .inv .3 .most)))
     returns-3)
