@@ -4,14 +4,8 @@ use Rattle.texts.proofs.Names.{eq-eqb, ne-eqb}
 use Rattle.texts.proofs.dates.leap.Statement.{statement}
 use Rattle.texts.proofs.dates.leap.Tie as tie
 
-returns : tie.Need-returns
-returns c = rw (ne-eqb _ _ (c .if1 .taken))
-
-returns-2 : tie.Need-returns-2
-returns-2 c = rw (eq-eqb _ _ (c .before .if1 .left), ne-eqb _ _ (c .if2 .taken))
-
-returns-3 : tie.Need-returns-3
-returns-3 c = rw (eq-eqb _ _ (c .before .if1 .left), eq-eqb _ _ (c .if2 .left))
-
 pub leap-spec : {M : Type 1} → statement M
-leap-spec = tie.close (tie.spec returns returns-2 returns-3)
+leap-spec =
+    tie.close
+    (tie.spec (λ c. rw (ne-eqb _ _ (c .if1 .taken))) (λ c. rw (eq-eqb _ _ (c .before .if1 .left), ne-eqb _ _ (c .if2 .taken)))
+    (λ c. rw (eq-eqb _ _ (c .before .if1 .left), eq-eqb _ _ (c .if2 .left))))
