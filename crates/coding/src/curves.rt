@@ -57,7 +57,7 @@ pub fn curve_domain() -> Row
     always(DOMAIN_BITS, Rule::Plain(0, 0))
 }
 
-pub fn segment_count() -> Row
+fn segment_count() -> Row
     ensures { λ r. ⌜ r ≡ spec.segmentCount ⌝ }
 {
     any(SEGMENT_COUNT_BITS)

@@ -31,7 +31,6 @@ pub use curves::exponent_of;
 pub use curves::is_segment_count;
 pub use curves::is_term_count;
 pub use curves::obeys;
-pub use curves::segment_count;
 pub use curves::segment_start;
 pub use curves::start_follows;
 pub use curves::term_coefficient;
