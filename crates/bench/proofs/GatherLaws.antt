@@ -1,5 +1,5 @@
 -- What has come of a line, byte by byte.
-use Rattle.bench.proofs.Names.{_≡_, refl, sym, _∙_, Bool, true, false, not, List, Option, none, ℕ, _+_, _≤_, _<_, add-one, arith, le-ltb, lt-ltb, length, getD, take, drop, set, drop-of-length-le, drop-cons, length-take-le, take-all, take-suc-set}
+use Rattle.bench.proofs.Names.{_≡_, refl, Bool, true, false, not, List, Option, none, ℕ, _+_, _≤_, _<_, add-one, arith, le-ltb, lt-ltb, length, getD, take, drop, set, drop-of-length-le, drop-cons, length-take-le, take-all, take-suc-set}
 use Rattle.bench.proofs.Names.{says_if_, more, next, after}
 
 module _ (line : List ℕ) (n : ℕ) (long : Bool) (b : ℕ) where
