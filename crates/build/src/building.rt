@@ -15,7 +15,6 @@ use crate::write::write_table;
 use fields::Curve;
 use fields::Domain;
 use fields::Judged;
-use fields::Template;
 use fields::Value;
 use memory::Sizes;
 use memory::SizesAnswer;
