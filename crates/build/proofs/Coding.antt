@@ -76,13 +76,16 @@ module _ (codes : List ℕ) (i none : ℕ) where
 pub packed-long : {n : ℕ} (codes : List ℕ) → Fit n (unpacked codes) → length codes ≡ n
 packed-long codes fit = sym (length-map codes unpack) ∙ fit .long
 
+pub fit-listed : {n : ℕ} (codes : List ℕ) → Fit n (unpacked codes) → Fit (length codes) (unpacked codes)
+fit-listed codes fit = subst (λ (n : ℕ). Fit n (unpacked codes)) (sym (packed-long codes fit)) fit
+
 -- Room for n fields.
+pub packed-blank : (n : ℕ) → unpacked (replicate n (2 ^ 32)) ≡ replicate n blank
+packed-blank zero = refl
+packed-blank (suc n) = ap (λ l. blank ∷ l) (packed-blank n)
+
 pub packed-none : (n : ℕ) → Fit n (unpacked (replicate n (2 ^ 32)))
-packed-none n = subst (Fit n) (sym (go n)) (fit-none n)
-  where
-    go : (n : ℕ) → unpacked (replicate n (2 ^ 32)) ≡ replicate n blank
-    go zero = refl
-    go (suc n) = ap (λ l. blank ∷ l) (go n)
+packed-none n = subst (Fit n) (sym (packed-blank n)) (fit-none n)
 
 -- ---- one line after the other
 

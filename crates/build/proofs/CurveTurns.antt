@@ -105,7 +105,7 @@ module _ (count : ℕ) (segments : List Segment) (terms : List Term) where
   done-none e = record {
     inside = omega arith;
     most = omega arith;
-    fit = fit-more _ 3 _ (fit-more _ 1 _ (fit-more _ 0 _ (fit-none 104) (record { some = omega arith; most = omega arith; fits = omega arith })) (record { some = omega arith; most = omega arith; fits = omega arith })) (record { some = omega arith; most = omega arith; fits = omega (arith, few-segments count e .1) });
+    fit = fit-more _ 3 _ (fit-more _ 2 _ (fit-more _ 1 _ (fit-more _ 0 _ (fit-none 104) (record { some = omega arith; most = omega arith; fits = omega arith })) (record { some = omega arith; most = omega arith; fits = omega arith })) (record { some = omega arith; most = omega arith; fits = omega arith })) (record { some = omega arith; most = omega arith; fits = omega (arith, few-segments count e .1) });
     said = rw e (kept (segmentPieces none 0 0 segs terms) (done (firstFour count) 0 0));
     bits = refl;
   }
@@ -128,13 +128,10 @@ module _ (count : ℕ) (segments : List Segment) (terms : List Term) where
 
   module _ {codes : List CodedField} {before : Option ℕ} {last : Option ℤ} {i k own : ℕ} (d : CurveDone codes before last i k own) where
     -- Turned down.
-    pub done-down : {r : Refusal} → left before last i k own ≡ refused r → CurvePlanned curve (noCurve r codes)
+    pub done-down : {r : Refusal} → left before last i k own ≡ refused r → CurvePlanned curve codes (noCurve r)
     done-down e = record {
       said = sym (bind-refused _ e) ∙ d .said;
-      fit = λ a. absurd (let z : _≡_ {A = ℕ} 0 1 = cc in omega arith);
-      most = omega arith;
-      count = λ a. absurd (let z : _≡_ {A = ℕ} 0 1 = cc in omega arith);
-      small = omega arith;
+      drawn = λ a. absurd (let z : _≡_ {A = ℕ} 0 1 = cc in omega arith);
     }
 
     -- Two codes more.
@@ -173,7 +170,7 @@ module _ (count : ℕ) (segments : List Segment) (terms : List Term) where
         let e : k + 0 ≡ k = omega arith in
         rw (e, cut, drop-drop (s .terms) k terms)
 
-    pub segment-down : {r : Refusal} → segmentTwo before i k s ≡ refused r → CurvePlanned curve (noCurve r codes)
+    pub segment-down : {r : Refusal} → segmentTwo before i k s ≡ refused r → CurvePlanned curve codes (noCurve r)
     unfolding segmentTwo
     segment-down {r} e =
         let down : startCode before i k s ≡ refused r = made-down (startCode before i k s) _ e in
@@ -233,7 +230,7 @@ module _ (count : ℕ) (segments : List Segment) (terms : List Term) where
         let e : k + suc own ≡ suc k + own = omega arith in
         rw (e, drop-cons terms k dflt (omega (arith, d .most)))
 
-    pub term-down : {r : Refusal} → termTwo last k t ≡ refused r → CurvePlanned curve (noCurve r codes)
+    pub term-down : {r : Refusal} → termTwo last k t ≡ refused r → CurvePlanned curve codes (noCurve r)
     unfolding termTwo
     term-down e = done-down d (term-step ∙ bind-refused _ (both-down (exponentCode last k (pos 10 *ℤ t .exponent)) (encode coefficient k (Single (t .coefficient))) _ _ e))
 
@@ -277,34 +274,31 @@ module _ (count : ℕ) (segments : List Segment) (terms : List Term) where
   -- ---- all of them
 
   pub done-all : count ≤ 20 → {codes : List CodedField} {before : Option ℕ} {last : Option ℤ} {i k : ℕ} → CurveDone codes before last i k 0 → length segments ≡ 20 → count ≤ i →
-      CurvePlanned curve (wholeCurve codes count k)
+      CurvePlanned curve codes (wholeCurve count k)
   unfolding termPieces segmentPieces
   done-all few {codes} {before} {last} {i} {k} d long h =
       let same : i ≡ count = omega (arith, d .inside) in
       let none-left : drop i segs ≡ [] = drop-of-length-le segs {i = i} (omega (arith, length-take-le count segments (omega arith))) in
       record {
         said = sym (sym (d .said) ∙ rw none-left (ap good (append-nil (done codes i k))) ∙ ap (λ (n : ℕ). good (done codes n k)) same);
-        fit = λ a. d .fit;
-        most = omega (arith, d .most);
-        count = λ a. sym (rw same at (d .bits));
-        small = omega (arith, d .most);
+        drawn = λ a. record {
+          fit = d .fit;
+          some = omega arith;
+          most = omega (arith, d .most);
+          count = sym (rw same at (d .bits));
+          small = omega (arith, d .most);
+        };
       }
 
 -- ---- a plan
 
-module _ {curve : Curve} {p : CurvePlan} (planned : CurvePlanned curve p) where
+module _ {curve : Curve} {codes : List CodedField} {p : CurvePlan} (planned : CurvePlanned curve codes p) where
   pub curve-down : {r : Refusal} → p .answer ≡ Refused r → curvePieces curve ≡ refused r
-  curve-down e = sym (planned .said) ∙ ap (λ j. judgedSaid j >> good (codedCurve p)) e
+  curve-down e = sym (planned .said) ∙ ap (λ j. judgedSaid j >> good (codedCurve codes (p .count))) e
 
-  pub curve-good : p .answer ≡ Stands → curvePieces curve ≡ good (codedCurve p)
-  curve-good e = sym (planned .said) ∙ ap (λ j. judgedSaid j >> good (codedCurve p)) e
+  pub curve-good : p .answer ≡ Stands → curvePieces curve ≡ good (codedCurve codes (p .count))
+  curve-good e = sym (planned .said) ∙ ap (λ j. judgedSaid j >> good (codedCurve codes (p .count))) e
 
-pub curve-wrong : (curve : Curve) (codes : List CodedField) → isSegmentCount (curve .count) ≡ false → CurvePlanned curve (noCurve (wrongCurve (curve .count)) codes)
+pub curve-wrong : (curve : Curve) (codes : List CodedField) → isSegmentCount (curve .count) ≡ false → CurvePlanned curve codes (noCurve (wrongCurve (curve .count)))
 unfolding curvePieces
-curve-wrong curve codes e = record {
-  said = rw e;
-  fit = λ a. absurd (let z : _≡_ {A = ℕ} 0 1 = cc in omega arith);
-  most = omega arith;
-  count = λ a. absurd (let z : _≡_ {A = ℕ} 0 1 = cc in omega arith);
-  small = omega arith;
-}
+curve-wrong curve codes e = record { said = rw e; drawn = λ a. absurd (let z : _≡_ {A = ℕ} 0 1 = cc in omega arith) }

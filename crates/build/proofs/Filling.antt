@@ -121,16 +121,6 @@ module _ (z : Sizes) where
     pub gathering-put : {c : List ℕ} {n : Cursor} → (c ≡ putIn z b (m .at) w code) × (n .at ≡ m .at + w) → Filling a k all c n left
     gathering-put = code-more w code left refl (g .filling) (g .fits)
 
-    pub gathering-empty : w ≡ 0 → Filling a k all b m left
-    gathering-empty e =
-        let none : code ≡ 0 = omega (arith, g .fits, ap (λ (n : ℕ). 2 ^ n) e) in
-        let digits : pack left * 2 ^ w + code ≡ pack left = rw (e, none) (omega arith) in
-        record {
-          room = record { free = g .filling .room .free; inside = omega (arith, g .filling .room .inside) };
-          stream = ap (λ (x : ℕ). x * 2 ^ m .at + streamNumber z b) (sym digits) ∙ g .filling .stream;
-          moved = omega (arith, g .filling .moved);
-        }
-
     -- The next one.
     module _ {v more : ℕ} {qs : List Piece} (e : left ≡ piece v more ∷ qs) (fits : more < 2 ^ v) where
       gathered-lt : code + more * 2 ^ w < 2 ^ (w + v)

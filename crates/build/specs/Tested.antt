@@ -196,8 +196,9 @@ termTwo before i t = do
   factor ← encode coefficient i (Single (t .coefficient))
   good (coded exponent power ∷ coded coefficient factor ∷ [])
 
-abbrev pub codedCurve : CurvePlan → List Piece
-codedCurve r = take (r .count) (map fieldPiece (r .codes))
+-- The first of a list of pieces.
+abbrev pub codedCurve : List CodedField → ℕ → List Piece
+codedCurve codes count = take count (map fieldPiece codes)
 
 -- A piece that is not coded yet.
 abbrev pub blank : CodedField
@@ -205,22 +206,28 @@ blank = record { width = 1; code = 0 }
 
 -- Room for the pieces of a curve, with those before the first segment.
 unfoldable pub firstFour : ℕ → List CodedField
-firstFour count = set (set (set (replicate 104 blank) 0 (record { width = 2; code = 0 })) 1 (record { width = 8; code = 41 })) 3 (record { width = 8; code = count })
+firstFour count =
+    set (set (set (set (replicate 104 blank) 0 (record { width = 2; code = 0 })) 1 (record { width = 8; code = 41 })) 2 (record { width = 1; code = 0 })) 3 (record { width = 8; code = count })
 
 -- A curve that is turned down.
-abbrev pub noCurve : Refusal → List CodedField → CurvePlan
-noCurve r codes = record { answer = TurnedDown r; codes = codes; count = 0; bits = 0 }
+abbrev pub noCurve : Refusal → CurvePlan
+noCurve r = record { answer = TurnedDown r; count = 0; bits = 0 }
 
 -- A curve with all its pieces.
-abbrev pub wholeCurve : List CodedField → ℕ → ℕ → CurvePlan
-wholeCurve codes segments terms = record { answer = Stands; codes = codes; count = 4 + 2 * (segments + terms); bits = 19 + 20 * segments + 39 * terms }
+abbrev pub wholeCurve : ℕ → ℕ → CurvePlan
+wholeCurve segments terms = record { answer = Stands; count = 4 + 2 * (segments + terms); bits = 19 + 20 * segments + 39 * terms }
 
-pub record CurvePlanned (curve : Curve) (r : CurvePlan) : Type 0 where
-  pub said : (judgedSaid (r .answer) >> good (codedCurve r)) ≡ curvePieces curve
-  pub fit : r .answer ≡ Stands → Fit 104 (r .codes)
+-- The pieces of a curve that nothing refuses.
+pub record Drawn (codes : List CodedField) (r : CurvePlan) : Type 0 where
+  pub fit : Fit 104 codes
+  pub some : 0 < r .count
   pub most : r .count ≤ 104
-  pub count : r .answer ≡ Stands → r .bits ≡ needed (codedCurve r)
+  pub count : r .bits ≡ needed (codedCurve codes (r .count))
   pub small : r .bits < 2 ^ 16
+
+pub record CurvePlanned (curve : Curve) (codes : List CodedField) (r : CurvePlan) : Type 0 where
+  pub said : (judgedSaid (r .answer) >> good (codedCurve codes (r .count))) ≡ curvePieces curve
+  pub drawn : r .answer ≡ Stands → Drawn codes r
 
 -- ---- what is left to be written: codes and characters that fit
 pub record Tested (fields : List CodedField) (text : List ℕ) : Type 0 where

@@ -15,7 +15,6 @@ use crate::write::write_table;
 use fields::Curve;
 use fields::Domain;
 use fields::Judged;
-use fields::Template;
 use fields::Value;
 use memory::Sizes;
 use memory::SizesAnswer;
@@ -30,7 +29,7 @@ ghost use Rattle.memory.specs.Answers.{Whole};
 ghost use Rattle.memory.specs.Pieces.{needed};
 ghost use Rattle.fields.specs.declared.Level.{Level};
 ghost use Rattle.build.specs.Build.{pairsLent, tablePieces, listed, drawn, builtIn, build as buildOf, buildCurve};
-ghost use Rattle.build.specs.Tested.{piecesOf, Accepted, Fit, unpacked, codedFields, codedCurve, Tested, Long, Spread, sheetLent};
+ghost use Rattle.build.specs.Tested.{piecesOf, Accepted, unpacked, codedFields, codedCurve, Drawn, Tested, Long, Spread, sheetLent};
 ghost use Rattle.build.specs.Filled.{codedSheet, fitted};
 
 // The bits that fields, the block behind them and characters need. Where the characters are more than the 65,535 that row 11
@@ -93,24 +92,34 @@ fn finish_table(
 fn finish_curve(
     sizes: Sizes,
     image: &mut [u8],
-    template: Template,
+    options: Options,
     fields: &[u64],
     field_bits: u64,
-    end_bit: bool,
     text: &[u8],
+    codes: &[u64],
     curve: CurvePlan,
 ) -> Written
     requires { ⌜ Whole sizes (now image) × (imageBytes sizes ≤ 512) ⌝ }
-    requires { ⌜ Tested (unpacked (now fields)) (now text) × («field_bits» ≡ needed (codedFields template (unpacked (now fields)))) × («field_bits» < 2 ^ 16) ⌝ }
-    requires { ⌜ Fit 104 (curve .codes) × (curve .count ≤ 104) × (curve .bits ≡ needed (codedCurve curve)) × (curve .bits < 2 ^ 16) ⌝ }
-    ensures { λ r. ⌜ (let outcome = fitted sizes (codedSheet template (unpacked (now (fields .entry))) «end_bit» (now (text .entry)) (codedCurve curve)) in
+    requires { ⌜ Tested (unpacked (now fields)) (now text) × («field_bits» ≡ needed (codedFields (options .template) (unpacked (now fields)))) × («field_bits» < 2 ^ 16) ⌝ }
+    requires { ⌜ Drawn (unpacked (now codes)) curve ⌝ }
+    ensures { λ r. ⌜ (let outcome = fitted sizes (codedSheet (options .template) (unpacked (now (fields .entry))) (options .«end_bit») (now (text .entry)) (codedCurve (unpacked (now (codes .entry))) (curve .count))) in
         (writtenSaid r (now (image .exit)) ≡ outcome) × (now (image .exit) ≡ afterwards (now (image .entry)) outcome)) ⌝ }
 {
     let bits = bits_needed(field_bits, curve.bits, text.len() as u64);
     if is_too_long(sizes, bits) {
         return Written::Refused(refusal::too_long(bits));
     }
-    write_curve(sizes, image, template, fields, end_bit, text, curve);
+    let template = options.template;
+    write_curve(
+        sizes,
+        image,
+        template,
+        fields,
+        options.end_bit,
+        text,
+        codes,
+        curve.count as usize,
+    );
     Written::Done
 }
 
@@ -166,20 +175,20 @@ fn build_curve_in(
         (writtenSaid r (now (image .exit)) ≡ outcome) × (now (image .exit) ≡ afterwards (now (image .entry)) outcome))) ⌝ }
 {
     let template = options.template;
-    let end_bit = options.end_bit;
     let mut fields = [NO_CODE; 21];
     match plan_fields(template, sorts, wholes, singles, &mut fields) {
         Planned::Refused(r) => Written::Refused(r),
         Planned::Bits(bits) => {
-            if let Judged::Refused(r) = check_ending(template, end_bit, text) {
+            if let Judged::Refused(r) = check_ending(template, options.end_bit, text) {
                 return Written::Refused(r);
             }
-            let block = plan_curve(curve);
+            let mut codes = [NO_CODE; 104];
+            let block = plan_curve(curve, &mut codes);
             let drawn = block.answer;
             if let Judged::Refused(r) = drawn {
                 return Written::Refused(r);
             }
-            finish_curve(sizes, image, template, &fields, bits, end_bit, text, block)
+            finish_curve(sizes, image, options, &fields, bits, text, &codes, block)
         }
     }
 }

@@ -1,5 +1,6 @@
 // What a build tests of a curve before it writes, and the pieces of its block.
 use crate::plan::CodedField;
+use crate::plan::packed;
 use fields::Curve;
 use fields::Earlier;
 use fields::Encoded;
@@ -9,11 +10,12 @@ use fields::Term;
 use refusal::Refusal;
 ghost use mathlib.Core.Path.{_≡_};
 ghost use mathlib.Core.Bool.{true};
-ghost use Prim.Native.Nat.{_≤_};
+ghost use Prim.Native.Nat.{_+_, _^_, _<_, _≤_};
+ghost use lib.ListN.{length, replicate, set};
 ghost use Rattle.fields.specs.Curves.{isSegmentCount, tenthsBefore};
 ghost use Rattle.fields.specs.Answers.{encodedSaid, judgedSaid, earlierSaid};
 ghost use Rattle.build.specs.Build.{countTested, startCode};
-ghost use Rattle.build.specs.Tested.{segmentTwo, termTwo, TwoCoded, firstFour, noCurve, wholeCurve, CurvePlanned};
+ghost use Rattle.build.specs.Tested.{Fitting, unpacked, segmentTwo, termTwo, TwoCoded, firstFour, noCurve, wholeCurve, CurvePlanned};
 
 // Two pieces, or 10, 24 or 25.
 pub enum TwoAnswer {
@@ -21,10 +23,9 @@ pub enum TwoAnswer {
     Refused(Refusal),
 }
 
-// The pieces of a curve's block, how many they are, and the bits that they need, where nothing is refused.
+// How many pieces a curve's block has, and the bits that they need, where nothing is refused.
 pub struct CurvePlan {
     pub answer: Judged,
-    pub codes: [CodedField; 104],
     pub count: u64,
     pub bits: u64,
 }
@@ -107,54 +108,64 @@ fn code_term(before: Earlier, i: u64, term: Term) -> TwoAnswer
     }
 }
 
-// Room for the pieces of a curve, with those before the first segment: selector 0, template 41, domain 0 and the segment count.
-fn first_four(count: u64) -> [CodedField; 104]
-    ensures { λ r. ⌜ r ≡ firstFour count ⌝ }
+// Two pieces onto the list, from index `at` on.
+fn put_two(codes: &mut [u64], at: usize, first: CodedField, second: CodedField)
+    requires { ⌜ at + 1 < length (now codes) ⌝ }
+    requires { ⌜ Fitting (first .width) (first .code) × Fitting (second .width) (second .code) ⌝ }
+    ensures { λ _. ⌜ unpacked (now (codes .exit)) ≡ set (set (unpacked (now (codes .entry))) at first) (at + 1) second ⌝ }
 {
-    let mut codes = [CodedField { width: 1, code: 0 }; 104];
-    codes[0] = CodedField { width: 2, code: 0 };
-    codes[1] = CodedField { width: 8, code: 41 };
-    codes[3] = CodedField {
+    codes[at] = packed(first.width, first.code);
+    codes[at + 1] = packed(second.width, second.code);
+}
+
+// The pieces before the first segment: selector 0, template 41, domain 0 and the segment count.
+fn first_four(codes: &mut [u64], count: u64)
+    requires { ⌜ (now codes ≡ replicate 104 (2 ^ 32)) × (isSegmentCount count ≡ true) ⌝ }
+    ensures { λ _. ⌜ unpacked (now (codes .exit)) ≡ firstFour count ⌝ }
+{
+    let selector = CodedField { width: 2, code: 0 };
+    let template = CodedField { width: 8, code: 41 };
+    put_two(codes, 0, selector, template);
+    let domain = CodedField { width: 1, code: 0 };
+    let segments = CodedField {
         width: 8,
         code: count,
     };
-    codes
+    put_two(codes, 2, domain, segments);
 }
 
 // A curve that is turned down, whatever was coded of it.
-fn no_curve(because: Refusal, codes: [CodedField; 104]) -> CurvePlan
-    ensures { λ r. ⌜ r ≡ noCurve because codes ⌝ }
+fn no_curve(because: Refusal) -> CurvePlan
+    ensures { λ r. ⌜ r ≡ noCurve because ⌝ }
 {
     CurvePlan {
         answer: Judged::Refused(because),
-        codes,
         count: 0,
         bits: 0,
     }
 }
 
 // A curve with all its pieces, two a segment and two a term behind the first four.
-fn whole_curve(codes: [CodedField; 104], segments: u64, terms: u64) -> CurvePlan
+fn whole_curve(segments: u64, terms: u64) -> CurvePlan
     requires { ⌜ (segments ≤ 20) × (terms ≤ 30) ⌝ }
-    ensures { λ r. ⌜ r ≡ wholeCurve codes segments terms ⌝ }
+    ensures { λ r. ⌜ r ≡ wholeCurve segments terms ⌝ }
 {
     CurvePlan {
         answer: Judged::Stands,
-        codes,
         count: 4 + 2 * (segments + terms),
         bits: 19 + 20 * segments + 39 * terms,
     }
 }
 
 // Behind the first four pieces, segment by segment its own two and those of its terms.
-fn plan_segments(curve: Curve) -> CurvePlan
-    requires { ⌜ isSegmentCount (curve .count) ≡ true ⌝ }
-    ensures { λ r. ⌜ CurvePlanned curve r ⌝ }
+fn plan_segments(curve: Curve, codes: &mut [u64]) -> CurvePlan
+    requires { ⌜ (isSegmentCount (curve .count) ≡ true) × (now codes ≡ replicate 104 (2 ^ 32)) ⌝ }
+    ensures { λ r. ⌜ CurvePlanned curve (unpacked (now (codes .exit))) r ⌝ }
 {
     let count = curve.count as usize;
     let segments = curve.segments;
     let terms = curve.terms;
-    let mut codes = first_four(curve.count);
+    first_four(codes, curve.count);
     let mut before = Earlier::Nothing;
     let mut total: usize = 0;
     let mut i: usize = 0;
@@ -163,11 +174,10 @@ fn plan_segments(curve: Curve) -> CurvePlan
         let at = 4 + 2 * (i + total);
         match code_segment(before, i as u64, total as u64, segment) {
             TwoAnswer::Refused(r) => {
-                return no_curve(r, codes);
+                return no_curve(r);
             }
             TwoAnswer::Are(first, second) => {
-                codes[at] = first;
-                codes[at + 1] = second;
+                put_two(codes, at, first, second);
                 before = Earlier::Code(first.code);
             }
         }
@@ -179,26 +189,26 @@ fn plan_segments(curve: Curve) -> CurvePlan
             let next = 4 + 2 * (i + total);
             match code_term(last, total as u64, term) {
                 TwoAnswer::Refused(r) => {
-                    return no_curve(r, codes);
+                    return no_curve(r);
                 }
                 TwoAnswer::Are(first, second) => {
-                    codes[next] = first;
-                    codes[next + 1] = second;
+                    put_two(codes, next, first, second);
                     last = Earlier::Code(first.code);
                 }
             }
             total += 1;
         }
     }
-    whole_curve(codes, count as u64, total as u64)
+    whole_curve(count as u64, total as u64)
 }
 
-// 24 for the segment count, then 10, 24 and 25 segment by segment.
-pub fn plan_curve(curve: Curve) -> CurvePlan
-    ensures { λ r. ⌜ CurvePlanned curve r ⌝ }
+// 24 for the segment count, then 10, 24 and 25 segment by segment; the pieces go into `codes`.
+pub fn plan_curve(curve: Curve, codes: &mut [u64]) -> CurvePlan
+    requires { ⌜ now codes ≡ replicate 104 (2 ^ 32) ⌝ }
+    ensures { λ r. ⌜ CurvePlanned curve (unpacked (now (codes .exit))) r ⌝ }
 {
     if coding::is_segment_count(curve.count) {
-        return plan_segments(curve);
+        return plan_segments(curve, codes);
     }
-    no_curve(refusal::wrong_curve(curve.count), first_four(curve.count))
+    no_curve(refusal::wrong_curve(curve.count))
 }

@@ -149,7 +149,7 @@ fn precision_behind(layout: Layout, field: u64, code: u64) -> u64
 }
 
 // The number of a field.
-fn packed(width: u64, code: u64) -> u64
+pub fn packed(width: u64, code: u64) -> u64
     requires { ⌜ Fitting width code ⌝ }
     ensures { λ r. ⌜ (r / 2 ^ 32 ≡ width) × (r % 2 ^ 32 ≡ code) ⌝ }
 {

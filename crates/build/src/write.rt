@@ -1,10 +1,8 @@
 // What a build writes, once nothing turns it down: pieces one behind the other into a cleared image, then every check byte.
 // A function that lays pieces takes the cursor to lay them at, and hands back the cursor behind them. Neighbours go in as one
 // field, the first in its lowest bits, which is faster.
-use crate::drawing::CurvePlan;
 use crate::plan::CODE_BITS;
 use crate::plan::CODES;
-use crate::plan::CodedField;
 use crate::plan::PairAnswer;
 use crate::plan::code_pair;
 use fields::Domain;
@@ -16,7 +14,7 @@ use stream::Cursor;
 ghost use mathlib.Core.Path.{_≡_};
 ghost use mathlib.Core.List.{map};
 ghost use Prim.Native.Nat.{ℕ, min, _+_, _*_, _^_, _≤_, _<_};
-ghost use lib.ListN.{length, getD, take};
+ghost use lib.ListN.{length, getD};
 ghost use lib.Seq.{slice};
 ghost use Rattle.memory.specs.Image.{streamBits, streamNumber, imageOf};
 ghost use Rattle.memory.specs.Answers.{Whole};
@@ -26,7 +24,7 @@ ghost use Rattle.build.specs.Build.{pairsLent, codesFor, tablePieces};
 ghost use Rattle.build.specs.Tested.{piecesOf, Accepted, fieldPiece, unpacked, Fit, pairAt, codedFields, codedCurve, Tested};
 ghost use Rattle.build.specs.Filled.{Room, Filled, Begun, codedPair, codedPairs, codedEnding, codedSheet};
 
-// The fields from index `first` up to `end`, as many at a time as 49 bits hold.
+// The fields, or pieces of a curve, from index `first` up to `end` of a list, as many at a time as 49 bits hold.
 fn lay_fields(
     sizes: Sizes,
     image: &mut [u8],
@@ -36,7 +34,7 @@ fn lay_fields(
     end: usize,
 ) -> Cursor
     requires { ⌜ Room sizes (now image) start (slice first end (map fieldPiece (unpacked (now fields)))) ⌝ }
-    requires { ⌜ (first < end) × (end ≤ 21) × Fit 21 (unpacked (now fields)) ⌝ }
+    requires { ⌜ (first < end) × (end ≤ length (now fields)) × Fit (length (now fields)) (unpacked (now fields)) ⌝ }
     ensures { λ r. ⌜ Filled sizes (now (image .entry)) start (slice first end (map fieldPiece (unpacked (now (fields .entry))))) (now (image .exit)) r ⌝ }
 {
     let mut cursor = start;
@@ -120,42 +118,6 @@ fn lay_table(
     let block = lay_block(sizes, image, cursor, 40);
     let pairs = block.append(sizes, image, 8, code | ((n as u64) << 1));
     lay_pairs(sizes, image, pairs, points)
-}
-
-// Block 41, whose pieces have their codes, as many at a time as 49 bits hold.
-fn lay_curve(
-    sizes: Sizes,
-    image: &mut [u8],
-    start: Cursor,
-    codes: [CodedField; 104],
-    count: usize,
-) -> Cursor
-    requires { ⌜ Room sizes (now image) start (take count (map fieldPiece codes)) ⌝ }
-    requires { ⌜ (count ≤ 104) × Fit 104 codes ⌝ }
-    ensures { λ r. ⌜ Filled sizes (now (image .entry)) start (take count (map fieldPiece codes)) (now (image .exit)) r ⌝ }
-{
-    let mut cursor = start;
-    let mut code: u64 = 0;
-    let mut width: usize = 0;
-    let mut i: usize = 0;
-    while i < count {
-        let piece = codes[i];
-        let more = piece.width as usize;
-        if width + more <= 49 {
-            code = code | (piece.code << width);
-            width += more;
-            i += 1;
-        } else {
-            cursor = cursor.append(sizes, image, width, code);
-            code = piece.code;
-            width = more;
-            i += 1;
-        }
-    }
-    if width == 0 {
-        return cursor;
-    }
-    cursor.append(sizes, image, width, code)
 }
 
 // The characters from index i up to `end`, seven at most, as one code.
@@ -255,7 +217,7 @@ pub fn write_table(
     lay_back(sizes, image, ending, end_bit, text);
 }
 
-// The same with a curve.
+// The same with a curve, whose pieces are the first `count` of a list.
 pub fn write_curve(
     sizes: Sizes,
     image: &mut [u8],
@@ -263,15 +225,15 @@ pub fn write_curve(
     fields: &[u64],
     end_bit: bool,
     text: &[u8],
-    curve: CurvePlan,
+    codes: &[u64],
+    count: usize,
 )
     requires { ⌜ Whole sizes (now image) × Tested (unpacked (now fields)) (now text) ⌝ }
-    requires { ⌜ Fit 104 (curve .codes) × (curve .count ≤ 104) ⌝ }
-    requires { ⌜ needed (codedSheet template (unpacked (now fields)) «end_bit» (now text) (codedCurve curve)) ≤ streamBits sizes ⌝ }
-    ensures { λ _. ⌜ now (image .exit) ≡ imageOf sizes (pack (codedSheet template (unpacked (now (fields .entry))) «end_bit» (now (text .entry)) (codedCurve curve))) ⌝ }
+    requires { ⌜ Fit 104 (unpacked (now codes)) × (0 < count) × (count ≤ 104) ⌝ }
+    requires { ⌜ needed (codedSheet template (unpacked (now fields)) «end_bit» (now text) (codedCurve (unpacked (now codes)) count)) ≤ streamBits sizes ⌝ }
+    ensures { λ _. ⌜ now (image .exit) ≡ imageOf sizes (pack (codedSheet template (unpacked (now (fields .entry))) «end_bit» (now (text .entry)) (codedCurve (unpacked (now (codes .entry))) count))) ⌝ }
 {
-    let codes = curve.codes;
     let block = lay_front(sizes, image, template, fields);
-    let ending = lay_curve(sizes, image, block, codes, curve.count as usize);
+    let ending = lay_fields(sizes, image, block, codes, 0, count);
     lay_back(sizes, image, ending, end_bit, text);
 }

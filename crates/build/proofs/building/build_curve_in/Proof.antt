@@ -17,21 +17,19 @@ returns c level =
 
 returns-2 : tie.Need-returns-2
 returns-2 c level =
-    let a = c .before .before .before .before .before .before .before .before .before .before .before .before .before .before .before .before .before .args in
-    let planned = planned-alike (a .options .template) (a .options .«end_bit») level (a .sorts .now) (a .wholes .now) (a .singles .now) (c .before .before .before .before .before .before .before .before .before .before .before .plan-fields .ensures) in
-    let fields = fields-good planned (c .before .before .before .before .before .before .before .before .bits .given .1) in
-    let ends = accepted _ (c .before .before .before .before .before .before .check-ending .ensures) (c .before .before .before .before .enum-told .given .1) in
-    written-refused _ refl (built-behind (a .sizes) _ (a .text .now) (drawn (a .curve)) refl fields ends (curve-down (c .before .before .before .plan-curve .ensures) (c .before .drawn .given .1)))
+    let a = c .before .before .before .before .before .before .before .before .before .before .before .before .before .before .before .before .before .before .before .args in
+    let planned = planned-alike (a .options .template) (a .options .«end_bit») level (a .sorts .now) (a .wholes .now) (a .singles .now) (c .before .before .before .before .before .before .before .before .before .before .before .before .before .plan-fields .ensures) in
+    let fields = fields-good planned (c .before .before .before .before .before .before .before .before .before .before .bits .given .1) in
+    let ends = accepted _ (c .before .before .before .before .before .before .before .before .check-ending .ensures) (c .before .before .before .before .before .before .enum-told .given .1) in
+    written-refused _ refl (built-behind (a .sizes) _ (a .text .now) (drawn (a .curve)) refl fields ends (curve-down (c .before .before .before .before .plan-curve .ensures) (c .before .drawn .given .1)))
 
 finish-curve-requires : tie.Need-finish-curve-requires
 finish-curve-requires c κs =
-    let s = c .before .before .before .before .before .before .before .before .before .before .before .before .before .before .before .before .before .before in
-    let ends = accepted _ (c .before .before .before .before .before .before .before .check-ending .ensures) (c .before .before .before .before .before .enum-told .given .1) in
-    let curve = c .before .before .before .before .plan-curve .ensures in
-    let stands = c .before .before .enum-told2 .given .1 in
-    let plan = c .before .before .before .before .before .before .before .before .before .before .before .before .plan-fields .ensures in
-    let count = plan .count _ (c .before .before .before .before .before .before .before .before .before .bits .given .1) in
-    ((s .pre .0, s .pre .1), ((record { fit = plan .fit; characters = text-fits _ _ _ ends }, count .0, count .1), (curve .fit stands, curve .most, curve .count stands, curve .small)))
+    let s = c .before .before .before .before .before .before .before .before .before .before .before .before .before .before .before .before .before .before .before .before .before in
+    let ends = accepted _ (c .before .before .before .before .before .before .before .before .before .before .check-ending .ensures) (c .before .before .before .before .before .before .before .before .enum-told .given .1) in
+    let plan = c .before .before .before .before .before .before .before .before .before .before .before .before .before .before .before .plan-fields .ensures in
+    let count = plan .count _ (c .before .before .before .before .before .before .before .before .before .before .before .before .bits .given .1) in
+    ((s .pre .0, s .pre .1), ((record { fit = plan .fit; characters = text-fits _ _ _ ends }, count .0, count .1), c .before .before .before .before .before .before .plan-curve .ensures .drawn (c .before .before .before .enum-told2 .given .1)))
 
 returns-3 : tie.Need-returns-3
 returns-3 c level =
@@ -41,11 +39,11 @@ returns-3 c level =
 
 returns-4 : tie.Need-returns-4
 returns-4 c level =
-    let a = c .before .before .before .before .before .before .before .before .before .before .before .before .before .before .before .before .before .before .before .before .before .args in
-    let planned = planned-alike (a .options .template) (a .options .«end_bit») level (a .sorts .now) (a .wholes .now) (a .singles .now) (c .before .before .before .before .before .before .before .before .before .before .before .before .before .before .before .plan-fields .ensures) in
-    let fields = fields-good planned (c .before .before .before .before .before .before .before .before .before .before .before .before .bits .given .1) in
-    let ends = accepted _ (c .before .before .before .before .before .before .before .before .before .before .check-ending .ensures) (c .before .before .before .before .before .before .before .before .enum-told .given .1) in
-    let curve = curve-good (c .before .before .before .before .before .before .before .plan-curve .ensures) (c .before .before .before .before .before .enum-told2 .given .1) in
+    let a = c .before .before .before .before .before .before .before .before .before .before .before .before .before .before .before .before .before .before .before .before .before .before .before .before .args in
+    let planned = planned-alike (a .options .template) (a .options .«end_bit») level (a .sorts .now) (a .wholes .now) (a .singles .now) (c .before .before .before .before .before .before .before .before .before .before .before .before .before .before .before .before .before .before .plan-fields .ensures) in
+    let fields = fields-good planned (c .before .before .before .before .before .before .before .before .before .before .before .before .before .before .before .bits .given .1) in
+    let ends = accepted _ (c .before .before .before .before .before .before .before .before .before .before .before .before .before .check-ending .ensures) (c .before .before .before .before .before .before .before .before .before .before .before .enum-told .given .1) in
+    let curve = curve-good (c .before .before .before .before .before .before .before .before .before .plan-curve .ensures) (c .before .before .before .before .before .before .enum-told2 .given .1) in
     rw (built-fitted (a .sizes) _ (a .text .now) (drawn (a .curve)) refl fields ends curve) (c .before .before .finish-curve .ensures)
 
 pub build-curve-in-spec : {M : Type 1} → statement M
@@ -60,9 +58,11 @@ build-curve-in-spec =
     (λ c. search needs)
     returns
     (λ c. search needs)
-    (λ c κs. search needs)
+    (λ c. search needs)
+    (λ c κs. refl)
     (λ c. search needs)
     returns-2
+    (λ c. search needs)
     (λ c. search needs)
     (λ c. search needs)
     finish-curve-requires

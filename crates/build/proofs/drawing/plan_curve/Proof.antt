@@ -1,5 +1,5 @@
 -- `drawing::plan_curve` meets its contract.
-use Rattle.build.proofs.Names.{sym, _∙_, needs}
+use Rattle.build.proofs.Names.{sym, _∙_, needs, unpacked}
 use Rattle.build.proofs.CurveTurns.{curve-wrong}
 use Rattle.build.proofs.drawing.plan_curve.Statement.{statement}
 use Rattle.build.proofs.drawing.plan_curve.Tie as tie
@@ -9,9 +9,9 @@ plan-curve-spec =
     tie.close
     (tie.spec
     (λ c κs. search needs)
-    (λ c κs. sym (c .before .is-segment-count .ensures) ∙ c .if1 .taken)
-    (λ c. c .plan-segments .ensures)
+    (λ c κs. (sym (c .before .before .is-segment-count .ensures) ∙ c .before .if1 .taken, c .before .before .before .before .pre))
+    (λ c. search needs)
+    (λ c. c .before .before .plan-segments .ensures)
     (λ c κs. search needs)
     (λ c κs. search needs)
-    (λ c κs. search needs)
-    (λ c. rw (c .no-curve .ensures, c .before .before .wrong-curve .ensures) (curve-wrong (c .before .before .before .before .before .args .curve) _ (sym (c .before .before .before .before .is-segment-count .ensures) ∙ c .before .before .before .if1 .left))))
+    (λ c. let a = c .before .before .before .before .before .args in rw (c .no-curve .ensures, c .before .wrong-curve .ensures) (curve-wrong (a .curve) (unpacked (a .codes .now)) (sym (c .before .before .before .is-segment-count .ensures) ∙ c .before .before .if1 .left))))

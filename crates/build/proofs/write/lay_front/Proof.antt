@@ -1,5 +1,6 @@
 -- `write::lay_front` meets its contract.
 use Rattle.build.proofs.Names.{_≡_, refl, sym, [], append-nil, needs, arith, length, basic, number-lt, last-most, span-listed, unpacked, codedFields}
+use Rattle.build.proofs.Coding.{packed-long, fit-listed}
 use Rattle.build.proofs.Filling.{filling-none, room-first, filling-more, filled, cleared, cleared-room, begun}
 use Rattle.build.proofs.write.lay_front.Statement.{statement}
 use Rattle.build.proofs.write.lay_front.Tie as tie
@@ -14,7 +15,7 @@ lay-fields-requires c κs =
     let a = s .args in
     let z = a .sizes in
     let room = cleared-room z (s .pre .0 .0) (c .before .before .before .before .before .before .clear .ensures) (codedFields (a .template) (unpacked (a .fields .now))) (c .start .ensures) (s .pre .1) in
-    rw (c .before .before .before .basic-fields .ensures) (room-first z _ _ refl (filling-none z room), (omega (arith, five), omega (arith, five), s .pre .0 .1))
+    rw (c .before .before .before .basic-fields .ensures) (room-first z _ _ refl (filling-none z room), (omega (arith, five), omega (arith, five, packed-long (a .fields .now) (s .pre .0 .1)), fit-listed (a .fields .now) (s .pre .0 .1)))
 
 lay-block-requires : tie.Need-lay-block-requires
 lay-block-requires c κs =
@@ -33,7 +34,7 @@ lay-fields-requires-2 c κs =
     let room = cleared-room z (s .pre .0 .0) (c .before .before .before .before .before .before .before .before .before .before .before .before .before .before .before .clear .ensures) (codedFields (a .template) (unpacked (a .fields .now))) (c .before .before .before .before .before .before .before .before .before .start .ensures) (s .pre .1) in
     let basics = filling-more z _ _ refl (filling-none z room) (rw (c .before .before .before .before .before .before .before .before .before .before .before .before .basic-fields .ensures) at (c .before .before .before .before .before .before .before .before .lay-fields .ensures)) in
     let block = filling-more z _ _ refl basics (rw (c .before .before .before .before .template-number .ensures) at (c .before .before .before .lay-block .ensures)) in
-    rw (c .before .before .before .before .before .before .before .before .before .before .before .before .basic-fields .ensures, c .before .before .before .before .before .before .before .before .before .before .before .last-field .ensures) (block .room, (omega (arith, five, span-listed (a .template) {f = 11} (omega arith)), last-most (a .template), s .pre .0 .1))
+    rw (c .before .before .before .before .before .before .before .before .before .before .before .before .basic-fields .ensures, c .before .before .before .before .before .before .before .before .before .before .before .last-field .ensures) (block .room, (omega (arith, five, span-listed (a .template) {f = 11} (omega arith)), omega (arith, last-most (a .template), packed-long (a .fields .now) (s .pre .0 .1)), fit-listed (a .fields .now) (s .pre .0 .1)))
 
 returns : tie.Need-returns
 returns c =

@@ -1,6 +1,7 @@
 -- `write::write_curve` meets its contract.
-use Rattle.build.proofs.Names.{refl, ap, _∙_, List, _++_, needs, imageOf, Piece, unpacked, codedCurve, codedEnding}
+use Rattle.build.proofs.Names.{refl, ap, _∙_, List, _++_, arith, needs, imageOf, Piece, unpacked, codedCurve, codedEnding}
 use Rattle.build.proofs.BuiltIn.{front-inside}
+use Rattle.build.proofs.Coding.{packed-long, fit-listed}
 use Rattle.build.proofs.Filling.{filling-none, room-first, filling-more, begun-room, begun-all}
 use Rattle.build.proofs.write.write_curve.Statement.{statement}
 use Rattle.build.proofs.write.write_curve.Tie as tie
@@ -9,16 +10,16 @@ lay-front-requires : tie.Need-lay-front-requires
 lay-front-requires c κs =
     let s = c .before .before .before .before .before in
     let a = s .args in
-    ((s .pre .0 .0, s .pre .0 .1 .fit), front-inside (a .template) (unpacked (a .fields .now)) (a .end-bit) (a .text .now) (codedCurve (a .curve)) (s .pre .1 .1))
+    ((s .pre .0 .0, s .pre .0 .1 .fit), front-inside (a .template) (unpacked (a .fields .now)) (a .end-bit) (a .text .now) (codedCurve (unpacked (a .codes .now)) (a .count)) (s .pre .1 .1))
 
-lay-curve-requires : tie.Need-lay-curve-requires
-lay-curve-requires c κs =
+lay-fields-requires : tie.Need-lay-fields-requires
+lay-fields-requires c κs =
     let s = c .before .before .before .before .before .before .before .before .before in
     let a = s .args in
     let z = a .sizes in
     let ending : List Piece = codedEnding (a .end-bit) (a .text .now) in
-    let room = begun-room (c .before .before .before .lay-front .ensures) (codedCurve (a .curve) ++ ending) (s .pre .1 .1) in
-    (room-first z (codedCurve (a .curve)) ending refl (filling-none z room), (s .pre .1 .0 .1, s .pre .1 .0 .0))
+    let room = begun-room (c .before .before .before .lay-front .ensures) (codedCurve (unpacked (a .codes .now)) (a .count) ++ ending) (s .pre .1 .1) in
+    (room-first z (codedCurve (unpacked (a .codes .now)) (a .count)) ending refl (filling-none z room), (s .pre .1 .0 .1, omega (arith, packed-long (a .codes .now) (s .pre .1 .0 .0)), fit-listed (a .codes .now) (s .pre .1 .0 .0)))
 
 lay-back-requires : tie.Need-lay-back-requires
 lay-back-requires c κs =
@@ -26,8 +27,8 @@ lay-back-requires c κs =
     let a = s .args in
     let z = a .sizes in
     let ending : List Piece = codedEnding (a .end-bit) (a .text .now) in
-    let room = begun-room (c .before .before .before .before .before .before .before .lay-front .ensures) (codedCurve (a .curve) ++ ending) (s .pre .1 .1) in
-    (filling-more z (codedCurve (a .curve)) ending refl (filling-none z room) (c .before .before .before .lay-curve .ensures) .room, s .pre .0 .1 .characters)
+    let room = begun-room (c .before .before .before .before .before .before .before .lay-front .ensures) (codedCurve (unpacked (a .codes .now)) (a .count) ++ ending) (s .pre .1 .1) in
+    (filling-more z (codedCurve (unpacked (a .codes .now)) (a .count)) ending refl (filling-none z room) (c .before .before .before .lay-fields .ensures) .room, s .pre .0 .1 .characters)
 
 returns : tie.Need-returns
 returns c =
@@ -35,9 +36,9 @@ returns c =
     let a = s .args in
     let z = a .sizes in
     let ending : List Piece = codedEnding (a .end-bit) (a .text .now) in
-    let room = begun-room (c .before .before .before .before .before .before .before .before .before .before .lay-front .ensures) (codedCurve (a .curve) ++ ending) (s .pre .1 .1) in
-    let laid = filling-more z (codedCurve (a .curve)) ending refl (filling-none z room) (c .before .before .before .before .before .before .lay-curve .ensures) in
-    c .before .before .lay-back .ensures ∙ ap (imageOf z) (laid .stream ∙ begun-all (c .before .before .before .before .before .before .before .before .before .before .lay-front .ensures) (codedCurve (a .curve) ++ ending))
+    let room = begun-room (c .before .before .before .before .before .before .before .before .before .before .lay-front .ensures) (codedCurve (unpacked (a .codes .now)) (a .count) ++ ending) (s .pre .1 .1) in
+    let laid = filling-more z (codedCurve (unpacked (a .codes .now)) (a .count)) ending refl (filling-none z room) (c .before .before .before .before .before .before .lay-fields .ensures) in
+    c .before .before .lay-back .ensures ∙ ap (imageOf z) (laid .stream ∙ begun-all (c .before .before .before .before .before .before .before .before .before .before .lay-front .ensures) (codedCurve (unpacked (a .codes .now)) (a .count) ++ ending))
 
 pub write-curve-spec : {M : Type 1} → statement M
-write-curve-spec = tie.close (tie.spec lay-front-requires lay-curve-requires lay-back-requires (λ c. search needs) returns)
+write-curve-spec = tie.close (tie.spec lay-front-requires lay-fields-requires lay-back-requires (λ c. search needs) returns)
