@@ -4,13 +4,13 @@
 
 mod bitfields;
 mod cursor;
-mod writing;
+mod rewriting;
 
 pub use cursor::Cursor;
 pub use cursor::Field;
 pub use cursor::Passed;
 pub use cursor::Read;
 pub use cursor::Taken;
-pub use writing::clear;
-pub use writing::rewrite;
-pub use writing::seal_pages;
+pub use rewriting::clear;
+pub use rewriting::rewrite;
+pub use rewriting::seal_pages;

@@ -1,8 +1,8 @@
--- `writing::seal_pages` meets its contract. The loop's invariant: the pages before `page` are sealed.
+-- `rewriting::seal_pages` meets its contract. The loop's invariant: the pages before `page` are sealed.
 use Rattle.stream.proofs.Names.{_≡_, refl, needs, arith, _≤_, _-_, length}
 use Rattle.stream.proofs.SealAll.{Sealed, sealed-none, sealed-more, sealed-all}
-use Rattle.stream.proofs.writing.seal_pages.Statement.{statement}
-use Rattle.stream.proofs.writing.seal_pages.Tie as tie
+use Rattle.stream.proofs.rewriting.seal_pages.Statement.{statement}
+use Rattle.stream.proofs.rewriting.seal_pages.Tie as tie
 
 abbrev Inv-loop : tie.InvT-loop
 Inv-loop sizes image₀ pages page₀ image page = (page ≤ sizes .pages) × ((length image ≡ length image₀) × Sealed sizes image₀ page image)

@@ -1,8 +1,8 @@
--- `writing::rewrite` meets its contract.
+-- `rewriting::rewrite` meets its contract.
 use Rattle.stream.proofs.Names.{needs, arith}
 use Rattle.stream.proofs.Mending.{rewritten, rewritten-once}
-use Rattle.stream.proofs.writing.rewrite.Statement.{statement}
-use Rattle.stream.proofs.writing.rewrite.Tie as tie
+use Rattle.stream.proofs.rewriting.rewrite.Statement.{statement}
+use Rattle.stream.proofs.rewriting.rewrite.Tie as tie
 
 returns : tie.Need-returns
 returns c =

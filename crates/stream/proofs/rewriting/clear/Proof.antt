@@ -1,7 +1,7 @@
--- `writing::clear` meets its contract. The loop's invariant: zeros up to `i`, and behind them the image as it was.
+-- `rewriting::clear` meets its contract. The loop's invariant: zeros up to `i`, and behind them the image as it was.
 use Rattle.stream.proofs.Names.{_≡_, refl, ap, _∙_, _++_, append-nil, _≤_, _-_, arith, length, drop, set, replicate, length-set, drop-length, fill-none, fill-more, needs}
-use Rattle.stream.proofs.writing.clear.Statement.{statement}
-use Rattle.stream.proofs.writing.clear.Tie as tie
+use Rattle.stream.proofs.rewriting.clear.Statement.{statement}
+use Rattle.stream.proofs.rewriting.clear.Tie as tie
 
 abbrev Inv-loop : tie.InvT-loop
 Inv-loop image₀ i₀ image i = (i ≤ length image₀) × ((length image ≡ length image₀) × (image ≡ replicate i 0 ++ drop i image₀))
