@@ -2,6 +2,7 @@
 import re
 
 from . import mir
+from .hints import Small
 from .mir import Unknown
 from .statements import wrapped
 from .types import ident
@@ -54,7 +55,7 @@ def foreign(program, fn):
     if symbol not in ('read', 'write') or signs != ['Signed', 'Signed', 'Unsigned'] or types != right:
         raise Unknown(f'the foreign function {fn.name}')
     slice_ = program.types.c(('Slice', ('Int', 8)))
-    return (f'static uint64_t {ident(fn.name)}(uint32_t descriptor, {slice_} bytes)',
+    return (f'uint64_t {ident(fn.name)}(uint32_t descriptor, {slice_} bytes)',
             ['{', f'    return (uint64_t)(int64_t){symbol}((int)descriptor, bytes.at, (size_t)bytes.length);', '}'])
 
 
@@ -74,6 +75,13 @@ class File:
             fn = program.functions[n]
             is_foreign = fn.body and isinstance(fn.body[0], mir.Foreign)
             self.texts[n] = foreign(program, fn) if is_foreign else program.text(n)
+        self.lengths = dict(below.lengths if below else {})
+        self.lengths.update({n: sum(line.count(';') for line in self.texts[n][1]) for n in self.own})
+        small = Small(program.functions, self.lengths)
+        for n in self.own:
+            if n not in program.exported:
+                head, lines = self.texts[n]
+                self.texts[n] = (f"{'DM_SMALL' if n in small else 'static'} {head}", lines)
         self.declared = [d for d in program.types.declared if not below or d not in below.declared_so_far]
         self.declared_so_far = list(program.types.declared)
         self.tables = [k for k in program.tables if not below or k not in below.tables]

@@ -24,15 +24,18 @@
 #define DM_JOIN(a, b) a##b
 #define DM_SIZE(type, bytes) typedef char DM_JOIN(dm_size_of_, type)[sizeof(type) == (bytes) ? 1 : -1]
 
-/* Small functions go where they are called, and loops whose turns are known are unrolled, on processors with large caches; elsewhere
- * the compiler weighs flash against time, and in the programs the time to compile them counts. */
+/* Small functions go where they are called, loops whose turns are known are unrolled, and a number whose bytes are stored is kept
+ * whole until then, so that one store has them, on processors with large caches; elsewhere the compiler weighs flash against time,
+ * and in the programs the time to compile them counts. */
 #if defined(__GNUC__) && defined(__OPTIMIZE__) && !defined(__OPTIMIZE_SIZE__) && !defined(DARTELM_COMPILE_FAST) && \
     (defined(__x86_64__) || defined(__aarch64__))
 #define DM_SMALL static inline __attribute__((always_inline))
 #define DM_UNROLLED _Pragma("GCC unroll 32")
+#define DM_WHOLE(number) __asm__("" : "+r"(number))
 #else
 #define DM_SMALL static
 #define DM_UNROLLED
+#define DM_WHOLE(number) (void)(number)
 #endif
 
 static inline float dm_float_from_bits(uint32_t bits)

@@ -2,16 +2,13 @@
 import re
 
 from . import fold, mir
+from .hints import stored_by_bytes
 from .live import derefs, live
 from .mir import Unknown
 from .source import plain
 from .statements import Statements, wrapped
 from .types import Types, ident
 from .values import Spot
-
-
-# A function of no more statements, and without a loop, is small.
-SMALL = 12
 
 
 class Program:
@@ -118,12 +115,10 @@ class Program:
             c = f'const {self.types.c(t)} *' if i in self.lent(fn.name) else f'{self.types.c(t)} '.replace('* ', '*')
             params.append(c + writer.params[i])
         result = 'void' if fn.locals[0].type == ('Unit',) else self.types.c(fn.locals[0].type)
-        body = ' '.join(writer.lines)
-        small = body.count(';') <= SMALL and not re.search(r'\b(while|for|do)\b', body)
-        return f"{'DM_SMALL' if small else 'static'} {result} {self.c_name(fn.name)}({', '.join(params) or 'void'})".replace('* dm_', '*dm_')
+        return f"{result} {self.c_name(fn.name)}({', '.join(params) or 'void'})".replace('* dm_', '*dm_')
 
     def text(self, name):
-        """(its head, its lines)"""
+        """(its head, without the word that its linkage has, its lines)"""
         fn = self.functions[name]
         self.fold(fn)
         live(fn, fn.body, set())
@@ -160,7 +155,7 @@ class Program:
                 lent = i in self.lent(fn.name)
                 writer.spots[i] = Spot(name, t, pointer=lent, const=lent)
             writer.c_params.append(writer.params[i])
-        return first
+        return first + [f'DM_WHOLE({writer.params[i]});' for i in stored_by_bytes(fn)]
 
     def exported_parameters(self, fn, writer):
         first, left = [], list(self.exported[fn.name][1])

@@ -3,12 +3,12 @@ import re
 
 from . import mir
 from .fold import constant
+from .hints import MOST_TURNS, is_met
 from .live import Reads, derefs, reads_of, stored
 from .mir import Unknown
 from .values import POSTFIX, Spot, Values
 
 WIDEST = 120
-MOST_TURNS = 32    # of a loop that is unrolled
 
 
 class Level:
@@ -312,7 +312,7 @@ class Statements(Values):
         test = 'for (;;)'
         if len(levels) == 2 and isinstance(first, mir.If) and not first.yes and len(first.no) == 1 \
                 and isinstance(first.no[0], mir.Exit) and first.no[0].level == 1:
-            text = self.value(first.test).text
+            text = self.unequal(first.test) if is_met(self.fn, s, first.test) else self.value(first.test).text
             if self.before:
                 self.before = []
             else:
@@ -327,6 +327,9 @@ class Statements(Values):
         self.enter(levels, body)
         self.say('}')
         self.labelled(levels[0])
+
+    def unequal(self, test):
+        return self.value(mir.Op2('Ne', None, test.x, test.y)).text
 
     def turns_are_known(self, test):
         """Whether a counter is compared with a small constant, or with what a call gives that is handed nothing but constants."""

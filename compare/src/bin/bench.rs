@@ -1,8 +1,10 @@
 //! bench: nanoseconds a call, the product's and the plain implementation's, and for a check the limit's, by turns on the same
-//! buffers; Markdown tables, and at the end whether the targets hold.
+//! buffers; Markdown tables, and at the end whether the targets hold. For portable/cost: --rows names the rows, with how many calls
+//! of the product --counted makes in each, and --product has one pass of the product alone, a line of nanoseconds for each row.
 
 #![forbid(unsafe_code)]
 
+use std::env;
 use std::hint::black_box;
 use std::time::Instant;
 
@@ -366,6 +368,11 @@ impl Row {
         self.least[side] / self.amount
     }
 
+    /// How many calls are counted: the inputs of a reading come round in 16, and one comparison can be long.
+    fn counted(&self) -> usize {
+        if self.amount > 1.0 { 1 } else { 16 }
+    }
+
     fn ratio(&self) -> f64 {
         self.figure(PRODUCT) / self.figure(PLAIN)
     }
@@ -621,12 +628,41 @@ fn targets(tables: &[Table]) {
     target("the other tables (no target): product / plain", 0.9, others.map(plain));
 }
 
+/// A row's calls for a counter of instructions, which finds them by this function's name.
+#[inline(never)]
+fn counted_row(row: &Row, case: &mut Case) {
+    (row.sides[PRODUCT])(case, row.counted());
+}
+
 fn main() {
+    let mode = env::args().nth(1);
     let mut bench = Bench::default();
     sheets(&mut bench);
     others(&mut bench);
     written(&mut bench);
-    bench.measure();
-    bench.tables.iter().for_each(print);
-    targets(&bench.tables);
+    let Bench { cases, tables } = &mut bench;
+    match mode.as_deref() {
+        Some("--rows") => {
+            for table in tables {
+                table.rows.iter().for_each(|row| println!("{}\t{}", row.counted(), row.named(table)));
+            }
+        }
+        Some("--counted") => {
+            for row in tables.iter().flat_map(|table| &table.rows) {
+                counted_row(row, &mut cases[row.case]);
+            }
+        }
+        Some("--product") => {
+            for row in tables.iter_mut().flat_map(|table| &mut table.rows) {
+                row.sides.truncate(PLAIN);
+                row.pass(&mut cases[row.case]);
+                println!("{}", row.figure(PRODUCT));
+            }
+        }
+        _ => {
+            bench.measure();
+            bench.tables.iter().for_each(print);
+            targets(&bench.tables);
+        }
+    }
 }

@@ -1,4 +1,4 @@
--- A build in a buffer: its tests one after the other, and the bits.
+-- Laws of a build in a buffer: its tests in order, and the bits.
 use Rattle.build.proofs.Names.{_≡_, refl, sym, ap, _∙_, Bool, true, false, _||_, List, _++_, ℕ, zero, suc, _+_, _*_, _%_, _≤_, _<_, min, arith, lt-ltb, le-ltb, ltb-false, eqb, ltb, ℤ, length, getD, boolByte}
 use Rattle.build.proofs.Names.{Refusal, Outcome, good, refused, _>>_, returned, tooLong, wrongList, neither, bind-refused, Sizes, imageBytes, imageSizes, streamBits, imageOf, Piece, pack, needed, needed-append}
 use Rattle.build.proofs.Names.{Domain, Template, ending, endCode, tableBits, text-needed, Sheet, CodedField, Planned, Bits, templateIn, fieldPieces, endingPieces, Table, listed, listTested, behindPieces, plan}
@@ -25,7 +25,7 @@ module _ (template : Template) (fields : List CodedField) (endBit : Bool) (text 
         text-needed text,
       )
 
-  -- The fields are inside where all of it is.
+  -- The fields are inside the stream if the whole sheet is.
   pub front-inside : {most : ℕ} → needed pieces ≤ most → needed (codedFields template fields) ≤ most
   front-inside h = omega (arith, h, sheet-needed)
 
@@ -47,7 +47,7 @@ module _ (template : Template) (fields : List CodedField) (endBit : Bool) (text 
 
 -- ---- the tests
 
--- Row 16.
+-- The test of row 16.
 abbrev wrongLength : List ℤ → Bool
 wrongLength points = eqb (length points % 2) 1 || ltb 254 (length points)
 
@@ -71,7 +71,7 @@ module _ {sheet : Sheet} {fields : List CodedField} {p : Planned} (f : FieldsPla
 pub text-fits : (f : ℕ) (endBit : Bool) (text : List ℕ) → Accepted (endingPieces f endBit text) → (i : ℕ) → getD text i 0 < 128
 text-fits f endBit text ok = character-lt text (ending-planned f endBit text _ ok .characters)
 
--- With the block that a table is.
+-- The tests of a build with a table or a curve.
 module _ (z : Sizes) (sheet : Sheet) (text : List ℕ) (table : Table) where
   pub built-list : {r : Refusal} → listTested table ≡ refused r → builtIn z sheet text table ≡ refused r
   unfolding builtIn plan

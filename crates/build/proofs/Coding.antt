@@ -1,34 +1,34 @@
--- The codes of fields, one after the other.
+-- Laws of the codes of fields, in order.
 use Rattle.build.proofs.Names.{Bool, true, false, _≡_, refl, sym, ap, ap₂, _∙_, subst, List, [], _∷_, _++_, map, append-assoc, append-nil, ℕ, zero, suc, _+_, _-_, _*_, _/_, _%_, _^_, _≤_, _<_, add-one, arith}
 use Rattle.build.proofs.Names.{ℕ-discrete, ℤ, w64, SFits, toZ, ofZ, toZ-ofZ, Float, length, take, drop, getD, set, replicate, length-replicate, getD-replicate, length-set, length-map, List·getD-map}
 use Rattle.build.proofs.Names.{drop-of-length-le, slice, slice-cons, slice-empty, drop-cons, getD-set-same, getD-set-other, take-take, Refusal, Outcome, good, refused, _>>=_, bind-good, bind-refused, bind-assoc}
-use Rattle.build.proofs.Names.{bind-same, Piece, piece, needed, needed-append, Value, Whole, Missing, Row, Encoded, Code, NoCode, Template, Layout, encode, Line, chose, basic, linesOf, numberOf}
-use Rattle.build.proofs.Names.{lastField, lineOf, rowOf, rowsOf, noLine, bitsBefore, Sound, AllSound, Real, encodedSaid, reads-back, row-sound, rows-sound, Told, blockPieces, Steady, lines-steady, Sheet}
-use Rattle.build.proofs.Names.{CodedField, Coded, Next, NotCoded, Bits, NotPlanned, slot, lent, templateIn, linePieces, fieldPieces, Encodes, Fitting, Fit, blank, fieldPiece, unpack, unpacked, codedFields}
-use Rattle.build.proofs.Names.{valueLent, slotsLent, Long, fieldsLent, Quick, codedFrom, FieldsCoded, CodedTo, FieldsPlanned, last-most, basic-most}
+use Rattle.build.proofs.Names.{bind-same, Piece, piece, needed, needed-append, Value, Whole, Missing, Row, Encoded, Code, NoCode, Template, Layout, encode, Line, chose, basic, linesOf, numberOf, lastField, lineOf}
+use Rattle.build.proofs.Names.{rowOf, rowsOf, noLine, bitsBefore, Sound, AllSound, Real, encodedSaid, reads-back, row-sound, rows-sound, DirectCode, blockPieces, Steady, lines-steady, Sheet, CodedField, Coded}
+use Rattle.build.proofs.Names.{Next, NotCoded, Bits, NotPlanned, slot, lent, templateIn, linePieces, fieldPieces, Encodes, Fitting, Fit, blank, fieldPiece, unpack, unpacked, codedFields, valueLent, slotsLent}
+use Rattle.build.proofs.Names.{LentLengths, fieldsLent, Quick, codedFrom, FieldsCoded, CodedTo, FieldsPlanned, last-most, basic-most}
 use Rattle.build.proofs.FieldPlans.{withBlock, block-needed, fields-listed}
 use Rattle.build.proofs.Lent.{long-slot}
 
 -- ---- one value
 
--- The answer for a value that a caller can lend.
+-- The answer for a lent value.
 pub encodes : (row : Row) (place : ℕ) (v : Value) (e : Encoded) → Sound row → Real v → encodedSaid e ≡ encode row place v → Encodes row place v e
 encodes row place v e s real said = record { said = said; fits = λ code h. reads-back row place 0 code v s real (sym said ∙ ap encodedSaid h) .0 }
 
--- The same where the row told it without a search.
-pub quick-encodes : (row : Row) (place : ℕ) (v : Value) (code : ℕ) → Told row v code → code < 2 ^ 32 → Encodes row place v (Code code)
+-- The answer for a lent value whose code needed no search.
+pub quick-encodes : (row : Row) (place : ℕ) (v : Value) (code : ℕ) → DirectCode row v code → code < 2 ^ 32 → Encodes row place v (Code code)
 quick-encodes row place v code told h = record { said = sym (told h .0 place); fits = λ n e. let same : code ≡ n = cc in subst (λ m. m < 2 ^ row .width) same (told h .1) }
 
 pub coded-fits : {row : Row} {place : ℕ} {v : Value} {e : Encoded} {code : ℕ} → Sound row → Encodes row place v e → e ≡ Code code → Fitting (row .width) code
 coded-fits s c a = record { some = s .some; most = s .most; fits = c .fits _ a }
 
--- A figure that is handed to a callee.
-pub seen : (row : Row) (place : ℕ) {figure : ℤ} → SFits w64 figure → encode row place (Whole (toZ w64 (ofZ w64 figure))) ≡ encode row place (Whole figure)
-seen row place f = ap (λ (z : ℤ). encode row place (Whole z)) (toZ-ofZ f)
+-- A figure that is passed to a callee.
+pub encode-of-word : (row : Row) (place : ℕ) {figure : ℤ} → SFits w64 figure → encode row place (Whole (toZ w64 (ofZ w64 figure))) ≡ encode row place (Whole figure)
+encode-of-word row place f = ap (λ (z : ℤ). encode row place (Whole z)) (toZ-ofZ f)
 
--- ---- the fields that have their codes
+-- ---- the coded fields
 
--- One more.
+-- One more coded field.
 pub taken : (fields : List CodedField) (i : ℕ) (x : CodedField) → i < length fields →
     take (suc i) (map fieldPiece (set fields i x)) ≡ take i (map fieldPiece fields) ++ (fieldPiece x ∷ [])
 taken [] i x h = absurd (omega arith)
@@ -55,7 +55,7 @@ module _ (fields : List CodedField) (i end : ℕ) where
   pub fields-end : i ≤ end → end ≤ i → slice i end (map fieldPiece fields) ≡ []
   fields-end h k = let e : i ≡ end = omega arith in ap (λ (n : ℕ). slice n end (map fieldPiece fields)) e ∙ slice-empty end (map fieldPiece fields)
 
--- The same of fields as numbers.
+-- One more packed field.
 pub packed-set : (codes : List ℕ) (i p : ℕ) {width code : ℕ} → p / 2 ^ 32 ≡ width → p % 2 ^ 32 ≡ code → unpacked (set codes i p) ≡ set (unpacked codes) i (record { width = width; code = code })
 packed-set [] i p w c = refl
 packed-set (y ∷ codes) zero p w c = ap₂ (λ (n m : ℕ). record { width = n; code = m } ∷ unpacked codes) w c
@@ -87,7 +87,7 @@ packed-blank (suc n) = ap (λ l. blank ∷ l) (packed-blank n)
 pub packed-none : (n : ℕ) → Fit n (unpacked (replicate n (2 ^ 32)))
 packed-none n = subst (Fit n) (sym (packed-blank n)) (fit-none n)
 
--- ---- one line after the other
+-- ---- line by line
 
 module _ (sheet : Sheet) where
   abbrev t : Template
@@ -130,13 +130,13 @@ module _ (sheet : Sheet) where
         ∙ bind-assoc others (λ rest. good (fieldPiece x ∷ rest)) (λ rest. good (take i (map fieldPiece fields) ++ rest))
         ∙ bind-same others (λ rest. ap good (sym (ap (λ l. l ++ rest) (taken fields i x k) ∙ append-assoc (take i (map fieldPiece fields)) (fieldPiece x ∷ []) rest)))
 
--- ---- the bits of the fields that are coded
+-- ---- the bits of the coded fields
 
 bits-none : (lines : List Line) (latest : ℕ) → bitsBefore lines latest 0 ≡ 0
 bits-none [] latest = refl
 bits-none (l ∷ lines) latest = refl
 
--- A row has 32 at most.
+-- A row has at most 32 bits.
 bits-most : (lines : List Line) (latest i : ℕ) → AllSound (rowsOf lines latest) → bitsBefore lines latest i ≤ 32 * i
 bits-most [] latest i s = omega arith
 bits-most (l ∷ lines) latest zero s = omega arith
@@ -145,7 +145,7 @@ bits-most (l ∷ lines) latest (suc i) s = omega (arith, s .0 .most, bits-most l
 pub bits-small : (t : Template) (p : ℕ) → bitsBefore (linesOf t) p (lastField t) ≤ 32 * 21
 bits-small t p = omega (arith, last-most t, bits-most (linesOf t) p (lastField t) (rows-sound t p .0))
 
--- No line sets widths behind the one that does.
+-- No line sets widths after the one that does.
 settled : (lines : List Line) → Steady true lines → (i code latest : ℕ) → i < length lines → chose (getD lines i noLine .sets) code latest ≡ latest
 settled [] s i code latest h = absurd (omega arith)
 settled (l ∷ lines) s zero code latest h = rw (s .0)
@@ -156,7 +156,7 @@ bits-next [] latest i h = absurd (omega arith)
 bits-next (l ∷ lines) latest zero h = omega (arith, bits-none lines latest)
 bits-next (l ∷ lines) latest (suc i) h = omega (arith, bits-next lines latest i (omega arith))
 
--- One more line, by the choice behind it.
+-- One more line, at the choice after it.
 bits-more : (done : Bool) (lines : List Line) → Steady done lines → (latest code i : ℕ) → i < length lines →
     getD lines i noLine .rowAt latest .width + bitsBefore lines latest i ≡ bitsBefore lines (chose (getD lines i noLine .sets) code latest) (suc i)
 bits-more done [] s latest code i h = absurd (omega arith)
@@ -170,56 +170,60 @@ bits-more false (l ∷ lines) s latest code (suc i) h =
 
 -- ---- the quick code of a field
 
-module _ (layout : Layout) {row : Row} {sorts : List ℕ} {wholes : List ℤ} {singles : List Float} {i : ℕ} (is : row ≡ rowOf layout (i + 1)) where
-  pub quick-asked : Long sorts wholes singles → i < lastField (layout .template) → Sound row × Long sorts wholes singles × (i < 21)
+module _ (layout : Layout) {row : Row} {tags : List ℕ} {wholes : List ℤ} {singles : List Float} {i : ℕ} (is : row ≡ rowOf layout (i + 1)) where
+  pub quick-asked : LentLengths tags wholes singles → i < lastField (layout .template) → Sound row × LentLengths tags wholes singles × (i < 21)
   quick-asked long h = (subst Sound (sym is) (row-sound layout (i + 1) (omega arith) (omega arith)), long, omega (arith, last-most (layout .template)))
 
-  pub quick-here : {quick : CodedField} → Quick row sorts wholes singles i quick → Quick (rowOf layout (i + 1)) sorts wholes singles i quick
-  quick-here {quick} q = subst (λ r. Quick r sorts wholes singles i quick) is q
+  pub quick-here : {quick : CodedField} → Quick row tags wholes singles i quick → Quick (rowOf layout (i + 1)) tags wholes singles i quick
+  quick-here {quick} q = subst (λ r. Quick r tags wholes singles i quick) is q
 
--- A row of a template that is known.
+-- The row of a field, if the template is known.
 pub row-known : (layout : Layout) (f : ℕ) {t : Template} {row : Row} → layout .template ≡ t → row ≡ lineOf t f .rowAt (layout .precision) → row ≡ rowOf layout f
 row-known layout f e r = r ∙ ap (λ t. lineOf t f .rowAt (layout .precision)) (sym e)
 
--- ---- one field after the other
+-- ---- field by field
 
-module _ {t : Template} {sorts : List ℕ} {wholes : List ℤ} {singles : List Float} where
-  pub coded-none : {codes : List ℕ} → Long sorts wholes singles → Fit 21 (unpacked codes) → FieldsCoded t sorts wholes singles codes 0 0
+module _ {t : Template} {tags : List ℕ} {wholes : List ℤ} {singles : List Float} where
+  pub coded-none : {codes : List ℕ} → LentLengths tags wholes singles → Fit 21 (unpacked codes) → FieldsCoded t tags wholes singles codes 0 0
   coded-none {codes} long fit = record {
     long = long;
     inside = omega arith;
     fit = fit;
-    rest = from-start (fieldsLent t sorts wholes singles) (unpacked codes);
+    rest = from-start (fieldsLent t tags wholes singles) (unpacked codes);
     count = sym (bits-none (linesOf t) 0);
   }
 
-  pub coded-next : {n latest : ℕ} {codes : List ℕ} → FieldsCoded t sorts wholes singles codes latest n → CodedTo n t sorts wholes singles codes (Next latest)
+  pub coded-next : {n latest : ℕ} {codes : List ℕ} → FieldsCoded t tags wholes singles codes latest n → CodedTo n t tags wholes singles codes (Next latest)
   coded-next {n} {latest} {codes} d = record {
-    done = λ other e. let same : latest ≡ other = cc in subst (λ (k : ℕ). FieldsCoded t sorts wholes singles codes k n) same d;
+    done = λ other e. let same : latest ≡ other = cc in subst (λ (k : ℕ). FieldsCoded t tags wholes singles codes k n) same d;
     stop = λ r e. absurd (let z : _≡_ {A = ℕ} 0 1 = cc in omega arith);
     fit = d .fit;
   }
 
-  coded-stop : {n : ℕ} {codes : List ℕ} {r : Refusal} → fieldPieces (fieldsLent t sorts wholes singles) ≡ refused r → Fit 21 (unpacked codes) → CodedTo n t sorts wholes singles codes (NotCoded r)
+  coded-stop : {n : ℕ} {codes : List ℕ} {r : Refusal} → fieldPieces (fieldsLent t tags wholes singles) ≡ refused r → Fit 21 (unpacked codes) → CodedTo n t tags wholes singles codes (NotCoded r)
   coded-stop {n} {codes} {r} e fit = record {
     done = λ latest a. absurd (let z : _≡_ {A = ℕ} 0 1 = cc in omega arith);
     stop = λ other a. let same : r ≡ other = cc in e ∙ ap refused same;
     fit = fit;
   }
 
-  pub coded-up : {n latest i : ℕ} {codes : List ℕ} → FieldsCoded t sorts wholes singles codes latest i → n ≤ i → i ≤ n → CodedTo n t sorts wholes singles codes (Next latest)
-  coded-up {n} {latest} {i} {codes} d a b = let e : i ≡ n = omega arith in coded-next (subst (λ (k : ℕ). FieldsCoded t sorts wholes singles codes latest k) e d)
+  pub coded-up : {n latest i : ℕ} {codes : List ℕ} → FieldsCoded t tags wholes singles codes latest i → n ≤ i → i ≤ n → CodedTo n t tags wholes singles codes (Next latest)
+  coded-up {n} {latest} {i} {codes} d a b = let e : i ≡ n = omega arith in coded-next (subst (λ (k : ℕ). FieldsCoded t tags wholes singles codes latest k) e d)
 
-  -- Where one is refused, so are more.
-  pub stopped : {n m : ℕ} {codes : List ℕ} {answer : Coded} {r : Refusal} → CodedTo n t sorts wholes singles codes answer → answer ≡ NotCoded r → CodedTo m t sorts wholes singles codes (NotCoded r)
+  -- An equal number of fields.
+  pub coded-at : {n m latest : ℕ} {codes : List ℕ} → FieldsCoded t tags wholes singles codes latest n → n ≡ m → FieldsCoded t tags wholes singles codes latest m
+  coded-at {n} {m} {latest} {codes} d e = subst (λ (k : ℕ). FieldsCoded t tags wholes singles codes latest k) e d
+
+  -- If one field is refused, so are longer lists.
+  pub stopped : {n m : ℕ} {codes : List ℕ} {answer : Coded} {r : Refusal} → CodedTo n t tags wholes singles codes answer → answer ≡ NotCoded r → CodedTo m t tags wholes singles codes (NotCoded r)
   stopped c e = coded-stop (c .stop _ e) (c .fit)
 
   -- A list of codes keeps its length.
-  pub coded-same : {n latest i : ℕ} {codes codes₀ : List ℕ} {answer : Coded} → CodedTo n t sorts wholes singles codes answer → FieldsCoded t sorts wholes singles codes₀ latest i → length codes ≡ length codes₀
+  pub coded-same : {n latest i : ℕ} {codes codes₀ : List ℕ} {answer : Coded} → CodedTo n t tags wholes singles codes answer → FieldsCoded t tags wholes singles codes₀ latest i → length codes ≡ length codes₀
   coded-same {codes = codes} {codes₀ = codes₀} c d = packed-long codes (c .fit) ∙ sym (packed-long codes₀ (d .fit))
 
-  -- A turn: field i + 1 by its row.
-  module _ {codes : List ℕ} {latest i : ℕ} (d : FieldsCoded t sorts wholes singles codes latest i) (h : i < lastField t) where
+  -- One turn: field i + 1 by its row.
+  module _ {codes : List ℕ} {latest i : ℕ} (d : FieldsCoded t tags wholes singles codes latest i) (h : i < lastField t) where
     abbrev rowHere : Row
     rowHere = rowOf (record { template = t; precision = latest }) (i + 1)
 
@@ -235,20 +239,20 @@ module _ {t : Template} {sorts : List ℕ} {wholes : List ℤ} {singles : List F
     is-here : lineOf t (i + 1) ≡ lineHere
     is-here = let k : i + 1 - 1 ≡ i = omega arith in ap (λ (n : ℕ). getD (linesOf t) n noLine) k
 
-    module _ {e : Encoded} (c : Encodes rowHere (i + 1) (valueLent sorts wholes singles i) e) where
-      heard : encodedSaid e ≡ encode (lineHere .rowAt latest) (suc i) (lent (fieldsLent t sorts wholes singles) (suc i))
-      heard =
+    module _ {e : Encoded} (c : Encodes rowHere (i + 1) (valueLent tags wholes singles i) e) where
+      encoded-here : encodedSaid e ≡ encode (lineHere .rowAt latest) (suc i) (lent (fieldsLent t tags wholes singles) (suc i))
+      encoded-here =
           let k : suc i - 1 ≡ i = omega arith in
           c .said
-          ∙ ap (λ (n : ℕ). encode rowHere n (valueLent sorts wholes singles i)) (add-one i)
-          ∙ ap (λ l. encode (l .rowAt latest) (suc i) (valueLent sorts wholes singles i)) is-here
-          ∙ ap (encode (lineHere .rowAt latest) (suc i)) (sym (ap (λ (n : ℕ). getD (slotsLent sorts wholes singles) n (slot Missing) .value) k ∙ long-slot (d .long) i (omega (arith, last-most t))))
+          ∙ ap (λ (n : ℕ). encode rowHere n (valueLent tags wholes singles i)) (add-one i)
+          ∙ ap (λ l. encode (l .rowAt latest) (suc i) (valueLent tags wholes singles i)) is-here
+          ∙ ap (encode (lineHere .rowAt latest) (suc i)) (sym (ap (λ (n : ℕ). getD (slotsLent tags wholes singles) n (slot Missing) .value) k ∙ long-slot (d .long) i (omega (arith, last-most t))))
 
-      pub turn-refused : {r : Refusal} → e ≡ NoCode r → CodedTo (i + 1) t sorts wholes singles codes (NotCoded r)
-      turn-refused a = coded-stop (fields-listed (fieldsLent t sorts wholes singles) ∙ bind-refused _ (sym (d .rest) ∙ field-refused (fieldsLent t sorts wholes singles) (unpacked codes) latest i h (sym heard ∙ ap encodedSaid a))) (d .fit)
+      pub turn-refused : {r : Refusal} → e ≡ NoCode r → CodedTo (i + 1) t tags wholes singles codes (NotCoded r)
+      turn-refused a = coded-stop (fields-listed (fieldsLent t tags wholes singles) ∙ bind-refused _ (sym (d .rest) ∙ field-refused (fieldsLent t tags wholes singles) (unpacked codes) latest i h (sym encoded-here ∙ ap encodedSaid a))) (d .fit)
 
       pub turn-coded : (p : ℕ) {code next : ℕ} → e ≡ Code code → (p / 2 ^ 32 ≡ rowHere .width) × (p % 2 ^ 32 ≡ code) → next ≡ chose (lineOf t (i + 1) .sets) code latest →
-          CodedTo (i + 1) t sorts wholes singles (set codes i p) (Next next)
+          CodedTo (i + 1) t tags wholes singles (set codes i p) (Next next)
       turn-coded p {code} {next} a are n =
           let x : CodedField = record { width = rowHere .width; code = code } in
           let k : i < length (unpacked codes) = omega (arith, d .fit .long, last-most t) in
@@ -258,25 +262,25 @@ module _ {t : Template} {sorts : List ℕ} {wholes : List ℤ} {singles : List F
             long = d .long;
             inside = omega arith;
             fit = rw (packed-set codes i p (are .0) (are .1)) (fit-more (unpacked codes) i x (d .fit) (coded-fits turn-sound c a));
-            rest = rw (packed-set codes i p (are .0) (are .1), is-here) (sym (field-coded (fieldsLent t sorts wholes singles) (unpacked codes) latest i h k (sym heard ∙ ap encodedSaid a)) ∙ d .rest);
+            rest = rw (packed-set codes i p (are .0) (are .1), is-here) (sym (field-coded (fieldsLent t tags wholes singles) (unpacked codes) latest i h k (sym encoded-here ∙ ap encodedSaid a)) ∙ d .rest);
             count = rw (packed-set codes i p (are .0) (are .1)) (added ∙ omega (arith, d .count, ap (λ l. l .rowAt latest .width) is-here, bits-more false (linesOf t) (lines-steady t) latest code i h));
           }))
 
-  -- All of them.
-  pub coded-all : {codes : List ℕ} {latest bits : ℕ} → FieldsCoded t sorts wholes singles codes latest (lastField t) →
-      (bits ≡ bitsBefore (linesOf t) latest (lastField t) + 10) × (bits < 2 ^ 16) → FieldsPlanned (fieldsLent t sorts wholes singles) (unpacked codes) (Bits bits)
+  -- All fields are coded.
+  pub coded-all : {codes : List ℕ} {latest bits : ℕ} → FieldsCoded t tags wholes singles codes latest (lastField t) →
+      (bits ≡ bitsBefore (linesOf t) latest (lastField t) + 10) × (bits < 2 ^ 16) → FieldsPlanned (fieldsLent t tags wholes singles) (unpacked codes) (Bits bits)
   coded-all {codes} {latest} {bits} d b =
       let all : List Piece = take (lastField t) (map fieldPiece (unpacked codes)) in
-      let planned : linePieces (fieldsLent t sorts wholes singles) (linesOf t) 0 1 ≡ good all = sym (d .rest) ∙ from-end (fieldsLent t sorts wholes singles) (unpacked codes) latest (lastField t) (omega arith) in
+      let planned : linePieces (fieldsLent t tags wholes singles) (linesOf t) 0 1 ≡ good all = sym (d .rest) ∙ from-end (fieldsLent t tags wholes singles) (unpacked codes) latest (lastField t) (omega arith) in
       let are : withBlock t all ≡ codedFields t (unpacked codes) =
       ap (λ q. q ++ (blockPieces (numberOf t) ++ drop (length basic) all)) (take-take (length basic) (lastField t) (map fieldPiece (unpacked codes)) (basic-most t)) in
       record {
-        said = sym (fields-listed (fieldsLent t sorts wholes singles) ∙ bind-good _ planned ∙ ap good are);
+        said = sym (fields-listed (fieldsLent t tags wholes singles) ∙ bind-good _ planned ∙ ap good are);
         fit = d .fit;
         count = λ n a. let same : bits ≡ n = cc in (omega (arith, same, b .0, d .count, block-needed t all, ap needed are), omega (arith, same, b .1));
       }
 
-  pub all-refused : {n : ℕ} {codes : List ℕ} {answer : Coded} {r : Refusal} → CodedTo n t sorts wholes singles codes answer → answer ≡ NotCoded r → FieldsPlanned (fieldsLent t sorts wholes singles) (unpacked codes) (NotPlanned r)
+  pub all-refused : {n : ℕ} {codes : List ℕ} {answer : Coded} {r : Refusal} → CodedTo n t tags wholes singles codes answer → answer ≡ NotCoded r → FieldsPlanned (fieldsLent t tags wholes singles) (unpacked codes) (NotPlanned r)
   all-refused c e = record {
     said = sym (c .stop _ e);
     fit = c .fit;

@@ -1,11 +1,11 @@
--- A curve: the parts of a plan.
+-- Laws of the plan of a curve: its parts.
 use Rattle.build.proofs.Names.{_≡_, true, not, List, [], _∷_, _++_, Option, none, some, ℕ, suc, _+_, not-false, ℤ, pos, _*ℤ_, take, drop, good, wrongCurve, good-same, good-bind, passed, Piece, piece, Single}
 use Rattle.build.proofs.Names.{Segment, Term, Curve, encode, segmentCount, segmentStart, termCount, exponent, coefficient, isSegmentCount, exponentCode, blockPieces, startCode, termPieces, segmentPieces}
 use Rattle.build.proofs.Names.{curvePieces}
 
 -- ---- terms
 
--- A term, and those behind it.
+-- A term, and those after it.
 pub record TermsPlanned (before : Option ℤ) (i : ℕ) (t : Term) (terms : List Term) (ps : List Piece) : Type 0 where
   pub power : ℕ
   pub factor : ℕ
@@ -29,7 +29,7 @@ no-term before i ps e = good-same e
 
 -- ---- segments
 
--- A segment with its terms, and those behind it.
+-- A segment with its terms, and those after it.
 pub record SegmentsPlanned (before : Option ℕ) (i total : ℕ) (s : Segment) (segments : List Segment) (terms : List Term) (ps : List Piece) : Type 0 where
   pub start : ℕ
   pub own : List Piece

@@ -1,17 +1,17 @@
--- A curve, one segment and one term after the other.
+-- Laws of the loop over a curve, segment by segment and term by term.
 use Rattle.build.proofs.Names.{_≡_, refl, sym, ap, ap₂, subst, _∙_, Bool, true, false, not, List, [], _∷_, _++_, map, append-assoc, append-nil, Option, none, some, ℕ, suc, _+_, _-_, _*_, _≤_, _<_, add-one, arith}
 use Rattle.build.proofs.Names.{leb-true, not-false, leb, ℤ, pos, _*ℤ_, ltZ, length, take, drop, getD, set, length-set, drop-of-length-le, drop-cons, drop-drop, getD-take, length-take-le, Refusal, Outcome, good}
-use Rattle.build.proofs.Names.{refused, _>>=_, _>>_, wrongCurve, good-bind, good-same, no-value, passed, both, bind-good, bind-refused, Piece, piece, needed, needed-append, Whole, Single, Stands, Segment, Term}
+use Rattle.build.proofs.Names.{refused, _>>=_, _>>_, wrongCurve, good-bind, good-same, no-value, passed, both, bind-good, bind-refused, Piece, piece, needed, needed-append, Whole, Single, Valid, Segment, Term}
 use Rattle.build.proofs.Names.{Curve, encode, segmentStart, termCount, exponent, coefficient, isSegmentCount, isExponent, exponentFollows, exponentCode, tenthsOf, below-zero, above-five, between, exponent-coded}
-use Rattle.build.proofs.Names.{judgedSaid, CodedField, CurvePlan, startCode, termPieces, segmentPieces, curvePieces, Fitting, Fit, fieldPiece, coded, segmentTwo, termTwo, firstFour, codedCurve, noCurve}
+use Rattle.build.proofs.Names.{judgedSaid, CodedField, CurvePlan, startCode, termPieces, segmentPieces, curvePieces, Fitting, Fit, fieldPiece, coded, segmentFields, termFields, curveHead, codedCurve, noCurve}
 use Rattle.build.proofs.Names.{wholeCurve, CurvePlanned}
-use Rattle.fields.specs.declared.Judged.the-variants.{Refused}
+use Rattle.codes.specs.declared.Judged.the-variants.{Refused}
 use Rattle.build.proofs.Coding.{taken, fit-none, fit-more}
 use Rattle.build.proofs.SegmentPlans.{start-planned}
 
 -- ---- outcomes
 
--- Two pieces more, before the rest of a segment and before the rest of a term.
+-- Two more pieces, before the rest of a segment and before the rest of a term.
 join : (A B : Outcome (List Piece)) (T : List Piece) (p q : Piece) →
     ((A >>= λ own. B >>= λ rest. good (p ∷ q ∷ (own ++ rest))) >>= λ rest. good (T ++ rest)) ≡ ((A >>= λ own. B >>= λ rest. good (own ++ rest)) >>= λ rest. good ((T ++ (p ∷ q ∷ [])) ++ rest))
 join (good own) (good rest) T p q = ap good (sym (append-assoc T (p ∷ q ∷ []) (own ++ rest)))
@@ -28,7 +28,7 @@ kept : (o : Outcome (List Piece)) (T : List Piece) → ((o >>= λ rest. good res
 kept (good rest) T = refl
 kept (refused r) T = refl
 
--- What turns two down, turns all down.
+-- What refuses two pieces refuses all.
 made-down : {A B : Type 0} (o : Outcome A) (make : A → B) {r : Refusal} → (o >>= λ a. good (make a)) ≡ refused r → o ≡ refused r
 made-down (good a) make e = no-value (sym e)
 made-down (refused s) make {r} e = let same : s ≡ r = cc in ap refused same
@@ -40,7 +40,7 @@ both-down (refused s) Q make next {r} e = let same : s ≡ r = cc in ap refused 
 
 -- ---- codes
 
--- Two more.
+-- Two more coded pieces.
 two-taken : (codes : List CodedField) (m : ℕ) (x y : CodedField) → m + 1 < length codes →
     take (m + 2) (map fieldPiece (set (set codes m x) (m + 1) y)) ≡ take m (map fieldPiece codes) ++ (fieldPiece x ∷ fieldPiece y ∷ [])
 two-taken codes m x y h =
@@ -48,7 +48,7 @@ two-taken codes m x y h =
     rw (two, add-one m)
     (taken (set codes m x) (suc m) y (omega (arith, length-set codes m x)) ∙ ap (λ l. l ++ (fieldPiece y ∷ [])) (taken codes m x (omega arith)) ∙ append-assoc (take m (map fieldPiece codes)) (fieldPiece x ∷ []) (fieldPiece y ∷ []))
 
--- The code of an exponent stands for it.
+-- The code of an exponent means that exponent.
 pub exponent-back : (before : Option ℤ) (i : ℕ) (e : ℤ) (code : ℕ) → exponentCode before i (pos 10 *ℤ e) ≡ good code → tenthsOf code ≡ pos 10 *ℤ e
 exponent-back before i e code h = by (ltZ e (pos 0)) (ltZ (pos 5) e) refl refl
   where
@@ -76,7 +76,7 @@ exponent-back before i e code h = by (ltZ e (pos 0)) (ltZ (pos 5) e) refl refl
 pub few-segments : (n : ℕ) → isSegmentCount n ≡ true → (1 ≤ n) × (n ≤ 20)
 few-segments n e = let (a, b) = both (leb 1 n) (leb n 20) e in (leb-true 1 n a, leb-true n 20 b)
 
--- ---- the way through a curve
+-- ---- the loop over a curve
 
 module _ (count : ℕ) (segments : List Segment) (terms : List Term) where
   abbrev curve : Curve
@@ -85,7 +85,8 @@ module _ (count : ℕ) (segments : List Segment) (terms : List Term) where
   abbrev segs : List Segment
   segs = take count segments
 
-  -- What is left with i segments begun, k terms done, and so many of the last one's own to come.
+  -- What is left with i segments begun, k terms done,
+  -- and this many terms of the last segment to come.
   abbrev left : Option ℕ → Option ℤ → ℕ → ℕ → ℕ → Outcome (List Piece)
   left before last i k own = termPieces last k (take own (drop k terms)) >>= λ ps. segmentPieces before i (k + own) (drop i segs) (drop (k + own) terms) >>= λ rest. good (ps ++ rest)
 
@@ -100,22 +101,22 @@ module _ (count : ℕ) (segments : List Segment) (terms : List Term) where
     pub said : (left before last i k own >>= λ rest. good (done codes i k ++ rest)) ≡ curvePieces curve
     pub bits : needed (done codes i k) ≡ 19 + 20 * i + 39 * k
 
-  pub done-none : isSegmentCount count ≡ true → CurveDone (firstFour count) none none 0 0 0
-  unfolding firstFour curvePieces termPieces
+  pub done-none : isSegmentCount count ≡ true → CurveDone (curveHead count) none none 0 0 0
+  unfolding curveHead curvePieces termPieces
   done-none e = record {
     inside = omega arith;
     most = omega arith;
     fit = fit-more _ 3 _ (fit-more _ 2 _ (fit-more _ 1 _ (fit-more _ 0 _ (fit-none 104) (record { some = omega arith; most = omega arith; fits = omega arith })) (record { some = omega arith; most = omega arith; fits = omega arith })) (record { some = omega arith; most = omega arith; fits = omega arith })) (record { some = omega arith; most = omega arith; fits = omega (arith, few-segments count e .1) });
-    said = rw e (kept (segmentPieces none 0 0 segs terms) (done (firstFour count) 0 0));
+    said = rw e (kept (segmentPieces none 0 0 segs terms) (done (curveHead count) 0 0));
     bits = refl;
   }
 
-  -- The exponent before the first is none's.
+  -- Before a segment's first term there is no exponent.
   pub done-own : {codes : List CodedField} {before : Option ℕ} {last : Option ℤ} {i k : ℕ} → CurveDone codes before last i k 0 → CurveDone codes before none i k 0
   unfolding termPieces
   done-own d = record { inside = d .inside; most = d .most; fit = d .fit; said = d .said; bits = d .bits }
 
-  -- The terms of a segment's own: up to their end.
+  -- The terms of one segment, up to its end.
   module _ {codes : List CodedField} {before : Option ℕ} {last : Option ℤ} {i k : ℕ} where
     pub own-begun : {n : ℕ} → CurveDone codes before last i k n → CurveDone codes before last i k (k + n - k)
     own-begun {n} d = let e : k + n - k ≡ n = omega arith in rw e d
@@ -127,14 +128,14 @@ module _ (count : ℕ) (segments : List Segment) (terms : List Term) where
     own-closed {end} h d = let e : end - k ≡ 0 = omega arith in rw e at d
 
   module _ {codes : List CodedField} {before : Option ℕ} {last : Option ℤ} {i k own : ℕ} (d : CurveDone codes before last i k own) where
-    -- Turned down.
+    -- The curve is refused.
     pub done-down : {r : Refusal} → left before last i k own ≡ refused r → CurvePlanned curve codes (noCurve r)
     done-down e = record {
       said = sym (bind-refused _ e) ∙ d .said;
-      drawn = λ a. absurd (let z : _≡_ {A = ℕ} 0 1 = cc in omega arith);
+      byCurve = λ a. absurd (let z : _≡_ {A = ℕ} 0 1 = cc in omega arith);
     }
 
-    -- Two codes more.
+    -- Two more codes.
     module _ (x y : CodedField) (few : i + k < 50) (i' k' : ℕ) (next : i' + k' ≡ i + k + 1) where
       abbrev at : ℕ
       at = 4 + 2 * (i + k)
@@ -161,7 +162,7 @@ module _ (count : ℕ) (segments : List Segment) (terms : List Term) where
         drop-cons segs i dflt (omega (arith, length-take-le count segments (omega arith)))
         ∙ ap (λ x. x ∷ drop (suc i) segs) (getD-take count segments i dflt h)
 
-    -- The segment's own two, then its terms and the segments behind it.
+    -- The segment's own two pieces, then its terms and the segments after it.
     step : left before last i k 0 ≡ ((startCode before i k s >>= λ start. termPieces none k (take (s .terms) (drop k terms)) >>= λ own.
         segmentPieces (some start) (suc i) (k + s .terms) (drop (suc i) segs) (drop (k + s .terms) terms) >>= λ rest.
         good (piece (segmentStart .width) start ∷ piece (termCount .width) (s .terms) ∷ (own ++ rest))) >>= λ rest. good rest)
@@ -170,13 +171,13 @@ module _ (count : ℕ) (segments : List Segment) (terms : List Term) where
         let e : k + 0 ≡ k = omega arith in
         rw (e, cut, drop-drop (s .terms) k terms)
 
-    pub segment-down : {r : Refusal} → segmentTwo before i k s ≡ refused r → CurvePlanned curve codes (noCurve r)
-    unfolding segmentTwo
+    pub segment-down : {r : Refusal} → segmentFields before i k s ≡ refused r → CurvePlanned curve codes (noCurve r)
+    unfolding segmentFields
     segment-down {r} e =
         let down : startCode before i k s ≡ refused r = made-down (startCode before i k s) _ e in
         done-down d (step ∙ rw down)
 
-    -- With the codes of the two.
+    -- The next state, with the codes of a segment's two pieces.
     segment-next : (start : ℕ) → startCode before i k s ≡ good start → Fitting (segmentStart .width) start → Fitting (termCount .width) (s .terms) →
         CurveDone (set (set codes (4 + 2 * (i + k)) (coded segmentStart start)) (4 + 2 * (i + k) + 1) (coded termCount (s .terms))) (some start) none (suc i) k (s .terms)
     segment-next start e f g =
@@ -199,9 +200,9 @@ module _ (count : ℕ) (segments : List Segment) (terms : List Term) where
           bits = omega (arith, bits-two d x y few (suc i) k next);
         }
 
-    pub segment-turn : (first second : CodedField) → segmentTwo before i k s ≡ good (first ∷ second ∷ []) → Fitting (first .width) (first .code) → Fitting (second .width) (second .code) →
+    pub segment-turn : (first second : CodedField) → segmentFields before i k s ≡ good (first ∷ second ∷ []) → Fitting (first .width) (first .code) → Fitting (second .width) (second .code) →
         CurveDone (set (set codes (4 + 2 * (i + k)) first) (4 + 2 * (i + k) + 1) second) (some (first .code)) none (i + 1) k (s .terms)
-    unfolding segmentTwo
+    unfolding segmentFields
     segment-turn first second two f g =
         let (start, e, same) = good-bind (startCode before i k s) _ (first ∷ second ∷ []) two in
         let p : coded segmentStart start ≡ first = cc in
@@ -230,8 +231,8 @@ module _ (count : ℕ) (segments : List Segment) (terms : List Term) where
         let e : k + suc own ≡ suc k + own = omega arith in
         rw (e, drop-cons terms k dflt (omega (arith, d .most)))
 
-    pub term-down : {r : Refusal} → termTwo last k t ≡ refused r → CurvePlanned curve codes (noCurve r)
-    unfolding termTwo
+    pub term-down : {r : Refusal} → termFields last k t ≡ refused r → CurvePlanned curve codes (noCurve r)
+    unfolding termFields
     term-down e = done-down d (term-step ∙ bind-refused _ (both-down (exponentCode last k (pos 10 *ℤ t .exponent)) (encode coefficient k (Single (t .coefficient))) _ _ e))
 
     term-next : (power factor : ℕ) → exponentCode last k (pos 10 *ℤ t .exponent) ≡ good power → encode coefficient k (Single (t .coefficient)) ≡ good factor →
@@ -256,9 +257,9 @@ module _ (count : ℕ) (segments : List Segment) (terms : List Term) where
           bits = omega (arith, bits-two d x y few i (suc k) next);
         }
 
-    pub term-turn : (first second : CodedField) → termTwo last k t ≡ good (first ∷ second ∷ []) → Fitting (first .width) (first .code) → Fitting (second .width) (second .code) →
+    pub term-turn : (first second : CodedField) → termFields last k t ≡ good (first ∷ second ∷ []) → Fitting (first .width) (first .code) → Fitting (second .width) (second .code) →
         CurveDone (set (set codes (4 + 2 * (i + k)) first) (4 + 2 * (i + k) + 1) second) before (some (tenthsOf (first .code))) i (k + 1) own
-    unfolding termTwo
+    unfolding termFields
     term-turn first second two f g =
         let (power, e, rest) = good-bind (exponentCode last k (pos 10 *ℤ t .exponent)) _ (first ∷ second ∷ []) two in
         let (factor, e', same) = good-bind (encode coefficient k (Single (t .coefficient))) _ (first ∷ second ∷ []) rest in
@@ -271,7 +272,7 @@ module _ (count : ℕ) (segments : List Segment) (terms : List Term) where
         (subst (λ (z : CodedField). CurveDone (set (set codes (4 + 2 * (i + k)) z) (4 + 2 * (i + k) + 1) (coded coefficient factor)) before (some (tenthsOf (z .code))) i (suc k) own) p
         (term-next power factor e e' f' g')))
 
-  -- ---- all of them
+  -- ---- all segments
 
   pub done-all : count ≤ 20 → {codes : List CodedField} {before : Option ℕ} {last : Option ℤ} {i k : ℕ} → CurveDone codes before last i k 0 → length segments ≡ 20 → count ≤ i →
       CurvePlanned curve codes (wholeCurve count k)
@@ -281,7 +282,7 @@ module _ (count : ℕ) (segments : List Segment) (terms : List Term) where
       let none-left : drop i segs ≡ [] = drop-of-length-le segs {i = i} (omega (arith, length-take-le count segments (omega arith))) in
       record {
         said = sym (sym (d .said) ∙ rw none-left (ap good (append-nil (done codes i k))) ∙ ap (λ (n : ℕ). good (done codes n k)) same);
-        drawn = λ a. record {
+        byCurve = λ a. record {
           fit = d .fit;
           some = omega arith;
           most = omega (arith, d .most);
@@ -296,9 +297,9 @@ module _ {curve : Curve} {codes : List CodedField} {p : CurvePlan} (planned : Cu
   pub curve-down : {r : Refusal} → p .answer ≡ Refused r → curvePieces curve ≡ refused r
   curve-down e = sym (planned .said) ∙ ap (λ j. judgedSaid j >> good (codedCurve codes (p .count))) e
 
-  pub curve-good : p .answer ≡ Stands → curvePieces curve ≡ good (codedCurve codes (p .count))
+  pub curve-good : p .answer ≡ Valid → curvePieces curve ≡ good (codedCurve codes (p .count))
   curve-good e = sym (planned .said) ∙ ap (λ j. judgedSaid j >> good (codedCurve codes (p .count))) e
 
 pub curve-wrong : (curve : Curve) (codes : List CodedField) → isSegmentCount (curve .count) ≡ false → CurvePlanned curve codes (noCurve (wrongCurve (curve .count)))
 unfolding curvePieces
-curve-wrong curve codes e = record { said = rw e; drawn = λ a. absurd (let z : _≡_ {A = ℕ} 0 1 = cc in omega arith) }
+curve-wrong curve codes e = record { said = rw e; byCurve = λ a. absurd (let z : _≡_ {A = ℕ} 0 1 = cc in omega arith) }

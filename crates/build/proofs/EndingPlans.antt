@@ -1,4 +1,4 @@
--- The ending: the end bit and the text.
+-- Laws of the ending: the end bit and the text.
 use Rattle.build.proofs.Names.{_≡_, Bool, false, not, _&&_, _||_, List, [], _∷_, ℕ, zero, suc, _-_, _<_, arith, eqb, ltb, length, getD, ltb-false, eqb-false, good, wrongSort, outOfRange, good-same, passed}
 use Rattle.build.proofs.Names.{neither, Piece, Characters, unfit, endingPieces, codedEnding}
 

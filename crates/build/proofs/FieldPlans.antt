@@ -1,12 +1,13 @@
--- The fields of a sheet: Basic, the first block and the template's own, as the lines of one list with the block between them.
+-- Laws of the fields of a sheet: Basic, the first block and the
+-- template's own, as one list of lines with the block between.
 use Rattle.build.proofs.Names.{_≡_, refl, ap, _∙_, List, [], _∷_, _++_, ℕ, suc, _+_, arith, length, take, drop, take-append-drop, Outcome, good, refused, _>>=_, Piece, piece, needed, needed-append, Template}
 use Rattle.build.proofs.Names.{encode, Line, basic, templateLines, linesOf, numberOf, blockPieces, Sheet, lent, templateIn, linePieces, fieldPieces}
 
--- Pieces behind the first n of others.
+-- Pieces inserted after the first n of others.
 abbrev behind : ℕ → List Piece → List Piece → List Piece
 behind n block ps = take n ps ++ (block ++ drop n ps)
 
--- The block stands behind Basic.
+-- The block comes after Basic.
 abbrev pub withBlock : Template → List Piece → List Piece
 withBlock template ps = behind (length basic) (blockPieces (numberOf template)) ps
 
@@ -21,7 +22,7 @@ block-needed template ps =
       ap needed (take-append-drop (length basic) ps),
     )
 
--- A line whose row goes by no choice: its bits, and its code or the refusal.
+-- A line whose row depends on no choice: its bits, and its code or the refusal.
 record Part : Type 0 where
   width : ℕ
   code : Outcome ℕ

@@ -1,18 +1,17 @@
--- Pieces filled in one behind the other.
-use Rattle.build.proofs.Names.{_≡_, refl, sym, ap, ap₂, _∙_, List, [], _∷_, _++_, ℕ, zero, suc, _+_, _*_, _%_, _^_, _≤_, _<_, add-comm, mul-assoc, zero-mul, arith}
-use Rattle.build.proofs.Names.{digits-lt, length, getD, replicate, length-replicate, bitOr, or-shifted-r, pow-add, shl-exact, Sizes, Cursor, number, imageBytes, streamBits, streamOf, streamNumber}
-use Rattle.build.proofs.Names.{putIn, streamIndex, InStream, Piece, piece, pack, needed, pack-lt, pack-append, needed-append, stream-at, stream-length, put-whole, put-bytes, put-stream, Free, Room, Filled, Begun}
-use Rattle.build.proofs.Names.{put-free}
-use Rattle.memory.specs.Answers.{Whole}
+-- Laws of writing pieces in order.
+use Rattle.build.proofs.Names.{_≡_, refl, sym, ap, ap₂, _∙_, List, [], _∷_, _++_, ℕ, zero, suc, _+_, _*_, _%_, _^_, _≤_, _<_, add-comm, mul-assoc, zero-mul, arith, digits-lt, length, getD, replicate}
+use Rattle.build.proofs.Names.{length-replicate, bitOr, or-shifted-r, pow-add, shl-exact, Sizes, Cursor, number, imageBytes, streamBits, streamOf, streamNumber, putIn, streamIndex, InStream, Piece, piece, pack}
+use Rattle.build.proofs.Names.{needed, pack-lt, pack-append, needed-append, stream-at, stream-length, put-whole, put-bytes, put-stream, Free, Room, Filled, Begun, put-free}
+use Rattle.memory.specs.Answers.{WholeImage}
 use Rattle.memory.proofs.PieceLaws.{Fit}
 
 -- ---- numbers
 
--- A code behind the first k bits of another.
+-- A code above the first k bits of another.
 pub or-behind : {a b : ℕ} (j k : ℕ) → a < 2 ^ j → j + k ≤ 64 → b < 2 ^ k → bitOr b (a * 2 ^ k % 2 ^ 64) ≡ b + a * 2 ^ k
 or-behind {a} {b} j k ha h hb = ap (bitOr b) (shl-exact j k 64 ha h) ∙ or-shifted-r a k b hb ∙ add-comm (a * 2 ^ k) b
 
--- Digits Q behind digits P behind a number.
+-- Digits Q above digits P above a number.
 behind : (P Q N at w : ℕ) → Q * 2 ^ (at + w) + (P * 2 ^ at + N) ≡ (Q * 2 ^ w + P) * 2 ^ at + N
 behind P Q N at w =
     let W : ℕ = 2 ^ w in
@@ -42,9 +41,9 @@ module _ (z : Sizes) where
         moved = omega (arith, moved);
       }
 
-  -- ---- on the way
+  -- ---- part of the way
 
-  -- Of the pieces that are filled in from a cursor on, those left go behind the cursor `next`.
+  -- Of the pieces to be written from a cursor on, those left go at the cursor `next`.
   pub record Filling (before : List ℕ) (cursor : Cursor) (pieces : List Piece) (image : List ℕ) (next : Cursor) (left : List Piece) : Type 0 where
     pub room : Room z image next left
     pub stream : pack left * 2 ^ next .at + streamNumber z image ≡ pack pieces * 2 ^ cursor .at + streamNumber z before
@@ -54,7 +53,7 @@ module _ (z : Sizes) where
   filling-none r = record { room = r; stream = refl; moved = refl }
 
   module _ {a b : List ℕ} {k m : Cursor} {all : List Piece} where
-    -- Room for the first of those left, and the way behind them.
+    -- Room for the first of the pieces left, and the state after them.
     module _ {left : List Piece} (ps qs : List Piece) (e : left ≡ ps ++ qs) (f : Filling a k all b m left) where
       pub room-first : Room z b m ps
       room-first = record { free = f .room .free; inside = omega (arith, ap needed e, needed-append ps qs, f .room .inside) }
@@ -68,7 +67,7 @@ module _ (z : Sizes) where
         moved = omega (arith, ap needed e, needed-append ps qs, f .moved, l .moved);
       }
 
-    -- The same for one code, which is put at the cursor.
+    -- Room for one code, which is put at the cursor, and the state after it.
     module _ {left : List Piece} (w code : ℕ) (qs : List Piece) (e : left ≡ piece w code ∷ qs) (f : Filling a k all b m left) where
       code-inside : 1 ≤ w → w ≤ 49 → InStream z b (m .at) w
       code-inside some most = record {
@@ -81,7 +80,7 @@ module _ (z : Sizes) where
       code-more : {c : List ℕ} {n : Cursor} → code < 2 ^ w → (c ≡ putIn z b (m .at) w code) × (n .at ≡ m .at + w) → Filling a k all c n qs
       code-more fits put = filling-more (piece w code ∷ []) qs e f (fills (room-first (piece w code ∷ []) qs e f) fits (put .0) (put .1))
 
-    -- The same for several, which are put as one code.
+    -- Room for several pieces, which are put as one code, and the state after them.
     module _ {left : List Piece} (ps qs : List Piece) (e : left ≡ ps ++ qs) (f : Filling a k all b m left) where
       joined : {code : ℕ} → code ≡ pack ps → Filling a k all b m (piece (needed ps) code ∷ qs)
       joined {code} h =
@@ -103,9 +102,10 @@ module _ (z : Sizes) where
     pub filled : Filling a k all b m [] → Filled z a k all b m
     filled f = record { free = f .room .free; stream = omega (arith, f .stream, zero-mul (2 ^ m .at)); moved = omega (arith, f .moved) }
 
-  -- ---- gathered
+  -- ---- collected pieces
 
-  -- The first of those left wait as one code, which is put when the next does not fit.
+  -- The first of the pieces left are collected in one
+  -- code, which is put once the next does not fit.
   pub record Gathering (before : List ℕ) (cursor : Cursor) (pieces : List Piece) (image : List ℕ) (next : Cursor) (w code : ℕ) (left : List Piece) : Type 0 where
     pub filling : Filling before cursor pieces image next (piece w code ∷ left)
     pub fits : code < 2 ^ w
@@ -121,7 +121,7 @@ module _ (z : Sizes) where
     pub gathering-put : {c : List ℕ} {n : Cursor} → (c ≡ putIn z b (m .at) w code) × (n .at ≡ m .at + w) → Filling a k all c n left
     gathering-put = code-more w code left refl (g .filling) (g .fits)
 
-    -- The next one.
+    -- The next piece.
     module _ {v more : ℕ} {qs : List Piece} (e : left ≡ piece v more ∷ qs) (fits : more < 2 ^ v) where
       gathered-lt : code + more * 2 ^ w < 2 ^ (w + v)
       gathered-lt =
@@ -155,7 +155,7 @@ zeros-at zero i = refl
 zeros-at (suc n) zero = refl
 zeros-at (suc n) (suc i) = zeros-at n i
 
-cleared-free : (z : Sizes) (image : List ℕ) → Whole z image → Free z (replicate (length image) 0) 0
+cleared-free : (z : Sizes) (image : List ℕ) → WholeImage z image → Free z (replicate (length image) 0) 0
 cleared-free z image w =
     let n : ℕ = length image in
     let cleared : List ℕ = replicate n 0 in
@@ -164,14 +164,14 @@ cleared-free z image w =
     zeros-number (streamOf z cleared) (λ i h. stream-at z cleared whole i (omega (arith, stream-length z cleared whole, h)) ∙ zeros-at n (streamIndex z i)) in
     record { whole = record { long = whole; small = w .small; paged = w .paged; few = w .few }; bytes = (λ i. omega (arith, zeros-at n i)); below = omega (arith, none) }
 
-module _ (z : Sizes) {image a : List ℕ} (whole : Whole z image) (e : a ≡ replicate (length image) 0) where
+module _ (z : Sizes) {image a : List ℕ} (whole : WholeImage z image) (e : a ≡ replicate (length image) 0) where
   pub cleared : Free z a 0
   cleared = rw e (cleared-free z image whole)
 
   pub cleared-room : {k : Cursor} (ps : List Piece) → k .at ≡ 0 → needed ps ≤ streamBits z → Room z a k ps
   cleared-room ps at h = record { free = rw at cleared; inside = omega (arith, at) }
 
--- What is filled in from the first bit on is the whole stream.
+-- What is written from the first bit on is the whole stream.
 pub begun : {z : Sizes} {a b : List ℕ} {k n : Cursor} {ps : List Piece} → Filled z a k ps b n → k .at ≡ 0 → Free z a 0 → Begun z ps b n
 begun {z} {a} {ps = ps} l e f =
     let none : streamNumber z a ≡ 0 = omega (arith, f .below) in
@@ -181,7 +181,7 @@ begun {z} {a} {ps = ps} l e f =
       moved = omega (arith, l .moved, e);
     }
 
--- What goes behind it.
+-- What is written after the first pieces.
 module _ {z : Sizes} {a : List ℕ} {k : Cursor} {ps : List Piece} (b : Begun z ps a k) (qs : List Piece) where
   pub begun-room : needed (ps ++ qs) ≤ streamBits z → Room z a k qs
   begun-room h = record { free = b .free; inside = omega (arith, b .moved, needed-append ps qs) }

@@ -12,4 +12,4 @@ pub mod CurvePlans
 pub mod SegmentPlans
 pub mod CurveTurns
 pub mod BuiltIn
-pub mod Spreading
+pub mod Splitting

@@ -1,8 +1,8 @@
--- Calibration pairs: the parts of a plan, and the bits that they need.
+-- Laws of the plan of calibration pairs: its parts, and the bits that they need.
 use Rattle.build.proofs.Names.{_≡_, refl, sym, ap, subst, List, [], _∷_, _++_, Option, none, some, ℕ, suc, _+_, _*_, _/_, arith, ℤ, length, good, good-same, good-bind, good-then, Piece, piece, needed, Whole, Pair}
 use Rattle.build.proofs.Names.{Codes, Domain, encode, domainCode, calPoint, calDeviation, follows, tableBits, blockPieces, pairsLent, codesFor, pairCodes, pairPieces, tablePieces}
 
--- ---- the points lent
+-- ---- the lent points
 
 pub pairs-length : (points : List ℤ) → length (pairsLent points) ≡ length points / 2
 pairs-length [] = refl
@@ -23,7 +23,7 @@ codes-planned i p codes e =
     let (b, e2, f2) = good-bind (encode calDeviation i (Whole (p .deviation))) _ codes f1 in
     subst (Coded i p) (good-same f2) (record { point = e1; deviation = e2 })
 
--- Behind the pair before it.
+-- A pair after the pair before it.
 pub record PairPlanned (domain : Domain) (before : Option Codes) (i : ℕ) (p : Pair) (codes : Codes) : Type 0 where
   pub coded : codesFor i p ≡ good codes
   pub follows : follows domain before i codes ≡ good tt
@@ -35,7 +35,7 @@ pair-planned domain before i p codes e =
     let (r, f2) = good-then (follows domain before i known) _ codes f1 in
     subst (PairPlanned domain before i p) (good-same f2) (record { coded = e1; follows = r })
 
--- The pairs behind it.
+-- A pair and those after it.
 pub record PairsPlanned (domain : Domain) (before : Option Codes) (i : ℕ) (p : Pair) (pairs : List Pair) (ps : List Piece) : Type 0 where
   pub codes : Codes
   pub rest : List Piece

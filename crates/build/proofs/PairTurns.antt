@@ -1,4 +1,4 @@
--- The points lent, one pair after the other.
+-- Laws of the loop over the lent points, pair by pair.
 use Rattle.build.proofs.Names.{_≡_, refl, sym, ap, ap₂, _∙_, List, [], _∷_, _++_, Option, none, some, ℕ, suc, _+_, _*_, _/_, _≤_, _<_, add-one, arith, ℤ, pos, length, drop, getD, length-drop, drop-cons, Refusal}
 use Rattle.build.proofs.Names.{Outcome, good, refused, _>>=_, _>>_, bind-good, bind-refused, Piece, piece, needed, Whole, Row, Pair, Codes, Domain, encode, domainCode, calPoint, calDeviation, codesOf, follows}
 use Rattle.build.proofs.Names.{Sound, point-sound, deviation-sound, reads-back, blockPieces, tableBits, pairsLent, codesFor, pairCodes, pairPieces, tablePieces, tested, piecesOf, Accepted, Fitting, pairAt}
@@ -21,7 +21,7 @@ module _ (i : ℕ) (p : Pair) where
   unfolding codesFor
   pair-coded e f = rw (e, f)
 
-  -- The codes alone, then the pair before them.
+  -- The codes of a pair, then the tests with the pair before it.
   pub codes-then : (domain : Domain) (before : Option Codes) → pairCodes domain before i p ≡ (codesFor i p >>= λ codes. follows domain before i codes >> good codes)
   unfolding pairCodes
   codes-then domain before = refl
@@ -85,7 +85,7 @@ unfolding tablePieces pairPieces
 table-tested domain [] = refl
 table-tested domain (p ∷ pairs) = tested-made (pairPieces domain none 0 (p ∷ pairs)) _
 
--- ---- filled in
+-- ---- written
 
 module _ (points : List ℤ) (i : ℕ) where
   pub coded-end : length points / 2 ≤ i → codedPairs i (pairsFrom points i) ≡ []
@@ -94,7 +94,7 @@ module _ (points : List ℤ) (i : ℕ) where
   pub coded-left : i < length points / 2 → codedPairs i (pairsFrom points i) ≡ codedPair (codesFor i (pairAt points i)) ++ codedPairs (i + 1) (pairsFrom points (i + 1))
   coded-left h = ap (codedPairs i) (pairs-left points i h) ∙ ap (λ (n : ℕ). codedPair (codesFor i (pairAt points i)) ++ codedPairs n (pairsFrom points (i + 1))) (sym (add-one i))
 
--- Pairs that nothing refuses.
+-- The pairs of an accepted table have codes.
 coded-all : (domain : Domain) (before : Option Codes) (i : ℕ) (pairs : List Pair) (ps : List Piece) → pairPieces domain before i pairs ≡ good ps → codedPairs i pairs ≡ ps
 coded-all domain before i [] ps e = no-pair domain before i ps e
 coded-all domain before i (p ∷ pairs) ps e =
@@ -119,6 +119,6 @@ module _ (domain : Domain) (points : List ℤ) where
       piecesOf (tablePieces domain (pairsLent points)) ≡ blockPieces 40 ++ (piece 1 (domainCode domain) ∷ piece 7 (length points / 2) ∷ codedPairs 0 (pairsLent points))
   table-some n ok = rw (pairs-length points) at (pairs-some domain (pairsLent points) (λ e. n (sym (pairs-length points) ∙ e)) ok)
 
-  -- Its bits.
+  -- The bits of a table.
   pub table-bits : Accepted (tablePieces domain (pairsLent points)) → tableBits (length points / 2) ≡ needed (piecesOf (tablePieces domain (pairsLent points)))
   table-bits ok = sym (table-needed domain (pairsLent points) (piecesOf (tablePieces domain (pairsLent points))) ok ∙ ap tableBits (pairs-length points))

@@ -1,16 +1,16 @@
--- A segment's own fields and a term's: what is tested, and the codes that are left.
-use Rattle.build.proofs.Names.{_≡_, sym, ap, subst, true, false, not, List, [], _∷_, Option, ℕ, _+_, _≤_, arith, ltb-false, not-false, ltb, ℤ, pos, _*ℤ_, w64, SFits, toZ, ofZ, toZ-ofZ}
-use Rattle.build.proofs.Names.{Refusal, Outcome, good, refused, wrongCurve, tooManyTerms, good-bind, good-then, good-same, passed, bind-refused, Value, Whole, Single, Row, Segment}
-use Rattle.build.proofs.Names.{Term, encode, segmentStart, termCount, exponent, coefficient, isTermCount, mostTerms, startFollows, exponentFollows, exponentCode, Sound, Real, start-sound, exponent-sound}
-use Rattle.build.proofs.Names.{coefficient-sound, reads-back, CodedField, Are, countTested, startCode, Fitting, coded, TwoCoded, segmentTwo, termTwo, not-refused, terms-most}
-use Rattle.build.specs.declared.drawing.TwoAnswer.the-variants.{Refused}
+-- Laws of a segment's own fields and a term's: their tests, and their codes.
+use Rattle.build.proofs.Names.{_≡_, sym, ap, subst, true, false, not, List, [], _∷_, Option, ℕ, _+_, _≤_, arith, ltb-false, not-false, ltb, ℤ, pos, _*ℤ_, w64, SFits, toZ, ofZ, toZ-ofZ, Refusal, Outcome, good}
+use Rattle.build.proofs.Names.{refused, wrongCurve, tooManyTerms, good-bind, good-then, good-same, passed, bind-refused, Value, Whole, Single, Row, Segment, Term, encode, segmentStart, termCount, exponent}
+use Rattle.build.proofs.Names.{coefficient, isTermCount, mostTerms, startFollows, exponentFollows, exponentCode, Sound, Real, start-sound, exponent-sound, coefficient-sound, reads-back, CodedField, Are}
+use Rattle.build.proofs.Names.{countTested, startCode, Fitting, coded, PairCoded, segmentFields, termFields, not-refused, terms-most}
+use Rattle.build.specs.declared.curve_plan.CodedPair.the-variants.{Refused}
 
 -- ---- two pieces
 
-pub two-down : {two : Outcome (List CodedField)} {r : Refusal} → two ≡ refused r → TwoCoded two (Refused r)
+pub two-down : {two : Outcome (List CodedField)} {r : Refusal} → two ≡ refused r → PairCoded two (Refused r)
 two-down e = record { said = sym e; fits = λ first second h. absurd (let z : _≡_ {A = ℕ} 0 1 = cc in omega arith) }
 
-pub two-good : {two : Outcome (List CodedField)} {a b : CodedField} → two ≡ good (a ∷ b ∷ []) → Fitting (a .width) (a .code) → Fitting (b .width) (b .code) → TwoCoded two (Are a b)
+pub two-good : {two : Outcome (List CodedField)} {a b : CodedField} → two ≡ good (a ∷ b ∷ []) → Fitting (a .width) (a .code) → Fitting (b .width) (b .code) → PairCoded two (Are a b)
 two-good {a = a} {b = b} e f g = record { said = sym e; fits = λ first second h. let p : a ≡ first = cc in let q : b ≡ second = cc in (rw p at f, rw q at g) }
 
 fitting : (row : Row) (i : ℕ) (value : Value) (code : ℕ) → Sound row → Real value → encode row i value ≡ good code → Fitting (row .width) code
@@ -51,7 +51,7 @@ module _ (before : Option ℕ) (i total : ℕ) (s : Segment) where
     unfolding startCode
     start-good f g = rw (e, f, g)
 
-  -- What a start that nothing refuses has passed.
+  -- What an accepted start has passed.
   pub record StartPlanned (start : ℕ) : Type 0 where
     pub coded : encode segmentStart i (Whole (s .start)) ≡ good start
     pub follows : startFollows before start ≡ true
@@ -73,39 +73,39 @@ module _ (before : Option ℕ) (i total : ℕ) (s : Segment) where
         few = ltb-false 30 (total + s .terms) m;
       })
 
-  pub segment-refused : {r : Refusal} → startCode before i total s ≡ refused r → segmentTwo before i total s ≡ refused r
-  unfolding segmentTwo
+  pub segment-refused : {r : Refusal} → startCode before i total s ≡ refused r → segmentFields before i total s ≡ refused r
+  unfolding segmentFields
   segment-refused e = bind-refused _ e
 
-  pub segment-few : {two : List CodedField} → segmentTwo before i total s ≡ good two → total + s .terms ≤ 30
-  unfolding segmentTwo
+  pub segment-few : {two : List CodedField} → segmentFields before i total s ≡ good two → total + s .terms ≤ 30
+  unfolding segmentFields
   segment-few {two} e = let (start, own, same) = good-bind (startCode before i total s) _ two e in start-planned start own .few
 
-  pub segment-coded : {start : ℕ} → startCode before i total s ≡ good start → TwoCoded (segmentTwo before i total s) (Are (coded segmentStart start) (coded termCount (s .terms)))
-  unfolding segmentTwo
+  pub segment-coded : {start : ℕ} → startCode before i total s ≡ good start → PairCoded (segmentFields before i total s) (Are (coded segmentStart start) (coded termCount (s .terms)))
+  unfolding segmentFields
   segment-coded {start} e =
       let p = start-planned start e in
       two-good (rw e) (fitting segmentStart i (Whole (s .start)) start start-sound tt (p .coded)) (record { some = omega arith; most = omega arith; fits = omega (arith, terms-most (s .terms) (p .own)) })
 
 -- ---- a term
 
--- An exponent that is handed to a callee.
-pub seen-exponent : (before : Option ℤ) (i : ℕ) {e : ℤ} → SFits w64 e → exponentCode before i (pos 10 *ℤ toZ w64 (ofZ w64 e)) ≡ exponentCode before i (pos 10 *ℤ e)
-seen-exponent before i f = ap (λ (z : ℤ). exponentCode before i (pos 10 *ℤ z)) (toZ-ofZ f)
+-- An exponent that is passed to a callee.
+pub exponent-of-word : (before : Option ℤ) (i : ℕ) {e : ℤ} → SFits w64 e → exponentCode before i (pos 10 *ℤ toZ w64 (ofZ w64 e)) ≡ exponentCode before i (pos 10 *ℤ e)
+exponent-of-word before i f = ap (λ (z : ℤ). exponentCode before i (pos 10 *ℤ z)) (toZ-ofZ f)
 
 module _ (before : Option ℤ) (i : ℕ) (t : Term) where
-  pub exponent-refused : {r : Refusal} → exponentCode before i (pos 10 *ℤ t .exponent) ≡ refused r → termTwo before i t ≡ refused r
-  unfolding termTwo
+  pub exponent-refused : {r : Refusal} → exponentCode before i (pos 10 *ℤ t .exponent) ≡ refused r → termFields before i t ≡ refused r
+  unfolding termFields
   exponent-refused e = bind-refused _ e
 
   module _ {power : ℕ} (e : exponentCode before i (pos 10 *ℤ t .exponent) ≡ good power) where
-    pub coefficient-refused : {r : Refusal} → encode coefficient i (Single (t .coefficient)) ≡ refused r → termTwo before i t ≡ refused r
-    unfolding termTwo
+    pub coefficient-refused : {r : Refusal} → encode coefficient i (Single (t .coefficient)) ≡ refused r → termFields before i t ≡ refused r
+    unfolding termFields
     coefficient-refused f = rw (e, f)
 
     pub term-coded : {factor : ℕ} → Real (Single (t .coefficient)) → encode coefficient i (Single (t .coefficient)) ≡ good factor →
-        TwoCoded (termTwo before i t) (Are (coded exponent power) (coded coefficient factor))
-    unfolding termTwo
+        PairCoded (termFields before i t) (Are (coded exponent power) (coded coefficient factor))
+    unfolding termFields
     term-coded {factor} real f =
         let (w, own) = passed (wrongCurve i) (not (exponentFollows before (pos 10 *ℤ t .exponent))) (encode exponent i (Whole (pos 10 *ℤ t .exponent))) power e in
         two-good (rw (e, f)) (fitting exponent i (Whole (pos 10 *ℤ t .exponent)) power exponent-sound tt own) (fitting coefficient i (Single (t .coefficient)) factor coefficient-sound real f)

@@ -1,8 +1,8 @@
--- Tests: what is left of an outcome where its value is not asked for.
-use Rattle.build.proofs.Names.{_≡_, refl, sym, ap, _∙_, List, Refusal, Outcome, good, refused, _>>=_, no-value, Piece, Judged, Stands, judgedSaid, tested, Accepted}
-use Rattle.fields.specs.declared.Judged.the-variants.{Refused}
+-- Laws of tests: an outcome without its value.
+use Rattle.build.proofs.Names.{_≡_, refl, sym, ap, _∙_, List, Refusal, Outcome, good, refused, _>>=_, no-value, Piece, Judged, Valid, judgedSaid, tested, Accepted}
+use Rattle.codes.specs.declared.Judged.the-variants.{Refused}
 
--- A step that makes something of the value tests nothing.
+-- A step that maps the value tests nothing.
 pub tested-made : {A B : Type 0} (o : Outcome A) (make : A → B) → tested (o >>= λ a. good (make a)) ≡ tested o
 tested-made (good a) make = refl
 tested-made (refused r) make = refl
@@ -19,5 +19,5 @@ module _ (o : Outcome (List Piece)) {j : Judged} (said : judgedSaid j ≡ tested
   pub turned-down : {r : Refusal} → j ≡ Refused r → o ≡ refused r
   turned-down e = tested-refused o (sym (ap judgedSaid e) ∙ said)
 
-  pub accepted : j ≡ Stands → Accepted o
+  pub accepted : j ≡ Valid → Accepted o
   accepted e = tested-good o (sym (ap judgedSaid e) ∙ said)

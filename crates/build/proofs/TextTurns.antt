@@ -1,4 +1,4 @@
--- The text, one character after the other.
+-- Laws of the loop over the text, character by character.
 use Rattle.build.proofs.Names.{_≡_, refl, sym, ap, ap₂, _∙_, Bool, true, false, _||_, List, [], _∷_, _++_, map, ℕ, zero, suc, _+_, _-_, _*_, _^_, _≤_, _<_, lt-of-lt-of-le, add-one, arith, lt-ltb, le-ltb, eq-eqb}
 use Rattle.build.proofs.Names.{ne-eqb, eqb, ltb, length, take, drop, getD, length-map, List·getD-map, take-append-drop, drop-of-length-le, pow-mono, slice, slice-cons, drop-cons, drop-append-le, length-take-le}
 use Rattle.build.proofs.Names.{Outcome, good, refused, _>>_, refuse_if_, wrongSort, outOfRange, Piece, piece, pack, needed, pack-lt, unfit, endingPieces, tested, codedEnding}
@@ -20,7 +20,7 @@ module _ (text : List ℕ) (i : ℕ) (h : i < length text) where
 pub unfit-end : (text : List ℕ) (i : ℕ) → length text ≤ i → unfit (drop i text) ≡ false
 unfit-end text i h = ap unfit (drop-of-length-le text h)
 
--- ---- filled in
+-- ---- written
 
 -- The characters from index i up to `end`.
 abbrev pub chars : List ℕ → ℕ → ℕ → List Piece
@@ -48,7 +48,7 @@ module _ (text : List ℕ) (i end : ℕ) (h : end ≤ length text) where
   pub chars-none : end ≤ i → pack (chars text i end) ≡ 0
   chars-none k = ap pack (drop-of-length-le (take end (map (piece 7) text)) {i = i} (omega (arith, length-take-le end (map (piece 7) text) inside)))
 
-  -- One more in front of them.
+  -- One more character in front of them.
   pub chars-more : 1 ≤ i → i ≤ end → pack (chars text (i - 1) end) ≡ 128 * pack (chars text i end) + getD text (i - 1) 0
   chars-more some k =
       let next : suc (i - 1) ≡ i = omega arith in

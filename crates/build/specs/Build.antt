@@ -1,6 +1,6 @@
--- Document 01, and document 02, Notes 7, 9 and 11: build an image. Order: 1, 16, the fields each 9 then 10, the ending 9 then 10, points each 10
--- for point, 10 for deviation, then 7 and 22, or the curve's 24, 10 and 25 in stream order; last 11. What is to be written is a list of pieces,
--- widths and codes one after the other.
+-- Document 01, and document 02, Notes 7, 9 and 11: build an image. Order: 1, 16, fields and ending
+-- each 9 then 10, points each 10 for point, 10 for deviation, then 7 and 22, or the curve's 24, 10
+-- and 25 in stream order; last 11. The result is a list of pieces: widths and codes in order.
 use mathlib.Core.Bool.{Bool, false, not, _||_, _&&_}
 use mathlib.Core.List.{List, [], _∷_, _++_, map}
 use mathlib.Core.Option.{Option, none, some}
@@ -13,19 +13,19 @@ use Rattle.refusal.specs.Rows.{wrongSort, outOfRange, tooLong, wrongList, wrong
 use Rattle.memory.specs.declared.Sizes.{Sizes}
 use Rattle.memory.specs.Image.{imageSizes, streamBits, imageOf}
 use Rattle.memory.specs.Pieces.{Piece, piece, pack, needed}
-use Rattle.fields.specs.declared.Value.{Value}
-use Rattle.fields.specs.declared.Value.the-variants.{Whole, Single, Missing}
-use Rattle.fields.specs.declared.Template.{Template}
-use Rattle.fields.specs.declared.Pair.{Pair}
-use Rattle.fields.specs.declared.Codes.{Codes}
-use Rattle.fields.specs.declared.Domain.{Domain}
-use Rattle.fields.specs.declared.Segment.{Segment}
-use Rattle.fields.specs.declared.Term.{Term}
-use Rattle.fields.specs.declared.Curve.{Curve}
-use Rattle.fields.specs.Rules.{encode}
-use Rattle.fields.specs.Lines.{Line, chose, basic, templateLines, numberOf, ending}
-use Rattle.fields.specs.Calibration.{domainCode, calPoint, calDeviation, codesOf, follows}
-use Rattle.fields.specs.Curves.{segmentCount, segmentStart, termCount, exponent, coefficient, isSegmentCount, isTermCount, mostTerms, startFollows, exponentCode}
+use Rattle.codes.specs.declared.Value.{Value}
+use Rattle.codes.specs.declared.Value.the-variants.{Whole, Single, Missing}
+use Rattle.templates.specs.declared.Template.{Template}
+use Rattle.templates.specs.declared.Pair.{Pair}
+use Rattle.templates.specs.declared.Codes.{Codes}
+use Rattle.templates.specs.declared.Domain.{Domain}
+use Rattle.templates.specs.declared.Segment.{Segment}
+use Rattle.templates.specs.declared.Term.{Term}
+use Rattle.templates.specs.declared.Curve.{Curve}
+use Rattle.codes.specs.Rules.{encode}
+use Rattle.templates.specs.Lines.{Line, chose, basic, templateLines, numberOf, ending}
+use Rattle.templates.specs.Calibration.{domainCode, calPoint, calDeviation, codesOf, follows}
+use Rattle.templates.specs.Curves.{segmentCount, segmentStart, termCount, exponent, coefficient, isSegmentCount, isTermCount, mostTerms, startFollows, exponentCode}
 use Rattle.layout.specs.Pieces.{blockPieces, endCode}
 use Rattle.build.specs.declared.Slot.{Slot}
 use Rattle.build.specs.declared.Sheet.{Sheet}
@@ -35,7 +35,8 @@ use Rattle.build.specs.declared.Sheet.{Sheet}
 abbrev pub slot : Value → Slot
 slot v = record { value = v }
 
--- The value lent for field f, counted from 1.
+-- The value lent for field f, counted from 1. Lent is
+-- document 01's term: passed for the time of the call.
 abbrev pub lent : Sheet → ℕ → Value
 lent sheet f = getD (sheet .fields) (f - 1) (slot Missing) .value
 
@@ -43,7 +44,7 @@ lent sheet f = getD (sheet .fields) (f - 1) (slot Missing) .value
 abbrev pub templateIn : Sheet → Template
 templateIn sheet = sheet .template
 
--- Lines from field f on, with the latest choice.
+-- The pieces of lines from field f on, with the latest choice.
 unfoldable pub linePieces : Sheet → List Line → ℕ → ℕ → Outcome (List Piece)
 linePieces sheet [] latest f = good []
 linePieces sheet (line ∷ lines) latest f = do
@@ -51,14 +52,14 @@ linePieces sheet (line ∷ lines) latest f = do
   rest ← linePieces sheet lines (chose (line .sets) code latest) (suc f)
   good (piece (line .rowAt latest .width) code ∷ rest)
 
--- Basic, then the first template.
+-- The pieces of Basic, the first block and the template's fields.
 unfoldable pub fieldPieces : Sheet → Outcome (List Piece)
 fieldPieces sheet = do
   basics ← linePieces sheet basic 0 1
   own ← linePieces sheet (templateLines (templateIn sheet)) 0 (suc (length basic))
   good (basics ++ (blockPieces (numberOf (templateIn sheet)) ++ own))
 
--- ---- the ending: end bit and text, characters 1 to 127
+-- ---- the ending: "end bit and text, characters 1 to 127"
 
 abbrev pub unfit : List ℕ → Bool
 unfit [] = false
@@ -72,7 +73,7 @@ endingPieces f endBit text = do
 
 -- ---- block 40
 
--- Points and deviations lent by turns.
+-- "lent as 64-bit point and deviation by turns"
 abbrev pub pairsLent : List ℤ → List Pair
 pairsLent [] = []
 pairsLent (a ∷ []) = []
@@ -85,7 +86,7 @@ codesFor i p = do
   deviation ← encode calDeviation i (Whole (p .deviation))
   good (codesOf point deviation)
 
--- Behind the pair before it: then 7, and 22 in domain 1.
+-- The codes of pair i after the pair before it: then 7, and 22 in domain 1.
 unfoldable pub pairCodes : Domain → Option Codes → ℕ → Pair → Outcome Codes
 pairCodes domain before i p = do
   codes ← codesFor i p
@@ -100,7 +101,8 @@ pairPieces domain before i (p ∷ pairs) = do
   rest ← pairPieces domain (some codes) (suc i) pairs
   good (piece (calPoint .width) (codes .point) ∷ piece (calDeviation .width) (codes .deviation) ∷ rest)
 
--- Selector 0, template 40, the domain, the count and the pairs; nothing from an empty list, which has no domain.
+-- Selector 0, template 40, the domain, the count and the pairs. "A build
+-- from an empty points list writes no block 40"; such a list has no domain.
 unfoldable pub tablePieces : Domain → List Pair → Outcome (List Piece)
 tablePieces domain [] = good []
 tablePieces domain (p ∷ pairs) = do
@@ -109,7 +111,8 @@ tablePieces domain (p ∷ pairs) = do
 
 -- ---- block 41
 
--- Terms, from index i over the whole curve: 24 of the exponent, which is stored in tenths, 10 of the coefficient.
+-- Terms, from index i over the whole curve: 24 of the
+-- exponent, which is stored in tenths, 10 of the coefficient.
 unfoldable pub termPieces : Option ℤ → ℕ → List Term → Outcome (List Piece)
 termPieces before i [] = good []
 termPieces before i (t ∷ terms) = do
@@ -124,7 +127,7 @@ countTested i total terms = do
   refuse wrongCurve i if not (isTermCount terms)
   refuse tooManyTerms (total + terms) if ltb mostTerms (total + terms)
 
--- The code of its start: 10, then 24; then its term count.
+-- The code of segment i's start: 10, then 24; then the test of its term count.
 unfoldable pub startCode : Option ℕ → ℕ → ℕ → Segment → Outcome ℕ
 startCode before i total s = do
   start ← encode segmentStart i (Whole (s .start))
@@ -132,7 +135,7 @@ startCode before i total s = do
   countTested i total (s .terms)
   good start
 
--- Segments from index i on, each with its own of the terms that are left.
+-- Segments from index i on, each with its own terms from those left.
 unfoldable pub segmentPieces : Option ℕ → ℕ → ℕ → List Segment → List Term → Outcome (List Piece)
 segmentPieces before i total [] terms = good []
 segmentPieces before i total (s ∷ segments) terms = do
@@ -141,7 +144,8 @@ segmentPieces before i total (s ∷ segments) terms = do
   rest ← segmentPieces (some start) (suc i) (total + s .terms) segments (drop (s .terms) terms)
   good (piece (segmentStart .width) start ∷ piece (termCount .width) (s .terms) ∷ (own ++ rest))
 
--- Selector 0, template 41, domain 0, the segment count and the segments. What stands behind them is not looked at.
+-- Selector 0, template 41, domain 0, the segment count and
+-- the segments. Unused segments and terms are ignored.
 unfoldable pub curvePieces : Curve → Outcome (List Piece)
 curvePieces curve = do
   refuse wrongCurve (curve .count) if not (isSegmentCount (curve .count))
@@ -150,22 +154,22 @@ curvePieces curve = do
 
 -- ---- the image
 
--- A build is handed a points list in a domain, or a curve, not both.
+-- "A build is handed a points list or a curve, not both."
 pub data Table : Type 0 where
   listed : Domain → List ℤ → Table
-  drawn : Curve → Table
+  byCurve : Curve → Table
 
--- Row 16: a points list, odd or over 254 long.
+-- Row 16: "points list, lent as 64-bit point and deviation by turns, odd or over 254 long".
 abbrev pub listTested : Table → Outcome (Unit {0})
 listTested (listed domain points) = refuse wrongList (length points) if eqb (length points % 2) 1 || ltb 254 (length points)
-listTested (drawn curve) = good tt
+listTested (byCurve curve) = good tt
 
--- The block behind the fields.
+-- The pieces of the block after the fields.
 abbrev pub behindPieces : Table → Outcome (List Piece)
 behindPieces (listed domain points) = tablePieces domain (pairsLent points)
-behindPieces (drawn curve) = curvePieces curve
+behindPieces (byCurve curve) = curvePieces curve
 
--- All that a build writes, one piece after the other.
+-- All pieces that a build writes, in order.
 unfoldable pub plan : Sheet → List ℕ → Table → Outcome (List Piece)
 plan sheet text table = do
   listTested table
@@ -174,7 +178,8 @@ plan sheet text table = do
   behind ← behindPieces table
   good (fields ++ (behind ++ end))
 
--- In an image of these sizes. Bits after the end are zero, and with them the zero character that ends a text.
+-- The image of these sizes. "Bits after the end are not judged; a build
+-- writes zeros there"; the zero character that ends a text is among them.
 unfoldable pub builtIn : Sizes → Sheet → List ℕ → Table → Outcome (List ℕ)
 builtIn z sheet text table = do
   pieces ← plan sheet text table
@@ -191,4 +196,4 @@ abbrev pub build : ℕ → List ℕ → Sheet → List ℕ → Domain → List �
 build kind buffer sheet text domain points = buildWith kind buffer sheet text (listed domain points)
 
 abbrev pub buildCurve : ℕ → List ℕ → Sheet → List ℕ → Curve → Outcome (List ℕ)
-buildCurve kind buffer sheet text curve = buildWith kind buffer sheet text (drawn curve)
+buildCurve kind buffer sheet text curve = buildWith kind buffer sheet text (byCurve curve)

@@ -1,14 +1,14 @@
 // What a build tests before it writes: the fields, the ending, and the points.
-use fields::Codes;
-use fields::Domain;
-use fields::Encoded;
-use fields::Judged;
-use fields::Layout;
-use fields::Previous;
-use fields::Row;
-use fields::Template;
-use fields::Value;
+use codes::Encoded;
+use codes::Judged;
+use codes::Row;
+use codes::Value;
 use refusal::Refusal;
+use templates::Codes;
+use templates::Domain;
+use templates::Layout;
+use templates::Previous;
+use templates::Template;
 ghost use mathlib.Core.Path.{_≡_};
 ghost use mathlib.Core.Bool.{_||_};
 ghost use Prim.Native.Nat.{_*_, _+_, _-_, _^_, _/_, _%_, _<_, _≤_};
@@ -16,37 +16,39 @@ ghost use lib.Dec.{eqb, ltb};
 ghost use lib.ListN.{length};
 ghost use Rattle.refusal.specs.Outcome.{refuse_if_};
 ghost use Rattle.refusal.specs.Rows.{outOfRange};
-ghost use Rattle.fields.specs.Lines.{chose, basic, lineOf, linesOf, rowOf, lastField, ending, bitsBefore};
-ghost use Rattle.fields.specs.Stored.{Sound};
-ghost use Rattle.fields.specs.Answers.{judgedSaid, previousSaid};
-ghost use Rattle.coding.specs.Swift.{Told};
+ghost use Rattle.templates.specs.Lines.{chose, basic, lineOf, linesOf, rowOf, lastField, ending, bitsBefore};
+ghost use Rattle.codes.specs.Stored.{Sound};
+ghost use Rattle.codes.specs.Answers.{judgedSaid};
+ghost use Rattle.templates.specs.Answers.{previousSaid};
+ghost use Rattle.codes.specs.DirectCode.{DirectCode};
 ghost use Rattle.build.specs.Build.{unfit, endingPieces, pairsLent, codesFor, pairCodes, tablePieces};
-ghost use Rattle.build.specs.Tested.{tested, pairAt, codesSaid, Encodes, Fitting, Fit, unpacked, valueLent, Long, fieldsLent, Quick, FieldsCoded, CodedTo, FieldsPlanned};
+ghost use Rattle.build.specs.Tested.{tested, pairAt, codesSaid, Encodes, Fitting, Fit, unpacked, valueLent, LentLengths, fieldsLent, Quick, FieldsCoded, CodedTo, FieldsPlanned};
 
-// A field that is to be written: its bits and its code.
+// A field to be written: its bits and its code.
 pub struct CodedField {
     pub width: u64,
     pub code: u64,
 }
 
-// The bits that the fields of a sheet need with their block, or 9 or 10.
+// The bits of a sheet's fields and their block, or 9 or 10.
 pub enum Planned {
     Bits(u64),
     Refused(Refusal),
 }
 
-// The precision that the field behind those that are coded goes by, or 9 or 10.
+// The precision for the field after those that are coded, or 9 or 10.
 pub enum Coded {
     Next(u64),
     Refused(Refusal),
 }
 
-// A field that is to be written, as a number that can be lent: its bits times this, and its code.
+// A coded field packed in a u64: width in the upper 32 bits, code in the lower.
 pub const CODE_BITS: u64 = 32;
 
+// The mask of the code in a packed field.
 pub const CODES: u64 = 0xffff_ffff;
 
-// The code 0 in one bit.
+// A packed field of one bit with code 0, in place of one not coded yet.
 pub const NO_CODE: u64 = 1 << CODE_BITS;
 
 // The codes of a pair, or 10, 7 or 22.
@@ -55,43 +57,45 @@ pub enum PairAnswer {
     Refused(Refusal),
 }
 
-// The value at an index of what is lent by sorts, whole numbers and Singles: a sort 0 is a whole number, 1 a Single, any other
-// missing.
-fn value_at(sorts: &[u8], wholes: &[i64], singles: &[f32], i: usize) -> Value
-    requires { ⌜ Long (now sorts) (now wholes) (now singles) × (i < 21) ⌝ }
-    ensures { λ r. ⌜ r ≡ valueLent (now (sorts .entry)) (now (wholes .entry)) (now (singles .entry)) i ⌝ }
+// The value at an index of the lent sorts, whole numbers and
+// Singles: sort 0 is a whole number, 1 a Single, any other missing.
+fn value_at(tags: &[u8], wholes: &[i64], singles: &[f32], i: usize) -> Value
+    requires { ⌜ LentLengths (now tags) (now wholes) (now singles) × (i < 21) ⌝ }
+    ensures { λ r. ⌜ r ≡ valueLent (now (tags .entry)) (now (wholes .entry)) (now (singles .entry)) i ⌝ }
 {
-    match sorts[i] {
+    match tags[i] {
         0 => Value::Whole(wholes[i]),
         1 => Value::Single(singles[i]),
         _ => Value::Missing,
     }
 }
 
-// The bits of field i + 1 by its row, and its code where the row tells it without a search, else `coding::NONE`. Small, so that
-// the compiler takes it into the loops below and keeps the row in registers.
-fn quick_code(row: Row, sorts: &[u8], wholes: &[i64], singles: &[f32], i: usize) -> CodedField
-    requires { ⌜ Sound row × Long (now sorts) (now wholes) (now singles) × (i < 21) ⌝ }
-    ensures { λ r. ⌜ Quick row (now (sorts .entry)) (now (wholes .entry)) (now (singles .entry)) i r ⌝ }
+// The bits of field i + 1 by its row, and its code if that needs
+// no table search, else `codes::NO_CODE`. Kept small so that it is
+// inlined into the loops below and the row stays in registers.
+fn quick_code(row: Row, tags: &[u8], wholes: &[i64], singles: &[f32], i: usize) -> CodedField
+    requires { ⌜ Sound row × LentLengths (now tags) (now wholes) (now singles) × (i < 21) ⌝ }
+    ensures { λ r. ⌜ Quick row (now (tags .entry)) (now (wholes .entry)) (now (singles .entry)) i r ⌝ }
 {
     CodedField {
         width: row.width,
-        code: coding::swift(row, value_at(sorts, wholes, singles, i)),
+        code: codes::direct_code(row, value_at(tags, wholes, singles, i)),
     }
 }
 
-// The same of a template's own field.
-fn quick_own(layout: Layout, sorts: &[u8], wholes: &[i64], singles: &[f32], i: usize) -> CodedField
-    requires { ⌜ Long (now sorts) (now wholes) (now singles) × (length basic ≤ i) × (i < lastField (layout .template)) ⌝ }
-    ensures { λ r. ⌜ Quick (rowOf layout (i + 1)) (now (sorts .entry)) (now (wholes .entry)) (now (singles .entry)) i r ⌝ }
+// The bits of a template's own field i + 1, and its code
+// if that needs no table search, else `codes::NO_CODE`.
+fn quick_own(layout: Layout, tags: &[u8], wholes: &[i64], singles: &[f32], i: usize) -> CodedField
+    requires { ⌜ LentLengths (now tags) (now wholes) (now singles) × (length basic ≤ i) × (i < lastField (layout .template)) ⌝ }
+    ensures { λ r. ⌜ Quick (rowOf layout (i + 1)) (now (tags .entry)) (now (wholes .entry)) (now (singles .entry)) i r ⌝ }
 {
     let field = i as u64 + 1;
     let template = layout.template;
     match template {
         Template::Bridge => {
             quick_code(
-                fields::bridge_row(layout.precision, field),
-                sorts,
+                templates::bridge_row(layout.precision, field),
+                tags,
                 wholes,
                 singles,
                 i,
@@ -99,8 +103,8 @@ fn quick_own(layout: Layout, sorts: &[u8], wholes: &[i64], singles: &[f32], i: u
         }
         Template::Resistance => {
             quick_code(
-                fields::resistance_row(layout.precision, field),
-                sorts,
+                templates::resistance_row(layout.precision, field),
+                tags,
                 wholes,
                 singles,
                 i,
@@ -109,46 +113,47 @@ fn quick_own(layout: Layout, sorts: &[u8], wholes: &[i64], singles: &[f32], i: u
     }
 }
 
-// The code of a field's value, which fits its row's bits: a Single that is lent has 32.
+// The code of a field's value. It fits the row's bits, since a lent Single has 32.
 fn code_of(layout: Layout, field: u64, value: Value) -> Encoded
     requires { ⌜ (1 ≤ field) × (field ≤ lastField (layout .template)) ⌝ }
     ensures { λ r. ⌜ Encodes (rowOf layout field) field value r ⌝ }
 {
-    coding::encode(layout, field, value)
+    templates::encode(layout, field, value)
 }
 
-// The code of field i + 1: the quick one, if there is one.
+// `quick` if it is a code, else `encode` of field i + 1. Takes no
+// row, so that the caller's constant row is never stored in memory.
 fn code_at(
     layout: Layout,
     quick: u64,
-    sorts: &[u8],
+    tags: &[u8],
     wholes: &[i64],
     singles: &[f32],
     i: usize,
 ) -> Encoded
-    requires { ⌜ Long (now sorts) (now wholes) (now singles) × (i < lastField (layout .template)) ⌝ }
-    requires { ⌜ Told (rowOf layout (i + 1)) (valueLent (now sorts) (now wholes) (now singles) i) quick ⌝ }
-    ensures { λ r. ⌜ Encodes (rowOf layout (i + 1)) (i + 1) (valueLent (now (sorts .entry)) (now (wholes .entry)) (now (singles .entry)) i) r ⌝ }
+    requires { ⌜ LentLengths (now tags) (now wholes) (now singles) × (i < lastField (layout .template)) ⌝ }
+    requires { ⌜ DirectCode (rowOf layout (i + 1)) (valueLent (now tags) (now wholes) (now singles) i) quick ⌝ }
+    ensures { λ r. ⌜ Encodes (rowOf layout (i + 1)) (i + 1) (valueLent (now (tags .entry)) (now (wholes .entry)) (now (singles .entry)) i) r ⌝ }
 {
-    if quick < coding::NONE {
+    if quick < codes::NO_CODE {
         return Encoded::Code(quick);
     }
-    code_of(layout, i as u64 + 1, value_at(sorts, wholes, singles, i))
+    code_of(layout, i as u64 + 1, value_at(tags, wholes, singles, i))
 }
 
-// The precision behind a field: its code, if it is the field that sets it.
+// The precision after a field: its code, if it is the field that sets it.
 fn precision_behind(layout: Layout, field: u64, code: u64) -> u64
     requires { ⌜ (1 ≤ field) × (field ≤ lastField (layout .template)) ⌝ }
     ensures { λ r. ⌜ r ≡ chose (lineOf (layout .template) field .sets) code (layout .precision) ⌝ }
 {
     let template = layout.template;
-    if fields::is_choice(template, field) {
+    if templates::is_choice(template, field) {
         return code;
     }
     layout.precision
 }
 
-// The number of a field.
+// A coded field packed in one number.
 pub fn packed(width: u64, code: u64) -> u64
     requires { ⌜ Fitting width code ⌝ }
     ensures { λ r. ⌜ (r / 2 ^ 32 ≡ width) × (r % 2 ^ 32 ≡ code) ⌝ }
@@ -156,21 +161,21 @@ pub fn packed(width: u64, code: u64) -> u64
     (width << CODE_BITS) | code
 }
 
-// Field i + 1, behind i that are coded: its bits and its code go into `codes`.
+// Codes field i + 1, after the i that are coded: its bits and its code go into `codes`.
 fn code_field(
     layout: Layout,
     quick: CodedField,
-    sorts: &[u8],
+    tags: &[u8],
     wholes: &[i64],
     singles: &[f32],
     codes: &mut [u64],
     i: usize,
 ) -> Coded
-    requires { ⌜ FieldsCoded (layout .template) (now sorts) (now wholes) (now singles) (now codes) (layout .precision) i × (i < lastField (layout .template)) ⌝ }
-    requires { ⌜ Quick (rowOf layout (i + 1)) (now sorts) (now wholes) (now singles) i quick ⌝ }
-    ensures { λ r. ⌜ CodedTo (i + 1) (layout .template) (now (sorts .entry)) (now (wholes .entry)) (now (singles .entry)) (now (codes .exit)) r ⌝ }
+    requires { ⌜ FieldsCoded (layout .template) (now tags) (now wholes) (now singles) (now codes) (layout .precision) i × (i < lastField (layout .template)) ⌝ }
+    requires { ⌜ Quick (rowOf layout (i + 1)) (now tags) (now wholes) (now singles) i quick ⌝ }
+    ensures { λ r. ⌜ CodedTo (i + 1) (layout .template) (now (tags .entry)) (now (wholes .entry)) (now (singles .entry)) (now (codes .exit)) r ⌝ }
 {
-    match code_at(layout, quick.code, sorts, wholes, singles, i) {
+    match code_at(layout, quick.code, tags, wholes, singles, i) {
         Encoded::Refused(r) => Coded::Refused(r),
         Encoded::Code(code) => {
             codes[i] = packed(quick.width, code);
@@ -179,26 +184,49 @@ fn code_field(
     }
 }
 
-// The fields of Basic.
-fn code_basic(
+// Fields 6 to 8 and the last four have the same rows in both templates. So each part is a loop of its own, short enough for the
+// compiler to unroll, with rows that are constants.
+const FRONT_END: usize = 8;
+
+const BACK_FIELDS: usize = 4;
+
+// The row of a field from 6 to 8: measurand, least and greatest physical.
+fn front_row(field: u64) -> Row
+    requires { ⌜ (length basic < field) × (field ≤ 8) ⌝ }
+    ensures { λ r. ⌜ ((layout : Layout) → r ≡ rowOf layout field) ⌝ }
+{
+    templates::bridge_row(0, field)
+}
+
+// The row of one of the last four, counted from 0: date, initials, period, location.
+fn back_row(j: usize) -> Row
+    requires { ⌜ j < 4 ⌝ }
+    ensures { λ r. ⌜ ((layout : Layout) → r ≡ rowOf layout (lastField (layout .template) - 4 + j + 1)) ⌝ }
+{
+    templates::bridge_row(0, j as u64 + 18)
+}
+
+// Codes fields 6 to 8, after Basic.
+fn code_front(
     template: Template,
-    sorts: &[u8],
+    before: u64,
+    tags: &[u8],
     wholes: &[i64],
     singles: &[f32],
     codes: &mut [u64],
 ) -> Coded
-    requires { ⌜ FieldsCoded template (now sorts) (now wholes) (now singles) (now codes) 0 0 ⌝ }
-    ensures { λ r. ⌜ CodedTo (length basic) template (now (sorts .entry)) (now (wholes .entry)) (now (singles .entry)) (now (codes .exit)) r ⌝ }
+    requires { ⌜ FieldsCoded template (now tags) (now wholes) (now singles) (now codes) before (length basic) ⌝ }
+    ensures { λ r. ⌜ CodedTo 8 template (now (tags .entry)) (now (wholes .entry)) (now (singles .entry)) (now (codes .exit)) r ⌝ }
 {
-    let end = fields::basic_fields() as usize;
-    let mut precision: u64 = 0;
-    for i in 0..end {
+    let first = templates::basic_fields() as usize;
+    let mut precision = before;
+    for i in first..FRONT_END {
         let layout = Layout {
             template,
             precision,
         };
-        let quick = quick_code(fields::basic_row(i as u64 + 1), sorts, wholes, singles, i);
-        match code_field(layout, quick, sorts, wholes, singles, codes, i) {
+        let quick = quick_code(front_row(i as u64 + 1), tags, wholes, singles, i);
+        match code_field(layout, quick, tags, wholes, singles, codes, i) {
             Coded::Refused(r) => {
                 return Coded::Refused(r);
             }
@@ -210,28 +238,59 @@ fn code_basic(
     Coded::Next(precision)
 }
 
-// The template's own fields, behind Basic.
-fn code_own(
+// Codes the fields of Basic, then fields 6 to 8.
+fn code_basic(
     template: Template,
-    behind: u64,
-    sorts: &[u8],
+    tags: &[u8],
     wholes: &[i64],
     singles: &[f32],
     codes: &mut [u64],
 ) -> Coded
-    requires { ⌜ FieldsCoded template (now sorts) (now wholes) (now singles) (now codes) behind (length basic) ⌝ }
-    ensures { λ r. ⌜ CodedTo (lastField template) template (now (sorts .entry)) (now (wholes .entry)) (now (singles .entry)) (now (codes .exit)) r ⌝ }
+    requires { ⌜ FieldsCoded template (now tags) (now wholes) (now singles) (now codes) 0 0 ⌝ }
+    ensures { λ r. ⌜ CodedTo 8 template (now (tags .entry)) (now (wholes .entry)) (now (singles .entry)) (now (codes .exit)) r ⌝ }
 {
-    let first = fields::basic_fields() as usize;
-    let end = fields::last_field(template) as usize;
-    let mut precision = behind;
-    for i in first..end {
+    let end = templates::basic_fields() as usize;
+    let mut precision: u64 = 0;
+    for i in 0..end {
         let layout = Layout {
             template,
             precision,
         };
-        let quick = quick_own(layout, sorts, wholes, singles, i);
-        match code_field(layout, quick, sorts, wholes, singles, codes, i) {
+        let quick = quick_code(templates::basic_row(i as u64 + 1), tags, wholes, singles, i);
+        match code_field(layout, quick, tags, wholes, singles, codes, i) {
+            Coded::Refused(r) => {
+                return Coded::Refused(r);
+            }
+            Coded::Next(next) => {
+                precision = next;
+            }
+        }
+    }
+    code_front(template, precision, tags, wholes, singles, codes)
+}
+
+// Codes the last four fields.
+fn code_back(
+    template: Template,
+    before: u64,
+    tags: &[u8],
+    wholes: &[i64],
+    singles: &[f32],
+    codes: &mut [u64],
+) -> Coded
+    requires { ⌜ FieldsCoded template (now tags) (now wholes) (now singles) (now codes) before (lastField template - 4) ⌝ }
+    ensures { λ r. ⌜ CodedTo (lastField template) template (now (tags .entry)) (now (wholes .entry)) (now (singles .entry)) (now (codes .exit)) r ⌝ }
+{
+    let first = templates::last_field(template) as usize - BACK_FIELDS;
+    let mut precision = before;
+    for j in 0..BACK_FIELDS {
+        let i = first + j;
+        let layout = Layout {
+            template,
+            precision,
+        };
+        let quick = quick_code(back_row(j), tags, wholes, singles, i);
+        match code_field(layout, quick, tags, wholes, singles, codes, i) {
             Coded::Refused(r) => {
                 return Coded::Refused(r);
             }
@@ -241,6 +300,38 @@ fn code_own(
         }
     }
     Coded::Next(precision)
+}
+
+// Codes the fields after field 8, which differ by template up to the last four.
+fn code_own(
+    template: Template,
+    before: u64,
+    tags: &[u8],
+    wholes: &[i64],
+    singles: &[f32],
+    codes: &mut [u64],
+) -> Coded
+    requires { ⌜ FieldsCoded template (now tags) (now wholes) (now singles) (now codes) before 8 ⌝ }
+    ensures { λ r. ⌜ CodedTo (lastField template) template (now (tags .entry)) (now (wholes .entry)) (now (singles .entry)) (now (codes .exit)) r ⌝ }
+{
+    let end = templates::last_field(template) as usize - BACK_FIELDS;
+    let mut precision = before;
+    for i in FRONT_END..end {
+        let layout = Layout {
+            template,
+            precision,
+        };
+        let quick = quick_own(layout, tags, wholes, singles, i);
+        match code_field(layout, quick, tags, wholes, singles, codes, i) {
+            Coded::Refused(r) => {
+                return Coded::Refused(r);
+            }
+            Coded::Next(next) => {
+                precision = next;
+            }
+        }
+    }
+    code_back(template, precision, tags, wholes, singles, codes)
 }
 
 // The bits of the fields of a layout, with their block.
@@ -248,23 +339,23 @@ fn field_bits(layout: Layout) -> u64
     ensures { λ r. ⌜ (r ≡ bitsBefore (linesOf (layout .template)) (layout .precision) (lastField (layout .template)) + 10) × (r < 2 ^ 16) ⌝ }
 {
     let template = layout.template;
-    fields::bits_before(layout, fields::last_field(template) + 1) + 10
+    templates::bits_before(layout, templates::last_field(template) + 1) + 10
 }
 
-// 9 or 10, field by field, each by the precision before it; the fields go into `codes`.
+// 9 or 10, field by field, each by the precision before it; the coded fields go into `codes`.
 pub fn plan_fields(
     template: Template,
-    sorts: &[u8],
+    tags: &[u8],
     wholes: &[i64],
     singles: &[f32],
     codes: &mut [u64],
 ) -> Planned
-    requires { ⌜ Long (now sorts) (now wholes) (now singles) × Fit 21 (unpacked (now codes)) ⌝ }
-    ensures { λ r. ⌜ FieldsPlanned (fieldsLent template (now (sorts .entry)) (now (wholes .entry)) (now (singles .entry))) (unpacked (now (codes .exit))) r ⌝ }
+    requires { ⌜ LentLengths (now tags) (now wholes) (now singles) × Fit 21 (unpacked (now codes)) ⌝ }
+    ensures { λ r. ⌜ FieldsPlanned (fieldsLent template (now (tags .entry)) (now (wholes .entry)) (now (singles .entry))) (unpacked (now (codes .exit))) r ⌝ }
 {
-    match code_basic(template, sorts, wholes, singles, codes) {
+    match code_basic(template, tags, wholes, singles, codes) {
         Coded::Refused(r) => Planned::Refused(r),
-        Coded::Next(behind) => match code_own(template, behind, sorts, wholes, singles, codes) {
+        Coded::Next(behind) => match code_own(template, behind, tags, wholes, singles, codes) {
             Coded::Refused(r) => Planned::Refused(r),
             Coded::Next(precision) => Planned::Bits(field_bits(Layout {
                 template,
@@ -289,21 +380,21 @@ fn check_characters(field: u64, text: &[u8]) -> Judged
         }
         i += 1;
     }
-    Judged::Stands
+    Judged::Valid
 }
 
 // The ending: 9 for text with end bit 0, then 10 for a character.
 pub fn check_ending(template: Template, end_bit: bool, text: &[u8]) -> Judged
     ensures { λ r. ⌜ judgedSaid r ≡ tested (endingPieces (ending template) «end_bit» (now (text .entry))) ⌝ }
 {
-    let field = fields::last_field(template) + 1;
+    let field = templates::last_field(template) + 1;
     if end_bit {
         return check_characters(field, text);
     }
     if 0 < text.len() {
         return Judged::Refused(refusal::wrong_sort(field));
     }
-    Judged::Stands
+    Judged::Valid
 }
 
 // The codes of pair i: 10 for the point, 10 for its deviation.
@@ -313,9 +404,9 @@ pub fn code_pair(points: &[i64], i: usize) -> PairAnswer
 {
     let at = 2 * i;
     let place = i as u64;
-    match coding::encode_point(place, points[at]) {
+    match templates::encode_point(place, points[at]) {
         Encoded::Refused(r) => PairAnswer::Refused(r),
-        Encoded::Code(point) => match coding::encode_deviation(place, points[at + 1]) {
+        Encoded::Code(point) => match templates::encode_deviation(place, points[at + 1]) {
             Encoded::Refused(r) => PairAnswer::Refused(r),
             Encoded::Code(deviation) => PairAnswer::Are(Codes {
                 point: point as u16,
@@ -325,16 +416,17 @@ pub fn code_pair(points: &[i64], i: usize) -> PairAnswer
     }
 }
 
-// The same, then 7 where its point does not rise behind the pair before it, and 22 in domain 1 where its sum does not.
+// The codes of pair i: 10 for the point, 10 for its deviation, then 7
+// if its point does not rise, and 22 in domain 1 if its sum does not.
 fn check_pair(domain: Domain, before: Previous, points: &[i64], i: usize) -> PairAnswer
     requires { ⌜ 2 * i + 1 < length (now points) ⌝ }
     ensures { λ r. ⌜ codesSaid r ≡ pairCodes domain (previousSaid before) i (pairAt (now (points .entry)) i) ⌝ }
 {
     match code_pair(points, i) {
         PairAnswer::Refused(r) => PairAnswer::Refused(r),
-        PairAnswer::Are(codes) => match coding::follows(domain, before, i as u64, codes) {
+        PairAnswer::Are(codes) => match templates::follows(domain, before, i as u64, codes) {
             Judged::Refused(r) => PairAnswer::Refused(r),
-            Judged::Stands => PairAnswer::Are(codes),
+            Judged::Valid => PairAnswer::Are(codes),
         },
     }
 }
@@ -357,7 +449,7 @@ pub fn check_points(domain: Domain, points: &[i64]) -> Judged
         }
         i += 1;
     }
-    Judged::Stands
+    Judged::Valid
 }
 
 // Whether a points list is odd or over 254 long.

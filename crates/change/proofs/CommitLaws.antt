@@ -1,4 +1,4 @@
--- The parts of a proposal and of a commit as the code takes them are those of their definitions.
+-- Laws of the parts of a proposal and of a commit: the code computes those of their definitions.
 use Rattle.change.proofs.Names.{_≡_, refl, sym, ap, ap₂, _∙_, subst, Bool, true, false, not, _||_, List, ℕ, _+_, _/_, _^_, _≤_, _<_, zero-add, div-lt-iff-lt-mul, arith, decLt, eqb, ltb, length, pow-pos, shr-lt}
 use Rattle.change.proofs.Names.{ltb-true, eqb-true, lt-ltb, le-ltb, eq-eqb, ne-eqb, not-false, Refusal, Outcome, good, refused, _>>_, _>>=_, refuse_if_, noSuch, changedAlone, outOfRange, otherCode, levelTooLow}
 use Rattle.change.proofs.Names.{good-bind, passed, both, bind-good, bind-refused, then-good, then-refused, Sizes, fieldAt, putAt, imageSizes, streamNumber, imageOf, InStream, Value, Row, Layout, Level, Template}
@@ -10,7 +10,7 @@ use Rattle.change.proofs.PartLaws.{stands-here, in-stream, code-known, 
 -- ---- a field that may be changed
 
 module _ (c : Contents) (level : Level) (f : ℕ) where
-  -- The same tests, told of the sheet's fields and of its template.
+  -- The tests by the sheet's fields agree with those by its template.
   same-tests : (none sets low : Bool) →
       (((refuse noSuch f if none) >> good (field c f)) >>= λ x. (refuse changedAlone f if sets) >> ((refuse levelTooLow f if low) >> good x))
       ≡ (((refuse noSuch f if none) >> ((refuse changedAlone f if sets) >> (refuse levelTooLow f if low))) >> good (field c f))
@@ -27,7 +27,7 @@ module _ (c : Contents) (level : Level) (f : ℕ) where
       ap (λ (n : ℕ). ((refuse noSuch f if (eqb f 0 || ltb n f)) >> good (field c f)) >>= λ x. (refuse changedAlone f if sets) >> ((refuse levelTooLow f if low) >> good x)) count
       ∙ same-tests (eqb f 0 || ltb (lastField (c .template)) f) sets low
 
--- ---- a code that may stand
+-- ---- a code that a field can hold
 
 module _ (row : Row) (code : ℕ) where
   pub stands-not : 0 < code / 2 ^ row .width → false ≡ mayStand row code
@@ -44,7 +44,7 @@ module _ (row : Row) (code : ℕ) where
       let narrow : code < 2 ^ row .width = omega (arith, div-lt-iff-lt-mul (pow-pos (row .width)) .0 none) in
       rw (lt-ltb code (2 ^ row .width) narrow) e
 
-  -- What a judgement says of it.
+  -- A code that a judgement accepts.
   pub taken-judged : {o : Outcome (Unit {0})} → o ≡ judge row 0 code → taken o ≡ taken (decode row 0 code)
   taken-judged e = ap taken e ∙ go (decode row 0 code)
     where
@@ -66,7 +66,7 @@ module _ (row : Row) (stands f present new : ℕ) where
 -- ---- an opened sheet
 
 module _ {kind : ℕ} {image : List ℕ} {o : Opened} {c : Contents} (h : Opens kind image o c) (f : ℕ) where
-  -- The bits of a field, as they are taken.
+  -- The bits of a field, as the code reads them.
   pub field-taken : (lo : 1 ≤ f) (hi : f ≤ lastField (o .layout .template)) {at w : ℕ} → at ≡ fieldPlace (o .layout) f → w ≡ rowOf (o .layout) f .width →
       parse (streamIn (o .sizes) image) (bits w) at ≡ good (parsed (field c f .code) (at + w))
   field-taken lo hi {at} {w} ea ew =
@@ -128,7 +128,7 @@ module _ (kind : ℕ) (image : List ℕ) (level : Level) (f present new : ℕ) w
   unfolding commit rewritten
   commit-is c z e hz = simp (e, hz)
 
--- What an accepted commit has been tested for.
+-- What an accepted commit has passed.
 pub record Committed (c : Contents) (level : Level) (f present new : ℕ) : Type 0 where
   pub free : Changeable c level f
   pub present-is : field c f .code ≡ present

@@ -1,4 +1,5 @@
--- Codes that may stand; a proposal and a commit by their parts, and what an accepted commit leaves.
+-- Laws of codes that a field can hold, of proposals and commits
+-- by their parts, and of the result of an accepted commit.
 use Rattle.change.proofs.Names.{_≡_, refl, sym, ap, _∙_, subst, Bool, true, false, not, _||_, _&&_, cond, true≢false, List, ℕ, _-_, _^_, _<_, eqb, ltb, length, pos, binary32, ofBits, lt-ltb, eq-eqb, ne-eqb}
 use Rattle.change.proofs.Names.{Refusal, Outcome, good, refused, _>>_, _>>=_, refuse_if_, outsideTable, notFinite, otherCode, good-same, good-bind, good-then, both, no-value, bind-good, passed, Sizes, Bytes}
 use Rattle.change.proofs.Names.{imageSizes, sizes-chip, image-length, image-bytes, Value, Whole, Single, Missing, Row, Level, Rule, Plain, Stepped, Geometric, Ieee, allOnes, topCode, steppedValue, progression}
@@ -7,9 +8,9 @@ use Rattle.change.proofs.Names.{commit}
 use Rattle.change.proofs.Recoding.{Changeable, changeable-good, recoded-contents}
 use Rattle.change.proofs.CommitLaws.{stands-fits, commit-is, Committed, committed}
 
--- ---- a code that may stand
+-- ---- a code that a field can hold
 
--- What a code means does not go by the place of its field: only a refusal has that.
+-- What a code means does not depend on the place of its field: only a refusal names it.
 module _ (at other : ℕ) where
   test-anywhere : {A : Type 0} (r s : Refusal) (t : Bool) (a v : A) → ((refuse r if t) >> good a) ≡ good v → ((refuse s if t) >> good a) ≡ good v
   test-anywhere r s true a v e = no-value e
@@ -36,7 +37,7 @@ module _ (at other : ℕ) where
       go false e = meaning-anywhere (row .rule) (row .width) code v e
 
 module _ (row : Row) (code : ℕ) where
-  -- A code that may stand means something, and the other way about.
+  -- A field can hold a code exactly if the code has a meaning.
   pub stands-means : mayStand row code ≡ true → (at : ℕ) → (v : Value) × (decode row at code ≡ good v)
   unfolding mayStand
   stands-means e at = go (decode row 0 code) refl (both (ltb code (2 ^ row .width)) (taken (decode row 0 code)) e .1)
@@ -67,7 +68,7 @@ module _ (c : Contents) (level : Level) (f : ℕ) (h : Changeable c level f) (ne
 
 -- ---- an accepted commit
 
--- What it was made of: the sheet that the image held, which was tested.
+-- The sheet that the image held, and the tests that the commit passed.
 pub record CommitMade (kind : ℕ) (image : List ℕ) (level : Level) (f present new : ℕ) (after : List ℕ) : Type 0 where
   pub held : Contents
   pub sizes : Sizes
@@ -86,7 +87,7 @@ module _ (kind : ℕ) (image : List ℕ) (level : Level) (f present new : ℕ) (
       (sym (commit-is kind image level f present new c (a .sizes) e (a .sized)) ∙ made) in
       record { held = c; sizes = a .sizes; accepted = e; sized = a .sized; tested = committed c level f present new t; is = sym (good-same k) }
 
-  -- It has the bytes of an image, as many as before.
+  -- The new image has as many bytes as before, each a byte.
   pub commit-length : length after ≡ length image
   commit-length =
       let m = commit-made in
@@ -95,7 +96,7 @@ module _ (kind : ℕ) (image : List ℕ) (level : Level) (f present new : ℕ) (
   pub commit-bytes : Bytes after
   commit-bytes = let m = commit-made in subst Bytes (sym (m .is)) (image-bytes (m .sizes) _)
 
--- The new code with the value that it means, all else as it was.
+-- The new contents have the new code with its value, all else unchanged.
 pub committed-contents : (kind : ℕ) (image : List ℕ) (c : Contents) (z : Sizes) → Bytes image → contents kind image ≡ good c →
     imageSizes kind (length image) ≡ good z → (level : Level) (f present new : ℕ) → Committed c level f present new → (v : Value) → decode (field c f .row) (field c f .at) new ≡ good v →
     contents kind (recodedIn z image (field c f) new) ≡ good (withField c (f - 1) (recoded (field c f) new v))

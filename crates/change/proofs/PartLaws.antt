@@ -1,10 +1,10 @@
--- The parts of a change as the code takes them are those of its definition.
+-- Laws of the parts of a change: the code computes those of its definition.
 use Rattle.change.proofs.Names.{_≡_, refl, sym, ap, ap₂, _∙_, subst, Bool, true, false, not, _||_, List, ℕ, _-_, _^_, _≤_, _<_, arith, eqb, ltb, length, eqb-false, ltb-false, eq-eqb, ne-eqb, lt-ltb, le-ltb}
 use Rattle.change.proofs.Names.{Refusal, Outcome, good, refused, _>>_, _>>=_, refuse_if_, noSuch, changedAlone, levelTooLow, passed, neither, good-then, bind-good, bind-refused, then-good, then-refused, Sizes}
 use Rattle.change.proofs.Names.{putAt, SumsRight, streamNumber, imageOf, InStream, sizes-chip, sums-right, Value, Template, Layout, Row, Level, encode, Real, lastField, lineOf, rowOf, mayWrite, row-sound}
-use Rattle.change.proofs.Names.{reads-back, Contents, streamIn, field, layoutOf, fieldPlace, row-is, at-is, width-is, fields-count, field-at, accepted-at, Stands, field-stands, Opened, Opens, layout-is}
-use Rattle.change.proofs.Names.{held-whole, holding, changeable, codeFor, change, writableIn, allowedIn, codeIn}
-pub use Rattle.coding.proofs.Lent.{lent-real}
+use Rattle.change.proofs.Names.{reads-back, Contents, streamIn, field, layoutOf, fieldPlace, row-is, at-is, width-is, fields-count, field-at, accepted-at, Valid, field-stands, Opened, Opens, layout-is, held-whole}
+use Rattle.change.proofs.Names.{holding, changeable, codeFor, change, writableIn, allowedIn, codeIn}
+pub use Rattle.codes.proofs.Lent.{lent-real}
 use Rattle.change.proofs.Recoding.{change-is}
 
 -- ---- the tests
@@ -47,7 +47,7 @@ module _ (c : Contents) (level : Level) (f : ℕ) (v : Value) where
   abbrev outside : ℕ → Bool
   outside n = eqb f 0 || ltb n f
 
-  -- The same tests, told of the field and of its row.
+  -- The tests by the field agree with those by its row.
   abbrev byField : Bool → Bool → Bool → Outcome ℕ
   byField none sets low =
       ((refuse noSuch f if none) >> good (field c f)) >>= (λ x. (refuse changedAlone f if sets) >> ((refuse levelTooLow f if low) >> good x)) >>= λ x. encode (x .row) f v
@@ -61,7 +61,7 @@ module _ (c : Contents) (level : Level) (f : ℕ) (v : Value) where
   same-tests false false true h = refl
   same-tests false false false h = ap (λ r. encode r f v) (h refl)
 
-  -- For a sheet whose fields are the template's, each of its row.
+  -- For a sheet with the template's fields, each of its row.
   pub code-parts : length (c .fields) ≡ lastField t → (1 ≤ f → f ≤ lastField t → field c f .row ≡ rowOf (layoutOf c) f) → codeFor c level f v ≡ codeIn (layoutOf c) level f v
   unfolding codeFor changeable codeIn allowedIn
   code-parts count row =
@@ -91,16 +91,16 @@ module _ (layout : Layout) (level : Level) (f : ℕ) (v : Value) where
   unfolding codeIn
   code-allowed e k = k ∙ sym (then-good (encode (rowOf layout f) f v) (sym e))
 
-  -- The same, by the row that was found.
+  -- The code of a value, by the row that the code uses.
   pub code-by : good tt ≡ allowedIn (layout .template) level f → {row : Row} → row ≡ rowOf layout f → {o : Outcome ℕ} → o ≡ encode row f v → codeIn layout level f v ≡ o
   code-by e r k = sym (code-allowed e (k ∙ ap (λ x. encode x f v) r))
 
 -- ---- a field of an opened sheet
 
 module _ {kind : ℕ} {image : List ℕ} {o : Opened} {c : Contents} (h : Opens kind image o c) (f : ℕ) where
-  pub stands-here : 1 ≤ f → f ≤ lastField (o .layout .template) → Stands (streamIn (o .sizes) image) (rowOf (o .layout) f) (fieldPlace (o .layout) f) (field c f)
+  pub stands-here : 1 ≤ f → f ≤ lastField (o .layout .template) → Valid (streamIn (o .sizes) image) (rowOf (o .layout) f) (fieldPlace (o .layout) f) (field c f)
   stands-here lo hi =
-      subst (λ (l : Layout). f ≤ lastField (l .template) → Stands (streamIn (o .sizes) image) (rowOf l f) (fieldPlace l f) (field c f)) (sym (layout-is h))
+      subst (λ (l : Layout). f ≤ lastField (l .template) → Valid (streamIn (o .sizes) image) (rowOf l f) (fieldPlace l f) (field c f)) (sym (layout-is h))
       (λ m. field-stands (holding h) f lo m) hi
 
   pub in-stream : (lo : 1 ≤ f) (hi : f ≤ lastField (o .layout .template)) {at w : ℕ} → at ≡ fieldPlace (o .layout) f → w ≡ rowOf (o .layout) f .width →
@@ -127,7 +127,7 @@ module _ {kind : ℕ} {image : List ℕ} {o : Opened} {c : Contents} (h : Opens 
     known : (1 ≤ f) × (f ≤ lastField (o .layout .template)) × (encode (rowOf (o .layout) f) f v ≡ good code)
     known = code-known (o .layout) level f v code e
 
-    stands : Stands (streamIn z image) (rowOf (o .layout) f) (fieldPlace (o .layout) f) (field c f)
+    stands : Valid (streamIn z image) (rowOf (o .layout) f) (fieldPlace (o .layout) f) (field c f)
     stands = stands-here h f (known .0) (known .1)
 
     pub change-stored : {at w : ℕ} → at ≡ fieldPlace (o .layout) f → w ≡ rowOf (o .layout) f .width →

@@ -1,9 +1,9 @@
--- A change by its parts, and what the changed image holds.
+-- Laws of a change by its parts, and of the contents of the changed image.
 use Rattle.change.proofs.Names.{_≡_, sym, ap, ap₂, _∙_, subst, Bool, true, false, not, _||_, List, ℕ, _+_, _-_, _^_, _≤_, _<_, arith, eqb, ltb, length, eqb-false, ltb-false, ne-eqb, le-ltb, not-false, Refusal}
 use Rattle.change.proofs.Names.{good, refused, _>>_, _>>=_, refuse_if_, noSuch, changedAlone, levelTooLow, good-same, good-bind, passed, neither, Sizes, Bytes, fieldAt, putAt, imageBytes, streamBits, imageSizes}
 use Rattle.change.proofs.Names.{streamNumber, imageOf, put-lt, put-same, sizes-chip, stream-lt, sums-right, image-length, image-bytes, two-views, Value, Level, decode, encode, kept, Real, Sound, chose, lineOf}
 use Rattle.change.proofs.Names.{rowOf, mayWrite, row-sound, reads-back, stored-again, Found, Contents, streamIn, contents, field, layoutOf, fieldPlace, recoded, row-is, at-is, width-is, Keeps, fields-count}
-use Rattle.change.proofs.Names.{Holding, contents-accepted, accepted-at, written-contents, withField, holding-put, Stands, field-stands, changeable, codeFor, recodedIn, rewritten, change}
+use Rattle.change.proofs.Names.{Holding, contents-accepted, accepted-at, written-contents, withField, holding-put, Valid, field-stands, changeable, codeFor, recodedIn, rewritten, change}
 
 -- ---- by its parts
 
@@ -31,7 +31,7 @@ pub changeable-good : (c : Contents) (level : Level) (f : ℕ) → Changeable c 
 unfolding changeable
 changeable-good c level f h = rw (ne-eqb f 0 (λ z. omega (arith, h .least)), le-ltb (length (c .fields)) f (h .most), h .free, h .may)
 
--- A code that was found for a value.
+-- If a value has a code, its field may be changed and its row stores the value.
 pub code-found : (c : Contents) (level : Level) (f : ℕ) (v : Value) (code : ℕ) → codeFor c level f v ≡ good code → Changeable c level f × (encode (field c f .row) f v ≡ good code)
 unfolding codeFor
 code-found c level f v code e =
@@ -39,7 +39,7 @@ code-found c level f v code e =
     let (h, same) = changeable-is c level f x a in
     (h, ap (λ y. encode (y .row) f v) same ∙ b)
 
--- A change of what a check does not accept, and of what it does.
+-- A change of an image that a check refuses, and of one that it accepts.
 pub change-unread : (kind : ℕ) (image : List ℕ) (level : Level) (f : ℕ) (v : Value) (r : Refusal) → contents kind image ≡ refused r → change kind image level f v ≡ refused r
 unfolding change
 change-unread kind image level f v r e = rw e
@@ -51,7 +51,7 @@ change-is kind image c z e hz level f v = simp (e, hz)
 
 -- ---- an accepted change
 
--- What it was made of: the sheet that the image held, and the code that the value is stored at.
+-- The sheet that the image held, and the code that the value is stored at.
 pub record Made (kind : ℕ) (image : List ℕ) (level : Level) (f : ℕ) (v : Value) (after : List ℕ) : Type 0 where
   pub held : Contents
   pub sizes : Sizes
@@ -71,7 +71,7 @@ module _ (kind : ℕ) (image : List ℕ) (level : Level) (f : ℕ) (v : Value) (
       (sym (change-is kind image c (a .sizes) e (a .sized) level f v) ∙ made) in
       record { held = c; sizes = a .sizes; accepted = e; sized = a .sized; code = code; coded = coded; is = sym (good-same k) }
 
-  -- It has the bytes of an image, as many as before.
+  -- The new image has as many bytes as before, each a byte.
   pub made-length : length after ≡ length image
   made-length =
       let m = change-made in
@@ -80,7 +80,7 @@ module _ (kind : ℕ) (image : List ℕ) (level : Level) (f : ℕ) (v : Value) (
   pub made-bytes : Bytes after
   made-bytes = let m = change-made in subst Bytes (sym (m .is)) (image-bytes (m .sizes) _)
 
--- ---- what the changed image holds
+-- ---- the contents of the changed image
 
 module _ (kind : ℕ) (image : List ℕ) (c : Contents) (z : Sizes) (bytes : Bytes image) (e : contents kind image ≡ good c)
     (hz : imageSizes kind (length image) ≡ good z) (level : Level) (f : ℕ) (h : Changeable c level f) where
@@ -90,7 +90,7 @@ module _ (kind : ℕ) (image : List ℕ) (c : Contents) (z : Sizes) (bytes : Byt
   holding : Holding (streamIn z image) c
   holding = accepted-at kind image c z e hz .1
 
-  stands : Stands (streamIn z image) (rowOf (layoutOf c) f) (fieldPlace (layoutOf c) f) x
+  stands : Valid (streamIn z image) (rowOf (layoutOf c) f) (fieldPlace (layoutOf c) f) x
   stands = field-stands holding f (h .least) (omega (arith, h .most, fields-count (holding .formed)))
 
   pub field-sound : Sound (x .row)
@@ -102,7 +102,7 @@ module _ (kind : ℕ) (image : List ℕ) (c : Contents) (z : Sizes) (bytes : Byt
   whole : length image ≡ imageBytes z
   whole = sizes-chip kind (length image) z hz .long
 
-  -- The field at a code that may stand there, all else as it was.
+  -- The field has a code that it can hold, all else is unchanged.
   pub recoded-contents : (code : ℕ) (v : Value) → code < 2 ^ x .row .width → decode (x .row) (x .at) code ≡ good v →
       contents kind (recodedIn z image x code) ≡ good (withField c (f - 1) (recoded x code v))
   recoded-contents code v fits means =
@@ -114,14 +114,14 @@ module _ (kind : ℕ) (image : List ℕ) (c : Contents) (z : Sizes) (bytes : Byt
       let lt : M < 2 ^ streamBits z = put-lt N (x .at) (x .row .width) code fits (streamBits z) (stream-lt z image whole bytes) field-inside in
       written-contents kind (length image) z M _ hz lt p
 
-  -- So is a value that was stored, at what its rule keeps of it.
+  -- A stored value is in the field as its rule keeps it, all else is unchanged.
   pub stored-contents : (v : Value) → Real v → (code : ℕ) → encode (x .row) f v ≡ good code →
       contents kind (recodedIn z image x code) ≡ good (withField c (f - 1) (recoded x code (kept (x .row) v)))
   stored-contents v real code stored =
       let back = reads-back (x .row) f (x .at) code v field-sound real stored in
       recoded-contents code (kept (x .row) v) (back .0) (back .1)
 
-  -- A field at the code that it has is the image as it was, and so is one at the value that it has.
+  -- Storing the code or the value that a field has leaves the image unchanged.
   pub same-code : recodedIn z image x (x .code) ≡ image
   same-code =
       let N : ℕ = streamNumber z image in

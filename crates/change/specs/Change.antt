@@ -1,5 +1,6 @@
--- Document 01: change one field; document 02, Note 5: propose a change, and commit it; Note 6: each by a writer of a level. They share their parts:
--- the field that the writer may change, the code that is to be stored, and the rewriting.
+-- Document 01: change one field; document 02, Note 5: propose a change, and
+-- commit it; Note 6: each by a writer of a level. They share their parts: the
+-- field that the writer may change, the code to be stored, and the rewriting.
 use mathlib.Core.Bool.{Bool, true, false, not, _&&_}
 use mathlib.Core.List.{List}
 use Prim.Native.Nat.{ℕ, _^_}
@@ -10,19 +11,19 @@ use Rattle.refusal.specs.Rows.{changedAlone, outOfRange, otherCode, levelTooLow
 use Rattle.memory.specs.declared.Sizes.{Sizes}
 use Rattle.memory.specs.Bits.{putAt}
 use Rattle.memory.specs.Image.{imageSizes, streamNumber, imageOf}
-use Rattle.fields.specs.declared.Value.{Value}
-use Rattle.fields.specs.declared.Row.{Row}
-use Rattle.fields.specs.declared.Level.{Level}
-use Rattle.fields.specs.Rules.{decode, encode}
-use Rattle.fields.specs.Lines.{lineOf}
-use Rattle.fields.specs.Levels.{mayWrite}
+use Rattle.codes.specs.declared.Value.{Value}
+use Rattle.codes.specs.declared.Row.{Row}
+use Rattle.templates.specs.declared.Level.{Level}
+use Rattle.codes.specs.Rules.{decode, encode}
+use Rattle.templates.specs.Lines.{lineOf}
+use Rattle.templates.specs.Levels.{mayWrite}
 use Rattle.layout.specs.Contents.{Found, Contents}
 use Rattle.layout.specs.Image.{contents, field, numbered}
 use Rattle.change.specs.declared.Proposal.{Proposal}
 use Rattle.change.specs.declared.ProposalAnswer.{ProposalAnswer}
 use Rattle.change.specs.declared.ProposalAnswer.the-variants.{Proposed, Refused}
 
--- ---- its parts
+-- ---- the parts of a change
 
 -- Field f, which may be changed alone by a writer of a level. Order: 8, 12, 20.
 unfoldable pub changeable : Contents → Level → ℕ → Outcome Found
@@ -32,13 +33,13 @@ changeable c level f = do
   refuse levelTooLow f if not (mayWrite level (lineOf (c .template) f .mark))
   good x
 
--- The code that a value is to be stored at. Order: 8, 12, 20, 9, 10.
+-- The code that a value would be stored at. Order: 8, 12, 20, 9, 10.
 unfoldable pub codeFor : Contents → Level → ℕ → Value → Outcome ℕ
 codeFor c level f value = do
   x ← changeable c level f
   encode (x .row) f value
 
--- The image with a field at a code: its code and the check bytes are rewritten, no other bit.
+-- "A change rewrites the field and the check bytes of its pages, no other bit."
 abbrev pub recodedIn : Sizes → List ℕ → Found → ℕ → List ℕ
 recodedIn z image x code = imageOf z (putAt (streamNumber z image) (x .at) (x .row .width) code)
 
@@ -58,20 +59,20 @@ change kind image level f value = do
 
 -- ---- proposal and commit
 
--- What a field at a code would become: the present code, the code to be stored and its read-back value.
+-- "A proposal gives the present code, the code to be stored and its read-back value".
 abbrev pub proposedFor : Found → ℕ → Outcome Proposal
 proposedFor x code = do
   back ← decode (x .row) (x .at) code
   good (record { present = x .code; new = code; value = back })
 
--- A proposal is refused as the change would be, and writes nothing.
+-- A proposal "writes nothing; it is refused as the change would be".
 unfoldable pub propose : ℕ → List ℕ → Level → ℕ → Value → Outcome Proposal
 propose kind image level f value = do
   c ← contents kind image
   code ← codeFor c level f value
   proposedFor (field c f) code
 
--- A code may stand in a field of a row if it has no more bits than the field, and a check would take it.
+-- A field of a row can hold a code if it fits the field's bits, and a check would accept it.
 abbrev pub taken : {A : Type 0} → Outcome A → Bool
 taken (good a) = true
 taken (refused r) = false
@@ -86,7 +87,8 @@ mayCommit c level f present new = do
   refuse otherCode f if not (eqb (x .code) present)
   refuse outOfRange f if not (mayStand (x .row) new)
 
--- The image with field f at a new code, if the present one is still there. Order: check, 8, 12, 20, 19, 10.
+-- The image with field f at a new code, if the present
+-- one is still there. Order: check, 8, 12, 20, 19, 10.
 unfoldable pub commit : ℕ → List ℕ → Level → ℕ → ℕ → ℕ → Outcome (List ℕ)
 commit kind image level f present new = do
   c ← contents kind image

@@ -1,17 +1,18 @@
--- Only inner contracts need these: the parts of a change, a proposal and a commit as the code takes them, by what the rows of an opened sheet go by.
+-- Only inner contracts need this: the parts of a change, a proposal and a commit as
+-- the code computes them. They use only what the rows of an opened sheet depend on.
 use mathlib.Core.Bool.{not, _||_}
 use Prim.Native.Nat.{ℕ}
 use lib.Dec.{eqb, ltb}
 use Rattle.refusal.specs.Outcome.{Outcome, good, refused, _>>=_, _>>_, refuse_if_}
 use Rattle.refusal.specs.Rows.{noSuch, changedAlone, outOfRange, otherCode, levelTooLow}
-use Rattle.fields.specs.declared.Value.{Value}
-use Rattle.fields.specs.declared.Template.{Template}
-use Rattle.fields.specs.declared.Layout.{Layout}
-use Rattle.fields.specs.declared.Row.{Row}
-use Rattle.fields.specs.declared.Level.{Level}
-use Rattle.fields.specs.Rules.{decode, encode}
-use Rattle.fields.specs.Lines.{lastField, lineOf, rowOf}
-use Rattle.fields.specs.Levels.{mayWrite}
+use Rattle.codes.specs.declared.Value.{Value}
+use Rattle.templates.specs.declared.Template.{Template}
+use Rattle.templates.specs.declared.Layout.{Layout}
+use Rattle.codes.specs.declared.Row.{Row}
+use Rattle.templates.specs.declared.Level.{Level}
+use Rattle.codes.specs.Rules.{decode, encode}
+use Rattle.templates.specs.Lines.{lastField, lineOf, rowOf}
+use Rattle.templates.specs.Levels.{mayWrite}
 use Rattle.change.specs.declared.Proposal.{Proposal}
 use Rattle.change.specs.declared.changing.Allowed.{Allowed}
 use Rattle.change.specs.declared.changing.Allowed.the-variants.{Free, Refused}
@@ -28,7 +29,7 @@ allowedIn template level f = do
   refuse changedAlone f if lineOf template f .sets
   writableIn template level f
 
--- The code that a value is to be stored at.
+-- The code that a value would be stored at.
 unfoldable pub codeIn : Layout → Level → ℕ → Value → Outcome ℕ
 codeIn layout level f value = do
   allowedIn (layout .template) level f
@@ -38,7 +39,7 @@ abbrev pub allowedSaid : Allowed → Outcome (Unit {0})
 allowedSaid Free = good tt
 allowedSaid (Refused r) = refused r
 
--- A proposal of a code, for the field of a row at a place that holds the present one.
+-- A proposal of a code for the field of a row at a place, which holds the present one.
 abbrev pub proposedAt : Row → ℕ → ℕ → ℕ → Outcome Proposal
 proposedAt row at present code = decode row at code >>= λ back. good (record { present = present; new = code; value = back })
 

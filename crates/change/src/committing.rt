@@ -1,10 +1,10 @@
-// Document 02, Notes 5 and 6: a code put into a field by a writer of a level, if the present one is still there. Order: check,
-// 8, 12, 20, 19, 10.
+// Document 02, Notes 5 and 6: a writer of a level puts a code into a field,
+// if the present one is still there. Order: check, 8, 12, 20, 19, 10.
 ghost use mathlib.Core.Path.{_≡_};
 ghost use Prim.Native.Nat.{ℕ};
 ghost use Rattle.refusal.specs.Written.{writtenSaid, afterwards};
-ghost use Rattle.fields.specs.Answers.{judgedSaid};
-ghost use Rattle.fields.specs.Stored.{Sound};
+ghost use Rattle.codes.specs.Answers.{judgedSaid};
+ghost use Rattle.codes.specs.Stored.{Sound};
 ghost use Rattle.layout.specs.Contents.{Contents};
 ghost use Rattle.sheet.specs.Opened.{Opens, Held};
 ghost use Rattle.change.specs.Change.{mayStand, mayCommit, commit as commitOf};
@@ -12,14 +12,14 @@ ghost use Rattle.change.specs.Parts.{mayFollow};
 use crate::changing;
 use crate::changing::Allowed;
 use crate::standing;
-use fields::Judged;
-use fields::Level;
-use fields::Row;
+use codes::Judged;
+use codes::Row;
 use refusal::Written;
 use sheet::Opened;
 use sheet::OpenedAnswer;
+use templates::Level;
 
-// Whether a code may stand in a field: it has no more bits than the field, and a check would take it.
+// Whether a field can hold a code: it fits the field's bits, and a check would accept it.
 fn may_stand(row: Row, code: u64) -> bool
     requires { ⌜ Sound row ⌝ }
     ensures { λ r. ⌜ r ≡ mayStand row code ⌝ }
@@ -27,13 +27,13 @@ fn may_stand(row: Row, code: u64) -> bool
     if 0 < code >> row.width {
         return false;
     }
-    match coding::judge(row, 0, code) {
+    match codes::judge(row, 0, code) {
         Judged::Refused(_) => false,
-        Judged::Stands => true,
+        Judged::Valid => true,
     }
 }
 
-// 19 where another code stands in the field than the present one, 10 where the new one may not.
+// 19 if the field holds another code than the present one, 10 if it can't hold the new one.
 fn may_follow(row: Row, stands: u64, field: u64, present: u64, new: u64) -> Judged
     requires { ⌜ Sound row ⌝ }
     ensures { λ r. ⌜ judgedSaid r ≡ mayFollow row stands field present new ⌝ }
@@ -44,7 +44,7 @@ fn may_follow(row: Row, stands: u64, field: u64, present: u64, new: u64) -> Judg
     if !may_stand(row, new) {
         return Judged::Refused(refusal::out_of_range(field));
     }
-    Judged::Stands
+    Judged::Valid
 }
 
 // Whether a new code may be put into a field of an opened sheet: 8, 12, 20, 19, 10.
@@ -64,7 +64,7 @@ fn may_commit(
     match changing::may_change(template, level, field) {
         Allowed::Refused(r) => Judged::Refused(r),
         Allowed::Free => may_follow(
-            fields::row_of(layout, field),
+            templates::row_of(layout, field),
             standing::code_in(sheet, image, field),
             field,
             present,
@@ -73,10 +73,14 @@ fn may_commit(
     }
 }
 
-// Puts a code into a field, counted from 1, of an image: the field's bits and the check bytes of its pages are rewritten, and no
-// other bit. Or the check's refusal; 8 where the template has no such field; 12 for a field that sets the widths of others; 20
-// where a writer of the level may not write it; 19 where another code stands there than the present one; 10 where the new one may
-// not. A refusal writes nothing.
+// Puts a code into a field, counted from 1, of an image: rewrites the field
+// and the check bytes of its pages, no other bit. A refusal writes nothing:
+// - the check's refusal;
+// - 8 if the template has no such field;
+// - 12 for a field that sets the widths of others;
+// - 20 if a writer of the level may not write it;
+// - 19 if it holds another code than the present one;
+// - 10 if it can't hold the new one.
 pub fn commit(
     kind: u8,
     image: &mut [u8],
@@ -92,10 +96,10 @@ pub fn commit(
         OpenedAnswer::Refused(r) => Written::Refused(r),
         OpenedAnswer::Sheet(opened) => match may_commit(opened, image, level, field, present, new) {
             Judged::Refused(r) => Written::Refused(r),
-            Judged::Stands => {
+            Judged::Valid => {
                 let sizes = opened.sizes;
                 let layout = opened.layout;
-                let row = fields::row_of(layout, field);
+                let row = templates::row_of(layout, field);
                 stream::rewrite(
                     sizes,
                     image,

@@ -1,4 +1,4 @@
--- The greatest difference is enough, is no more than any number that is enough, and is attained.
+-- Laws of the greatest difference: it suffices, no smaller number does, and it is attained.
 use Rattle.conformity.proofs.Names.{_≡_, refl, subst, List, [], _∷_, _⊎_, inl, inr, ℕ, max, _+_, _*_, _≤_, _<_, mul-le-mul-right, mul-pos, decLe, arith, ℤ, pos, natAbs, _+ℤ_, _-ℤ_, _*ℤ_, _over_, nearest, Pair}
 use Rattle.conformity.proofs.Names.{Rises, Slopes, Conforms, AtPoints, WithinOf, correction, deviation, certificateLine, correction-some, conforms-within, ceiling-meets, ceiling-least, differenceAt, greatestOver}
 use Rattle.conformity.proofs.Names.{greatestDifference, Attains, AtSome, ceiling-tight}
@@ -13,7 +13,7 @@ module _ (stored lent : List Pair) (stored-rises : Rises stored) (rises : Rises 
   some : (x : ℤ) → 0 < den x
   some x = mul-pos (correction-some (x over 1) stored stored-rises) (correction-some (x over 1) lent rises)
 
-  -- ---- enough
+  -- ---- it suffices
 
   at-points : (M : ℕ) (pairs : List Pair) → greatestOver (differenceAt stored lent) pairs ≤ M → AtPoints (Conforms M stored lent) pairs
   at-points M [] h = tt
@@ -27,7 +27,7 @@ module _ (stored lent : List Pair) (stored-rises : Rises stored) (rises : Rises 
   greatest-within K X F h slopes =
       conforms-within (greatestDifference stored lent) K stored lent X F h stored-rises rises slopes (at-points (greatestDifference stored lent) stored (omega arith)) (at-points (greatestDifference stored lent) lent (omega arith))
 
-  -- ---- no more
+  -- ---- no smaller number suffices
 
   least-over : (M : ℕ) (pairs : List Pair) → ((x : ℤ) → Conforms M stored lent x) → greatestOver (differenceAt stored lent) pairs ≤ M
   least-over M [] h = omega arith
@@ -36,7 +36,7 @@ module _ (stored lent : List Pair) (stored-rises : Rises stored) (rises : Rises 
   pub greatest-least : (M : ℕ) → ((x : ℤ) → Conforms M stored lent x) → greatestDifference stored lent ≤ M
   greatest-least M h = omega (arith, least-over M stored h, least-over M lent h)
 
-  -- ---- attained
+  -- ---- it is attained
 
   attains : (x : ℤ) → Attains (differenceAt stored lent x) stored lent x
   attains x = ceiling-tight (num x) (den x) (some x)
@@ -55,7 +55,7 @@ module _ (stored lent : List Pair) (stored-rises : Rises stored) (rises : Rises 
       go (yes h) later = inl (subst (λ (M : ℕ). Attains M stored lent (p .point)) (omega arith) (attains (p .point)))
       go (no h) later = inr (subst (λ (M : ℕ). AtSome (Attains M stored lent) (q ∷ pairs)) (omega arith) later)
 
--- The greater of two lists' greatest is attained in one of them.
+-- The greater maximum of two lists is attained in one of them.
 pub greatest-attained : (stored lent : List Pair) → Rises stored → Rises lent →
     ((stored ≡ []) × (lent ≡ [])) ⊎ (AtSome (Attains (greatestDifference stored lent) stored lent) stored ⊎ AtSome (Attains (greatestDifference stored lent) stored lent) lent)
 greatest-attained [] [] rs rl = inl (refl, refl)

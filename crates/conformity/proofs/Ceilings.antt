@@ -1,7 +1,7 @@
--- Quotients rounded up.
+-- Laws of quotients rounded up.
 use Rattle.conformity.proofs.Names.{_≡_, sym, ap, ℕ, _+_, _*_, _-_, _/_, _%_, _≤_, _<_, div-add-mod', mod-lt, le-of-mul-le-mul-right, arith, ceiling, ceiling-meets, ceiling-least}
 
--- The whole part and the rest apart.
+-- The whole part and the rest separately.
 module _ (num run : ℕ) (some : 0 < run) where
   abbrev whole : ℕ
   whole = num / run

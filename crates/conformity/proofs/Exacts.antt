@@ -1,10 +1,10 @@
--- A correction at a whole position, in parts; and of points lent, by how many lie before it.
+-- Laws of a correction at a whole position, by parts; and by the number of lent points before it.
 use Rattle.conformity.proofs.Names.{_≡_, refl, sym, ap, _∙_, true, false, cond, List, [], _∷_, ℕ, zero, suc, _+_, _*_, _/_, _^_, _≤_, _<_, mul-le-mul-right, arith, ℤ, pos, natAbs, _-ℤ_, _*ℤ_, length, getD, leZ}
 use Rattle.conformity.proofs.Names.{_<ℤ_, up, dn, _over_, same, abs-parts, nleZ-parts, parts-<ℤ, is-true, is-false, Pair, noPair, pairsLent, pairAt, pairs-length, pointOf, Before, atEnd, between, correctionAfter}
 use Rattle.conformity.proofs.Names.{correction, Between, Table, scaled, Ahead, at, weights-run, weights-num, gap-parts, gaps, Pieced, first-piece, last-piece, next-piece, figures-at, next-between, Corrected}
 use Rattle.conformity.proofs.Names.{Exact}
 
--- ---- in parts
+-- ---- by parts
 
 pub exact-none : (r : Corrected) (p : ℤ) (pairs : List Pair) → r .above ≡ 0 → r .below ≡ 0 → r .run ≡ 1 → length pairs ≡ 0 → Exact r (correction p 1 pairs)
 unfolding correction
@@ -56,7 +56,7 @@ module _ (p : ℤ) (before behind : Pair) {past left : ℕ} (h : Between pointOf
 
 -- ---- by the pairs before a position
 
--- The correction goes by the points.
+-- The correction depends on the points.
 pub correction-pieced : (p : ℤ) → Pieced pointOf p (atEnd 1) (between p 1) (correctionAfter p 1) (correction p 1)
 unfolding correction correctionAfter
 correction-pieced p = record {
@@ -68,7 +68,7 @@ correction-pieced p = record {
     once : (z : ℤ) → z *ℤ pos 1 ≡ z
     once z = same (z *ℤ pos 1) z (omega (arith, scaled z 1))
 
--- Pair i of points lent.
+-- Pair i of the lent points.
 pub pair-lent : (l : List ℤ) (i : ℕ) → i < length l / 2 → getD (pairsLent l) i noPair ≡ pairAt l i
 pair-lent [] i h = absurd (omega arith)
 pair-lent (a ∷ []) i h = absurd (omega arith)
@@ -110,7 +110,7 @@ module _ (points : List ℤ) (t : Table (pairsLent points)) (p : ℤ) (n : ℕ) 
 
 -- ---- the search from point to point
 
--- n of the points are passed: the last of them lies before p.
+-- n of the points are passed: the last of them is before p.
 pub record Passed (points : List ℤ) (p : ℤ) (n : ℕ) : Type 0 where
   pub most : n ≤ length points / 2
   pub below : (k : ℕ) → k + 1 ≡ n → pairAt points k .point <ℤ p

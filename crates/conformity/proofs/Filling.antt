@@ -1,10 +1,10 @@
--- The pairs of a sheet, written into room for points by turns.
+-- Laws of writing the pairs of a sheet into an array of points by turns.
 use Rattle.conformity.proofs.Names.{_≡_, ap₂, _∙_, subst, List, ℕ, _+_, _*_, _≤_, _<_, decLe, arith, ℤ, pos, length, getD, take, set, length-set, length-map, length-take-le, getD-set-same, getD-set-other}
 use Rattle.conformity.proofs.Names.{getD-take, ext-getD, Pair, noPair, pairsLent, pairAt, pairs-length, Calibration, bare, table, curve, Contents, pairsIn, pairIn, points, CalibrationAt, Opened, Opens, points-are}
 use Rattle.conformity.proofs.Names.{holding}
 use Rattle.conformity.proofs.Exacts.{pair-lent}
 
--- ---- a sheet has 127 pairs at most
+-- ---- a sheet has at most 127 pairs
 
 few : (at : ℕ) (k : Calibration) → CalibrationAt at k → length (pairsIn k) ≤ 127
 few at bare h = omega arith
@@ -16,7 +16,7 @@ points-few {c = c} h = omega (arith, points-are h, length-map (pairsIn (c .calib
 
 -- ---- pair by pair
 
--- The first n pairs of the room are those of a list.
+-- The first n pairs of the array are those of a list.
 abbrev pub Filled : List ℤ → List Pair → ℕ → Type 0
 Filled room pairs n = (k : ℕ) → k < n → pairAt room k ≡ getD pairs k noPair
 

@@ -1,4 +1,5 @@
--- The difference of two corrections at a point of one of them, and the greatest over its points.
+-- Laws of the difference of two corrections at a point
+-- of one of them, and of the greatest over its points.
 use Rattle.conformity.proofs.Names.{_≡_, refl, sym, ap, ap₂, _∙_, subst, List, [], _∷_, inl, inr, ℕ, zero, suc, max, _+_, _*_, _/_, _≤_, _<_, mul-pos, mul-comm, add-one, arith, ℤ, pos, negsuc, natAbs, _-ℤ_, _*ℤ_}
 use Rattle.conformity.proofs.Names.{length, getD, _<ℤ_, up, dn, _over_, sub-parts-ℤ, ltZ-parts, parts-≤ℤ, parts-<ℤ, Pair, noPair, pairsLent, pairAt, pairs-length, pairsFrom, pairs-left, pairs-end, pointOf, Before}
 use Rattle.conformity.proofs.Names.{Rises, Table, Correction, correction, scaled, at, Is, is-held, is-right, correction-some, first-piece, next-piece, rise-at, ceiling, Corrected, difference, differenceAt}
@@ -7,14 +8,14 @@ use Rattle.conformity.proofs.Exacts.{correction-pieced, pair-lent}
 
 -- ---- whole numbers
 
--- b is k × a, in parts.
+-- b is k × a, by parts.
 pub abs-multiple : (a b : ℤ) (k : ℕ) → up b + k * dn a ≡ dn b + k * up a → natAbs b ≡ k * natAbs a
 abs-multiple (pos n) (pos m) k e = omega arith
 abs-multiple (pos n) (negsuc m) k e = absurd (omega arith)
 abs-multiple (negsuc n) (pos m) k e = omega arith
 abs-multiple (negsuc n) (negsuc m) k e = omega arith
 
--- What u and d are apart.
+-- The distance of u and d.
 pub apart-abs : (z : ℤ) (u d r : ℕ) → Apart u d r → up z + d ≡ dn z + u → r ≡ natAbs z
 apart-abs (pos n) u d r (inl e) h = omega arith
 apart-abs (pos n) u d r (inr e) h = omega arith
@@ -30,7 +31,7 @@ module _ (s : ℤ) (e : Correction) where
   pub off-parts : up off + (dn s * e .run + up (e .num)) ≡ dn off + (up s * e .run + dn (e .num))
   off-parts = omega (arith, sub-parts-ℤ (s *ℤ pos (e .run)) (e .num), scaled s (e .run))
 
-  -- Where c is s.
+  -- At a position where c is s.
   pub own-difference : (x : ℤ) (c : Correction) → Is s (x over 1) c → 0 < e .run → upwardDifference s e ≡ difference c e
   own-difference x c i some =
       ceiling-same (2000 * natAbs off) (e .run) (2000 * natAbs both) (c .run * e .run) some (mul-pos (i .some) some)
@@ -53,7 +54,7 @@ module _ (s : ℤ) (e : Correction) where
           own : up (c .num) + dn s * c .run ≡ dn (c .num) + up s * c .run
           own = omega (arith, i .is .near .high, i .is .near .low)
 
--- Either way round.
+-- The difference in either direction.
 opposite : (a b : ℤ) → up a + up b ≡ dn a + dn b → natAbs a ≡ natAbs b
 opposite (pos n) (pos m) e = omega arith
 opposite (pos n) (negsuc m) e = omega arith
@@ -66,7 +67,7 @@ difference-sym c e =
     let y = e .num *ℤ pos (c .run) in
     ap₂ (λ (n d : ℕ). ceiling (2000 * n) d) (opposite (x -ℤ y) (y -ℤ x) (omega (arith, sub-parts-ℤ x y, sub-parts-ℤ y x))) (mul-comm (c .run) (e .run))
 
--- The difference of a deviation and a correction in parts.
+-- The difference of a deviation and a correction, by parts.
 pub exact-difference : (s : ℤ) (e : Correction) (x : Corrected) → Exact x e → (u d r : ℕ) → u ≡ up s → d ≡ dn s → Apart (u * x .run + x .below) (d * x .run + x .above) r → ceiling (2000 * r) (x .run) ≡ upwardDifference s e
 exact-difference s e x h u d r eu ed a =
     ap₂ (λ (n run : ℕ). ceiling (2000 * n) run)
@@ -74,7 +75,7 @@ exact-difference s e x h u d r eu ed a =
     (omega (arith, off-parts s e, h .num, ap (λ (n : ℕ). up s * n) (h .run), ap (λ (n : ℕ). dn s * n) (h .run), ap (λ (n : ℕ). n * x .run) eu, ap (λ (n : ℕ). n * x .run) ed)))
     (h .run)
 
--- What is apart is at most the greater of the two.
+-- A distance is at most the greater of the two numbers.
 pub apart-most : {a b r M : ℕ} → Apart a b r → a ≤ M → b ≤ M → r ≤ M
 apart-most (inl e) ha hb = omega arith
 apart-most (inr e) ha hb = omega arith
@@ -112,7 +113,7 @@ module _ (own other : List ℤ) (t : Table (pairsLent own)) (u : Table (pairsLen
       own-difference (q .deviation) (correction (q .point) 1 (pairsLent other)) (q .point) (correction (q .point) 1 (pairsLent own)) own-is
       (correction-some (q .point over 1) (pairsLent other) (u .rises))
 
--- The points of `other` passed for one point of `own` are passed for the next.
+-- The points of `other` before one point of `own` are before the next.
 pub record Follows (own other : List ℤ) (n i : ℕ) : Type 0 where
   pub most : n ≤ length other / 2
   pub below : i < length own / 2 → (k : ℕ) → k + 1 ≡ n → pairAt other k .point <ℤ pairAt own i .point
@@ -131,7 +132,7 @@ follows-on own other n i t b = record {
       parts-<ℤ (pairAt other k .point) (pairAt own (i + 1) .point) (omega (arith, ltZ-parts (pairAt other k .point) (pairAt own i .point) (low .lt), ltZ-parts (pairAt own i .point) (pairAt own (i + 1) .point) (risen .lt)));
 }
 
--- ---- both ways
+-- ---- in both directions
 
 other-way : (a b pairs : List Pair) → greatestOver (differenceAt a b) pairs ≡ greatestOver (differenceAt b a) pairs
 other-way a b [] = refl

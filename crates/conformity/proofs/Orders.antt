@@ -1,7 +1,7 @@
--- The conformity in the order of its rows, and whether there is a straight table.
+-- Laws of conformity in the order of its rows, and of the straight table.
 use Rattle.conformity.proofs.Names.{_≡_, refl, sym, ap₂, _∙_, true, false, true≢false, List, map, Option, none, some, ℕ, arith, eqb, eqb→eq, is-true, ℤ, length, length-map, Refusal, good, refused, wrongBlock}
 use Rattle.conformity.proofs.Names.{good-same, good-bind, passed, Pair, Electrical, Physical, Calibration, bare, table, curve, Contents, contents, pairsIn, pairIn, segmentsIn, segmentIn, points, firstSelector}
-use Rattle.conformity.proofs.Names.{CalibrationAt, pairsLent, Opened, domainIn, Opens, segments-are, domain-is, holding, ToldDistance, distance, isResistance, comparedWith, straightTable, compared, conformity}
+use Rattle.conformity.proofs.Names.{CalibrationAt, pairsLent, Opened, domainIn, Opens, segments-are, domain-is, holding, CertificateBound, distance, isResistance, comparedWith, straightTable, compared, conformity}
 use Rattle.conformity.proofs.Names.{isStraight}
 use Rattle.sheet.specs.declared.TableDomain.the-variants.{Is}
 
@@ -22,33 +22,33 @@ module _ (kind : ℕ) (image : List ℕ) (lent : List ℤ) where
       unfolding conformity
       compares-no-list d = rw (e, b, d)
 
-      pub compares : {d : ToldDistance} → distance lent ≡ good d → good (compared (d .slope) (pairsLent lent) (straightTable (c .calibration))) ≡ conformity kind image lent
+      pub compares : {d : CertificateBound} → distance lent ≡ good d → good (compared (d .slope) (pairsLent lent) (straightTable (c .calibration))) ≡ conformity kind image lent
       unfolding conformity
       compares d = rw (e, b, d)
 
--- What K and B come from.
-pub record Compared (kind : ℕ) (image : List ℕ) (lent : List ℤ) (e : ToldDistance) : Type 0 where
+-- What K and B are computed from.
+pub record Compared (kind : ℕ) (image : List ℕ) (lent : List ℤ) (e : CertificateBound) : Type 0 where
   pub holds : Contents
   pub accepted : contents kind image ≡ good holds
   pub bridge : isResistance (holds .template) ≡ false
-  pub told : ToldDistance
-  pub distance : distance lent ≡ good told
+  pub beforehand : CertificateBound
+  pub distance : distance lent ≡ good beforehand
   pub stored : List Pair
   pub straight : straightTable (holds .calibration) ≡ some stored
-  pub is : comparedWith (told .slope) stored (pairsLent lent) ≡ e
+  pub is : comparedWith (beforehand .slope) stored (pairsLent lent) ≡ e
 
-with-table : (K : ℕ) (lent : List Pair) (o : Option (List Pair)) (e : ToldDistance) → compared K lent o ≡ some e → (stored : List Pair) × (o ≡ some stored) × (comparedWith K stored lent ≡ e)
+with-table : (K : ℕ) (lent : List Pair) (o : Option (List Pair)) (e : CertificateBound) → compared K lent o ≡ some e → (stored : List Pair) × (o ≡ some stored) × (comparedWith K stored lent ≡ e)
 with-table K lent (some stored) e h = (stored, refl, cc)
 with-table K lent none e h = absurd (let z : _≡_ {A = ℕ} 0 1 = cc in omega arith)
 
-pub compared-from : (kind : ℕ) (image : List ℕ) (lent : List ℤ) (e : ToldDistance) → conformity kind image lent ≡ good (some e) → Compared kind image lent e
+pub compared-from : (kind : ℕ) (image : List ℕ) (lent : List ℤ) (e : CertificateBound) → conformity kind image lent ≡ good (some e) → Compared kind image lent e
 unfolding conformity
 compared-from kind image lent e h =
     let (c, accepted, f) = good-bind (contents kind image) _ (some e) h in
     let (b, g) = passed (wrongBlock firstSelector) (isResistance (c .template)) _ (some e) f in
-    let (d, told, j) = good-bind (distance lent) _ (some e) g in
+    let (d, beforehand, j) = good-bind (distance lent) _ (some e) g in
     let (stored, straight, is) = with-table (d .slope) (pairsLent lent) (straightTable (c .calibration)) e (good-same j) in
-    record { holds = c; accepted = accepted; bridge = b; told = d; distance = told; stored = stored; straight = straight; is = is }
+    record { holds = c; accepted = accepted; bridge = b; beforehand = d; distance = beforehand; stored = stored; straight = straight; is = is }
 
 -- ---- the table
 

@@ -1,5 +1,5 @@
--- Conformity: how far any reading of an image can be from the line through a certificate's points. Order: the image's check, 4 for template 32, then the list
--- as a build in domain 0 turns it down.
+-- Conformity: how far any reading of an image can be from the line through a certificate's points.
+-- Order: the image's check, 4 for template 32, then the list as a build in domain 0 refuses it.
 use mathlib.Core.List.{List, [], _∷_, map}
 use Rattle.integers.specs.Ceiling.{ceiling}
 use mathlib.Core.Option.{Option, none, some}
@@ -7,14 +7,14 @@ use Prim.Native.Nat.{ℕ, max, _+_, _*_}
 use lib.IntN.{ℤ, pos, natAbs, _-ℤ_, _*ℤ_}
 use Rattle.refusal.specs.Outcome.{Outcome, good, refused, _>>_, _>>=_, refuse_if_}
 use Rattle.refusal.specs.Rows.{wrongBlock}
-use Rattle.fields.specs.declared.Pair.{Pair}
-use Rattle.fields.specs.declared.Domain.the-variants.{Electrical, Physical}
+use Rattle.templates.specs.declared.Pair.{Pair}
+use Rattle.templates.specs.declared.Domain.the-variants.{Electrical, Physical}
 use Rattle.layout.specs.Contents.{Calibration, bare, table, curve}
 use Rattle.layout.specs.Image.{contents, pairIn}
 use Rattle.layout.specs.Places.{firstSelector}
 use Rattle.build.specs.Build.{pairsLent}
-use Rattle.line.specs.Line.{Correction, correction}
-use Rattle.distance.specs.declared.ToldDistance.{ToldDistance}
+use Rattle.correction.specs.Line.{Correction, correction}
+use Rattle.distance.specs.declared.CertificateBound.{CertificateBound}
 use Rattle.distance.specs.Distance.{distance}
 use Rattle.reading.specs.Reading.{isResistance}
 use Rattle.conformity.specs.declared.ConformityAnswer.{ConformityAnswer}
@@ -24,7 +24,7 @@ use Rattle.conformity.specs.declared.ConformityAnswer.the-variants.{Is, 
 abbrev pub difference : Correction → Correction → ℕ
 difference c e = ceiling (2000 * natAbs (c .num *ℤ pos (e .run) -ℤ e .num *ℤ pos (c .run))) (c .run * e .run)
 
--- Of the corrections of two lists of points at x.
+-- The difference of the corrections of two lists of points at x.
 abbrev pub differenceAt : List Pair → List Pair → ℤ → ℕ
 differenceAt stored lent x = difference (correction x 1 stored) (correction x 1 lent)
 
@@ -37,23 +37,24 @@ greatestOver of (p ∷ pairs) = max (of (p .point)) (greatestOver of pairs)
 abbrev pub greatestDifference : List Pair → List Pair → ℕ
 greatestDifference stored lent = max (greatestOver (differenceAt stored lent) stored) (greatestOver (differenceAt stored lent) lent)
 
--- K of the points lent, and B = 2000 + K + the greatest difference.
-abbrev pub comparedWith : ℕ → List Pair → List Pair → ToldDistance
+-- K of the lent points, and B = 2000 + K + the greatest difference.
+abbrev pub comparedWith : ℕ → List Pair → List Pair → CertificateBound
 comparedWith K stored lent = record { slope = K; bound = 2000 + K + greatestDifference stored lent }
 
--- The stored points, where a straight table corrects: those of domain 0, and none without a block. A curve and a table of domain 1 are no straight table.
+-- The stored points of a straight table: those of domain 0, and none
+-- without a block. A curve and a table of domain 1 are not straight.
 abbrev pub straightTable : Calibration → Option (List Pair)
 straightTable bare = some []
 straightTable (table Electrical pairs) = some (map pairIn pairs)
 straightTable (table Physical pairs) = none
 straightTable (curve segments) = none
 
-abbrev pub compared : ℕ → List Pair → Option (List Pair) → Option ToldDistance
+abbrev pub compared : ℕ → List Pair → Option (List Pair) → Option CertificateBound
 compared K lent (some stored) = some (comparedWith K stored lent)
 compared K lent none = none
 
--- K and B; none where there is no straight table to compare.
-unfoldable pub conformity : ℕ → List ℕ → List ℤ → Outcome (Option ToldDistance)
+-- K and B; none if there is no straight table to compare.
+unfoldable pub conformity : ℕ → List ℕ → List ℤ → Outcome (Option CertificateBound)
 conformity kind image points = do
   c ← contents kind image
   refuse wrongBlock firstSelector if isResistance (c .template)
@@ -62,7 +63,7 @@ conformity kind image points = do
 
 -- ---- the answer
 
-abbrev pub conformitySaid : ConformityAnswer → Outcome (Option ToldDistance)
+abbrev pub conformitySaid : ConformityAnswer → Outcome (Option CertificateBound)
 conformitySaid (Is d) = good (some d)
 conformitySaid NotStraight = good none
 conformitySaid (Refused r) = refused r

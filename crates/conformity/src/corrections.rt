@@ -1,14 +1,15 @@
-// The correction that a list of points, lent as point and deviation by turns, has at a whole position: exact, as a fraction.
-use fields::Pair;
+// The correction of a lent list of points and deviations
+// by turns at a whole position: exact, as a fraction.
+use templates::Pair;
 ghost use mathlib.Core.Path.{_≡_};
 ghost use Prim.Native.Nat.{_/_, _^_, _≤_, _<_};
 ghost use lib.IntN.{natAbs};
 ghost use lib.ListN.{length};
 ghost use Rattle.build.specs.Build.{pairsLent};
 ghost use Rattle.build.specs.Tested.{pairAt};
-ghost use Rattle.line.specs.Before.{pointOf, Before};
-ghost use Rattle.line.specs.Line.{atEnd, between as betweenOf, correction};
-ghost use Rattle.line.specs.Ranges.{Table, Between};
+ghost use Rattle.correction.specs.Before.{pointOf, Before};
+ghost use Rattle.correction.specs.Line.{atEnd, between as betweenOf, correction};
+ghost use Rattle.correction.specs.Ranges.{Table, Between};
 ghost use Rattle.conformity.specs.Steps.{Exact};
 
 // (above − below) / run.
@@ -18,7 +19,7 @@ pub struct Corrected {
     pub run: u64,
 }
 
-// Pair i.
+// Pair i of the list.
 fn pair_at(points: &[i64], i: usize) -> Pair
     requires { ⌜ i < length (now points) / 2 ⌝ }
     ensures { λ r. ⌜ r ≡ pairAt (now (points .entry)) i ⌝ }
@@ -30,7 +31,7 @@ fn pair_at(points: &[i64], i: usize) -> Pair
     }
 }
 
-// Where a pair's deviation holds.
+// The correction where a pair's deviation holds.
 fn held(pair: Pair) -> Corrected
     requires { ⌜ natAbs (pair .deviation) ≤ 2 ^ 32 ⌝ }
     ensures { λ r. ⌜ Exact r (atEnd 1 pair) ⌝ }
@@ -43,23 +44,24 @@ fn held(pair: Pair) -> Corrected
     }
 }
 
-// Between neighbours: the two deviations, each weighed by how far p is from the other's point.
+// The correction between neighbours: each deviation
+// weighted by the distance of p from the other's point.
 fn between(p: i64, before: Pair, behind: Pair) -> Corrected
     requires { ⌜ Between pointOf p before behind ⌝ }
     ensures { λ r. ⌜ Exact r (betweenOf p 1 before behind) ⌝ }
 {
-    let past = line::gap(p, before.point);
-    let left = line::gap(behind.point, p);
+    let past = correction::gap(p, before.point);
+    let left = correction::gap(behind.point, p);
     let s = before.deviation;
     let t = behind.deviation;
     Corrected {
-        above: line::weighed(integers::plus(s), integers::plus(t), past, left),
-        below: line::weighed(integers::minus(s), integers::minus(t), past, left),
+        above: correction::weighed(integers::plus(s), integers::plus(t), past, left),
+        below: correction::weighed(integers::minus(s), integers::minus(t), past, left),
         run: past + left,
     }
 }
 
-// The correction at p, before which n of the points lie.
+// The correction at p, which has n points before it.
 pub fn correction_at(points: &[i64], n: usize, p: i64) -> Corrected
     requires { ⌜ Table (pairsLent (now points)) × Before pointOf (pairsLent (now points)) p n ⌝ }
     ensures { λ r. ⌜ Exact r (correction p 1 (pairsLent (now (points .entry)))) ⌝ }

@@ -1,4 +1,5 @@
-// The greatest difference between the corrections of two lists of points, at the points of one of them.
+// The greatest difference between the corrections of
+// two lists of points, at the points of one of them.
 use crate::corrections::Corrected;
 use crate::corrections::correction_at;
 ghost use mathlib.Core.Path.{_≡_};
@@ -9,9 +10,9 @@ ghost use lib.Signed.{_<ℤ_};
 ghost use Rattle.build.specs.Build.{pairsLent};
 ghost use Rattle.build.specs.Tested.{pairAt};
 ghost use Rattle.integers.specs.Ceiling.{ceiling};
-ghost use Rattle.line.specs.Before.{pointOf, Before};
-ghost use Rattle.line.specs.Line.{Correction};
-ghost use Rattle.line.specs.Ranges.{Table};
+ghost use Rattle.correction.specs.Before.{pointOf, Before};
+ghost use Rattle.correction.specs.Line.{Correction};
+ghost use Rattle.correction.specs.Ranges.{Table};
 ghost use Rattle.conformity.specs.Conformity.{differenceAt, greatestOver};
 ghost use Rattle.conformity.specs.Steps.{Sized, Exact, Apart, upwardDifference};
 
@@ -24,7 +25,8 @@ fn apart(a: u64, b: u64) -> u64
     b - a
 }
 
-// 2000 × num / run, rounded up: the whole part and the rest apart, so that nothing overflows.
+// 2000 × num / run, rounded up. The whole part and the
+// rest are computed separately, so that nothing overflows.
 fn upward(num: u64, run: u64) -> u64
     requires { ⌜ (0 < run) × (run ≤ 2 ^ 30) × (num ≤ 2 ^ 33 * run) ⌝ }
     ensures { λ r. ⌜ (r ≡ ceiling (2000 * num) run) × (r ≤ 2 ^ 45) ⌝ }
@@ -45,7 +47,7 @@ fn difference(s: i64, c: Corrected) -> u64
     upward(apart(above, below), run)
 }
 
-// How many points lie before p, where those before `from` do.
+// The number of points before p, if those before `from` are.
 fn passed(points: &[i64], from: usize, p: i64) -> usize
     requires { ⌜ (from ≤ length (now points) / 2) × ((k : ℕ) → k + 1 ≡ from → pairAt (now points) k .point <ℤ p) ⌝ }
     ensures { λ r. ⌜ Before pointOf (pairsLent (now (points .entry))) p r ⌝ }
@@ -61,6 +63,7 @@ fn passed(points: &[i64], from: usize, p: i64) -> usize
     n
 }
 
+// The greater of two numbers.
 pub fn greater(a: u64, b: u64) -> u64
     ensures { λ r. ⌜ r ≡ max a b ⌝ }
 {
@@ -70,7 +73,8 @@ pub fn greater(a: u64, b: u64) -> u64
     a
 }
 
-// The greatest over the points of `own`. They rise, and so do those of `other`, so that the search goes on from point to point.
+// The greatest difference at the points of `own`. Both lists
+// rise, so that the search continues from the last position.
 pub fn greatest(own: &[i64], other: &[i64]) -> u64
     requires { ⌜ Table (pairsLent (now own)) × Table (pairsLent (now other)) ⌝ }
     ensures { λ r. ⌜ (r ≡ greatestOver (differenceAt (pairsLent (now (own .entry))) (pairsLent (now (other .entry)))) (pairsLent (now (own .entry)))) × (r ≤ 2 ^ 45) ⌝ }

@@ -1,4 +1,5 @@
-// The calibration points of an opened sheet, as they would be lent: point and deviation by turns.
+// The calibration points of an opened sheet, in the
+// form of a lent list: point and deviation by turns.
 use sheet::Opened;
 use sheet::pair_in;
 ghost use mathlib.Core.Path.{_≡_};
@@ -9,7 +10,7 @@ ghost use Rattle.layout.specs.Contents.{Contents};
 ghost use Rattle.layout.specs.Image.{points};
 ghost use Rattle.sheet.specs.Opened.{Opens, Held};
 
-// A sheet holds 127 pairs at most.
+// The points of the sheet, then zeros. A sheet holds at most 127 pairs.
 pub fn stored_points(sheet: Opened, image: &[u8]) -> [i64; 254]
     requires { ⌜ Held sheet (now image) ⌝ }
     ensures { λ r. ⌜ (length r ≡ 254) × ((kind : ℕ) (c : Contents) → Opens kind (now (image .entry)) sheet c → pairsLent (take (2 * length (points c)) r) ≡ points c) ⌝ }

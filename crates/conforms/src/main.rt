@@ -1,4 +1,4 @@
 // The bench console, run on lines of `distance` and `conform` from an independent implementation.
 fn main() {
-    bench::serve();
+    commands::serve();
 }

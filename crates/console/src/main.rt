@@ -1,4 +1,4 @@
 // The bench console.
 fn main() {
-    bench::serve();
+    commands::serve();
 }

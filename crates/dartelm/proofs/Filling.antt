@@ -1,9 +1,9 @@
--- An array of n elements, each zero at first, that is filled from its start with what a function makes of the elements of a list.
--- Assumes nothing.
-use Rattle.dartelm.proofs.Names.{_≡_, ap, _∙_, List, [], _∷_, _++_, map, map-append, append-assoc, ℕ, suc, _+_, _-_, _≤_, _<_, arith, add-one, length, getD, take, set, replicate, length-map, take-suc}
-use Rattle.dartelm.proofs.Names.{take-all, set-at, length-take-le, padded}
+-- Laws of an array of n elements, each zero at first, that is
+-- filled from its start with the mapped elements of a list.
+use Rattle.dartelm.proofs.Names.{_≡_, ap, _∙_, List, [], _∷_, _++_, map, map-append, append-assoc, ℕ, suc, _+_, _-_, _≤_, _<_, arith, add-one, length, getD, take, set, replicate, length-map, take-suc, take-all}
+use Rattle.dartelm.proofs.Names.{set-at, length-take-le, padded}
 
--- The array when i elements are made.
+-- The array after i elements.
 abbrev pub filled : {A B : Type 0} → (A → B) → ℕ → B → List A → ℕ → List B
 filled make n zero from i = padded n zero (map make (take i from))
 

@@ -1,8 +1,7 @@
--- What is told may be handed in again, and a kind goes by the image's length.
--- Assumes nothing.
+-- Laws of a returned sheet that is passed again, and of the kind of an image's length.
 use Rattle.dartelm.proofs.Names.{_≡_, refl, ap, _∙_, Bool, true, false, not, List, [], _∷_, map, map-append, ℕ, zero, suc, _-_, _<_, arith, ℤ, pos, Float, eqb, replicate, length-map, eqb-true, good, _>>_}
-use Rattle.dartelm.proofs.Names.{refuse_if_, wrongImage, Sizes, imageSizes, Value, Whole, Single, Missing, Template, Bridge, Resistance, numberOf, slot, Spread, sheetLent, spread-sheet, endCode, Domain, Options, DartelmFields}
-use Rattle.dartelm.proofs.Names.{yes, levelOf, templateBy, optionsOf, templateFlag, valueOf, byFlags, noValue, slotOf, sheetOf, kindOf, SheetAgain}
+use Rattle.dartelm.proofs.Names.{refuse_if_, wrongImage, Sizes, imageSizes, Value, Whole, Single, Missing, Template, Bridge, Resistance, numberOf, slot, SplitValues, sheetLent, split-sheet, endCode, Domain}
+use Rattle.dartelm.proofs.Names.{Options, DartelmFields, yes, levelOf, templateBy, optionsOf, templateFlag, valueOf, byFlags, noValue, slotOf, sheetOf, kindOf, SheetAgain}
 
 pub value-again : (v : Value) → valueOf (byFlags v) ≡ v
 value-again (Whole z) = refl
@@ -34,11 +33,11 @@ pub sheet-again : SheetAgain
 sheet-again s =
     rw (template-again (s .summary .template), map-append, values-again (s .values), zeros-again, flag-again (s .summary .«end_bit»), length-map (s .values) byFlags, length-map (s .values) slot)
 
--- The sheet record handed in is the one that its values are lent of.
-pub handed-sheet : (f : DartelmFields) {o : Options} {d : Domain} {sorts : List ℕ} {wholes : List ℤ} {singles : List Float} → o ≡ optionsOf (f .«is_resistance») (f .«end_bit») d
-    → Spread (map slotOf (f .values)) sorts wholes singles → sheetLent (o .template) (o .«end_bit») (levelOf (f .level)) sorts wholes singles ≡ sheetOf f
-handed-sheet f {sorts = sorts} {wholes} {singles} e s =
-    ap (λ (x : Options). sheetLent (x .template) (x .«end_bit») (levelOf (f .level)) sorts wholes singles) e ∙ spread-sheet (sheetOf f) s
+-- The sheet record that is passed is the one whose values are lent.
+pub handed-sheet : (f : DartelmFields) {o : Options} {d : Domain} {tags : List ℕ} {wholes : List ℤ} {singles : List Float} → o ≡ optionsOf (f .«is_resistance») (f .«end_bit») d
+    → SplitValues (map slotOf (f .values)) tags wholes singles → sheetLent (o .template) (o .«end_bit») (levelOf (f .level)) tags wholes singles ≡ sheetOf f
+handed-sheet f {tags = tags} {wholes} {singles} e s =
+    ap (λ (x : Options). sheetLent (x .template) (x .«end_bit») (levelOf (f .level)) tags wholes singles) e ∙ split-sheet (sheetOf f) s
 
 -- ---- kinds
 
@@ -46,7 +45,7 @@ sized : (t : Bool) (y z : Sizes) → (refuse wrongImage if not t >> good y) ≡ 
 sized true y z e = refl
 sized false y z e = absurd (let n : _≡_ {A = ℕ} 0 1 = cc in omega arith)
 
--- An image that a kind has is of the kind that its length says.
+-- If an image's length is a kind's, the kind of that length is this one.
 pub kind-fits : (kind bytes : ℕ) (z : Sizes) → imageSizes kind bytes ≡ good z → kindOf bytes ≡ kind
 unfolding kindOf imageSizes
 kind-fits zero bytes z e = rw (eqb-true bytes 40 (sized (eqb bytes 40) _ z e))

@@ -1,6 +1,6 @@
 mod Names
 pub mod Filling
-pub mod Telling
+pub mod Answering
 pub mod Padding
 pub mod NextRows
 pub mod SheetReads

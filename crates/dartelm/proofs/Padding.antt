@@ -1,8 +1,8 @@
--- Lists with zeros behind them: a page's bytes and a text's characters, copied to the start of an array of zeros.
--- Assumes nothing.
+-- Laws of lists followed by zeros: a page's bytes and a text's
+-- characters, copied to the start of an array of zeros.
 use Rattle.dartelm.proofs.Names.{_≡_, sym, ap, _∙_, Bool, true, false, cond, List, [], _++_, append-assoc, ℕ, zero, suc, _+_, _-_, _≤_, arith, unary-clauses, ltb, length, take, drop, replicate, length-append}
 use Rattle.dartelm.proofs.Names.{length-take, length-drop, length-replicate, replicate-append-replicate, take-length, Outcome, good, refused, Refusal, Sizes, imageSizes, partOf, pageBytes, Text, Length, Refused}
-use Rattle.dartelm.proofs.Names.{textSaid, said-refused, told, padded, textAnswer, pageAnswer, pageCall}
+use Rattle.dartelm.proofs.Names.{textSaid, said-refused, structOf, padded, textAnswer, pageAnswer, pageCall}
 
 -- ---- zeros
 
@@ -11,11 +11,11 @@ zeros-behind zero n h = simp unary-clauses
 zeros-behind (suc k) zero h = absurd (omega arith)
 zeros-behind (suc k) (suc n) h = simp unary-clauses (zeros-behind k n (omega arith))
 
--- What a copy leaves in an array of n zeros.
+-- The result of a copy into an array of n zeros.
 pub copied : (n : ℕ) (source after : List ℕ) → length source ≤ n → after ≡ take (length source) source ++ drop (length source) (replicate n 0) → after ≡ padded n 0 source
 copied n source after h e = e ∙ rw (take-length source, zeros-behind (length source) n h)
 
--- Zeros behind zeros.
+-- Zeros after zeros.
 padded-again : (m n : ℕ) (l : List ℕ) → length l ≤ m → m ≤ n → padded n 0 (padded m 0 l) ≡ padded n 0 l
 padded-again m n l h k =
     let behind : n - length (padded m 0 l) ≡ n - m = rw (length-append, length-replicate) (omega arith) in
@@ -49,7 +49,7 @@ text-refused o t r e f = said-refused o r (ap (λ (x : Text). x .answer) (sym e)
 
 pub text-told : (o : Outcome (List ℕ)) (t : Text) (n : ℕ) (after : List ℕ) → t ≡ textSaid o → t .answer ≡ Length n → length (t .characters) ≡ 10
     → after ≡ take (length (t .characters)) (t .characters) ++ drop (length (t .characters)) (replicate 11 0)
-    → record { number = 0; place = 0; length = n; characters = after } ≡ told textAnswer [] o
+    → record { number = 0; place = 0; length = n; characters = after } ≡ structOf textAnswer [] o
 text-told (good text) t n after e f ten g =
     let a : t .answer ≡ Length (length text) = ap (λ (x : Text). x .answer) e in
     let w : t .characters ≡ padded 10 0 text = ap (λ (x : Text). x .characters) e in

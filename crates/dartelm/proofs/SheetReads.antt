@@ -1,7 +1,6 @@
--- The field reads of an accepted image give what its check found.
--- Assumes nothing.
+-- Laws of the field reads of an accepted image: they return what its check found.
 use Rattle.dartelm.proofs.Names.{_≡_, refl, sym, ap, _∙_, List, map, ℕ, zero, suc, _+_, _-_, _≤_, _<_, arith, length, getD, take, drop, set, length-map, List·getD-map, drop-cons, take-length, ne-eqb, le-ltb, good}
-use Rattle.dartelm.proofs.Names.{refused, Refusal, Contents, Value, Summary, contents, nothing, field, summary, readField, endCode, DartelmValue, templateFlag, byFlags, noValue, toldAs, domainNumber, fieldReads}
+use Rattle.dartelm.proofs.Names.{refused, Refusal, Contents, Value, Summary, contents, nothing, field, summary, readField, endCode, DartelmValue, templateFlag, byFlags, noValue, structBy, domainNumber, fieldReads}
 use Rattle.dartelm.proofs.Names.{readFields, sheetAnswer, fieldNumbers, noFields, valueIn, foundFields}
 use Rattle.dartelm.proofs.Filling.{filled, filled-more, filled-whole}
 
@@ -25,7 +24,7 @@ pub sheet-refused : (kind : ℕ) (image : List ℕ) (r : Refusal) → contents k
 unfolding readFields
 sheet-refused kind image r e = rw e
 
--- ---- the fields of an opened sheet, one after the other
+-- ---- the fields of an opened sheet, in order
 
 module _ (c : Contents) where
   pub one-more : (i : ℕ) (array : List DartelmValue) (b : DartelmValue) (v : Value) → i < 21 → i < length (c .fields)
@@ -50,7 +49,7 @@ module _ (c : Contents) where
         segments = s .segments;
         terms = s .terms;
       }
-      ≡ toldAs sheetAnswer fieldNumbers noFields (good (foundFields c))
+      ≡ structBy sheetAnswer fieldNumbers noFields (good (foundFields c))
   all-told i n array s flag domain h many t d e f =
       let count : n ≡ length (map valueIn (c .fields)) = many ∙ sym (length-map (c .fields) valueIn) in
       rw (t, d, f, filled-whole byFlags 21 noValue (map valueIn (c .fields)) i array (omega arith) e, count)

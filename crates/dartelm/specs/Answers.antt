@@ -1,4 +1,5 @@
--- include/dartelm.h: the struct that a call answers, from its outcome. Each struct is made of a number, a place and the call's values.
+-- include/dartelm.h: the struct that a call returns, from its
+-- outcome. Each struct has a number, a place and the call's values.
 use mathlib.Core.Option.{Option, none, some}
 use mathlib.Core.List.{List, _++_}
 use Prim.Native.Nat.{ℕ, _-_, _*_}
@@ -6,21 +7,21 @@ use lib.IntN.{pos}
 use lib.Ieee.{binary32, binary64}
 use lib.ListN.{length, replicate}
 use Rattle.refusal.specs.Outcome.{Outcome, good, refused}
-use Rattle.fields.specs.declared.Value.{Value}
-use Rattle.fields.specs.declared.Value.the-variants.{Whole}
-use Rattle.fields.specs.Lines.{numberOf}
-use Rattle.fields.specs.Calibration.{domainCode}
+use Rattle.codes.specs.declared.Value.{Value}
+use Rattle.codes.specs.declared.Value.the-variants.{Whole}
+use Rattle.templates.specs.Lines.{numberOf}
+use Rattle.templates.specs.Calibration.{domainCode}
 use Rattle.sheet.specs.declared.Summary.{Summary}
 use Rattle.sheet.specs.declared.TableDomain.{TableDomain}
 use Rattle.sheet.specs.declared.TableDomain.the-variants.{NoTable, Is}
-use Rattle.fields.specs.declared.Pair.{Pair}
-use Rattle.fields.specs.declared.Segment.{Segment}
-use Rattle.fields.specs.declared.Term.{Term}
+use Rattle.templates.specs.declared.Pair.{Pair}
+use Rattle.templates.specs.declared.Segment.{Segment}
+use Rattle.templates.specs.declared.Term.{Term}
 use Rattle.layout.specs.Pieces.{endCode}
 use Rattle.change.specs.declared.Proposal.{Proposal}
 use Rattle.reading.specs.declared.Reading.{Reading}
 use Rattle.recordings.specs.Recordings.{Compared, agree, tickFails}
-use Rattle.distance.specs.declared.ToldDistance.{ToldDistance}
+use Rattle.distance.specs.declared.CertificateBound.{CertificateBound}
 use Rattle.writing.specs.Steps.{Step, done, write}
 use Rattle.dartelm.specs.declared.answers.DartelmCheckAnswer.{DartelmCheckAnswer}
 use Rattle.dartelm.specs.declared.answers.DartelmFieldAnswer.{DartelmFieldAnswer}
@@ -40,21 +41,22 @@ use Rattle.dartelm.specs.declared.answers.DartelmCodeAnswer.{DartelmCode
 use Rattle.dartelm.specs.declared.answers.DartelmPageAnswer.{DartelmPageAnswer}
 use Rattle.dartelm.specs.Values.{plusZero, byFlags}
 
--- What is accepted is told with number 0 and place 0, its values as the struct has them; a refusal with its number and place, and with zeros for values.
-abbrev pub toldAs : {A B S : Type 0} → (ℕ → ℕ → B → S) → (A → B) → B → Outcome A → S
-toldAs answer inNumbers zeros (good a) = answer 0 0 (inNumbers a)
-toldAs answer inNumbers zeros (refused r) = answer (r .number) (r .place) zeros
+-- An accepted outcome has number 0, place 0 and its values;
+-- a refusal has its number and place, and zeros for values.
+abbrev pub structBy : {A B S : Type 0} → (ℕ → ℕ → B → S) → (A → B) → B → Outcome A → S
+structBy answer inNumbers zeros (good a) = answer 0 0 (inNumbers a)
+structBy answer inNumbers zeros (refused r) = answer (r .number) (r .place) zeros
 
-abbrev pub told : {A S : Type 0} → (ℕ → ℕ → A → S) → A → Outcome A → S
-told answer zeros o = toldAs answer (λ a. a) zeros o
+abbrev pub structOf : {A S : Type 0} → (ℕ → ℕ → A → S) → A → Outcome A → S
+structOf answer zeros o = structBy answer (λ a. a) zeros o
 
--- A list at the start of an array of n elements, with its zero in those behind.
+-- A list at the start of an array of n elements, and zeros in the rest.
 abbrev pub padded : {A : Type 0} → ℕ → A → List A → List A
 padded n zero list = list ++ replicate (n - length list) zero
 
 -- ---- the structs, and their zeros
 
--- What a check gives, as numbers.
+-- The check's summary, as numbers.
 pub record Numbers : Type 0 where
   pub bits : ℕ
   pub points : ℕ
@@ -65,7 +67,7 @@ pub record Numbers : Type 0 where
   pub segments : ℕ
   pub terms : ℕ
 
--- The domain of a table; 255 where there is no table.
+-- The domain of a table; 255 if there is no table.
 abbrev pub domainNumber : TableDomain → ℕ
 domainNumber NoTable = 255
 domainNumber (Is domain) = domainCode domain
@@ -124,7 +126,7 @@ noTerm = record { exponent = pos 0; coefficient = plusZero binary32 }
 abbrev pub characterAnswer : ℕ → ℕ → ℕ → DartelmCharacterAnswer
 characterAnswer n p c = record { number = n; place = p; character = c }
 
--- The bytes of an image that was written stand in the image.
+-- The bytes of a written image are in the image itself.
 abbrev pub writeAnswer : ℕ → ℕ → List ℕ → DartelmWriteAnswer
 writeAnswer n p image = record { number = n; place = p }
 
@@ -140,7 +142,7 @@ readingAnswer n p r = record { number = n; place = p; fraction = r .fraction; fi
 abbrev pub noReading : Reading
 noReading = record { fraction = pos 0; figure = plusZero binary64 }
 
--- Agreement is a flag; the tick beside it is 0 where there is none.
+-- Agreement is a flag; the tick beside it is 0 if the recordings agree.
 abbrev pub agreement : Compared → ℕ
 agreement agree = 1
 agreement (tickFails t) = 0
@@ -155,21 +157,21 @@ comparedAnswer n p c = record { number = n; place = p; agrees = agreement c; tic
 abbrev pub noComparison : Compared
 noComparison = tickFails 0
 
-abbrev pub distanceAnswer : ℕ → ℕ → ToldDistance → DartelmDistanceAnswer
+abbrev pub distanceAnswer : ℕ → ℕ → CertificateBound → DartelmDistanceAnswer
 distanceAnswer n p d = record { number = n; place = p; slope = d .slope; bound = d .bound }
 
-abbrev pub noDistance : ToldDistance
+abbrev pub noDistance : CertificateBound
 noDistance = record { slope = 0; bound = 0 }
 
--- Whether there is a straight table is a flag; K and the bound beside it are 0 where there is none.
-abbrev pub conformityAnswer : ℕ → ℕ → Option ToldDistance → DartelmConformityAnswer
+-- Whether there is a straight table is a flag; K and the bound beside it are 0 if there is none.
+abbrev pub conformityAnswer : ℕ → ℕ → Option CertificateBound → DartelmConformityAnswer
 conformityAnswer n p (some d) = record { number = n; place = p; slope = d .slope; bound = d .bound; «is_straight» = 1 }
 conformityAnswer n p none = record { number = n; place = p; slope = 0; bound = 0; «is_straight» = 0 }
 
-abbrev pub noConformity : Option ToldDistance
+abbrev pub noConformity : Option CertificateBound
 noConformity = none
 
--- Nothing more to write is a flag; the row beside it is 0 where there is none.
+-- Nothing more to write is a flag; the row beside it is 0 then.
 abbrev pub rowAnswer : ℕ → ℕ → Step → DartelmRowAnswer
 rowAnswer n p done = record { number = n; place = p; «is_done» = 1; offset = 0; bytes = replicate 8 0 }
 rowAnswer n p (write r bytes) = record { number = n; place = p; «is_done» = 0; offset = 8 * r; bytes = bytes }
@@ -177,7 +179,7 @@ rowAnswer n p (write r bytes) = record { number = n; place = p; «is_done» = 0;
 abbrev pub noRow : Step
 noRow = write 0 (replicate 8 0)
 
--- A text ends with a zero, as C's strings do: it has ten characters at most.
+-- A text ends with a zero, as C's strings do: it has at most ten characters.
 abbrev pub textAnswer : ℕ → ℕ → List ℕ → DartelmTextAnswer
 textAnswer n p text = record { number = n; place = p; length = length text; characters = padded 11 0 text }
 

@@ -1,4 +1,5 @@
--- include/dartelm.h, call by call: which call of documents 01 and 02 it is, and the struct that tells its outcome.
+-- include/dartelm.h, call by call: which call of documents
+-- 01 and 02 it is, and the struct for its outcome.
 use mathlib.Core.Bool.{Bool, true, false, cond}
 use mathlib.Core.List.{List, []}
 use Prim.Native.Nat.{ℕ}
@@ -6,9 +7,9 @@ use lib.IntN.{ℤ, pos}
 use Rattle.refusal.specs.Outcome.{Outcome, good, refused}
 use Rattle.memory.specs.declared.Sizes.{Sizes}
 use Rattle.memory.specs.Image.{imageSizes, pageBytes}
-use Rattle.fields.specs.declared.Value.the-variants.{Whole}
-use Rattle.fields.specs.declared.Curve.{Curve}
-use Rattle.fields.specs.Calibration.{domainOf}
+use Rattle.codes.specs.declared.Value.the-variants.{Whole}
+use Rattle.templates.specs.declared.Curve.{Curve}
+use Rattle.templates.specs.Calibration.{domainOf}
 use Rattle.texts.specs.Text.{textOf, codeOf}
 use Rattle.sheet.specs.Check.{check, readField, readPair, readSegment, readTerm, readCharacter}
 use Rattle.index.specs.Index.{index, fetch}
@@ -37,15 +38,16 @@ use Rattle.dartelm.specs.declared.answers.DartelmTextAnswer.{DartelmText
 use Rattle.dartelm.specs.declared.answers.DartelmCodeAnswer.{DartelmCodeAnswer}
 use Rattle.dartelm.specs.declared.answers.DartelmPageAnswer.{DartelmPageAnswer}
 use Rattle.dartelm.specs.Values.{levelOf, dashBy, valueOf, sheetOf}
-use Rattle.dartelm.specs.Answers.{toldAs, told, numbers, noNumbers, checkAnswer, fieldAnswer, pairAnswer, noPair, segmentAnswer, noSegment, termAnswer, noTerm, characterAnswer, proposalAnswer, noProposal, readingAnswer, noReading, comparedAnswer, noComparison, distanceAnswer, noDistance, conformityAnswer, noConformity, textAnswer, codeAnswer, pageAnswer, rowAnswer, noRow}
+use Rattle.dartelm.specs.Answers.{structBy, structOf, numbers, noNumbers, checkAnswer, fieldAnswer, pairAnswer, noPair, segmentAnswer, noSegment, termAnswer, noTerm, characterAnswer, proposalAnswer, noProposal}
+use Rattle.dartelm.specs.Answers.{readingAnswer, noReading, comparedAnswer, noComparison, distanceAnswer, noDistance, conformityAnswer, noConformity, textAnswer, codeAnswer, pageAnswer, rowAnswer, noRow}
 
--- The number of this archive and its header.
+-- The version of this archive and its header.
 abbrev pub version : ℕ
 version = 8
 
 -- ---- kinds
 
--- What stands for no kind: every call turns it down, as any other that is not 0 to 2.
+-- The number for no kind: every call refuses it, as any other that is not 0 to 2.
 abbrev pub noKind : ℕ
 noKind = 255
 
@@ -53,7 +55,7 @@ abbrev pub areSizes : Outcome Sizes → Bool
 areSizes (good z) = true
 areSizes (refused r) = false
 
--- The kind of the images that have so many bytes.
+-- The kind of the images with this many bytes.
 unfoldable pub kindOf : ℕ → ℕ
 kindOf bytes =
     cond (areSizes (imageSizes 0 bytes)) 0 (cond (areSizes (imageSizes 1 bytes)) 1 (cond (areSizes (imageSizes 2 bytes)) 2 noKind))
@@ -61,27 +63,28 @@ kindOf bytes =
 -- ---- check and read
 
 abbrev pub checkCall : ℕ → List ℕ → DartelmCheckAnswer
-checkCall kind image = toldAs checkAnswer numbers noNumbers (check kind image)
+checkCall kind image = structBy checkAnswer numbers noNumbers (check kind image)
 
 abbrev pub fieldCall : ℕ → List ℕ → ℕ → DartelmFieldAnswer
-fieldCall kind image field = told fieldAnswer (Whole (pos 0)) (readField kind image field)
+fieldCall kind image field = structOf fieldAnswer (Whole (pos 0)) (readField kind image field)
 
 abbrev pub fetchCall : ℕ → List ℕ → List ℕ → ℕ → DartelmFieldAnswer
-fetchCall kind image made field = told fieldAnswer (Whole (pos 0)) (fetch kind image made field)
+fetchCall kind image made field = structOf fieldAnswer (Whole (pos 0)) (fetch kind image made field)
 
 abbrev pub pairCall : ℕ → List ℕ → ℕ → DartelmPairAnswer
-pairCall kind image index = told pairAnswer noPair (readPair kind image index)
+pairCall kind image index = structOf pairAnswer noPair (readPair kind image index)
 
 abbrev pub segmentCall : ℕ → List ℕ → ℕ → DartelmSegmentAnswer
-segmentCall kind image index = told segmentAnswer noSegment (readSegment kind image index)
+segmentCall kind image index = structOf segmentAnswer noSegment (readSegment kind image index)
 
 abbrev pub termCall : ℕ → List ℕ → ℕ → DartelmTermAnswer
-termCall kind image index = told termAnswer noTerm (readTerm kind image index)
+termCall kind image index = structOf termAnswer noTerm (readTerm kind image index)
 
 abbrev pub characterCall : ℕ → List ℕ → ℕ → DartelmCharacterAnswer
-characterCall kind image index = told characterAnswer 0 (readCharacter kind image index)
+characterCall kind image index = structOf characterAnswer 0 (readCharacter kind image index)
 
--- ---- build, change, commit and index: the outcome, of which the answer and every byte of the image or the buffer afterwards are told
+-- ---- build, change, commit and index: the answer,
+-- and every byte of the image or buffer afterwards
 
 -- Domain 0 is electrical, any other physical.
 abbrev pub buildCall : ℕ → List ℕ → DartelmFields → List ℕ → ℕ → List ℤ → Outcome (List ℕ)
@@ -102,30 +105,30 @@ commitCall kind image level field present new = commit kind image (levelOf level
 -- ---- a proposal
 
 abbrev pub proposeCall : ℕ → List ℕ → ℕ → ℕ → DartelmValue → DartelmProposalAnswer
-proposeCall kind image level field value = told proposalAnswer noProposal (propose kind image (levelOf level) field (valueOf value))
+proposeCall kind image level field value = structOf proposalAnswer noProposal (propose kind image (levelOf level) field (valueOf value))
 
 -- ---- a reading, recordings, a distance, a conformity, a row, texts, a page
 
 abbrev pub readingCall : ℕ → List ℕ → ℤ → ℕ → DartelmReadingAnswer
-readingCall kind image input dash = told readingAnswer noReading (takeReading kind image input (dashBy dash))
+readingCall kind image input dash = structOf readingAnswer noReading (takeReading kind image input (dashBy dash))
 
 abbrev pub compareCall : ℕ → List ℕ → List ℤ → List ℤ → DartelmComparedAnswer
-compareCall kind image slow fast = told comparedAnswer noComparison (compare kind image slow fast)
+compareCall kind image slow fast = structOf comparedAnswer noComparison (compare kind image slow fast)
 
 abbrev pub distanceCall : List ℤ → DartelmDistanceAnswer
-distanceCall points = told distanceAnswer noDistance (distance points)
+distanceCall points = structOf distanceAnswer noDistance (distance points)
 
 abbrev pub conformityCall : ℕ → List ℕ → List ℤ → DartelmConformityAnswer
-conformityCall kind image points = told conformityAnswer noConformity (conformity kind image points)
+conformityCall kind image points = structOf conformityAnswer noConformity (conformity kind image points)
 
 abbrev pub rowCall : ℕ → List ℕ → List ℕ → DartelmRowAnswer
-rowCall kind present wanted = told rowAnswer noRow (nextRow kind present wanted)
+rowCall kind present wanted = structOf rowAnswer noRow (nextRow kind present wanted)
 
 abbrev pub textCall : ℕ → ℕ → DartelmTextAnswer
-textCall field code = told textAnswer [] (textOf field code)
+textCall field code = structOf textAnswer [] (textOf field code)
 
 abbrev pub codeCall : ℕ → List ℕ → DartelmCodeAnswer
-codeCall field text = told codeAnswer 0 (codeOf field text)
+codeCall field text = structOf codeAnswer 0 (codeOf field text)
 
 abbrev pub pageCall : ℕ → List ℕ → ℕ → DartelmPageAnswer
 pageCall kind image page = pageAnswer (pageBytes kind image page)

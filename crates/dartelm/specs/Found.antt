@@ -1,6 +1,6 @@
--- Only inner contracts need these: all fields as a check found them.
+-- Only inner contracts need this: all fields as a check found them.
 use mathlib.Core.List.{map}
-use Rattle.fields.specs.declared.Value.{Value}
+use Rattle.codes.specs.declared.Value.{Value}
 use Rattle.layout.specs.Contents.{Contents, Found}
 use Rattle.sheet.specs.Check.{summary}
 use Rattle.dartelm.specs.Sheets.{AllFields}

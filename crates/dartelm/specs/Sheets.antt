@@ -1,13 +1,14 @@
--- include/dartelm.h, dartelm_sheet: all fields of an image. It is what a check gives, and the reads of its fields one by one, though the image is checked once.
+-- include/dartelm.h, dartelm_sheet: all fields of an image. The answer is the
+-- check's and that of the reads of each field, though the image is checked once.
 use mathlib.Core.Path.{_≡_}
 use mathlib.Core.List.{List, [], _∷_, map}
 use Prim.Native.Nat.{ℕ, zero, suc}
 use lib.IntN.{pos}
 use lib.ListN.{length}
 use Rattle.refusal.specs.Outcome.{Outcome, good, _>>=_}
-use Rattle.fields.specs.declared.Value.{Value}
-use Rattle.fields.specs.declared.Value.the-variants.{Whole}
-use Rattle.fields.specs.declared.Level.the-variants.{Owner}
+use Rattle.codes.specs.declared.Value.{Value}
+use Rattle.codes.specs.declared.Value.the-variants.{Whole}
+use Rattle.templates.specs.declared.Level.the-variants.{Owner}
 use Rattle.sheet.specs.declared.Summary.{Summary}
 use Rattle.layout.specs.Image.{contents}
 use Rattle.sheet.specs.Check.{summary, readField}
@@ -15,9 +16,9 @@ use Rattle.build.specs.Build.{slot}
 use Rattle.dartelm.specs.declared.values.DartelmFields.{DartelmFields}
 use Rattle.dartelm.specs.declared.answers.DartelmSheetAnswer.{DartelmSheetAnswer}
 use Rattle.dartelm.specs.Values.{templateFlag, byFlags, noValue, sheetOf}
-use Rattle.dartelm.specs.Answers.{toldAs, padded, Numbers, numbers, noNumbers}
+use Rattle.dartelm.specs.Answers.{structBy, padded, Numbers, numbers, noNumbers}
 
--- What a check gives, and the values of all fields.
+-- The check's summary, and the values of all fields.
 pub record AllFields : Type 0 where
   pub summary : Summary
   pub values : List Value
@@ -30,7 +31,7 @@ fieldReads kind image (suc n) f = do
   rest ← fieldReads kind image n (suc f)
   good (value ∷ rest)
 
--- The reads of all fields: the template says how many there are.
+-- The reads of all fields: the template determines how many there are.
 unfoldable pub readFields : ℕ → List ℕ → Outcome AllFields
 readFields kind image = do
   c ← contents kind image
@@ -39,7 +40,7 @@ readFields kind image = do
 
 -- ---- the struct
 
--- What a check gives, as numbers, the template's flag, and the values of all fields.
+-- The check's summary, as numbers, the template's flag, and the values of all fields.
 pub record FieldNumbers : Type 0 where
   pub numbers : Numbers
   pub resistance : ℕ
@@ -52,8 +53,8 @@ abbrev pub noFields : FieldNumbers
 noFields = record { numbers = noNumbers; resistance = 0; values = [] }
 
 -- Field f is at index f − 1. A level is not stored: the owner's number is returned.
-abbrev pub fieldsTold : FieldNumbers → DartelmFields
-fieldsTold s =
+abbrev pub fieldsStruct : FieldNumbers → DartelmFields
+fieldsStruct s =
     record {
       values = padded 21 noValue (map byFlags (s .values));
       «end_bit» = s .numbers .endBit;
@@ -71,22 +72,23 @@ sheetAnswer n p s =
       points = s .numbers .points;
       characters = s .numbers .characters;
       «field_count» = length (s .values);
-      fields = fieldsTold s;
+      fields = fieldsStruct s;
       domain = s .numbers .domain;
       segments = s .numbers .segments;
       terms = s .numbers .terms;
     }
 
 abbrev pub sheetCall : ℕ → List ℕ → DartelmSheetAnswer
-sheetCall kind image = toldAs sheetAnswer fieldNumbers noFields (readFields kind image)
+sheetCall kind image = structBy sheetAnswer fieldNumbers noFields (readFields kind image)
 
--- ---- handed in again
+-- ---- passed to a build again
 
--- What is returned of a sheet may be handed to a build: it is the sheet record of these values, with zeros after the template's last field, which a build
--- does not look at, and the owner's level, which it does not test.
+-- A returned sheet can be passed to a build: it is the sheet record of
+-- these values. It has zeros after the template's last field, which a
+-- build ignores, and the owner's level, which it does not test.
 abbrev pub SheetAgain : Type 0
 SheetAgain =
-    (s : AllFields) → sheetOf (fieldsTold (fieldNumbers s)) ≡
+    (s : AllFields) → sheetOf (fieldsStruct (fieldNumbers s)) ≡
     record {
       template = s .summary .template;
       fields = padded 21 (slot (Whole (pos 0))) (map slot (s .values));

@@ -1,17 +1,18 @@
--- include/dartelm.h: a field's value by two flags, and the sheet record that a build is handed. A flag is yes where it is not 0, so every byte handed in means something.
+-- include/dartelm.h: a field's value by two flags, and the sheet record that a
+-- build takes. A flag is yes if it is not 0, so that every byte has a meaning.
 use mathlib.Core.Bool.{Bool, not, cond}
 use mathlib.Core.List.{map}
 use Prim.Native.Nat.{ℕ, zero, suc}
 use lib.Dec.{eqb}
 use lib.IntN.{pos}
 use lib.Ieee.{Float, Format, binary32, ofBits}
-use Rattle.fields.specs.declared.Value.{Value}
-use Rattle.fields.specs.declared.Value.the-variants.{Whole, Single, Missing}
-use Rattle.fields.specs.declared.Template.{Template}
-use Rattle.fields.specs.declared.Template.the-variants.{Bridge, Resistance}
-use Rattle.fields.specs.declared.Domain.{Domain}
-use Rattle.fields.specs.declared.Level.{Level}
-use Rattle.fields.specs.declared.Level.the-variants.{Owner, CalibrationRoom, Maker}
+use Rattle.codes.specs.declared.Value.{Value}
+use Rattle.codes.specs.declared.Value.the-variants.{Whole, Single, Missing}
+use Rattle.templates.specs.declared.Template.{Template}
+use Rattle.templates.specs.declared.Template.the-variants.{Bridge, Resistance}
+use Rattle.templates.specs.declared.Domain.{Domain}
+use Rattle.templates.specs.declared.Level.{Level}
+use Rattle.templates.specs.declared.Level.the-variants.{Owner, CalibrationRoom, Maker}
 use Rattle.reading.specs.declared.Dash.{Dash}
 use Rattle.reading.specs.declared.Dash.the-variants.{Large, Small}
 use Rattle.build.specs.declared.Slot.{Slot}
@@ -24,18 +25,20 @@ use Rattle.dartelm.specs.declared.values.DartelmFields.{DartelmFields}
 abbrev pub yes : ℕ → Bool
 yes flag = not (eqb flag 0)
 
--- The value handed in: missing where that flag is yes, else a Single where that one is, else a whole number.
+-- The value that is passed: missing if that flag is yes,
+-- else a Single if that one is, else a whole number.
 abbrev pub valueOf : DartelmValue → Value
 valueOf v = cond (yes (v .«is_missing»)) Missing (cond (yes (v .«is_single»)) (Single (v .single)) (Whole (v .whole)))
 
--- A level by its number: 0 owner, 1 calibration room, 2 maker; any other is taken as the owner, the least of them.
+-- A level by its number: 0 owner, 1 calibration room, 2 maker; any other is the owner, the lowest.
 abbrev pub levelOf : ℕ → Level
 levelOf zero = Owner
 levelOf (suc zero) = CalibrationRoom
 levelOf (suc (suc zero)) = Maker
 levelOf (suc (suc (suc n))) = Owner
 
--- Note 7: a build takes the template as one of two cases, so that no third can be handed in. It is a flag: 0 is template 33, anything else 32.
+-- Note 7: a build takes the template "as one of two cases, so that no third
+-- can be handed in". It is a flag: 0 is template 33, anything else 32.
 abbrev pub templateBy : ℕ → Template
 templateBy flag = cond (yes flag) Resistance Bridge
 
@@ -43,7 +46,7 @@ templateBy flag = cond (yes flag) Resistance Bridge
 abbrev pub optionsOf : ℕ → ℕ → Domain → Options
 optionsOf isResistance endBit domain = record { template = templateBy isResistance; «end_bit» = yes endBit; domain = domain }
 
--- The flag that is returned.
+-- The template's flag in an answer.
 abbrev pub templateFlag : Template → ℕ
 templateFlag Bridge = 0
 templateFlag Resistance = 1
@@ -56,17 +59,17 @@ dashBy number = cond (eqb number 0) Large Small
 abbrev pub plusZero : Format → Float
 plusZero format = ofBits format 0
 
--- The value told, with 0 in what it does not say.
+-- A returned value, with 0 in the members that do not apply.
 abbrev pub byFlags : Value → DartelmValue
 byFlags (Whole z) = record { whole = z; single = plusZero binary32; «is_single» = 0; «is_missing» = 0 }
 byFlags (Single x) = record { whole = pos 0; single = x; «is_single» = 1; «is_missing» = 0 }
 byFlags Missing = record { whole = pos 0; single = plusZero binary32; «is_single» = 0; «is_missing» = 1 }
 
--- Zeros, where no value is told: as the whole number 0.
+-- Zeros in place of a value, as the whole number 0.
 abbrev pub noValue : DartelmValue
 noValue = byFlags (Whole (pos 0))
 
--- The sheet record handed in.
+-- The sheet record that is passed.
 abbrev pub slotOf : DartelmValue → Slot
 slotOf v = slot (valueOf v)
 

@@ -1,15 +1,15 @@
-// What a call answers: its number, 0 where it is accepted, its place, and its values. Where it is refused the values are 0;
-// where it is accepted the place is.
+// The structs that calls return: a number, 0 if the call is accepted, a place,
+// and values. A refused call has the values 0, an accepted one the place 0.
 use crate::values::DartelmFields;
 use crate::values::DartelmValue;
-use fields::Domain;
 use sheet::TableDomain;
+use templates::Domain;
 ghost use mathlib.Core.Path.{_≡_};
 ghost use Rattle.dartelm.specs.Answers.{domainNumber};
 
-// An image that was checked: the bits up to the end (a zero that ends the text counted), the calibration points, the
-// characters of the closing text, the end bit, the first template's number, the domain of the points, and a curve's segments
-// and terms.
+// The answer of a check: the bits up to the end (a zero that ends the text counted),
+// the numbers of points and of characters, and the end bit. Then the first template's
+// number, the domain of the points, and a curve's numbers of segments and terms.
 #[repr(C)]
 pub struct DartelmCheckAnswer {
     pub number: u8,
@@ -32,7 +32,7 @@ pub struct DartelmFieldAnswer {
     pub value: DartelmValue,
 }
 
-// All that a check gives, and the values of all fields.
+// The answer of a check, and the values of all fields.
 #[repr(C)]
 pub struct DartelmSheetAnswer {
     pub number: u8,
@@ -65,7 +65,8 @@ pub struct DartelmSegmentAnswer {
     pub terms: u64,
 }
 
-// A term of a curve: the power of the position, and what it is multiplied by, both in per cent of the span.
+// A term of a curve: the power of the position, and its
+// coefficient. Position and correction are in per cent of the span.
 #[repr(C)]
 pub struct DartelmTermAnswer {
     pub number: u8,
@@ -82,14 +83,15 @@ pub struct DartelmCharacterAnswer {
     pub character: u8,
 }
 
-// An image that was built or changed, or a code committed to it.
+// The answer of a build, a change, a commit or an index.
 #[repr(C)]
 pub struct DartelmWriteAnswer {
     pub number: u8,
     pub place: u64,
 }
 
-// What a field would become: the code that stands there, the code that would be stored, and the value that this one reads back.
+// What a field would become: the present code, the
+// code to be stored, and the value that it reads back.
 #[repr(C)]
 pub struct DartelmProposalAnswer {
     pub number: u8,
@@ -126,8 +128,8 @@ pub struct DartelmDistanceAnswer {
     pub bound: u64,
 }
 
-// The conformity of an image with points: K and the bound, as of a distance, and whether there is a straight table to compare;
-// without one K and the bound are 0.
+// The conformity of an image with points: K and the bound, as in a distance, and
+// whether there is a straight table to compare. Without one K and the bound are 0.
 #[repr(C)]
 pub struct DartelmConformityAnswer {
     pub number: u8,
@@ -137,7 +139,8 @@ pub struct DartelmConformityAnswer {
     pub is_straight: u8,
 }
 
-// The next row of an image that is written to a chip: whether nothing more is to be written, else its offset and its bytes.
+// The next row of an image that is written to a chip: whether nothing
+// more is to be written, else the row's offset and its bytes.
 #[repr(C)]
 pub struct DartelmRowAnswer {
     pub number: u8,
@@ -147,7 +150,7 @@ pub struct DartelmRowAnswer {
     pub bytes: [u8; 8],
 }
 
-// The text of a code: how many characters, and them, with zeros behind.
+// The text of a code: its length, and the characters, then zeros.
 #[repr(C)]
 pub struct DartelmTextAnswer {
     pub number: u8,
@@ -164,14 +167,14 @@ pub struct DartelmCodeAnswer {
     pub code: u64,
 }
 
-// A page's stream bytes, 31 of them or none, with zeros behind. This is never refused.
+// A page's stream bytes, 31 or none, then zeros. This is never refused.
 #[repr(C)]
 pub struct DartelmPageAnswer {
     pub count: u64,
     pub bytes: [u8; 31],
 }
 
-// The domain of a table, as a number; 255 where there is no table.
+// The domain of a table, as a number; 255 if there is no table.
 pub fn domain_number(domain: TableDomain) -> u8
     ensures { λ r. ⌜ r ≡ domainNumber domain ⌝ }
 {

@@ -1,42 +1,18 @@
-// Dartelm for firmware: the calls of `include/dartelm.h`. Every function is proved, nothing is assumed, and no call asks
-// anything of its caller. A call answers one struct by value; the only slices are what is lent: an image, a text, points,
-// recordings, an index.
+// Dartelm for firmware: the calls of `include/dartelm.h`. No call has a `requires`. A call returns
+// one struct by value; the only slices are lent: an image, a text, points, recordings, an index.
 ghost use mathlib.Core.Path.{_≡_};
 ghost use mathlib.Core.List.{List, []};
 ghost use Prim.Native.Nat.{ℕ};
 ghost use lib.IntN.{pos};
 ghost use Rattle.refusal.specs.Written.{writtenSaid, afterwards};
-ghost use Rattle.fields.specs.declared.Value.the-variants.{Whole};
+ghost use Rattle.codes.specs.declared.Value.the-variants.{Whole};
 ghost use Rattle.sheet.specs.Check.{fieldSaid};
-ghost use Rattle.dartelm.specs.Answers.{told, fieldAnswer, writeAnswer};
-ghost use Rattle.dartelm.specs.Calls.{
-  version,
-  kindOf,
-  checkCall,
-  fieldCall,
-  fetchCall,
-  pairCall,
-  segmentCall,
-  termCall,
-  characterCall,
-  buildCall,
-  buildCurveCall,
-  changeCall,
-  indexCall,
-  proposeCall,
-  commitCall,
-  readingCall,
-  compareCall,
-  distanceCall,
-  conformityCall,
-  rowCall,
-  textCall,
-  codeCall,
-  pageCall,
-};
+ghost use Rattle.dartelm.specs.Answers.{structOf, fieldAnswer, writeAnswer};
+ghost use Rattle.dartelm.specs.Calls.{version, kindOf, checkCall, fieldCall, fetchCall, pairCall, segmentCall, termCall, characterCall, buildCall, buildCurveCall, changeCall, indexCall, proposeCall, commitCall};
+ghost use Rattle.dartelm.specs.Calls.{readingCall, compareCall, distanceCall, conformityCall, rowCall, textCall, codeCall, pageCall};
 ghost use Rattle.dartelm.specs.Sheets.{sheetCall};
 
-mod answers; // answers.rt: the structs that calls answer
+mod answers; // answers.rt: the structs that calls return
 mod sheets; // sheets.rt: all fields of an opened sheet
 mod values; // values.rt: a field's value by flags, and the values of a sheet
 
@@ -60,8 +36,6 @@ use answers::DartelmWriteAnswer;
 use change::ProposalAnswer;
 use conformity::ConformityAnswer;
 use distance::DistanceAnswer;
-use fields::Curve;
-use fields::Domain;
 use reading::ReadingAnswer;
 use recordings::ComparedAnswer;
 use refusal::Written;
@@ -72,13 +46,15 @@ use sheet::OpenedAnswer;
 use sheet::PairAnswer;
 use sheet::SegmentAnswer;
 use sheet::TermAnswer;
+use templates::Curve;
+use templates::Domain;
 use texts::CodeAnswer;
 use texts::TextAnswer;
 use values::DartelmFields;
 use values::DartelmValue;
 use writing::Answer;
 
-// The number of this archive, which its header has too.
+// The version of this archive, equal to its header's.
 #[no_mangle]
 pub extern "C" fn dartelm_version() -> u32
     ensures { λ r. ⌜ r ≡ version ⌝ }
@@ -86,7 +62,7 @@ pub extern "C" fn dartelm_version() -> u32
     8
 }
 
-// The kind of the images that have so many bytes: 0, 1 or 2; 255 where no kind has.
+// The kind of the images with this many bytes: 0, 1 or 2; 255 if there is none.
 #[no_mangle]
 pub extern "C" fn dartelm_kind_of(bytes: usize) -> u8
     ensures { λ r. ⌜ r ≡ kindOf bytes ⌝ }
@@ -127,7 +103,7 @@ pub extern "C" fn dartelm_check(kind: u8, image: &[u8]) -> DartelmCheckAnswer
                 points: summary.points,
                 characters: summary.characters,
                 end_bit: summary.end_bit as u8,
-                template: fields::template_number(template) as u8,
+                template: templates::template_number(template) as u8,
                 domain: answers::domain_number(domain),
                 segments: summary.segments,
                 terms: summary.terms,
@@ -136,9 +112,9 @@ pub extern "C" fn dartelm_check(kind: u8, image: &[u8]) -> DartelmCheckAnswer
     }
 }
 
-// What a field that was read or fetched answers.
+// The answer for a field that was read or fetched.
 fn held(answer: FieldAnswer) -> DartelmFieldAnswer
-    ensures { λ r. ⌜ r ≡ told fieldAnswer (Whole (pos 0)) (fieldSaid answer) ⌝ }
+    ensures { λ r. ⌜ r ≡ structOf fieldAnswer (Whole (pos 0)) (fieldSaid answer) ⌝ }
 {
     match answer {
         FieldAnswer::Refused(r) => DartelmFieldAnswer {
@@ -268,9 +244,9 @@ pub extern "C" fn dartelm_character(kind: u8, image: &[u8], index: u64) -> Darte
     }
 }
 
-// What a build, a change, a commit or an index answers.
+// The answer of a build, a change, a commit or an index.
 fn wrote(written: Written) -> DartelmWriteAnswer
-    ensures { λ r. ⌜ ((image : List ℕ) → r ≡ told writeAnswer [] (writtenSaid written image)) ⌝ }
+    ensures { λ r. ⌜ ((image : List ℕ) → r ≡ structOf writeAnswer [] (writtenSaid written image)) ⌝ }
 {
     match written {
         Written::Refused(r) => DartelmWriteAnswer {
@@ -284,8 +260,8 @@ fn wrote(written: Written) -> DartelmWriteAnswer
     }
 }
 
-// Builds an image from a sheet, the closing text, and calibration points and deviations by turns in a domain: 0 electrical, any
-// other physical.
+// Builds an image from a sheet, the closing text, and calibration points
+// and deviations by turns in a domain: 0 electrical, any other physical.
 #[no_mangle]
 pub extern "C" fn dartelm_build(
     kind: u8,
@@ -296,24 +272,15 @@ pub extern "C" fn dartelm_build(
     points: &[i64],
 ) -> DartelmWriteAnswer
     ensures { λ r. ⌜ (let outcome = buildCall kind (now (image .entry)) fields (now (text .entry)) domain (now (points .entry)) in
-        (r ≡ told writeAnswer [] outcome) × (now (image .exit) ≡ afterwards (now (image .entry)) outcome)) ⌝ }
+        (r ≡ structOf writeAnswer [] outcome) × (now (image .exit) ≡ afterwards (now (image .entry)) outcome)) ⌝ }
 {
-    let found = coding::domain_of(domain as u64);
+    let found = templates::domain_of(domain as u64);
     let options = values::options_of(fields.is_resistance, fields.end_bit, found);
-    let mut sorts = [0u8; 21];
+    let mut tags = [0u8; 21];
     let mut wholes = [0i64; 21];
     let mut singles = [0.0f32; 21];
-    values::spread(fields, &mut sorts, &mut wholes, &mut singles);
-    wrote(build::build_lent(
-        kind,
-        image,
-        options,
-        &sorts,
-        &wholes,
-        &singles,
-        text,
-        points,
-    ))
+    values::split_values(fields, &mut tags, &mut wholes, &mut singles);
+    wrote(build::build_lent(kind, image, options, &tags, &wholes, &singles, text, points))
 }
 
 // Builds an image from a sheet, the closing text, and a curve.
@@ -326,14 +293,14 @@ pub extern "C" fn dartelm_build_curve(
     curve: Curve,
 ) -> DartelmWriteAnswer
     ensures { λ r. ⌜ (let outcome = buildCurveCall kind (now (image .entry)) fields (now (text .entry)) curve in
-        (r ≡ told writeAnswer [] outcome) × (now (image .exit) ≡ afterwards (now (image .entry)) outcome)) ⌝ }
+        (r ≡ structOf writeAnswer [] outcome) × (now (image .exit) ≡ afterwards (now (image .entry)) outcome)) ⌝ }
 {
     let options = values::options_of(fields.is_resistance, fields.end_bit, Domain::Electrical);
-    let mut sorts = [0u8; 21];
+    let mut tags = [0u8; 21];
     let mut wholes = [0i64; 21];
     let mut singles = [0.0f32; 21];
-    values::spread(fields, &mut sorts, &mut wholes, &mut singles);
-    wrote(build::build_curve_lent(kind, image, options, &sorts, &wholes, &singles, text, curve))
+    values::split_values(fields, &mut tags, &mut wholes, &mut singles);
+    wrote(build::build_curve_lent(kind, image, options, &tags, &wholes, &singles, text, curve))
 }
 
 // Changes one field, as a writer of a level.
@@ -346,7 +313,7 @@ pub extern "C" fn dartelm_change(
     value: DartelmValue,
 ) -> DartelmWriteAnswer
     ensures { λ r. ⌜ (let outcome = changeCall kind (now (image .entry)) level field value in
-        (r ≡ told writeAnswer [] outcome) × (now (image .exit) ≡ afterwards (now (image .entry)) outcome)) ⌝ }
+        (r ≡ structOf writeAnswer [] outcome) × (now (image .exit) ≡ afterwards (now (image .entry)) outcome)) ⌝ }
 {
     let writer = values::level_of(level);
     wrote(change::change(kind, image, writer, field, values::value_of(value)))
@@ -356,12 +323,12 @@ pub extern "C" fn dartelm_change(
 #[no_mangle]
 pub extern "C" fn dartelm_index(kind: u8, image: &[u8], buffer: &mut [u8]) -> DartelmWriteAnswer
     ensures { λ r. ⌜ (let outcome = indexCall kind (now (image .entry)) (now (buffer .entry)) in
-        (r ≡ told writeAnswer [] outcome) × (now (buffer .exit) ≡ afterwards (now (buffer .entry)) outcome)) ⌝ }
+        (r ≡ structOf writeAnswer [] outcome) × (now (buffer .exit) ≡ afterwards (now (buffer .entry)) outcome)) ⌝ }
 {
     wrote(index::make_index(kind, image, buffer))
 }
 
-// Tells what a field would become if it were changed to a value, and writes nothing.
+// Computes what a field would become if it were changed to a value, and writes nothing.
 #[no_mangle]
 pub extern "C" fn dartelm_propose(
     kind: u8,
@@ -399,7 +366,7 @@ pub extern "C" fn dartelm_propose(
     }
 }
 
-// Puts a code into a field, if the present one is still there and the new one may stand.
+// Puts a code into a field, if the present one is still there and the field can hold the new one.
 #[no_mangle]
 pub extern "C" fn dartelm_commit(
     kind: u8,
@@ -410,7 +377,7 @@ pub extern "C" fn dartelm_commit(
     new_code: u64,
 ) -> DartelmWriteAnswer
     ensures { λ r. ⌜ (let outcome = commitCall kind (now (image .entry)) level field «present_code» «new_code» in
-        (r ≡ told writeAnswer [] outcome) × (now (image .exit) ≡ afterwards (now (image .entry)) outcome)) ⌝ }
+        (r ≡ structOf writeAnswer [] outcome) × (now (image .exit) ≡ afterwards (now (image .entry)) outcome)) ⌝ }
 {
     let writer = values::level_of(level);
     wrote(change::commit(kind, image, writer, field, present_code, new_code))
@@ -443,7 +410,7 @@ pub extern "C" fn dartelm_reading(
     }
 }
 
-// Holds a recording at ten a second against one at sixty, and both against the image.
+// Compares a recording at ten a second with one at sixty, and both with the image.
 #[no_mangle]
 pub extern "C" fn dartelm_compare(
     kind: u8,
@@ -475,7 +442,7 @@ pub extern "C" fn dartelm_compare(
     }
 }
 
-// Tells how far a reading can stray from the line through these points, before anything is built.
+// Computes how far a reading can be from the line through these points, before anything is built.
 #[no_mangle]
 pub extern "C" fn dartelm_distance(points: &[i64]) -> DartelmDistanceAnswer
     ensures { λ r. ⌜ r ≡ distanceCall (now (points .entry)) ⌝ }
@@ -496,7 +463,8 @@ pub extern "C" fn dartelm_distance(points: &[i64]) -> DartelmDistanceAnswer
     }
 }
 
-// Tells how far any reading of an image can be from the line through these points, whoever wrote the image.
+// Computes how far any reading of an image can be from
+// the line through these points, whoever wrote the image.
 #[no_mangle]
 pub extern "C" fn dartelm_conformity(
     kind: u8,
@@ -530,7 +498,7 @@ pub extern "C" fn dartelm_conformity(
     }
 }
 
-// The next row to write to a chip that holds `present`, so that it comes to hold `wanted`.
+// The next row to write to a chip that holds `present`, so that it will hold `wanted`.
 #[no_mangle]
 pub extern "C" fn dartelm_next_row(kind: u8, present: &[u8], wanted: &[u8]) -> DartelmRowAnswer
     ensures { λ r. ⌜ r ≡ rowCall kind (now (present .entry)) (now (wanted .entry)) ⌝ }

@@ -13,18 +13,18 @@ ghost use Prim.Native.Nat.{ℕ};
 ghost use Rattle.refusal.specs.Outcome.{good, refused};
 ghost use Rattle.layout.specs.Contents.{Contents};
 ghost use Rattle.sheet.specs.Opened.{Opens, Held};
-ghost use Rattle.dartelm.specs.Answers.{toldAs};
+ghost use Rattle.dartelm.specs.Answers.{structBy};
 ghost use Rattle.dartelm.specs.Sheets.{sheetAnswer, fieldNumbers, noFields};
 ghost use Rattle.dartelm.specs.Found.{foundFields};
 
-// What a check gives, and the values of all fields, one after the other.
+// The check's summary, and the values of all fields in order.
 pub fn sheet_in(sheet: Opened, image: &[u8]) -> DartelmSheetAnswer
     requires { ⌜ Held sheet (now image) ⌝ }
-    ensures { λ r. ⌜ ((kind : ℕ) (c : Contents) → Opens kind (now (image .entry)) sheet c → r ≡ toldAs sheetAnswer fieldNumbers noFields (good (foundFields c))) ⌝ }
+    ensures { λ r. ⌜ ((kind : ℕ) (c : Contents) → Opens kind (now (image .entry)) sheet c → r ≡ structBy sheetAnswer fieldNumbers noFields (good (foundFields c))) ⌝ }
 {
     let layout = sheet.layout;
     let template = layout.template;
-    let count = fields::last_field(template);
+    let count = templates::last_field(template);
     let mut values = [no_value(); 21];
     let mut at: usize = 0;
     while at < count as usize {
@@ -54,9 +54,9 @@ pub fn sheet_in(sheet: Opened, image: &[u8]) -> DartelmSheetAnswer
     }
 }
 
-// A refusal, and zeros.
+// The answer for a refusal: zeros for values.
 pub fn no_sheet(r: Refusal) -> DartelmSheetAnswer
-    ensures { λ s. ⌜ s ≡ toldAs sheetAnswer fieldNumbers noFields (refused r) ⌝ }
+    ensures { λ s. ⌜ s ≡ structBy sheetAnswer fieldNumbers noFields (refused r) ⌝ }
 {
     let fields = DartelmFields {
         values: [no_value(); 21],

@@ -1,28 +1,18 @@
-// A field's value by two flags, and the values of a sheet: what C hands in and is handed. A flag is yes where it is not 0.
+// A field's value by two flags, and the values of a sheet, as
+// C passes and receives them. A flag is yes if it is not 0.
 ghost use mathlib.Core.Path.{_≡_};
 ghost use mathlib.Core.List.{map};
-ghost use Rattle.build.specs.Tested.{Long, Spread};
-ghost use Rattle.dartelm.specs.Values.{
-  yes,
-  levelOf,
-  templateBy,
-  templateFlag,
-  optionsOf,
-  dashBy,
-  valueOf,
-  byFlags,
-  noValue,
-  slotOf,
-};
+ghost use Rattle.build.specs.Tested.{LentLengths, SplitValues};
+ghost use Rattle.dartelm.specs.Values.{yes, levelOf, templateBy, templateFlag, optionsOf, dashBy, valueOf, byFlags, noValue, slotOf};
 use build::Options;
-use fields::Domain;
-use fields::Level;
-use fields::Template;
-use fields::Value;
+use codes::Value;
 use reading::Dash;
+use templates::Domain;
+use templates::Level;
+use templates::Template;
 
-// Missing where `is_missing` is yes, else a Single where `is_single` is, else a whole number. What is told has 0 in every
-// other member.
+// Missing if `is_missing` is yes, else a Single if `is_single` is,
+// else a whole number. A returned value has 0 in every other member.
 #[repr(C)]
 pub struct DartelmValue {
     pub whole: i64,
@@ -31,9 +21,12 @@ pub struct DartelmValue {
     pub is_missing: u8,
 }
 
-// The values of a template's fields from 1 on, the end bit, a flag, the writer's level, which a build neither tests nor stores,
-// a byte that is not looked at and returned as 0, and whether the template is 32, a flag. Values after the template's last field
-// are not looked at.
+// The sheet record of C:
+// - the values of a template's fields from 1 on; those after the template's last field are ignored;
+// - the end bit, a flag;
+// - the writer's level, which a build neither tests nor stores;
+// - a byte that is ignored and returned as 0;
+// - whether the template is 32, a flag.
 #[repr(C)]
 pub struct DartelmFields {
     pub values: [DartelmValue; 21],
@@ -43,14 +36,14 @@ pub struct DartelmFields {
     pub is_resistance: u8,
 }
 
-// A flag as C hands it in.
+// Whether a flag from C is yes.
 fn is_yes(given: u8) -> bool
     ensures { λ r. ⌜ r ≡ yes given ⌝ }
 {
     given != 0
 }
 
-// A level as C hands it in: 0 owner, 1 calibration room, 2 maker; any other is taken as the owner, the least of them.
+// A level from C: 0 owner, 1 calibration room, 2 maker; any other is the owner, the lowest.
 pub fn level_of(given: u8) -> Level
     ensures { λ r. ⌜ r ≡ levelOf given ⌝ }
 {
@@ -61,7 +54,7 @@ pub fn level_of(given: u8) -> Level
     }
 }
 
-// A template as C hands it in, by a flag: two cases, and no third can be handed in.
+// A template from C, by a flag: two cases, "so that no third can be handed in".
 pub fn template_of(is_resistance: u8) -> Template
     ensures { λ r. ⌜ r ≡ templateBy «is_resistance» ⌝ }
 {
@@ -71,7 +64,7 @@ pub fn template_of(is_resistance: u8) -> Template
     Template::Resistance
 }
 
-// What a build takes beside the values, by the flags that C hands in.
+// What a build takes beside the values, from the flags of C.
 pub fn options_of(is_resistance: u8, end_bit: u8, domain: Domain) -> Options
     ensures { λ r. ⌜ r ≡ optionsOf «is_resistance» «end_bit» domain ⌝ }
 {
@@ -82,7 +75,7 @@ pub fn options_of(is_resistance: u8, end_bit: u8, domain: Domain) -> Options
     }
 }
 
-// The flag of a template, as C is handed it.
+// The flag of a template, for C.
 pub fn template_flag(template: Template) -> u8
     ensures { λ r. ⌜ r ≡ templateFlag template ⌝ }
 {
@@ -92,7 +85,7 @@ pub fn template_flag(template: Template) -> u8
     }
 }
 
-// A dash as C hands it in: 0 is the large one, any other the small one.
+// A dash from C: 0 is the large one, any other the small one.
 pub fn dash_of(given: u8) -> Dash
     ensures { λ r. ⌜ r ≡ dashBy given ⌝ }
 {
@@ -102,7 +95,7 @@ pub fn dash_of(given: u8) -> Dash
     Dash::Small
 }
 
-// The value that C hands in.
+// A value from C.
 pub fn value_of(given: DartelmValue) -> Value
     ensures { λ r. ⌜ r ≡ valueOf given ⌝ }
 {
@@ -115,7 +108,7 @@ pub fn value_of(given: DartelmValue) -> Value
     Value::Whole(given.whole)
 }
 
-// The value that C is handed.
+// A value for C.
 pub fn by_flags(value: Value) -> DartelmValue
     ensures { λ r. ⌜ r ≡ byFlags value ⌝ }
 {
@@ -141,7 +134,7 @@ pub fn by_flags(value: Value) -> DartelmValue
     }
 }
 
-// Zeros, where no value is told.
+// Zeros, in place of a value.
 pub fn no_value() -> DartelmValue
     ensures { λ r. ⌜ r ≡ noValue ⌝ }
 {
@@ -153,22 +146,22 @@ pub fn no_value() -> DartelmValue
     }
 }
 
-// The values that C hands in, by sorts, whole numbers and Singles.
-pub fn spread(given: DartelmFields, sorts: &mut [u8], wholes: &mut [i64], singles: &mut [f32])
-    requires { ⌜ Long (now sorts) (now wholes) (now singles) ⌝ }
-    ensures { λ _. ⌜ Spread (map slotOf (given .values)) (now (sorts .exit)) (now (wholes .exit)) (now (singles .exit)) ⌝ }
+// The values from C, as sorts, whole numbers and Singles.
+pub fn split_values(given: DartelmFields, tags: &mut [u8], wholes: &mut [i64], singles: &mut [f32])
+    requires { ⌜ LentLengths (now tags) (now wholes) (now singles) ⌝ }
+    ensures { λ _. ⌜ SplitValues (map slotOf (given .values)) (now (tags .exit)) (now (wholes .exit)) (now (singles .exit)) ⌝ }
 {
     let mut i: usize = 0;
     while i < 21 {
         let value = given.values[i];
         if value.is_missing != 0 {
-            sorts[i] = 2;
+            tags[i] = 2;
         } else if value.is_single != 0 {
-            sorts[i] = 1;
+            tags[i] = 1;
             singles[i] = value.single;
         } else {
             let whole = value.whole;
-            sorts[i] = 0;
+            tags[i] = 0;
             wholes[i] = whole;
         }
         i += 1;

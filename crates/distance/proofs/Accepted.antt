@@ -1,14 +1,15 @@
--- Points that a build in domain 0 takes: neighbours lie near enough that nothing overflows, and apart. And the distance in the order of its rows.
+-- Laws of points that a build in domain 0 accepts: neighbours are apart, and near
+-- enough that nothing overflows. And of the distance in the order of its rows.
 use Rattle.distance.proofs.Names.{_≡_, refl, sym, ap, _∙_, Bool, true, false, _||_, List, [], _∷_, Option, none, some, ℕ, zero, suc, _+_, _^_, _%_, _≤_, _<_, arith, lit<, eqb, ltb, ℤ, pos, natAbs, _-ℤ_, length}
 use Rattle.distance.proofs.Names.{ltZ, _<ℤ_, ltZ-yes, up, dn, same, sub-parts-ℤ, abs-parts, nltZ-parts, le-ltZ, is-true, is-false, parts-≤ℤ, Refusal, Outcome, good, refused, _>>_, wrongList, good-same, no-value}
 use Rattle.distance.proofs.Names.{passed, neither, Piece, Whole, Pair, Codes, Domain, Electrical, topCode, steppedValue, steppedCode, encode, D, R, leastDeviation, calPoint, calDeviation, small, code-rises}
-use Rattle.distance.proofs.Names.{follows-rises, pairsLent, pairPieces, tablePieces, Coded, codes-planned, pairs-planned, table-planned, Neighbours, Figures, Table, near-abs, ToldDistance, steepest, toldBy}
+use Rattle.distance.proofs.Names.{follows-rises, pairsLent, pairPieces, tablePieces, Coded, codes-planned, pairs-planned, table-planned, Neighbours, Figures, Table, near-abs, CertificateBound, steepest, bySlope}
 use Rattle.distance.proofs.Names.{distance, Step, LeastSlope, NoSlope}
 use Rattle.distance.proofs.Slopes.{steepest-least, steepest-small}
 
 -- ---- one figure
 
--- A figure that has a code lies from the start to the top.
+-- A figure that has a code is from the start to the highest value.
 pub record Taken (start : ℤ) (step width : ℕ) (z : ℤ) (code : ℕ) : Type 0 where
   pub low : up start + dn z ≤ up z + dn start
   pub high : up z + dn (steppedValue start step (topCode width)) ≤ up (steppedValue start step (topCode width)) + dn z
@@ -38,7 +39,7 @@ deviation-taken place z code e =
 
 -- ---- two neighbours
 
--- Figures with different codes are apart.
+-- Figures with different codes differ.
 apart-by : (start : ℤ) (step : ℕ) (y z : ℤ) (c d : ℕ) → steppedCode start step y ≡ c → steppedCode start step z ≡ d → c < d → (n : ℕ) → natAbs (z -ℤ y) ≡ n → 0 < n
 apart-by start step y z c d e f h zero g =
     let s : y ≡ z = same y z (omega (arith, abs-parts (z -ℤ y), sub-parts-ℤ z y)) in
@@ -74,7 +75,7 @@ pub table-steps : (domain : Domain) (pairs : List Pair) (ts : List Piece) → ta
 table-steps domain [] ts e = tt
 table-steps domain (p ∷ pairs) ts e = let d = table-planned domain p pairs ts e in steps domain none 0 (p ∷ pairs) (d .pieces) (d .plans)
 
--- ---- they rise, and they and their deviations are small
+-- ---- the points rise, and they and their deviations are small
 
 size : (B : ℕ) (z : ℤ) → up z ≤ dn z + B → dn z ≤ up z + B → natAbs z ≤ B
 size B z h l = omega (arith, near-abs {b = B} 1 z (omega arith))
@@ -89,7 +90,7 @@ figures-taken i p codes e =
       deviation = size (2 ^ 32) (p .deviation) (omega (arith, s .low, s .high)) (omega (arith, s .low, s .high));
     }
 
--- A greater code is of a greater figure.
+-- A greater code has a greater figure.
 rises-by : (y z : ℤ) (c d : ℕ) → Taken (pos 0) D 16 y c → Taken (pos 0) D 16 z d → c < d → y <ℤ z
 rises-by y z c d a b h = go (ltZ y z) refl
   where
@@ -130,48 +131,48 @@ module _ (points : List ℤ) where
     unfolding distance
     distance-refused e = rw (l, e)
 
-    pub distance-told : {ts : List Piece} → tablePieces Electrical (pairsLent points) ≡ good ts → good (toldBy (steepest (pairsLent points))) ≡ distance points
+    pub distance-told : {ts : List Piece} → tablePieces Electrical (pairsLent points) ≡ good ts → good (bySlope (steepest (pairsLent points))) ≡ distance points
     unfolding distance
     distance-told e = rw (l, e)
 
--- What an accepted list is told.
-pub record Told (points : List ℤ) (d : ToldDistance) : Type 0 where
+-- The answer for an accepted list.
+pub record Told (points : List ℤ) (d : CertificateBound) : Type 0 where
   pub pieces : List Piece
   pub table : tablePieces Electrical (pairsLent points) ≡ good pieces
-  pub is : toldBy (steepest (pairsLent points)) ≡ d
+  pub is : bySlope (steepest (pairsLent points)) ≡ d
 
 -- A call whose value is not used.
 then-good : {A B : Type 0} (o : Outcome A) (next : Outcome B) (b : B) → (o >> next) ≡ good b → (a : A) × (o ≡ good a) × (next ≡ good b)
 then-good (good a) next b e = (a, refl, e)
 then-good (refused r) next b e = no-value e
 
-pub told-by : (points : List ℤ) (d : ToldDistance) → distance points ≡ good d → Told points d
+pub told-by : (points : List ℤ) (d : CertificateBound) → distance points ≡ good d → Told points d
 unfolding distance
 told-by points d e =
     let (l, f) = passed (wrongList (length points)) (eqb (length points % 2) 1 || ltb 254 (length points)) _ d e in
-    let (ts, t, g) = then-good (tablePieces Electrical (pairsLent points)) (good (toldBy (steepest (pairsLent points)))) d f in
+    let (ts, t, g) = then-good (tablePieces Electrical (pairsLent points)) (good (bySlope (steepest (pairsLent points)))) d f in
     record { pieces = ts; table = t; is = good-same g }
 
 pub least-slope : LeastSlope
 least-slope points d e =
     let t = told-by points d e in
-    rw (sym (ap (λ (x : ToldDistance). x .slope) (t .is))) (steepest-least (pairsLent points) (table-steps Electrical (pairsLent points) (t .pieces) (t .table)))
+    rw (sym (ap (λ (x : CertificateBound). x .slope) (t .is))) (steepest-least (pairsLent points) (table-steps Electrical (pairsLent points) (t .pieces) (t .table)))
 
 pub no-slope : NoSlope
 unfolding distance tablePieces
 no-slope = (refl, λ a s d e. sym (told-by (a ∷ s ∷ []) d e .is))
 
 -- The points of an accepted list, and how large its K can be.
-pub record Taking (points : List ℤ) (d : ToldDistance) : Type 0 where
+pub record Taking (points : List ℤ) (d : CertificateBound) : Type 0 where
   pub table : Table (pairsLent points)
   pub slope : d .slope ≤ 2 ^ 43
 
-pub taking : (points : List ℤ) (d : ToldDistance) → distance points ≡ good d → Taking points d
+pub taking : (points : List ℤ) (d : CertificateBound) → distance points ≡ good d → Taking points d
 taking points d e =
     let t = told-by points d e in
     record {
       table = planned (pairsLent points) (t .pieces) (t .table);
-      slope = rw (sym (ap (λ (x : ToldDistance). x .slope) (t .is))) (steepest-small (pairsLent points) (table-steps Electrical (pairsLent points) (t .pieces) (t .table)));
+      slope = rw (sym (ap (λ (x : CertificateBound). x .slope) (t .is))) (steepest-small (pairsLent points) (table-steps Electrical (pairsLent points) (t .pieces) (t .table)));
     }
   where
     planned : (pairs : List Pair) (ts : List Piece) → tablePieces Electrical pairs ≡ good ts → Table pairs

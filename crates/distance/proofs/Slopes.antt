@@ -1,4 +1,4 @@
--- The slopes of a list, one pair of neighbours after the other.
+-- Laws of the loop over the slopes of a list.
 use Rattle.distance.proofs.Names.{_≡_, refl, sym, ap, _∙_, List, [], _∷_, ℕ, max, _+_, _*_, _/_, _^_, _≤_, _<_, mul-le-mul-right, arith, ℤ, natAbs, _-ℤ_, length, drop, length-drop, Pair, pairAt, pairs-length}
 use Rattle.distance.proofs.Names.{pairsFrom, pairs-left, Neighbours, Slopes, leastSlope, steepest, Step, Least, ceiling-meets, ceiling-least, ceiling-small}
 

@@ -1,7 +1,7 @@
--- Only inner contracts need this: how far neighbours are apart, so that nothing overflows.
+-- Only inner contracts need this: bounds of the distances of neighbours, so that nothing overflows.
 use Prim.Native.Nat.{_^_, _≤_, _<_}
 use lib.IntN.{natAbs, _-ℤ_}
-use Rattle.fields.specs.declared.Pair.{Pair}
+use Rattle.templates.specs.declared.Pair.{Pair}
 
 pub record Step (p r : Pair) : Type 0 where
   pub rise : natAbs (r .deviation -ℤ p .deviation) ≤ 2 ^ 32

@@ -1,18 +1,21 @@
-// Document 01, demand 3: the certificate distance of a points list, told beforehand. `distance` asks nothing of its caller: it is
-// refused as a build would refuse the list, and whatever it accepts, nothing overflows.
-mod telling; // telling.rt: the steepest slope, and the distance
+// Document 01, demand 3: the certificate distance of a points list, known
+// before any image is built. `distance` has no `requires`: it refuses a
+// list as a build would, and for whatever it accepts, nothing overflows.
+mod bound; // bound.rt: the steepest slope, and the distance
 
+pub use bound::distance;
 use refusal::Refusal;
-pub use telling::distance;
 
-// K, the least whole number with 1000 × each rise or fall at most K × its run; and the bound B: no reading of a sheet with these
-// points in domain 0 strays by more than B / 2000 billionths of the span.
-pub struct ToldDistance {
+// K, the least whole number with 1000 × each rise or fall at most K × its
+// run, and the bound B. No reading of a sheet with these points in domain 0
+// is more than B / 2000 billionths of the span from the certificate line.
+pub struct CertificateBound {
     pub slope: u64,
     pub bound: u64,
 }
 
+// The distance, or the refusal of the points list.
 pub enum DistanceAnswer {
-    Is(ToldDistance),
+    Is(CertificateBound),
     Refused(Refusal),
 }

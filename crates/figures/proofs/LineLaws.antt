@@ -1,4 +1,4 @@
--- The figure of a fraction that is near a point of the certificate line.
+-- Laws of the figure of a fraction that is near a point of the certificate line.
 use Rattle.figures.proofs.Names.{_≡_, ap, ℕ, _+_, _*_, _^_, _≤_, mul-le-mul-left, mul-le-mul-right, arith, ℤ, pos, negsuc, natAbs, _+ℤ_, _-ℤ_, _*ℤ_, dn, add-parts, sub-parts-ℤ, mul-parts, abs-parts, billion}
 use Rattle.figures.proofs.Names.{units, figure, FigureNearLine}
 use Rattle.integers.specs.Parts.{up}
@@ -7,12 +7,12 @@ use Rattle.figures.proofs.FigureLaws.{figure-close}
 scaled : (s : ℤ) (n : ℕ) → up (s *ℤ pos n) + dn s * n ≡ dn (s *ℤ pos n) + up s * n
 scaled s n = omega (arith, mul-parts s (pos n))
 
--- z is a × den + d.
+-- The size of z, if z is a × den + d.
 sum-size : (z a d : ℤ) (den : ℕ) → up z + (dn a * den + dn d) ≡ dn z + (up a * den + up d) → natAbs z ≤ natAbs a * den + natAbs d
 sum-size (pos n) a d den e = omega (arith, ap (λ (k : ℕ). k * den) (abs-parts a), abs-parts d)
 sum-size (negsuc n) a d den e = omega (arith, ap (λ (k : ℕ). k * den) (abs-parts a), abs-parts d)
 
--- d is s × t.
+-- The size of d, if d is s × t.
 product-size : (s t d : ℤ) → up d + (up s * dn t + dn s * up t) ≡ dn d + (up s * up t + dn s * dn t) → natAbs d ≤ natAbs s * natAbs t
 product-size s t (pos n) e = omega (arith, ap (λ (k : ℕ). k * natAbs t) (abs-parts s), ap (λ (k : ℕ). (up s + dn s) * k) (abs-parts t))
 product-size s t (negsuc n) e = omega (arith, ap (λ (k : ℕ). k * natAbs t) (abs-parts s), ap (λ (k : ℕ). (up s + dn s) * k) (abs-parts t))

@@ -1,11 +1,12 @@
--- How the roundings of a product with any fraction and of the sum add up, over natural numbers alone. U is 2^prec.
+-- Laws of the rounding errors of a product with any fraction
+-- and of the sum, over natural numbers alone. U is 2^prec.
 use Rattle.figures.proofs.Names.{_⊎_, inl, inr, ℕ, _+_, _*_, _≤_, mul-le-mul-right, le-of-mul-le-mul-right, arith}
 
--- X is near P: half of K away at most, or 1 / U of P.
+-- X differs from P by at most half of K, or by 1 / U of P.
 pub record Within (U K P X : ℕ) : Type 0 where
   pub near : ((X * 2 ≤ P * 2 + K) × (P * 2 ≤ X * 2 + K)) ⊎ ((X * U ≤ P * U + P) × (P * U ≤ X * U + P))
 
--- What is 1 / U away is a quarter away.
+-- An error of 1 / U is at most a quarter.
 quarter : (U a b : ℕ) → 4 ≤ U → a * U ≤ b * U + b → 4 * a ≤ 5 * b
 quarter U a b h l = le-of-mul-le-mul-right {m = 4 * a} {n = 5 * b} {k = U} (omega (arith, mul-le-mul-right b h)) (omega arith)
 

@@ -1,4 +1,5 @@
--- The physical figure of any finite fraction x, in any format: least + (greatest − least) × x. The ends and x are ±l, ±g and ±n units, of which K are 1.
+-- Laws of the physical figure of any finite fraction x, in any format: least +
+-- (greatest − least) × x. The ends and x are ±l, ±g and ±n units, of which K are 1.
 use Rattle.figures.proofs.Names.{sym, subst, Bool, _⊎_, inl, inr, ℕ, _+_, _*_, _^_, _≤_, _<_, lt-of-le-of-lt, mul-le-mul-left, mul-le-mul-right, mul-pos, le-of-mul-le-mul-right, arith, pow-pos, pow-mono, Float}
 use Rattle.figures.proofs.Names.{Format, prec, low, unlike, add, sub, mul, two, two-le-pos, HasValue, grid, overflow}
 use Rattle.figures.proofs.Rounding.{Half, Near, rounded-near, rounded-most}
@@ -8,7 +9,7 @@ use Rattle.figures.proofs.Errors.{sum-near}
 use Rattle.figures.proofs.ShareErrors.{Within, share-high, share-low}
 use Rattle.figures.proofs.Chain.{differs, differs-close, differs-most, sum-most, size-most, Near-at}
 
--- Nothing overflows: the ends are W units at most, and x is X.
+-- Nothing overflows: the ends are at most W units, and x at most X.
 pub record Wide (f : Format) (W X : ℕ) : Type 0 where
   pub ends : 4 * W < overflow f
   pub sum : 2 * (W + (8 * (W * X) + 1)) < overflow f
@@ -74,7 +75,7 @@ module _ (f : Format) where
     under : differs f (r .size) < overflow f
     under = lt-of-le-of-lt (omega (arith, differs-most f (r .size), sum-most s (unlike (d .negative) z) (r .negative) l M (r .size) (r .parts), M-most)) (wide .sum)
 
-    -- How near it is: 2^−prec of l + 4 × σ × n / K, and a unit.
+    -- The error is at most 2^−prec of l + 4 × σ × n / K, and a unit.
     pub share-near : Near-at f (add f L (mul f (sub f G L) x)) s (unlike (d .negative) z) l (d .size * n) (K * U) K
     unfolding differs
     share-near = record {

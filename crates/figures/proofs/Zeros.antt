@@ -1,15 +1,15 @@
--- Zeros of either sign: what a product and a sum make of them. So the nested rule may begin at a power whose coefficient is 0. Any format.
-use Rattle.figures.proofs.Names.{_≡_, refl, sym, ap, _∙_, subst, Bool, true, false, not, _&&_, cond, ℕ, zero, suc, _+_, _-_, _*_, _^_, _≤_, _<_, not-le-of-lt}
-use Rattle.figures.proofs.Names.{mul-le-mul-right, mul-lt-mul-of-pos-right, mul-pos, arith, T, ltb, ltb→lt, nltb→le, pow-pos, Float, nan, inf, fin, Format}
-use Rattle.figures.proofs.Names.{prec, low, up, down, unlike, round, sum, add, mul, fits, down-pos, HasValue, round-exact, finite, overflow, round-same, le-of-mul-le-mul-right, mul-le-mul-left, grid, two}
-use Rattle.figures.proofs.Names.{two-le-pos, lit≤, binary32, binary64, _⊎_, inl, inr}
+-- Laws of zeros of either sign in products and sums. They let the
+-- nested rule begin at a power whose coefficient is 0. Any format.
+use Rattle.figures.proofs.Names.{_≡_, refl, sym, ap, _∙_, subst, Bool, true, false, not, _&&_, cond, ℕ, zero, suc, _+_, _-_, _*_, _^_, _≤_, _<_, not-le-of-lt, mul-le-mul-right, mul-lt-mul-of-pos-right, mul-pos}
+use Rattle.figures.proofs.Names.{arith, T, ltb, ltb→lt, nltb→le, pow-pos, Float, nan, inf, fin, Format, prec, low, up, down, unlike, round, sum, add, mul, fits, down-pos, HasValue, round-exact, finite, overflow}
+use Rattle.figures.proofs.Names.{round-same, le-of-mul-le-mul-right, mul-le-mul-left, grid, two, two-le-pos, lit≤, binary32, binary64, _⊎_, inl, inr}
 use borrow.Author.Tests.{lt-ltb, le-ltb}
 use Rattle.figures.proofs.Signed.{round-none}
 use Rattle.figures.proofs.Monotone.{minus-none}
 use Rattle.figures.proofs.Operations.{mul-value, InUnits, in-units}
 use Rattle.figures.proofs.Rounding.{Half, Near, rounded-near}
 
--- ---- a sum, by any fractions that the two values are
+-- ---- a sum, for any fractions equal to the two values
 
 module _ (f : Format) (A B C A' B' C' : ℕ) (some : 0 < C) (some' : 0 < C') (a : A * C' ≡ A' * C) (b : B * C' ≡ B' * C) where
   less : A < B → B' ≤ A' → ⊥
@@ -33,7 +33,7 @@ module _ (f : Format) (A B C A' B' C' : ℕ) (some : 0 < C) (some' : 0 < C') (a 
   down-by : (s : Bool) → B ≤ A → B' ≤ A' → round f s (A - B) C ≡ round f s (A' - B') C'
   down-by s l l' = round-same f s (A - B) C (A' - B') C' some some' (past (A - B) (A' - B') (omega arith) (omega arith))
 
-  -- Its sign is that of the larger; of two that cancel it is plus.
+  -- The sign of a sum is that of the larger; if the two cancel it is plus.
   signed : (s : Bool) → B ≤ A → B' ≤ A' → round f (s && ltb B A) (A - B) C ≡ round f (s && ltb B' A') (A' - B') C'
   signed false l l' = down-by false l l'
   signed true l l' = go (ltb B A) (ltb B' A') (ltb→lt B A) (nltb→le B A) (ltb→lt B' A') (nltb→le B' A')
@@ -54,7 +54,7 @@ module _ (f : Format) (A B C A' B' C' : ℕ) (some : 0 < C) (some' : 0 < C') (a 
       go true false h k h' k' = absurd (less (h tt) (k' tt))
       go false true h k h' k' = absurd (more (k tt) (h' tt))
 
-  -- The same two fractions have the same sum.
+  -- Equal fractions have equal sums.
   pub sum-same : (s t : Bool) → sum f s A t B C ≡ sum f s A' t B' C'
   unfolding sum
   sum-same false false = over false
@@ -80,7 +80,7 @@ pub round-zero : (f : Format) (s : Bool) (c : ℕ) → 0 < c → HasValue (round
 round-zero f false c some = subst (λ (z : Float). HasValue z false 0 1) (sym (round-none f c some)) (refl, refl)
 round-zero f true c some = subst (λ (z : Float). HasValue z true 0 1) (sym (minus-none f c some)) (refl, refl)
 
--- Two of them.
+-- Two zeros.
 zero-sum : (f : Format) (s t : Bool) (C : ℕ) → 0 < C → HasValue (sum f s 0 t 0 C) (s && t) 0 1
 unfolding sum
 zero-sum f false false C some = round-zero f false C some
@@ -88,7 +88,7 @@ zero-sum f false true C some = round-zero f false C some
 zero-sum f true false C some = round-zero f false C some
 zero-sum f true true C some = round-zero f true C some
 
--- One of them, and a number that is none.
+-- A zero, and a number that is not zero.
 left-zero : (f : Format) (s t : Bool) (b C : ℕ) → sum f s 0 t (suc b) C ≡ round f t (suc b) C
 unfolding sum
 left-zero f false false b C = ap (λ (n : ℕ). round f false n C) {x = 0 + suc b} {y = suc b} (omega arith)
@@ -109,7 +109,7 @@ unfolding sum
 plus-zero f false C = refl
 plus-zero f true C = refl
 
--- ---- what products and sums do not tell apart
+-- ---- values that products and sums do not distinguish
 
 pub data Alike (x y : Float) : Type 0 where
   same : x ≡ y → Alike x y
@@ -147,7 +147,7 @@ add-alike f x x' y t b d hd q (equal s a c some p p') = same (add-value f s t a 
 add-alike f x x' y t zero d hd q (zeros s s' p p') = zeros (s && t) (s' && t) (zero-plus-zero f x y s t d hd p q) (zero-plus-zero f x' y s' t d hd p' q)
 add-alike f x x' y t (suc b) d hd q (zeros s s' p p') = same (zero-plus f x y s t b d hd p q ∙ sym (zero-plus f x' y s' t b d hd p' q))
 
--- A number that is not −0, and two that are alike.
+-- A number that is not −0, and two values that are not distinguished.
 pub plus-alike : (f : Format) (x y y' : Float) (s : Bool) (a c : ℕ) → 0 < c → HasValue x s a c → (a ≡ 0 → s ≡ false) → Alike y y' → add f x y ≡ add f x y'
 plus-alike f x y y' s a c hc p plain (same e) = ap (add f x) e
 plus-alike f x y y' s a c hc p plain (equal t b d some q q') = add-value f s t a c b d hc some x y p q ∙ sym (add-value f s t a c b d hc some x y' p q')
@@ -168,7 +168,7 @@ plus-alike f x y y' s a c hc p plain (zeros t t' q q') = to-plain a t y p plain 
         ∙ right-zero f s t a (c * 1)
         ∙ ap (λ (n : ℕ). round f s (suc a) n) {x = c * 1} {y = c} (omega arith)
 
--- ---- a zero and a number that the format holds
+-- ---- a zero and a number of the format
 
 pub zero-plus-held : (f : Format) (x y : Float) (s : Bool) → HasValue x s 0 1 → T (fits f y) → T (finite y) → Alike (add f x y) y
 zero-plus-held f x y s p h k = go (u .count) (u .value) (u .less) (u .is)
@@ -189,9 +189,9 @@ zero-plus-held f x y s p h k = go (u .count) (u .value) (u .less) (u .is)
         (round-exact f (u .negative) (suc b) (2 ^ low f) (u .digits) (u .shift) (pow-pos (low f)) (u .few) (rw e at l) (ap (λ (z : ℕ). z * 2 ^ low f) e)))
         q
 
--- ---- a quotient that is no zero
+-- ---- a quotient that is not zero
 
--- What is at least a unit is not rounded to nothing.
+-- A value of at least a unit is not rounded to 0.
 pub grid-some : (f : Format) (n c : ℕ) → 0 < c → c < n * 2 ^ low f * 2 → grid f n c ≡ 0 → ⊥
 grid-some f n c some more e = go (rounded-near (prec f) (two-le-pos (prec f) (two f)) (n * 2 ^ low f) c some)
   where

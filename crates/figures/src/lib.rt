@@ -1,1 +1,5 @@
-// The physical figure beside the exact one: finite, near it, and following the fraction. Statements and proofs alone.
+// Document 01, "Reading": the physical figure, its code and its laws.
+mod figure; // figure.rt: the physical figure
+
+pub use figure::float_fraction;
+pub use figure::physical_figure;

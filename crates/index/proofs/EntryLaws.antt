@@ -1,4 +1,5 @@
--- The entries of an accepted sheet: what a check finds stands where its layout says, so both give the same entries.
+-- Laws of the entries of an accepted sheet: each field is where
+-- its layout says, so that check and layout give the same entries.
 use Rattle.index.proofs.Names.{_≡_, refl, sym, ap, ap₂, _∙_, List, [], _∷_, _++_, map, ℕ, zero, suc, _+_, _-_, _≤_, _<_, add-one, arith, decLt, length, getD, length-append, length-map, List·getD-map, ext-getD}
 use Rattle.index.proofs.Names.{getD-at, lt-ltb, le-ltb, Row, Layout, Line, basic, templateLines, linesOf, lastField, rowOf, bitsBefore, noLine, row-sound, Stream, FoundPair, Contents, nothing, field, layoutOf}
 use Rattle.index.proofs.Names.{pairsIn, fieldPlace, pairBits, pairPlace, bits-front, at-is, width-is, get-front, get-back, fields-count, Holding, field-stands, pair-here, in-basic, behind-basic, basic-most, Entry}
@@ -52,7 +53,7 @@ module _ {s : Stream} {c : Contents} (h : Holding s c) where
         fields-count (h .formed),
       )
 
-  -- An entry that lies within the stream, and is not empty.
+  -- An entry that is inside the stream and not empty.
   pub record Lies (i : ℕ) : Type 0 where
     pub is : getD (entries c) i noEntry ≡ entryOf layout i
     pub some : 1 ≤ entryOf layout i .length
@@ -125,14 +126,14 @@ module _ (layout : Layout) where
   pub none-before : 0 ≡ before 0
   none-before = sym (bits-front [] (linesOf (layout .template)) (layout .precision) 0 (omega arith))
 
-  -- A field's bits stand before the next.
+  -- A field ends before the next one begins.
   pub field-next : (i : ℕ) {row : Row} → i < lastField (layout .template) → row ≡ rowOf layout (i + 1) → before i + row .width ≡ before (i + 1)
   field-next i {row} h e =
       let n : i + 1 - 1 ≡ i = omega arith in
       ap (λ (w : ℕ). before i + w) (ap (λ (r : Row). r .width) e ∙ ap (λ (k : ℕ). getD (linesOf (layout .template)) k noLine .rowAt (layout .precision) .width) n)
       ∙ sym (bits-next (linesOf (layout .template)) (layout .precision) i h) ∙ ap before (sym (add-one i))
 
-  -- An entry by its row and the bits before it: of Basic, and behind the first block.
+  -- An entry by its row and the bits before it: in Basic, and after the first block.
   by-row : (i : ℕ) {at : ℕ} {row : Row} → i < lastField (layout .template) → row ≡ rowOf layout (i + 1) → at ≡ fieldPlace layout (suc i) → entry at (row .width) ≡ entryOf layout i
   by-row i {at} {row} h e place =
       ap₂ entry place (ap (λ (r : Row). r .width) e ∙ ap (λ (k : ℕ). rowOf layout k .width) (add-one i)) ∙ sym (of-field layout i h)
@@ -157,7 +158,7 @@ module _ (layout : Layout) where
   pair-entry i last {at} e h place =
       ap (λ (k : ℕ). entry k pairBits) (place ∙ ap (λ (k : ℕ). pairPlace layout (i - k)) e) ∙ sym (of-pair layout i (omega arith))
 
-  -- A field ends where the next one begins, or the first block stands between them.
+  -- A field ends where the next one begins, or the first block is between them.
   place-rises : (f : ℕ) → 1 ≤ f → f ≤ lastField (layout .template) → fieldPlace layout f + rowOf layout f .width ≤ fieldPlace layout (suc f)
   place-rises f lo hi = go (decLt f (length basic)) (decLt (length basic) f)
     where

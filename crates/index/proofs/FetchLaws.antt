@@ -1,7 +1,7 @@
--- A fetch, step by step.
+-- Laws of a fetch, step by step.
 use Rattle.index.proofs.Names.{_≡_, refl, sym, ap, ap₂, _∙_, Bool, true, false, List, [], _∷_, map, ℕ, zero, suc, _+_, _-_, _*_, _^_, _≤_, _<_, arith, ℕ-discrete, ltb, length, drop, eq-eqb, ne-eqb, lt-ltb, le-ltb}
-use Rattle.index.proofs.Names.{Refusal, Outcome, good, refused, _>>_, _>>=_, refuse_if_, pastEnd, outsideTable, noSuch, shortIndex, good-same, no-value, told, bind-good, bind-refused, Sizes, Cursor, Taken, Field}
-use Rattle.index.proofs.Names.{NotTaken, fieldAt, imageSizes, sums, streamBits, streamNumber, Step, takenSaid, takenAt, field-lt, Value, Row, Template, decode, Line, lastField, lineOf, Sound, row-sound}
+use Rattle.index.proofs.Names.{Refusal, Outcome, good, refused, _>>_, _>>=_, refuse_if_, pastEnd, outsideTable, noSuch, shortIndex, good-same, no-value, said-of, bind-good, bind-refused, Sizes, Cursor, Taken}
+use Rattle.index.proofs.Names.{Field, NotTaken, fieldAt, imageSizes, sums, streamBits, streamNumber, Step, takenSaid, takenAt, field-lt, Value, Row, Template, decode, Line, lastField, lineOf, Sound, row-sound}
 use Rattle.index.proofs.Names.{Entry, templateAt, entryAt, ofLength, choices, rowOfLength, bitsAt, fetchIn, fetch}
 
 -- ---- the row of a length
@@ -17,7 +17,7 @@ module _ (line : Line) (e : Entry) where
   rows-from (suc (suc (suc zero))) h = refl
   rows-from (suc (suc (suc (suc p)))) h = absurd (omega arith)
 
-  -- From choice p on.
+  -- The rows from choice p on.
   abbrev pub lengthFrom : ℕ → Outcome Row
   lengthFrom p = ofLength e (drop p rows)
 
@@ -30,7 +30,7 @@ module _ (line : Line) (e : Entry) where
   pub length-none : (p : ℕ) → p ≡ 4 → refused (outsideTable (e .offset)) ≡ lengthFrom p
   length-none p h = ap lengthFrom (sym h)
 
-  -- Such a row is one of the line's, and as long as the entry.
+  -- The row that is found is one of the line's, and as long as the entry.
   pub of-length : (ps : List ℕ) (row : Row) → ofLength e (map (line .rowAt) ps) ≡ good row → (p : ℕ) × (line .rowAt p ≡ row) × (row .width ≡ e .length)
   of-length [] row h = no-value h
   of-length (p ∷ ps) row h = go (of-length ps row) (ℕ-discrete (line .rowAt p .width) (e .length))
@@ -59,7 +59,7 @@ module _ (z : Sizes) (image : List ℕ) (at w : ℕ) (t : Taken) (e : takenSaid 
 
   pub took : {code : ℕ} {next : Cursor} → t ≡ Field code next → (ltb (streamBits z) (at + w) ≡ false) × (code ≡ fieldAt N at w)
   unfolding takenAt
-  took {code} {next} h = go (ltb (streamBits z) (at + w)) refl (told takenSaid h e)
+  took {code} {next} h = go (ltb (streamBits z) (at + w)) refl (said-of takenSaid h e)
     where
       go : (b : Bool) → ltb (streamBits z) (at + w) ≡ b → good (record { code = code; next = next .at }) ≡ taking b →
           (ltb (streamBits z) (at + w) ≡ false) × (code ≡ fieldAt N at w)
@@ -68,7 +68,7 @@ module _ (z : Sizes) (image : List ℕ) (at w : ℕ) (t : Taken) (e : takenSaid 
 
   pub missed : {r : Refusal} → t ≡ NotTaken r → ltb (streamBits z) (at + w) ≡ true
   unfolding takenAt
-  missed {r} h = go (ltb (streamBits z) (at + w)) refl (told takenSaid h e)
+  missed {r} h = go (ltb (streamBits z) (at + w)) refl (said-of takenSaid h e)
     where
       go : (b : Bool) → ltb (streamBits z) (at + w) ≡ b → refused r ≡ taking b → ltb (streamBits z) (at + w) ≡ true
       go true k f = k
@@ -113,7 +113,7 @@ module _ (z : Sizes) (image index : List ℕ) (f : ℕ) where
     unfolding fetchIn
     in-entry h = rw (ne-eqb f 0 (λ e. omega arith), le-ltb (lastField template) f hi, le-ltb (length index) (4 * lastField template) h)
 
-    -- By an entry and a template that are these.
+    -- For this entry and this template.
     module _ {t : Template} {x : Entry} (et : t ≡ template) (ex : x ≡ entryAt index (f - 1)) (long : 4 * lastField template ≤ length index) where
       pub in-refused : {r : Refusal} → refused r ≡ rowOfLength (lineOf t f) x → refused r ≡ fetchIn z image index f
       in-refused k = sym (in-entry long ∙ bind-refused _ (sym (k ∙ ap₂ (λ u y. rowOfLength (lineOf u f) y) et ex)))

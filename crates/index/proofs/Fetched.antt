@@ -1,8 +1,9 @@
--- A field fetched through the index of its own image: the entries are read back as they were written, and a field's row is told by its entry.
+-- Laws of a field fetched through the index of its own image: entries
+-- read back as written, and an entry determines the field's row.
 use Rattle.index.proofs.Names.{_≡_, refl, sym, ap, ap₂, _∙_, Bool, List, [], _∷_, _++_, inl, inr, ℕ, zero, suc, _+_, _-_, _*_, _/_, _%_, _≤_, _<_, arith, decLt, length, getD, length-append, eq-eqb, le-ltb, good}
 use Rattle.index.proofs.Names.{_>>_, _>>=_, refuse_if_, outsideTable, Sizes, number, fieldAt, streamBits, streamNumber, sizes-chip, Row, Template, Bridge, Resistance, Mark, Cal, Layout, decode, bridgeEnd}
 use Rattle.index.proofs.Names.{resistanceEnd, Line, chosen, basic, template33, template32, templateLines, numberOf, linesOf, lastField, lineOf, rowOf, noLine, Stream, Contents, streamIn, contents, field, layoutOf}
-use Rattle.index.proofs.Names.{fieldPlace, Holding, number-stands, Accepted, contents-accepted, Stands, field-stands, readField, accepted-reads, Entry, entry, entries, entryBytes, takenAs, templateAt, entryAt}
+use Rattle.index.proofs.Names.{fieldPlace, Holding, number-stands, Accepted, contents-accepted, Valid, field-stands, readField, accepted-reads, Entry, entry, entries, entryBytes, takenAs, templateAt, entryAt}
 use Rattle.index.proofs.Names.{rowOfLength, bitsAt, fetchIn, fetch, entryOf}
 use Rattle.index.proofs.Laying.{bytes-count}
 use Rattle.index.proofs.EntryLaws.{noEntry, of-field, entries-count, lies}
@@ -30,7 +31,7 @@ entry-back (e ∷ es) rest (suc i) none h small =
     (ap₂ (λ (m n : ℕ). number (getD bytes m 0 ∷ getD bytes n 0 ∷ [])) c d)
     ∙ entry-back es rest i none (omega arith) small
 
--- Those of an accepted image.
+-- The entries of an accepted image read back.
 pub read-back : (kind : ℕ) (image rest : List ℕ) (c : Contents) → contents kind image ≡ good c → (i : ℕ) → i < length (entries c) →
     entryAt (entryBytes (entries c) ++ rest) i ≡ entryOf (layoutOf c) i
 read-back kind image rest c e i h =
@@ -41,28 +42,28 @@ read-back kind image rest c e i h =
     let most = sizes-chip kind (length image) (a .sizes) (a .sized) .most in
     entry-back (entries c) rest i noEntry h (omega (arith, l .inside), omega (arith, l .most)) ∙ l .is
 
--- ---- a row told by its length
+-- ---- a row determined by its length
 
--- A line's row at any choice is the first of its rows that is as long.
-Told : Line → Type 0
-Told l = (at p : ℕ) → rowOfLength l (entry at (l .rowAt p .width)) ≡ good (l .rowAt p)
+-- A line's row at any choice is the first of its rows that has its length.
+ByLength : Line → Type 0
+ByLength l = (at p : ℕ) → rowOfLength l (entry at (l .rowAt p .width)) ≡ good (l .rowAt p)
 
 Tolds : List Line → Type 0
 Tolds [] = Unit {0}
-Tolds (l ∷ lines) = Told l × Tolds lines
+Tolds (l ∷ lines) = ByLength l × Tolds lines
 
-one : (mark : Mark) (sets : Bool) (row : Row) → Told (record { mark = mark; sets = sets; rowAt = λ latest. row })
-unfolding Told
+one : (mark : Mark) (sets : Bool) (row : Row) → ByLength (record { mark = mark; sets = sets; rowAt = λ latest. row })
+unfolding ByLength
 one mark sets row at p = rw (eq-eqb (row .width) (row .width) refl)
 
-bridge-ends : Told (chosen Cal bridgeEnd)
-unfolding Told
+bridge-ends : ByLength (chosen Cal bridgeEnd)
+unfolding ByLength
 bridge-ends at zero = refl
 bridge-ends at (suc zero) = refl
 bridge-ends at (suc (suc p)) = refl
 
-resistance-ends : Told (chosen Cal resistanceEnd)
-unfolding Told
+resistance-ends : ByLength (chosen Cal resistanceEnd)
+unfolding ByLength
 resistance-ends at zero = refl
 resistance-ends at (suc zero) = refl
 resistance-ends at (suc (suc zero)) = refl
@@ -79,19 +80,19 @@ told-lines : (t : Template) → Tolds (linesOf t)
 unfolding Tolds linesOf basic
 told-lines t = (one _ _ _, (one _ _ _, (one _ _ _, (one _ _ _, (one _ _ _, told-template t)))))
 
-told-at : (lines : List Line) → Tolds lines → (i : ℕ) → Told (getD lines i noLine)
+told-at : (lines : List Line) → Tolds lines → (i : ℕ) → ByLength (getD lines i noLine)
 unfolding Tolds
 told-at [] h i = one _ _ _
 told-at (l ∷ lines) h zero = h .0
 told-at (l ∷ lines) h (suc i) = told-at lines (h .1) i
 
 row-told : (layout : Layout) (f at : ℕ) → rowOfLength (lineOf (layout .template) f) (entry at (rowOf layout f .width)) ≡ good (rowOf layout f)
-unfolding Told
+unfolding ByLength
 row-told layout f at = told-at (linesOf (layout .template)) (told-lines (layout .template)) (f - 1) at (layout .precision)
 
 -- ---- the fetch
 
--- A fetch takes the template that the sheet has.
+-- A fetch finds the template of the sheet.
 number-told : (t : Template) → takenAs (numberOf t) ≡ t
 number-told Bridge = refl
 number-told Resistance = refl
@@ -136,7 +137,7 @@ module _ (kind : ℕ) (image made : List ℕ) (c : Contents) (e : contents kind 
       let row : Row = rowOf layout f in
       let at : ℕ = fieldPlace layout f in
       let next : suc (f - 1) ≡ f = omega arith in
-      let st : Stands (streamIn z image) row at (field c f) = field-stands (accepted .holding) f lo hi in
+      let st : Valid (streamIn z image) row at (field c f) = field-stands (accepted .holding) f lo hi in
       let here : entryAt made (f - 1) ≡ entry at (row .width) =
       ap (λ (l : List ℕ). entryAt l (f - 1)) is
       ∙ read-back kind image rest c e (f - 1) (omega (arith, entries-count (accepted .holding)))

@@ -1,4 +1,4 @@
--- An index made: what it is of an accepted image, and of one that is not.
+-- Laws of a made index: for an accepted image, and for a refused one.
 use Rattle.index.proofs.Names.{_≡_, sym, ap, _∙_, List, _++_, ℕ, _+_, _-_, _*_, _^_, _≤_, _<_, arith, decLt, ltb, length, drop, length-map, lt-ltb, le-ltb, Refusal, Outcome, good, refused, _>>_, _>>=_, refuse_if_}
 use Rattle.index.proofs.Names.{shortIndex, good-same, good-bind, passed, sizes-chip, lastField, Contents, contents, layoutOf, pairsIn, pairIn, Opened, Opens, last-most, layout-is, points-are, holding, Entry}
 use Rattle.index.proofs.Names.{entryBytes, entries, index, laid, firstEntries}
@@ -20,7 +20,7 @@ module _ (kind : ℕ) (image buffer : List ℕ) (c : Contents) (e : contents kin
       let t = le-ltb (length buffer) (length (entryBytes (entries c))) (omega (arith, bytes-count (entries c))) in
       rw (e, t) (ap good (sym (laid-start buffer (entryBytes (entries c)))))
 
--- What an index was made of: the sheet that the image holds, its entries first and what the buffer held beyond them.
+-- What an index was made of: the sheet of the image, its entries, and then what the buffer held.
 pub record Made (kind : ℕ) (image buffer made : List ℕ) : Type 0 where
   pub held : Contents
   pub accepted : contents kind image ≡ good held
@@ -34,7 +34,7 @@ index-of kind image buffer made e =
     let (t, g) = passed (shortIndex (length bytes)) (ltb (length buffer) (length bytes)) (good (bytes ++ drop (length bytes) buffer)) made f in
     record { held = c; accepted = h; is = sym (good-same g) }
 
--- It goes by the entries alone.
+-- The index depends only on the entries.
 pub index-same : (kind : ℕ) (image other buffer : List ℕ) (c d : Contents) → contents kind image ≡ good c → contents kind other ≡ good d → entries c ≡ entries d →
     index kind image buffer ≡ index kind other buffer
 unfolding index
@@ -43,7 +43,7 @@ index-same kind image other buffer c d e f same =
     (refuse shortIndex (length (entryBytes es)) if ltb (length buffer) (length (entryBytes es))) >> good (entryBytes es ++ drop (length (entryBytes es)) buffer) in
     ap (λ o. o >>= λ x. ending (entries x)) e ∙ ap ending same ∙ sym (ap (λ o. o >>= λ x. ending (entries x)) f)
 
--- ---- of an opened sheet, whose template has so many fields
+-- ---- of an opened sheet, whose template has this many fields
 
 module _ {kind : ℕ} {image : List ℕ} {o : Opened} {c : Contents} (h : Opens kind image o c) {last : ℕ} (fields : last ≡ lastField (o .layout .template)) where
   abbrev count : ℕ
@@ -52,7 +52,7 @@ module _ {kind : ℕ} {image : List ℕ} {o : Opened} {c : Contents} (h : Opens 
   counted : count ≡ length (entries c)
   counted = omega (arith, entries-count (holding h), ap (λ l. lastField (l .template)) (layout-is h), points-are h, length-map (pairsIn (c .calibration)) pairIn)
 
-  -- No stream holds many points.
+  -- A stream holds few points.
   pub opened-few : count < 2 ^ 32
   opened-few = go (decLt (lastField (c .template)) (length (entries c)))
     where

@@ -1,4 +1,4 @@
--- Bytes laid into a buffer, one behind the other, and the bytes of entries.
+-- Laws of bytes written into a buffer in order, and of the bytes of entries.
 use Rattle.index.proofs.Names.{_≡_, refl, sym, ap, ap₂, _∙_, List, [], _∷_, _++_, append-assoc, ℕ, zero, suc, _+_, _-_, _*_, _/_, _%_, _≤_, zero-add, add-one, arith, length, take, drop, set, length-append}
 use Rattle.index.proofs.Names.{length-drop, length-take-le, take-at, drop-at, drop-drop, sets-eq, bytesOf, Layout, Entry, entryBytes, laid, entryOf, firstEntries}
 
@@ -19,11 +19,11 @@ module _ (buffer : List ℕ) (at : ℕ) (xs : List ℕ) (inside : at + length xs
       ∙ drop-drop (length ys) (at + length xs) buffer ∙ ap (λ (k : ℕ). drop k buffer) n)
       ∙ ap (λ (l : List ℕ). l ++ drop (at + length (xs ++ ys)) buffer) (append-assoc (take at buffer) xs ys)
 
--- From the start.
+-- From the start of the buffer.
 pub laid-start : (buffer bytes : List ℕ) → laid buffer 0 bytes ≡ bytes ++ drop (length bytes) buffer
 laid-start buffer bytes = ap (λ (n : ℕ). bytes ++ drop n buffer) (zero-add (length bytes))
 
--- Over what was laid there before.
+-- Over bytes written there earlier.
 laid-over : (buffer xs ys : List ℕ) → length xs ≤ length ys → laid (laid buffer 0 xs) 0 ys ≡ laid buffer 0 ys
 laid-over buffer xs ys h =
     let k : ℕ = length ys - length xs in
@@ -45,14 +45,14 @@ bytes-append [] gs = refl
 bytes-append (e ∷ es) gs =
     ap (λ (q : List ℕ). e .offset % 256 ∷ e .offset / 256 % 256 ∷ e .length % 256 ∷ e .length / 256 % 256 ∷ q) (bytes-append es gs)
 
--- Two bytes stored one behind the other.
+-- Two bytes stored one after the other.
 pub two-laid : (index : List ℕ) (at word : ℕ) {low high : ℕ} → at + 2 ≤ length index → low ≡ word % 256 → high ≡ word / 256 % 256 →
     set (set index at low) (at + 1) high ≡ laid index at (bytesOf 2 word)
 two-laid index at word inside l h =
     let next : at + 1 ≡ suc at = omega arith in
     rw (next, l, h) (sets-eq (bytesOf 2 word) index at inside)
 
--- ---- entries one behind the other
+-- ---- entries in order
 
 pub first-length : (layout : Layout) (n : ℕ) → length (firstEntries layout n) ≡ n
 first-length layout zero = refl
@@ -68,15 +68,15 @@ module _ (layout : Layout) where
   pub first-long : (buffer : List ℕ) (n : ℕ) → 4 * n ≤ length buffer → length (laid buffer 0 (bytes n)) ≡ length buffer
   first-long buffer n inside = laid-length buffer 0 (bytes n) (omega (arith, bytes-length n))
 
-  -- More of them over some.
+  -- More entries written over fewer.
   pub first-over : (buffer : List ℕ) (m n : ℕ) → m ≤ n → laid (laid buffer 0 (bytes m)) 0 (bytes n) ≡ laid buffer 0 (bytes n)
   first-over buffer m n h = laid-over buffer (bytes m) (bytes n) (omega (arith, bytes-length m, bytes-length n))
 
-  -- A buffer with the first of them laid begins with them.
+  -- A buffer with the first entries written begins with them.
   pub first-begun : (buffer index : List ℕ) (n : ℕ) → index ≡ laid buffer 0 (bytes n) → index ≡ laid index 0 (bytes n)
   first-begun buffer index n e = e ∙ sym (first-over buffer n n (omega arith)) ∙ ap (λ (l : List ℕ). laid l 0 (bytes n)) (sym e)
 
-  -- One more, laid behind them.
+  -- One more entry, written after them.
   pub first-more : (buffer : List ℕ) {index after : List ℕ} {e : Entry} (i : ℕ) → 4 * i ≤ length buffer → index ≡ laid buffer 0 (bytes i) → e ≡ entryOf layout i →
       after ≡ laid index (4 * i) (entryBytes (e ∷ [])) → after ≡ laid buffer 0 (bytes (i + 1))
   first-more buffer {index} {after} {e} i inside before here step =

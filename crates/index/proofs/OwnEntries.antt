@@ -1,11 +1,11 @@
--- The loop over the entries of a template's own fields: where it has come to, and a turn of it.
+-- Laws of the loop over the entries of a template's own fields: its state, and one turn.
 use Rattle.index.proofs.Names.{_≡_, refl, sym, ap, _∙_, List, ℕ, _+_, _*_, _≤_, _<_, arith, length, Row, Cursor, Passed, passedOver, Layout, basic, linesOf, lastField, bitsBefore, rowOf, place-few, basic-most}
 use Rattle.index.proofs.Names.{entry, entryBytes, laid, firstEntries, [], _∷_, _^_}
 use Rattle.index.proofs.Laying.{laid-length, first-more}
 use Rattle.index.proofs.EntryLaws.{field-next, own-entry, own-first}
 
--- The entries before field i + 1 are laid into the buffer, and the cursor is at that field.
-pub record Come (layout : Layout) (before : List ℕ) (i : ℕ) (cursor : Cursor) (buffer : List ℕ) : Type 0 where
+-- The entries before field i + 1 are in the buffer, and the cursor is at that field.
+pub record JudgedUpTo (layout : Layout) (before : List ℕ) (i : ℕ) (cursor : Cursor) (buffer : List ℕ) : Type 0 where
   pub low : length basic ≤ i
   pub high : i ≤ lastField (layout .template)
   pub long : length buffer ≡ length before
@@ -13,7 +13,7 @@ pub record Come (layout : Layout) (before : List ℕ) (i : ℕ) (cursor : Cursor
   pub is : buffer ≡ laid before 0 (entryBytes (firstEntries layout i))
 
 module _ (layout : Layout) {before : List ℕ} where
-  pub own-begun : {n : ℕ} → n ≡ length basic → before ≡ laid before 0 (entryBytes (firstEntries layout (length basic))) → Come layout before n (record { at = 74 }) before
+  pub own-begun : {n : ℕ} → n ≡ length basic → before ≡ laid before 0 (entryBytes (firstEntries layout (length basic))) → JudgedUpTo layout before n (record { at = 74 }) before
   own-begun e begun = record {
     low = omega (arith, e);
     high = omega (arith, e, basic-most (layout .template));
@@ -22,8 +22,8 @@ module _ (layout : Layout) {before : List ℕ} where
     is = begun ∙ ap (λ (k : ℕ). laid before 0 (entryBytes (firstEntries layout k))) (sym e);
   }
 
-  module _ {i : ℕ} {cursor : Cursor} {buffer : List ℕ} (h : Come layout before i cursor buffer) where
-    -- At the last field.
+  module _ {i : ℕ} {cursor : Cursor} {buffer : List ℕ} (h : JudgedUpTo layout before i cursor buffer) where
+    -- The loop is past the last field.
     pub own-ended : {last : ℕ} → last ≡ lastField (layout .template) → last ≤ i → buffer ≡ laid before 0 (entryBytes (firstEntries layout (lastField (layout .template))))
     own-ended e l =
         let n : i ≡ lastField (layout .template) = omega (arith, h .high) in
@@ -33,9 +33,9 @@ module _ (layout : Layout) {before : List ℕ} where
       pub own-few : cursor .at + row .width < 2 * 2 ^ 16
       own-few = omega (arith, h .place, field-next layout i (omega arith) r, place-few layout (i + 1))
 
-      -- One more.
+      -- One more entry is written.
       pub own-next : {passed : Passed} {after : List ℕ} → 4 * i + 4 ≤ length before → passed ≡ passedOver cursor (row .width) →
-          after ≡ laid buffer (4 * i) (entryBytes (entry (passed .field .at) (row .width) ∷ [])) → Come layout before (i + 1) (passed .next) after
+          after ≡ laid buffer (4 * i) (entryBytes (entry (passed .field .at) (row .width) ∷ [])) → JudgedUpTo layout before (i + 1) (passed .next) after
       own-next {passed} inside p step = record {
         low = omega (arith, h .low);
         high = omega arith;

@@ -9,12 +9,12 @@ use Rattle.refusal.specs.Rows.{outsideTable, noSuch, shortIndex}
 use Rattle.memory.specs.declared.Sizes.{Sizes}
 use Rattle.memory.specs.Bits.{number, bytesOf, fieldAt}
 use Rattle.memory.specs.Image.{imageSizes, sums, streamBits, streamNumber}
-use Rattle.fields.specs.declared.Value.{Value}
-use Rattle.fields.specs.declared.Row.{Row}
-use Rattle.fields.specs.declared.Template.{Template}
-use Rattle.fields.specs.declared.Template.the-variants.{Bridge, Resistance}
-use Rattle.fields.specs.Rules.{decode}
-use Rattle.fields.specs.Lines.{Line, numberOf, lastField, lineOf}
+use Rattle.codes.specs.declared.Value.{Value}
+use Rattle.codes.specs.declared.Row.{Row}
+use Rattle.templates.specs.declared.Template.{Template}
+use Rattle.templates.specs.declared.Template.the-variants.{Bridge, Resistance}
+use Rattle.codes.specs.Rules.{decode}
+use Rattle.templates.specs.Lines.{Line, numberOf, lastField, lineOf}
 use Rattle.layout.specs.Contents.{Found, FoundPair, Contents}
 use Rattle.layout.specs.Image.{contents, pairsIn}
 use Rattle.layout.specs.Places.{firstNumber, pairBits}
@@ -22,14 +22,14 @@ use Rattle.index.specs.declared.Entry.{Entry}
 
 -- ---- the index
 
--- A pair of offset and length in stream bits is called an entry.
+-- An entry: a pair of "offset and length in stream bits".
 abbrev pub entry : ℕ → ℕ → Entry
 entry offset length = record { offset = offset; length = length }
 
 abbrev pub fieldEntry : Found → Entry
 fieldEntry x = entry (x .at) (x .row .width)
 
--- One of length 37 for each correction point.
+-- "then one pair of length 37 for each correction point"
 abbrev pub pairEntry : FoundPair → Entry
 pairEntry p = entry (p .point .at) pairBits
 
@@ -37,12 +37,12 @@ pairEntry p = entry (p .point .at) pairBits
 abbrev pub entries : Contents → List Entry
 entries c = map fieldEntry (c .fields) ++ map pairEntry (pairsIn (c .calibration))
 
--- 16 bits each, low byte first.
+-- "16 bits each, low byte first"
 abbrev pub entryBytes : List Entry → List ℕ
 entryBytes [] = []
 entryBytes (e ∷ es) = bytesOf 2 (e .offset) ++ bytesOf 2 (e .length) ++ entryBytes es
 
--- The lent buffer afterwards: bytes beyond the entries stay. Order: check, 18.
+-- The lent buffer after the call: "bytes beyond them stay". Order: check, 18.
 unfoldable pub index : ℕ → List ℕ → List ℕ → Outcome (List ℕ)
 index kind image buffer = do
   c ← contents kind image
@@ -52,11 +52,12 @@ index kind image buffer = do
 
 -- ---- a fetch
 
--- Any first template but 32 is taken as 33.
+-- Note 7: "a fetch takes any first template but 32 as 33".
 abbrev pub takenAs : ℕ → Template
 takenAs number = cond (eqb number (numberOf Resistance)) Resistance Bridge
 
--- It does not walk the stream: the eight bits of the first template's number are taken, whatever the selector before them holds.
+-- The template, by the eight bits of the first template's number, whatever
+-- the selector before them is. A fetch does not parse the stream.
 unfoldable pub templateAt : ℕ → Template
 templateAt stream = takenAs (fieldAt stream firstNumber 8)
 
@@ -67,7 +68,7 @@ entryAt index i =
     (number (getD index (4 * i) 0 ∷ getD index (4 * i + 1) 0 ∷ []))
     (number (getD index (4 * i + 2) 0 ∷ getD index (4 * i + 3) 0 ∷ []))
 
--- Of rows the one that is as long as an entry; 5 with the offset where there is none.
+-- The first row that is as long as an entry; 5 with the offset if there is none.
 abbrev pub ofLength : Entry → List Row → Outcome Row
 ofLength e [] = refused (outsideTable (e .offset))
 ofLength e (row ∷ rows) = cond (eqb (row .width) (e .length)) (good row) (ofLength e rows)
@@ -76,18 +77,20 @@ ofLength e (row ∷ rows) = cond (eqb (row .width) (e .length)) (good row) (ofLe
 abbrev pub choices : List ℕ
 choices = 0 ∷ 1 ∷ 2 ∷ 3 ∷ []
 
--- A field is understood by its entry's length: 10 and 11 have rows of 11, 19 and 32 bits, in template 32 of 7, 10, 16 and 32; every other field has
--- one.
+-- "field 10 or 11 is understood by its pair's length of 11, 19 or 32"; in
+-- template 32 the lengths are 7, 10, 16 and 32. Every other field has one length.
 abbrev pub rowOfLength : Line → Entry → Outcome Row
 rowOfLength line e = ofLength e (map (line .rowAt) choices)
 
--- The field's bits, as a check judges them: 5 or 6 at the offset. Before that 5 where the entry ends past the stream.
+-- The field's bits, as a check judges them: 5 or 6 at the
+-- offset. Before that 5 if the entry ends past the stream.
 unfoldable pub bitsAt : Sizes → List ℕ → Row → Entry → Outcome Value
 bitsAt z image row e = do
   refuse outsideTable (e .offset) if ltb (streamBits z) (e .offset + e .length)
   decode row (e .offset) (fieldAt (streamNumber z image) (e .offset) (e .length))
 
--- Order: 8, then the index: 18 if it can't hold an entry for each field, and 5 for the asked field's own entry; then its bits.
+-- Order: 8, then the index: 18 if it can't hold an entry for
+-- each field, and 5 for the field's own entry; then its bits.
 unfoldable pub fetchIn : Sizes → List ℕ → List ℕ → ℕ → Outcome Value
 fetchIn z image index f =
     let template = templateAt (streamNumber z image) in do

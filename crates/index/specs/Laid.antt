@@ -1,20 +1,21 @@
--- Only inner contracts need these: bytes laid into a buffer, and the entries of an accepted sheet by the places of its layout.
+-- Only inner contracts need this: bytes written into a buffer, and
+-- the entries of an accepted sheet by the places of its layout.
 use mathlib.Core.Bool.{cond}
 use mathlib.Core.List.{List, [], _∷_, _++_}
 use Prim.Native.Nat.{ℕ, zero, suc, _+_, _-_}
 use lib.Dec.{ltb}
 use lib.ListN.{length, take, drop}
 use Rattle.refusal.specs.Outcome.{Outcome, good, refused}
-use Rattle.fields.specs.declared.Row.{Row}
-use Rattle.fields.specs.declared.Layout.{Layout}
-use Rattle.fields.specs.Lines.{lastField, rowOf}
+use Rattle.codes.specs.declared.Row.{Row}
+use Rattle.templates.specs.declared.Layout.{Layout}
+use Rattle.templates.specs.Lines.{lastField, rowOf}
 use Rattle.layout.specs.Places.{fieldPlace, pairBits, pairPlace}
 use Rattle.index.specs.declared.Entry.{Entry}
 use Rattle.index.specs.declared.fetching.RowAnswer.{RowAnswer}
 use Rattle.index.specs.declared.fetching.RowAnswer.the-variants.{Is, Refused}
 use Rattle.index.specs.Index.{entry}
 
--- The buffer with bytes at a place, all else as it was.
+-- The buffer with bytes at an offset, all else unchanged.
 abbrev pub laid : List ℕ → ℕ → List ℕ → List ℕ
 laid buffer at bytes = take at buffer ++ bytes ++ drop (at + length bytes) buffer
 

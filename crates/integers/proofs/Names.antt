@@ -1,18 +1,11 @@
 -- What the proofs of this crate take from the kit, from the crates below and from its own definitions.
 pub use Prim.Native.Nat.{_%_, _*_, _+_, _-_, _/_, _<_, _^_, _≤_, suc, zero, ℕ}
-pub use Rattle.integers.specs.Ceiling.{ceiling}
-pub use mathlib.Core.Bool.{Bool, cond, false, not, true}
-pub use mathlib.Core.Path.{_∙_, _≡_, ap, refl, subst, sym}
-pub use borrow.Author.Needs.{needs, sfits-of}
-pub use borrow.Author.Tests.{le-leb, le-ltb, lt-leb, lt-ltb}
-pub use lib.Dec.{T, leb·zero, leb→le, ltb, ltb→lt, nleb→lt, nltb→le}
-pub use lib.IntN.{_*ℤ_, _+ℤ_, _-ℤ_, natAbs, negsuc, negℤ, pos, subℕ, ℤ}
-pub use lib.Signed.{_<ℤ_, _≤ℤ_, leZ, ltZ}
-pub use mir.Facts.{toZ-neg, toZ-ofZ, toZ-pos}
-pub use mir.Syntax.{Width, w64}
-pub use mir.Val.{SFits, hbits, ofZ, toZ}
-pub use native.Mathlib.Nat.{div-add-mod', div-le-self, le-mul-of-pos-right, lt-of-mul-lt-mul-right, mod-lt, mul-le-mul-right, mul-lt-mul-of-pos-right, div-lt-iff-lt-mul, le-of-mul-le-mul-right}
+pub use mathlib.Core.{Bool.Bool, Bool.cond, Bool.false, Bool.not, Bool.true, Path._∙_, Path._≡_, Path.ap, Path.refl, Path.subst, Path.sym}
+pub use native.Mathlib.Nat.{div-add-mod', div-le-self, div-lt-iff-lt-mul, le-mul-of-pos-right, le-of-mul-le-mul-right, lt-of-mul-lt-mul-right, mod-lt, mul-le-mul-right, mul-lt-mul-of-pos-right}
 pub use native.Mathlib.Omega.{arith}
-pub use Rattle.integers.specs.Nearest.{Fraction, _over_, floor}
+pub use lib.IntN.{_*ℤ_, _+ℤ_, _-ℤ_, natAbs, negsuc, negℤ, pos, subℕ, ℤ}
+pub use lib.{Dec.T, Dec.leb·zero, Dec.leb→le, Dec.ltb, Dec.ltb→lt, Dec.nleb→lt, Dec.nltb→le, Signed._<ℤ_, Signed._≤ℤ_, Signed.leZ, Signed.ltZ}
+pub use mir.{Facts.toZ-neg, Facts.toZ-ofZ, Facts.toZ-pos, Syntax.Width, Syntax.w64, Val.SFits, Val.hbits, Val.ofZ, Val.toZ}
+pub use borrow.Author.{Needs.needs, Needs.sfits-of, Tests.le-leb, Tests.le-ltb, Tests.lt-leb, Tests.lt-ltb}
+pub use Rattle.integers.specs.{Ceiling.ceiling, Nearest.Fraction, Nearest._over_, Nearest.floor, Parts.InRange, Parts.dn, Parts.up}
 unfoldable pub use Rattle.integers.specs.Nearest.{nearest}
-pub use Rattle.integers.specs.Parts.{InRange, dn, up}

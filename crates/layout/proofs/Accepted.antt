@@ -1,4 +1,5 @@
--- What an accepted check says: the image's sizes and sums, the sheet that may stand there, and that its stream holds it.
+-- Laws of an accepted check: the image's sizes and sums, the
+-- sheet that the format allows, and that its stream holds it.
 use Rattle.layout.proofs.Names.{_≡_, sym, ap, _∙_, subst, List, [], _∷_, _++_, map, append-assoc, ℕ, _+_, _^_, _≤_, _<_, _%_, arith, length, Outcome, good, good-same, good-bind, good-then, Sizes, bit, fieldAt}
 use Rattle.layout.proofs.Names.{imageSizes, sums, streamBits, streamNumber, imageOf, Piece, piece, needed, sizes-chip, field-bit, image-length, image-number-lt, image-passes, Fit, Holds, needed-append}
 use Rattle.layout.proofs.Names.{holds-piece, numberOf, Stream, Parsed, parse, Contents, sheetOf, streamIn, contents, firstNumber}
@@ -33,7 +34,7 @@ holding-parsed s c h =
     parse-held s sheetOf 0 (sheetPieces (h .formed)) c (sheet-parses (h .formed)) (h .holds) (omega (arith, sheet-needed (h .formed), h .inside))
     ∙ ap (λ (n : ℕ). good (parsed c n)) (omega (arith, sheet-needed (h .formed)))
 
--- The first selector is 0, and it stands at bit 64.
+-- The first selector is 0, at bit 64.
 pub selector-zero : {s : Stream} {c : Contents} → Holding s c → bit (s .number) 64 ≡ 0
 selector-zero {s} {c} h =
     let selector = holds-piece (s .number) 0 (map pieceOf (h .formed .basics)) (piece 2 0) _ (holding-fit h) (h .holds) in
@@ -41,7 +42,7 @@ selector-zero {s} {c} h =
     let none : fieldAt (s .number) 64 2 ≡ 0 = ap (λ (n : ℕ). fieldAt (s .number) n 2) at ∙ selector in
     sym (field-bit (s .number) 64 2 0 (omega arith)) ∙ ap (λ (n : ℕ). bit n 0) none
 
--- The first template's number stands behind it.
+-- The first template's number is right after the selector.
 pub number-stands : {s : Stream} {c : Contents} → Holding s c → fieldAt (s .number) firstNumber 8 ≡ numberOf (c .template)
 number-stands {s} {c} h =
     let f = h .formed in
@@ -80,7 +81,8 @@ pub accepted-contents : (kind : ℕ) (image : List ℕ) (c : Contents) → Accep
 unfolding contents
 accepted-contents kind image c h = rw (h .sized, h .summed, holding-parsed (streamIn (h .sizes) image) c (h .holding))
 
--- The image of a stream that holds a sheet is accepted. It is not blank, since its first selector is 0.
+-- The image of a stream that holds a sheet is accepted.
+-- It is not blank, since its first selector is 0.
 pub written-contents : (kind bytes : ℕ) (z : Sizes) (N : ℕ) (c : Contents) → imageSizes kind bytes ≡ good z → N < 2 ^ streamBits z →
     Holding (record { bits = streamBits z; number = N }) c → contents kind (imageOf z N) ≡ good c
 written-contents kind bytes z N c sizes small holding =
@@ -92,15 +94,15 @@ written-contents kind bytes z N c sizes small holding =
       holding = subst (λ (n : ℕ). Holding (record { bits = streamBits z; number = n }) c) (sym (image-number-lt z N small)) holding;
     })
 
--- The same at sizes that are known.
+-- The image of a stream that holds a sheet is accepted, at known sizes.
 pub accepted-at : (kind : ℕ) (image : List ℕ) (c : Contents) (z : Sizes) → contents kind image ≡ good c → imageSizes kind (length image) ≡ good z →
     (sums z image ≡ good tt) × Holding (streamIn z image) c
 accepted-at kind image c z e hz =
     let a = contents-accepted kind image c e in
     subst (λ u. (sums u image ≡ good tt) × Holding (streamIn u image) c) (good-same (sym (a .sized) ∙ hz)) (a .summed, a .holding)
 
--- Bits after the end are not judged: an image of the same kind that passes the page test, whose stream agrees with that of an accepted one up to its
--- end, holds the same.
+-- "Bits after the end are not judged". So an image of the same kind that passes the page
+-- test, and whose stream agrees with an accepted one up to its end, has the same contents.
 pub agree : (kind : ℕ) (image other : List ℕ) (z : Sizes) (c : Contents) → imageSizes kind (length image) ≡ good z → contents kind image ≡ good c →
     imageSizes kind (length other) ≡ good z → sums z other ≡ good tt →
     streamNumber z image % 2 ^ (c .bits) ≡ streamNumber z other % 2 ^ (c .bits) → contents kind other ≡ good c

@@ -1,7 +1,8 @@
--- Behind the fields: what may stand as a calibration table or a curve, and the pieces that it is.
+-- Laws of the calibration after the fields: what the
+-- format allows as a table or a curve, and its pieces.
 use Rattle.layout.proofs.Names.{_≡_, refl, sym, ap, ap₂, _∙_, subst, Bool, true, false, not, cond, List, [], _∷_, _++_, Option, none, some, ℕ, zero, suc, _+_, _*_, _^_, _≤_, _<_, arith, eqb, length, eqb-true}
 use Rattle.layout.proofs.Names.{not-false, Outcome, good, refused, wrongBlock, Piece, piece, needed, needed-append, Codes, Domain, calDomain, domainCode, domainOf, pointCount, calPoint, calDeviation, follows}
-use Rattle.layout.proofs.Names.{plain-bounds, domain-coded, code-domained, domain-most, Format, ends, stops, _>>=_, _>>_, given, refuse_if_, Found, FoundPair, Calibration, bare, table, curve, paired, codesIn}
+use Rattle.layout.proofs.Names.{plain-bounds, domain-coded, code-domained, domain-most, Format, ends, stops, _>>=_, _>>_, given, reject_if_, Found, FoundPair, Calibration, bare, table, curve, paired, codesIn}
 use Rattle.layout.proofs.Names.{fieldOf, selectorOf, pairOf, pairsOf, tableOf, nothingPassed, curveOf, blockOf, blockAt, calibrationOf, pairsIn, segmentsIn, allTerms, tableBits, curveBits, blockPieces}
 use Rattle.layout.proofs.Formats.{Parses, parses-bind, parses-halves, ends-pieces, refuse-pieces, parses-made, made-pieces, fixed-pieces}
 use Rattle.layout.proofs.Fields.{pieceOf, FieldAt, width-is, at-is, plain-field, field-parses, field-pieces}
@@ -12,7 +13,7 @@ use Rattle.layout.proofs.Curves.{curvePieces, CurveAt, SegmentsAt, segm
 abbrev pub foundPairPieces : FoundPair → List Piece
 foundPairPieces p = pieceOf (p .point) ∷ pieceOf (p .deviation) ∷ []
 
--- A pair at a place, behind the one before it.
+-- A pair at a place, after the one before it.
 pub record PairAt (domain : Domain) (before : Option Codes) (at : ℕ) (p : FoundPair) : Type 0 where
   pub point : FieldAt calPoint at (p .point)
   pub deviation : FieldAt calDeviation (at + 16) (p .deviation)
@@ -23,7 +24,7 @@ given-pieces : {A B : Type 0} (S : ℕ) (o : Outcome A) (k : A → Format B) (at
 given-pieces S (good a) k at ps b l = (a, refl, l)
 given-pieces S (refused r) k at ps b l = absurd l
 
--- The format behind a pair's two fields.
+-- The format after a pair's two fields.
 abbrev pub following : Domain → Option Codes → Found → Found → Format FoundPair
 following domain before point deviation = given (follows domain before (point .at) (codesIn (paired point deviation))) >> ends (paired point deviation)
 
@@ -51,7 +52,7 @@ module _ (S : ℕ) (domain : Domain) (before : Option Codes) (at : ℕ) where
         },
       )
 
--- Pairs one after the other, 37 bits each.
+-- Pairs in order, 37 bits each.
 abbrev pub foundPairsPieces : List FoundPair → List Piece
 foundPairsPieces [] = []
 foundPairsPieces (p ∷ pairs) = foundPairPieces p ++ foundPairsPieces pairs
@@ -103,9 +104,10 @@ pairs-pieces S domain (suc n) before at ps pairs l =
       stand = (f, r .stand);
     })
 
--- ---- the block, and what stands in its place
+-- ---- the block, or no block
 
--- Selector 0, template 40, the domain, the count and the pairs; those of a curve, template 41; nothing where there is neither.
+-- Selector 0, template 40, the domain, the count and the
+-- pairs; or those of a curve, template 41; or nothing.
 abbrev pub calibrationPieces : Calibration → List Piece
 calibrationPieces bare = []
 calibrationPieces (table domain pairs) = blockPieces 40 ++ (piece 1 (domainCode domain) ∷ piece 7 (length pairs) ∷ foundPairsPieces pairs)
@@ -136,7 +138,7 @@ calibration-needed at (table domain pairs) h = go (length pairs) refl (h .some)
     go (suc n) f l = omega (arith, pairs-needed domain none (at + 18) pairs (h .stand))
 
 module _ (S at : ℕ) where
-  -- Behind the block's template number.
+  -- The pieces after the block's template number.
   abbrev countedPieces : Domain → List FoundPair → List Piece
   countedPieces domain pairs = piece 1 (domainCode domain) ∷ piece 7 (length pairs) ∷ foundPairsPieces pairs
 
@@ -193,7 +195,7 @@ module _ (S at : ℕ) where
   abbrev afterBlock : Calibration → Format Calibration
   afterBlock c = selectorOf 3 >> ends c
 
-  -- A block whose selector 0 stands here, and the last selector behind it.
+  -- A block whose selector 0 is here, and the last selector after it.
   only-parses : (number : ℕ) (c : Calibration) (ps : List Piece) → number < 2 ^ 8 → Parses S (blockOf at number) (at + 2 + 8) ps c →
       Parses S calibrationOf at ((blockPieces number ++ ps) ++ (piece 2 3 ∷ [])) c
   unfolding calibrationOf blockAt selectorOf
@@ -212,7 +214,7 @@ module _ (S at : ℕ) where
       only-parses 41 (curve segments) _ (omega arith)
       (curve-parses S (at + 2 + 8) segments (h .some) (h .most) (subst (λ (n : ℕ). SegmentsAt nothingPassed n segments) e (h .stand)))
 
-  -- The pieces of a block behind its selector 0.
+  -- The pieces of a block after its selector 0.
   block-pieces : (ps : List Piece) (c : Calibration) → Parses S (blockAt at) (at + 2) ps c → (piece 2 0 ∷ ps ≡ calibrationPieces c) × CalibrationAt at c
   unfolding blockAt
   block-pieces [] c l = absurd l
@@ -250,7 +252,7 @@ module _ (S at : ℕ) where
       selector n e = λ i. record { width = l .0 i; code = e i }
 
       go : (t : Bool) → eqb (p .code) 0 ≡ t →
-          Parses S (cond t (blockAt at >>= afterBlock) (refuse wrongBlock at if not (eqb (p .code) 3) >> ends bare)) (at + 2) ps c →
+          Parses S (cond t (blockAt at >>= afterBlock) (reject wrongBlock at if not (eqb (p .code) 3) >> ends bare)) (at + 2) ps c →
           (p ∷ ps ≡ calibrationPieces c ++ (piece 2 3 ∷ [])) × CalibrationAt at c
       go true e m =
           let h = parses-halves S (blockAt at) afterBlock (at + 2) ps c m in

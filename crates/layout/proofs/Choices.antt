@@ -1,11 +1,12 @@
--- Lines that set widths at most once: every row is the row at the last choice, so that a field's place and row follow from it.
+-- Laws of lines that set widths at most once: every row is the
+-- row at the last choice, which gives a field's place and row.
 use Rattle.layout.proofs.Names.{_≡_, refl, sym, ap, ap₂, _∙_, subst, subst₂, Bool, true, false, true≢false, List, [], _∷_, _++_, map, ℕ, zero, suc, _+_, _≤_, _<_, zero-add, arith, length, getD, needed, Row}
 use Rattle.layout.proofs.Names.{Template, Bridge, Resistance, Line, chose, basic, template33, template32, templateLines, linesOf, rowsOf, bitsBefore, Found, nothing, lastChoice}
 use Rattle.layout.proofs.Fields.{pieceOf, FieldAt, row-is, width-is, Laid}
 
 -- ---- lines
 
--- A row that goes by no choice.
+-- A row that depends on no choice.
 abbrev pub Fixed : Line → Type 0
 Fixed l = (c d : ℕ) → l .rowAt c ≡ l .rowAt d
 
@@ -13,15 +14,16 @@ abbrev pub AllFixed : List Line → Type 0
 AllFixed [] = Unit {0}
 AllFixed (l ∷ lines) = Fixed l × AllFixed lines
 
--- One line at most sets widths, and no row up to it goes by the choice: `done` tells whether it has been passed.
+-- At most one line sets widths, and no row up to it depends
+-- on the choice. `done` says whether it has been passed.
 abbrev pub Steady : Bool → List Line → Type 0
 Steady done [] = Unit {0}
 Steady true (l ∷ lines) = (l .sets ≡ false) × Steady true lines
 Steady false (l ∷ lines) = Fixed l × Steady (l .sets) lines
 
--- ---- what was found on them
+-- ---- the fields on these lines
 
--- Every row that was met is the row at a choice.
+-- Every row is the row at one choice.
 abbrev pub MetAt : List Line → List Found → ℕ → ℕ → Type 0
 MetAt [] xs latest choice = Unit {0}
 MetAt (l ∷ lines) [] latest choice = Unit {0}
@@ -129,7 +131,8 @@ last-append [] ms (x ∷ xs) ys latest e = absurd (omega arith)
 last-append (l ∷ ls) ms [] ys latest e = absurd (omega arith)
 last-append (l ∷ ls) ms (x ∷ xs) ys latest e = last-append ls ms xs ys (chose (l .sets) (x .code) latest) (omega arith)
 
--- Where none of the first sets widths and none goes by a choice, they are met at any choice.
+-- If no line of the first list sets widths or depends
+-- on a choice, its rows are those at any choice.
 fixed-met : (lines : List Line) → AllFixed lines → (xs : List Found) (latest choice : ℕ) → MetAt lines xs latest choice
 fixed-met [] h xs latest choice = tt
 fixed-met (l ∷ lines) h [] latest choice = tt

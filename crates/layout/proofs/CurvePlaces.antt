@@ -1,4 +1,4 @@
--- What stands in the stream of a sheet at the places of its curve's segments and terms.
+-- Laws of the stream of a sheet at the places of its curve's segments and terms.
 use Rattle.layout.proofs.Names.{_≡_, sym, ap, _∙_, subst, List, [], _∷_, _++_, append-assoc, Option, none-before, ℕ, zero, suc, _+_, _*_, _≤_, _<_, arith, length, getD, fieldAt, Piece, piece, needed, Fit, Holds}
 use Rattle.layout.proofs.Names.{needed-append, fit-split, holds-front, holds-back, holds-uncons, Row, segmentStart, termCount, exponent, coefficient, Stream, Found, FoundTerm, FoundSegment, Calibration, bare}
 use Rattle.layout.proofs.Names.{table, curve, Contents, Passed, behindTerm, behindSegment, nothingPassed, layoutOf, segmentsIn, behindFields, blockPieces}
@@ -8,11 +8,11 @@ use Rattle.layout.proofs.Calibrations.{calibrationPieces, CalibrationAt
 use Rattle.layout.proofs.Endings.{endPieces}
 use Rattle.layout.proofs.Places.{behind-is}
 use Rattle.layout.proofs.Accepted.{Holding}
-use Rattle.layout.proofs.Standing.{Stands, rest-holds}
+use Rattle.layout.proofs.Standing.{Valid, rest-holds}
 
--- A field first among pieces that a stream holds.
+-- The first of the pieces that a stream holds, as a field.
 first-stands : (s : Stream) (row : Row) (at : ℕ) (x : Found) (ps : List Piece) → FieldAt row at x → Fit (pieceOf x ∷ ps) → Holds (s .number) at (pieceOf x ∷ ps) →
-    at + row .width ≤ s .bits → Stands s row at x × Holds (s .number) (at + row .width) ps
+    at + row .width ≤ s .bits → Valid s row at x × Holds (s .number) (at + row .width) ps
 first-stands s row at x ps h f k inside =
     let u = holds-uncons (s .number) at (pieceOf x) ps (f .0) k in (
       record { field = h; code = ap (λ (n : ℕ). fieldAt (s .number) at n) (sym (width-is h)) ∙ u .1; inside = inside },
@@ -22,8 +22,8 @@ first-stands s row at x ps h f k inside =
 -- ---- terms
 
 pub record TermStands (s : Stream) (at : ℕ) (t : FoundTerm) : Type 0 where
-  pub exponent : Stands s exponent at (t .exponent)
-  pub coefficient : Stands s coefficient (at + 7) (t .coefficient)
+  pub exponent : Valid s exponent at (t .exponent)
+  pub coefficient : Valid s coefficient (at + 7) (t .coefficient)
 
 term-stands : (s : Stream) (before : Option ℕ) (at : ℕ) (t : FoundTerm) (ps : List Piece) → TermAt before at t → Fit (termPieces t ++ ps) → Holds (s .number) at (termPieces t ++ ps) →
     at + 39 ≤ s .bits → TermStands s at t × Holds (s .number) (at + 39) ps
@@ -49,10 +49,10 @@ terms-stand s before at (t ∷ terms) h f k inside (suc i) none l =
 
 -- ---- segments
 
--- A segment at its own place, with its terms behind it.
+-- A segment at its own place, with its terms after it.
 pub record SegmentStands (s : Stream) (x : FoundSegment) : Type 0 where
-  pub start : Stands s segmentStart (x .start .at) (x .start)
-  pub count : Stands s termCount (x .start .at + 13) (x .count)
+  pub start : Valid s segmentStart (x .start .at) (x .start)
+  pub count : Valid s termCount (x .start .at + 13) (x .count)
   pub counted : length (x .terms) ≡ x .count .code
   pub terms : (i : ℕ) (none : FoundTerm) → i < length (x .terms) → TermStands s (x .start .at + 20 + 39 * i) (getD (x .terms) i none)
 
@@ -66,15 +66,15 @@ segment-stands s before at x h f k inside =
     let e : at + 13 + 7 ≡ at + 20 = omega arith in
     let held : Holds (s .number) (at + 20) (termsPieces (x .terms)) = subst (λ (n : ℕ). Holds (s .number) n (termsPieces (x .terms))) e (b .1) in
     record {
-      start = subst (λ (n : ℕ). Stands s segmentStart n (x .start)) (sym own) (a .0);
-      count = subst (λ (n : ℕ). Stands s termCount (n + 13) (x .count)) (sym own) (b .0);
+      start = subst (λ (n : ℕ). Valid s segmentStart n (x .start)) (sym own) (a .0);
+      count = subst (λ (n : ℕ). Valid s termCount (n + 13) (x .count)) (sym own) (b .0);
       counted = h .counted;
       terms = λ i none l.
           subst (λ (n : ℕ). TermStands s (n + 20 + 39 * i) (getD (x .terms) i none)) (sym own)
           (terms-stand s none-before (at + 20) (x .terms) (h .terms) (f .1 .1) held (omega (arith, long)) i none l);
     }
 
--- Each where the one before it ends.
+-- Each segment begins where the one before it ends.
 pub record CurveStands (s : Stream) (at : ℕ) (segments : List FoundSegment) : Type 0 where
   pub stand : (i : ℕ) (none : FoundSegment) → i < length segments → SegmentStands s (getD segments i none)
   pub first : (none : FoundSegment) → 0 < length segments → getD segments 0 none .start .at ≡ at
@@ -114,7 +114,7 @@ module _ {s : Stream} {c : Contents} (h : Holding s c) where
   abbrev end : List Piece
   end = (piece 2 3 ∷ []) ++ text
 
-  -- The first segment stands behind the block, the domain and the number of segments.
+  -- The first segment is after the block, the domain and the number of segments.
   pub curve-here : CurveStands s (behindFields (layoutOf c) + 19) (segmentsIn (c .calibration))
   curve-here =
       subst (λ (n : ℕ). CurveStands s (n + 19) (segmentsIn (c .calibration))) (behind-is (h .formed))

@@ -1,9 +1,10 @@
--- The terms of a curve that stands: their exponents are whole numbers up to 5 that rise inside a segment, their coefficients are finite.
+-- Laws of the terms of an accepted curve: exponents are whole numbers
+-- up to 5 that rise inside a segment, coefficients are finite.
 use Rattle.layout.proofs.Names.{_≡_, ap, _∙_, sym, subst, true, not, List, [], _∷_, map, Option, none, some, ℕ, suc, _+_, _/_, _≤_, _<_, arith, eqb, ℤ, pos, natAbs, _*ℤ_, binary32, ofBits, not-false, good}
 use Rattle.layout.proofs.Names.{outsideTable, notFinite, good-same, passed, needed, Term, allOnes, finite, decode, leastExponent, exponent, coefficient, isExponent, tenthsOf, tenthsBefore, stepped-whole, power}
 use Rattle.layout.proofs.Names.{follows-some, power-is, power-back, power-rises, Found, FoundTerm, figure, float, termIn}
 use Rattle.refusal.specs.Outcome.{_>>_, refuse_if_}
-use Rattle.fields.specs.declared.Value.the-variants.{Single}
+use Rattle.codes.specs.declared.Value.the-variants.{Single}
 use Rattle.layout.proofs.Fields.{FieldAt}
 use Rattle.layout.proofs.Curves.{termPieces, TermAt, TermsAt}
 
@@ -33,7 +34,7 @@ module _ {before : Option ℕ} {at : ℕ} {t : FoundTerm} (h : TermAt before at 
   pub exponent-power : natAbs (figure (x .value)) / 10 ≡ power (x .code)
   exponent-power = ap (λ (z : ℤ). natAbs z / 10) exponent-is
 
-  -- It is stored as it is read.
+  -- The exponent is stored as it is read.
   pub exponent-back : pos 10 *ℤ pos (natAbs (figure (x .value)) / 10) ≡ figure (x .value)
   exponent-back = ap (λ (n : ℕ). pos 10 *ℤ pos n) exponent-power ∙ power-back (x .code) exponent-whole ∙ sym exponent-is
 
@@ -51,7 +52,7 @@ behind-rise b at (t ∷ terms) e h =
     subst (λ (n : ℕ). (suc (power b) ≤ n) × (n < 6) × Rises (suc n) (map termIn terms)) (sym (exponent-power (h .0)))
     (power-rises b (t .exponent .code) e (h .0 .exponent .taken), power-is (t .exponent .code) own .0, behind-rise (t .exponent .code) (at + needed (termPieces t)) terms own (h .1))
 
--- Those of a segment.
+-- The exponents of a segment rise.
 pub terms-rise : (at : ℕ) (terms : List FoundTerm) → TermsAt none at terms → Rises 0 (map termIn terms)
 terms-rise at [] h = tt
 terms-rise at (t ∷ terms) h =

@@ -1,19 +1,19 @@
--- A curve: what may stand as its terms, its segments and the curve, and the pieces that they are.
+-- Laws of curves: what the format allows as terms, segments and a curve, and their pieces.
 use Rattle.layout.proofs.Names.{_≡_, refl, sym, ap, ap₂, _∙_, subst, Bool, true, false, not, List, [], _∷_, _++_, Option, none, some, ℕ, _+_, _*_, _≤_, arith, ltb, leb, pos, length, length-append, not-false}
 use Rattle.layout.proofs.Names.{le-leb, leb-true, wrongCurve, tooManyTerms, both, Piece, piece, needed, needed-append, Whole, Row, curveDomain, segmentCount, segmentStart, termCount, exponent, coefficient}
-use Rattle.layout.proofs.Names.{isSegmentCount, isTermCount, mostTerms, startFollows, tenthsOf, tenthsBefore, exponentFollows, plain-bounds, Format, ends, _>>=_, _>>_, refuse_if_, Found, FoundTerm, FoundSegment}
+use Rattle.layout.proofs.Names.{isSegmentCount, isTermCount, mostTerms, startFollows, tenthsOf, tenthsBefore, exponentFollows, plain-bounds, Format, ends, _>>=_, _>>_, reject_if_, Found, FoundTerm, FoundSegment}
 use Rattle.layout.proofs.Names.{Calibration, curve, Passed, fieldOf, ruledOf, termOf, behindTerm, termsOf, segmentOf, behindSegment, nothingPassed, segmentsOf, curveOf, allTerms}
 use Rattle.layout.proofs.Formats.{Parses, parses-bind, parses-halves, ends-pieces, refuse-pieces, parses-made, made-pieces}
 use Rattle.layout.proofs.Fields.{pieceOf, found, FieldAt, width-is, plain-field, field-parses, field-pieces}
 use Rattle.layout.proofs.Repeats.{eachPieces, EachAt, each-parses, each-pieces}
 
--- ---- a field that a rule takes
+-- ---- a field that obeys a rule
 
 pub record RuledAt (row : Row) (rule : ℕ → Bool) (at : ℕ) (x : Found) : Type 0 where
   pub field : FieldAt row at x
   pub taken : rule (x .code) ≡ true
 
--- Its piece first, and what stands behind it.
+-- The field's piece first, and the pieces after it.
 pub record RuledPieces {B : Type 0} (S : ℕ) (row : Row) (rule : ℕ → Bool) (k : Found → Format B) (at : ℕ) (ps : List Piece) (b : B) : Type 0 where
   pub first : Found
   pub behind : List Piece
@@ -21,9 +21,9 @@ pub record RuledPieces {B : Type 0} (S : ℕ) (row : Row) (rule : ℕ → Bool) 
   pub stands : RuledAt row rule at first
   pub parses : Parses S (k first) (at + row .width) behind b
 
--- A field that was found, where the rule takes its code.
+-- The field, if the rule accepts its code.
 abbrev pub takenBy : (ℕ → Bool) → Found → Format Found
-takenBy rule x = refuse wrongCurve (x .at) if not (rule (x .code)) >> ends x
+takenBy rule x = reject wrongCurve (x .at) if not (rule (x .code)) >> ends x
 
 module _ (S : ℕ) (row : Row) (rule : ℕ → Bool) (at : ℕ) where
   alone : (x : Found) → RuledAt row rule at x → Parses S (ruledOf row rule) at (pieceOf x ∷ []) x
@@ -68,7 +68,7 @@ termPieces t = pieceOf (t .exponent) ∷ pieceOf (t .coefficient) ∷ []
 abbrev pub rises : Option ℕ → ℕ → Bool
 rises before code = exponentFollows (tenthsBefore before) (tenthsOf code)
 
--- A term at a place, behind the one before it.
+-- A term at a place, after the one before it.
 pub record TermAt (before : Option ℕ) (at : ℕ) (t : FoundTerm) : Type 0 where
   pub exponent : RuledAt exponent (rises before) at (t .exponent)
   pub coefficient : FieldAt coefficient (at + 7) (t .coefficient)
@@ -100,7 +100,7 @@ module _ (S : ℕ) (before : Option ℕ) (at : ℕ) where
 pub term-needed : {before : Option ℕ} {at : ℕ} (t : FoundTerm) → TermAt before at t → needed (termPieces t) ≡ 39
 term-needed t h = omega (arith, width-is (h .exponent .field), width-is (h .coefficient))
 
--- Terms one after the other, 39 bits each.
+-- Terms in order, 39 bits each.
 abbrev pub TermsAt : Option ℕ → ℕ → List FoundTerm → Type 0
 TermsAt before at terms = EachAt behindTerm TermAt termPieces before at terms
 
@@ -117,7 +117,7 @@ terms-needed before at (t ∷ terms) h =
 abbrev pub segmentPieces : FoundSegment → List Piece
 segmentPieces s = pieceOf (s .start) ∷ pieceOf (s .count) ∷ termsPieces (s .terms)
 
--- A segment at a place, behind what stands before it.
+-- A segment at a place, after what comes before it.
 pub record SegmentAt (before : Passed) (at : ℕ) (s : FoundSegment) : Type 0 where
   pub start : RuledAt segmentStart (startFollows (before .start)) at (s .start)
   pub count : RuledAt termCount isTermCount (at + 13) (s .count)
@@ -128,10 +128,10 @@ pub record SegmentAt (before : Passed) (at : ℕ) (s : FoundSegment) : Type 0 wh
 abbrev pub segment : Found → Found → List FoundTerm → FoundSegment
 segment start count terms = record { start = start; count = count; terms = terms }
 
--- The format behind a segment's start and its number of terms.
+-- The format after a segment's start and its number of terms.
 abbrev pub withTerms : Passed → Found → Found → Format FoundSegment
 withTerms before start count =
-    refuse tooManyTerms (before .terms + count .code) if ltb mostTerms (before .terms + count .code) >> (termsOf (count .code) >>= λ terms. ends (segment start count terms))
+    reject tooManyTerms (before .terms + count .code) if ltb mostTerms (before .terms + count .code) >> (termsOf (count .code) >>= λ terms. ends (segment start count terms))
 
 abbrev pub withCount : Passed → Found → Format FoundSegment
 withCount before start = ruledOf termCount isTermCount >>= withTerms before start
@@ -189,7 +189,7 @@ segments-needed before at (s ∷ segments) h =
 
 -- ---- the curve
 
--- Behind the block's template number: the domain, the number of segments and the segments.
+-- After the block's template number: the domain, the number of segments and the segments.
 abbrev pub curvePieces : List FoundSegment → List Piece
 curvePieces segments = piece 1 0 ∷ piece 8 (length segments) ∷ segmentsPieces segments
 
@@ -198,7 +198,7 @@ pub record CurveAt (at : ℕ) (segments : List FoundSegment) : Type 0 where
   pub most : length segments ≤ 20
   pub stand : SegmentsAt nothingPassed (at + 19) segments
 
--- The format behind the number of segments, and behind the domain.
+-- The format after the number of segments, and after the domain.
 abbrev pub drawn : Found → Format Calibration
 drawn count = segmentsOf (count .code) >>= λ segments. ends (curve segments)
 
@@ -206,7 +206,7 @@ abbrev pub counted : Found → Format Calibration
 counted domain = ruledOf segmentCount isSegmentCount >>= drawn
 
 module _ (S at : ℕ) where
-  -- From the place behind the block's template number on.
+  -- From the place after the block's template number on.
   pub curve-parses : (segments : List FoundSegment) → 1 ≤ length segments → length segments ≤ 20 → SegmentsAt nothingPassed (at + 1 + 8) segments →
       Parses S curveOf at (curvePieces segments) (curve segments)
   unfolding curveOf segmentsOf

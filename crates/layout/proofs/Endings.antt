@@ -1,4 +1,5 @@
--- The ending: what may stand as the end bit and the text, and the pieces that they are. A zero character ends the text where room is left.
+-- Laws of the ending: what the format allows as end bit and text,
+-- and their pieces. A zero character ends the text if room is left.
 use Rattle.layout.proofs.Names.{_≡_, refl, sym, ap, ap₂, _∙_, subst, subst₂, Bool, true, false, cond, List, [], _∷_, _++_, map, ℕ, zero, suc, _+_, _-_, _*_, _/_, _^_, _≤_, _<_, arith, eqb, ltb, leb·suc-suc}
 use Rattle.layout.proofs.Names.{length, eqb-true, eqb-false, ne-eqb, lt-ltb, Piece, piece, pack, needed, needed-append, pack-append, ends, _>>=_, Ending, charactersOf, endingOf, endCode}
 use Rattle.layout.proofs.Formats.{Parses, ends-pieces, parses-made, made-pieces}
@@ -15,7 +16,7 @@ abbrev pub zeroIf : Bool → List Piece
 zeroIf true = piece 7 0 ∷ []
 zeroIf false = []
 
--- It adds 7 bits, and nothing to the number.
+-- The zero adds 7 bits, and nothing to the number.
 pub zero-needed : (ps : List Piece) (t : Bool) → needed (ps ++ zeroIf t) ≡ needed ps + cond t 7 0
 zero-needed ps true = omega (arith, needed-append ps (zeroIf true))
 zero-needed ps false = omega (arith, needed-append ps (zeroIf false))
@@ -83,11 +84,11 @@ text-pieces S (suc n) at (p ∷ ps) text l = go (text-pieces S n (at + 7) ps) (e
 abbrev pub charactersFrom : ℕ → Bool → ℕ → ℕ
 charactersFrom S endBit at = cond endBit ((S - at) / 7) 0
 
--- The end bit at a place, and the text behind it.
+-- The end bit at a place, and the text after it.
 abbrev pub endPieces : ℕ → ℕ → Bool → List ℕ → List Piece
 endPieces S at endBit text = piece 1 (endCode endBit) ∷ textPieces (charactersFrom S endBit (at + 1)) text
 
--- What may stand there.
+-- What the format allows as an ending at a place.
 pub record EndingAt (S at : ℕ) (endBit : Bool) (text : List ℕ) : Type 0 where
   pub characters : Characters text
   pub room : length text ≤ charactersFrom S endBit (at + 1)

@@ -1,4 +1,5 @@
--- The fields of a sheet: what may stand on the lines of a template, and the pieces that they are.
+-- Laws of the fields of a sheet: what the format
+-- allows on the lines of a template, and their pieces.
 use Rattle.layout.proofs.Names.{_≡_, refl, sym, ap, ap₂, _∙_, subst, List, [], _∷_, _++_, map, ℕ, zero, suc, _+_, _^_, _≤_, _<_, arith, pos, length, getD, set, Outcome, good, refused, Piece, piece, needed, Value}
 use Rattle.layout.proofs.Names.{Whole, Plain, Row, always, decode, Line, chose, plain-good, Format, ends, _>>=_, given, Found, fieldOf, fieldsOf, nothing}
 use Rattle.layout.proofs.Formats.{Parses, ends-pieces, parses-made, made-pieces}
@@ -11,7 +12,7 @@ pieceOf x = piece (x .row .width) (x .code)
 abbrev pub found : Row → ℕ → ℕ → Value → Found
 found row at code v = record { row = row; at = at; code = code; value = v }
 
--- What may stand in a stream as the field of a row at a place.
+-- What the format allows as the field of a row at a place.
 pub record FieldAt (row : Row) (at : ℕ) (x : Found) : Type 0 where
   pub is : x ≡ found row at (x .code) (x .value)
   pub fits : x .code < 2 ^ row .width
@@ -27,12 +28,12 @@ module _ {row : Row} {at : ℕ} {x : Found} (h : FieldAt row at x) where
   pub width-is : x .row .width ≡ row .width
   width-is = ap (λ y. y .width) row-is
 
--- A plain code that stands in its row.
+-- A plain code that its row can hold.
 pub plain-field : (w least greatest at code : ℕ) → least ≤ code → code ≤ greatest → code < 2 ^ w →
     FieldAt (always w (Plain least greatest)) at (found (always w (Plain least greatest)) at code (Whole (pos code)))
 plain-field w least greatest at code l g fits = record { is = refl; fits = fits; means = plain-good w least greatest at code l g }
 
--- The field at another code.
+-- The field with another code.
 abbrev pub recoded : Found → ℕ → Value → Found
 recoded x code v = found (x .row) (x .at) code v
 
@@ -44,7 +45,7 @@ recoded-at {row} {at} {x} h code v fits means = record {
   means = ap₂ (λ r n. decode r n code) (sym (row-is h)) (sym (at-is h)) ∙ means;
 }
 
--- Its piece first, and what stands behind it.
+-- The field's piece first, and the pieces after it.
 pub record FieldPieces {B : Type 0} (S : ℕ) (row : Row) (k : Found → Format B) (at : ℕ) (ps : List Piece) (b : B) : Type 0 where
   pub first : Found
   pub behind : List Piece
@@ -76,7 +77,7 @@ module _ {B : Type 0} (S : ℕ) (row : Row) (k : Found → Format B) (at : ℕ) 
 
 -- ---- fields line by line
 
--- Each stands at the place where the one before it ends.
+-- Each field begins where the one before it ends.
 abbrev pub Laid : List Line → ℕ → ℕ → List Found → Type 0
 Laid [] latest at [] = Unit {0}
 Laid [] latest at (x ∷ xs) = ⊥
@@ -116,11 +117,11 @@ laid-length [] latest at (x ∷ xs) h = absurd h
 laid-length (l ∷ lines) latest at [] h = absurd h
 laid-length (l ∷ lines) latest at (x ∷ xs) h = ap suc (laid-length lines (chose (l .sets) (x .code) latest) (at + l .rowAt latest .width) xs (h .1))
 
--- A code that leaves the choice behind a line as another does: any, where the line sets no widths.
+-- A code that keeps the choice after a line: any code, if the line sets no widths.
 abbrev pub Keeps : Line → ℕ → ℕ → Type 0
 Keeps l code old = (latest : ℕ) → chose (l .sets) code latest ≡ chose (l .sets) old latest
 
--- Field i at such a code.
+-- Field i with a code that keeps the choice.
 pub laid-put : (lines : List Line) (latest at : ℕ) (xs : List Found) → Laid lines latest at xs → (i : ℕ) (none : Line) → i < length xs →
     (code : ℕ) (v : Value) → let x = getD xs i nothing in
     Keeps (getD lines i none) code (x .code) → code < 2 ^ x .row .width → decode (x .row) (x .at) code ≡ good v →
@@ -133,7 +134,7 @@ laid-put (l ∷ lines) latest at (x ∷ xs) h zero none n code v keeps fits mean
 laid-put (l ∷ lines) latest at (x ∷ xs) h (suc i) none n code v keeps fits means =
     (h .0, laid-put lines (chose (l .sets) (x .code) latest) (at + l .rowAt latest .width) xs (h .1) i none (omega arith) code v keeps fits means)
 
--- ---- the pieces before and behind a field
+-- ---- the pieces before and after a field
 
 pub record Split (at : ℕ) (xs : List Found) (i : ℕ) : Type 0 where
   pub before : List Piece

@@ -1,20 +1,20 @@
--- The laws of every format: pieces that parse by it are what a stream is read as, and the other way round.
+-- Laws of every format: pieces that parse by it are those that a stream is read as, and conversely.
 use Rattle.layout.proofs.Names.{_≡_, refl, sym, ap, ap₂, _∙_, subst, Bool, true, false, not, cond, List, [], _∷_, _++_, append-nil, ℕ, _+_, _-_, _^_, _≤_, _<_, _%_, arith, eqb, ltb, le-ltb, ltb-false, eqb-true}
 use Rattle.layout.proofs.Names.{not-false, Refusal, Outcome, good, refused, pastEnd, fieldAt, Piece, piece, needed, field-lt, Fit, Holds, holds-cons, holds-uncons, holds-nil, holds-mod, Format, ends, stops, takes}
-use Rattle.layout.proofs.Names.{looks, _>>=_, _>>_, bits, refuse_if_, Stream, Parsed, parse}
+use Rattle.layout.proofs.Names.{looks, _>>=_, _>>_, bits, reject_if_, Stream, Parsed, parse}
 use Rattle.refusal.specs.Outcome as outcome
 
 abbrev pub parsed : {A : Type 0} → A → ℕ → Parsed A
 parsed a at = record { found = a; next = at }
 
--- ---- one format behind another
+-- ---- one format after another
 
 cond-bind : {A B : Type 0} (t : Bool) (r : Refusal) (m : Outcome A) (k : A → Outcome B) →
     cond t (refused r) (outcome._>>=_ m k) ≡ outcome._>>=_ (cond t (refused r) m) k
 cond-bind true r m k = refl
 cond-bind false r m k = refl
 
--- What stands behind is parsed from the place behind.
+-- The second format is parsed from the place after the first.
 pub parse-bind : {A B : Type 0} (s : Stream) (m : Format A) (k : A → Format B) (at : ℕ) →
     parse s (m >>= k) at ≡ outcome._>>=_ (parse s m at) (λ x. parse s (k (x .found)) (x .next))
 parse-bind s (ends a) k at = refl
@@ -25,7 +25,7 @@ parse-bind s (takes w step) k at =
     ∙ cond-bind (ltb (s .bits) (at + w)) (pastEnd at) (parse s (step c) (at + w)) (λ x. parse s (k (x .found)) (x .next))
 parse-bind s (looks step) k at = parse-bind s (step at (s .bits - at)) k at
 
--- A format that was parsed, or that refused, and what stands behind it.
+-- A first format that parsed, or that refused, and the format after it.
 module _ {A B : Type 0} (s : Stream) (m : Format A) (k : A → Format B) (at : ℕ) where
   pub parse-next : {a : A} {n : ℕ} → good (parsed a n) ≡ parse s m at → parse s (m >>= k) at ≡ parse s (k a) n
   parse-next e = parse-bind s m k at ∙ ap (λ o. outcome._>>=_ o (λ x. parse s (k (x .found)) (x .next))) (sym e)
@@ -33,7 +33,7 @@ module _ {A B : Type 0} (s : Stream) (m : Format A) (k : A → Format B) (at : �
   pub parse-refused : {r : Refusal} → refused r ≡ parse s m at → parse s (m >>= k) at ≡ refused r
   parse-refused e = parse-bind s m k at ∙ ap (λ o. outcome._>>=_ o (λ x. parse s (k (x .found)) (x .next))) (sym e)
 
-  -- What was parsed by both was parsed by each.
+  -- What two formats in order parse, each parses.
   pub parse-split : {b : B} {n : ℕ} → good (parsed b n) ≡ parse s (m >>= k) at →
       (a : A) × (i : ℕ) × (good (parsed a i) ≡ parse s m at) × (good (parsed b n) ≡ parse s (k a) i)
   parse-split {b} {n} e = go (parse s m at) refl (e ∙ parse-bind s m k at)
@@ -43,7 +43,7 @@ module _ {A B : Type 0} (s : Stream) (m : Format A) (k : A → Format B) (at : �
       go (good x) f g = (x .found, x .next, sym f, g)
       go (refused r) f g = absurd (let z : _≡_ {A = ℕ} 0 1 = cc in omega arith)
 
--- A bind within a bind, and a bind whose next formats are parsed alike.
+-- Sequences of formats regroup, and next formats that parse alike give the same parse.
 pub parse-assoc : {A B C : Type 0} (s : Stream) (m : Format A) (k : A → Format B) (j : B → Format C) (at : ℕ) →
     parse s ((m >>= k) >>= j) at ≡ parse s (m >>= λ a. k a >>= j) at
 parse-assoc s (ends a) k j at = refl
@@ -62,7 +62,7 @@ parse-alike s (looks step) k j at h = parse-alike s (step at (s .bits - at)) k j
 
 -- ---- pieces that parse by a format
 
--- Laid from bit `at` of a stream of S bits on, the pieces parse to b.
+-- The pieces, from bit `at` of a stream of S bits on, parse to b.
 abbrev pub Parses : {A : Type 0} → ℕ → Format A → ℕ → List Piece → A → Type 0
 Parses S (ends a) at [] b = a ≡ b
 Parses S (ends a) at (p ∷ ps) b = ⊥
@@ -80,7 +80,7 @@ parses-fit S (takes w next) at (p ∷ ps) b l =
     (subst (λ (n : ℕ). p .code < 2 ^ n) (sym (l .0)) (l .1), parses-fit S (next (p .code)) (at + w) ps b (l .2))
 parses-fit S (looks next) at ps b l = parses-fit S (next at (S - at)) at ps b l
 
--- A stream that holds such pieces is parsed to what they parse to.
+-- A stream that holds such pieces parses to b.
 pub parse-held : {A : Type 0} (s : Stream) (f : Format A) (at : ℕ) (ps : List Piece) (b : A) → Parses (s .bits) f at ps b →
     Holds (s .number) at ps → at + needed ps ≤ s .bits → parse s f at ≡ good (parsed b (at + needed ps))
 parse-held s (ends a) at [] b l h m = ap₂ (λ x n. good (parsed x n)) l (omega arith)
@@ -130,7 +130,7 @@ parsed-by s (looks next) at x l e =
     let k = parsed-by s (next at (s .bits - at)) at x l e in
     record { pieces = k .pieces; parses = k .parses; holds = k .holds; behind = k .behind; inside = k .inside }
 
--- What lies behind the place that a parse came to is free: streams that agree up to there are parsed alike.
+-- The bits after the end of a parse are free: streams that agree up to there parse alike.
 pub parse-agrees : {A : Type 0} (s : Stream) (M : ℕ) (f : Format A) (at : ℕ) (x : Parsed A) → at ≤ s .bits → parse s f at ≡ good x →
     s .number % 2 ^ (x .next) ≡ M % 2 ^ (x .next) → parse (record { bits = s .bits; number = M }) f at ≡ good x
 parse-agrees s M f at x l e agree =
@@ -191,11 +191,11 @@ ends-pieces S a at [] b l = (refl, l)
 ends-pieces S a at (p ∷ ps) b l = absurd l
 
 pub refuse-pieces : {B : Type 0} (S : ℕ) (r : Refusal) (t : Bool) (next : Format B) (at : ℕ) (ps : List Piece) (b : B) →
-    Parses S (refuse r if t >> next) at ps b → (t ≡ false) × Parses S next at ps b
+    Parses S (reject r if t >> next) at ps b → (t ≡ false) × Parses S next at ps b
 refuse-pieces S r true next at ps b l = absurd l
 refuse-pieces S r false next at ps b l = (refl, l)
 
--- What is made of what a format finds, and of the place behind it.
+-- A value made of what a format reads and of the place after it.
 pub parses-made : {A B : Type 0} (S : ℕ) (m : Format A) (g : A → B) (at : ℕ) (ps : List Piece) (a : A) →
     Parses S m at ps a → Parses S (m >>= λ x. ends (g x)) at ps (g a)
 parses-made S m g at ps a l =
@@ -209,10 +209,10 @@ made-pieces S m g at ps b l =
     let f : h .first ≡ ps = sym (append-nil (h .first)) ∙ ap (λ q. h .first ++ q) (sym z) ∙ h .joined in
     (h .middle, e, subst (λ q. Parses S m at q (h .middle)) f (h .front))
 
--- ---- a code that must be the one
+-- ---- a code that has to be the expected one
 
 pub fixed-pieces : {B : Type 0} (S w c : ℕ) (r : Refusal) (next : Format B) (at : ℕ) (ps : List Piece) (b : B) →
-    Parses S (bits w >>= λ code. refuse r if not (eqb code c) >> next) at ps b →
+    Parses S (bits w >>= λ code. reject r if not (eqb code c) >> next) at ps b →
     (behind : List Piece) × (ps ≡ piece w c ∷ behind) × Parses S next (at + w) behind b
 fixed-pieces S w c r next at [] b l = absurd l
 fixed-pieces S w c r next at (p ∷ ps) b l =

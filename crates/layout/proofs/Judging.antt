@@ -1,16 +1,17 @@
--- Fields that lie in the stream: judged at their places one after the other, which is what parsing them line by line comes to.
+-- Laws of fields inside the stream: judging them at their
+-- places in order gives what parsing them line by line does.
 use Rattle.layout.proofs.Names.{_≡_, refl, sym, ap, ap₂, _∙_, subst, Bool, false, not, cond, List, [], _∷_, _++_, ℕ, zero, suc, _+_, _-_, _*_, _/_, _%_, _≤_, _<_, arith, eqb, length, take, drop, getD, high, low}
-use Rattle.layout.proofs.Names.{le-ltb, eq-eqb, ne-eqb, Refusal, Outcome, good, refused, pastEnd, wrongBlock, told, then-good, then-refused, bind-assoc, fieldAt, field-lt, field-add, Value, Row, Judged, Stands}
+use Rattle.layout.proofs.Names.{le-ltb, eq-eqb, ne-eqb, Refusal, Outcome, good, refused, pastEnd, wrongBlock, said-of, then-good, then-refused, bind-assoc, fieldAt, field-lt, field-add, Value, Row, Judged, Valid}
 use Rattle.layout.proofs.Names.{Refused, Template, Bridge, Resistance, TemplateAnswer, Is, Unknown, Layout, judgedSaid, templateSaid, decode, judge, Open, Line, chose, basic, template33, template32, templateLines}
-use Rattle.layout.proofs.Names.{templateOf, linesOf, lastField, lineOf, rowOf, bitsBefore, row-open, Format, ends, _>>=_, bits, given, refuse_if_, Stream, Parsed, parse, Found, fieldOf, fieldsOf, selectorOf}
+use Rattle.layout.proofs.Names.{templateOf, linesOf, lastField, lineOf, rowOf, bitsBefore, row-open, Format, ends, _>>=_, bits, given, reject_if_, Stream, Parsed, parse, Found, fieldOf, fieldsOf, selectorOf}
 use Rattle.layout.proofs.Names.{named, firstBlock, lastChoice, blockBits, firstSelector, fieldPlace, behindFields, judged, frontLines}
-use Rattle.refusal.specs.Outcome as outcome
 use Rattle.layout.proofs.Formats.{parsed, parse-bind}
 use Rattle.layout.proofs.Fields.{found}
+use Rattle.refusal.specs.Outcome as outcome
 
 -- ---- fields judged at their places
 
--- The latest choice behind fields that are parsed line by line.
+-- The latest choice after fields that are parsed line by line.
 abbrev pub choiceBehind : Stream → List Line → ℕ → ℕ → Outcome (Parsed ℕ)
 choiceBehind s lines latest at =
     outcome._>>=_ (parse s (fieldsOf lines latest) at) (λ x. good (parsed (lastChoice lines (x .found) latest) (x .next)))
@@ -18,14 +19,15 @@ choiceBehind s lines latest at =
 abbrev pub lineBits : List Line → ℕ → ℕ
 lineBits lines choice = bitsBefore lines choice (length lines)
 
--- The codes that stand there make the choice: each row met is the row at it, and it is the latest behind them.
+-- The codes in the stream make the choice: each row is
+-- the row at it, and it is the latest choice after them.
 abbrev pub Makes : Stream → List Line → ℕ → ℕ → ℕ → Type 0
 Makes s [] latest choice at = latest ≡ choice
 Makes s (l ∷ lines) latest choice at =
     let row = l .rowAt choice in
     (l .rowAt latest ≡ row) × Makes s lines (chose (l .sets) (fieldAt (s .number) at (row .width)) latest) choice (at + row .width)
 
--- Behind lines that lie in the stream and make the choice, others are parsed at it.
+-- After lines that are inside the stream and make the choice, further lines are parsed at it.
 pub fields-judged : (s : Stream) (lines more : List Line) (latest choice at : ℕ) → Makes s lines latest choice at → at + lineBits lines choice ≤ s .bits →
     choiceBehind s (lines ++ more) latest at ≡ outcome._>>_ (judged s lines choice at) (choiceBehind s more choice (at + lineBits lines choice))
 unfolding fieldsOf fieldOf
@@ -70,13 +72,13 @@ fields-judged s (l ∷ lines) more latest choice at m inside =
         ∙ rest
         ∙ ap (λ (n : ℕ). outcome._>>_ (judged s lines choice next) (behind n)) (omega arith)
 
--- ---- open fields are passed
+-- ---- open fields always pass
 
 abbrev pub AllOpen : List Line → ℕ → Type 0
 AllOpen [] choice = Unit {0}
 AllOpen (l ∷ lines) choice = Open (l .rowAt choice) × AllOpen lines choice
 
--- Of n lines behind the first i.
+-- n lines after the first i are open.
 pub behind-open : (lines : List Line) (none : Line) (choice i n : ℕ) → ((j : ℕ) → i ≤ j → j < i + n → Open (getD lines j none .rowAt choice)) →
     AllOpen (take n (drop i lines)) choice
 behind-open lines none choice zero zero h = tt
@@ -93,18 +95,19 @@ open-judged s (l ∷ lines) choice at h =
     let row = l .rowAt choice in
     then-good _ (h .0 at (fieldAt (s .number) at (row .width)) (field-lt (s .number) at (row .width))) ∙ open-judged s lines choice (at + row .width) (h .1)
 
--- ---- in turn
+-- ---- the loop over fields
 
--- The judging of fields has come to some lines at a place, on its way to an answer and to an end.
-pub record Come (s : Stream) (choice end : ℕ) (answer : Outcome (Unit {0})) (lines : List Line) (at : ℕ) : Type 0 where
+-- The loop that judges fields has reached some lines
+-- at a place, on its way to an answer and to an end.
+pub record JudgedUpTo (s : Stream) (choice end : ℕ) (answer : Outcome (Unit {0})) (lines : List Line) (at : ℕ) : Type 0 where
   pub place : at + lineBits lines choice ≡ end
   pub same : judged s lines choice at ≡ answer
 
 module _ {s : Stream} {choice end : ℕ} {answer : Outcome (Unit {0})} where
-  pub come-open : {lines : List Line} {at : ℕ} → Come s choice end answer lines at → AllOpen lines choice → good tt ≡ answer
+  pub come-open : {lines : List Line} {at : ℕ} → JudgedUpTo s choice end answer lines at → AllOpen lines choice → good tt ≡ answer
   come-open {lines} {at} h all = sym (open-judged s lines choice at all) ∙ h .same
 
-  module _ {l : Line} {lines : List Line} {at : ℕ} (h : Come s choice end answer (l ∷ lines) at) {row : Row} (e : row ≡ l .rowAt choice) where
+  module _ {l : Line} {lines : List Line} {at : ℕ} (h : JudgedUpTo s choice end answer (l ∷ lines) at) {row : Row} (e : row ≡ l .rowAt choice) where
     pub come-inside : end ≤ s .bits → at + row .width ≤ s .bits
     come-inside most = omega (arith, h .place, ap (λ r. r .width) e)
 
@@ -113,14 +116,14 @@ module _ {s : Stream} {choice end : ℕ} {answer : Outcome (Unit {0})} where
       here = f ∙ ap (λ r. judge r at (fieldAt (s .number) at (r .width))) e
 
       pub come-halt : {r : Refusal} → j ≡ Refused r → refused r ≡ answer
-      come-halt k = sym (then-refused _ (sym (told judgedSaid k here))) ∙ h .same
+      come-halt k = sym (then-refused _ (sym (said-of judgedSaid k here))) ∙ h .same
 
-      pub come-next : j ≡ Stands → Come s choice end answer lines (at + row .width)
+      pub come-next : j ≡ Valid → JudgedUpTo s choice end answer lines (at + row .width)
       come-next k =
           let w : row .width ≡ l .rowAt choice .width = ap (λ r. r .width) e in
           record {
             place = omega (arith, h .place);
-            same = ap (λ (n : ℕ). judged s lines choice (at + n)) w ∙ sym (then-good _ (sym (told judgedSaid k here))) ∙ h .same;
+            same = ap (λ (n : ℕ). judged s lines choice (at + n)) w ∙ sym (then-good _ (sym (said-of judgedSaid k here))) ∙ h .same;
           }
 
 -- ---- Basic and the templates
@@ -130,7 +133,7 @@ module _ (s : Stream) where
   unfolding basic fieldsOf
   basic-judged h = fields-judged s basic [] 0 0 0 (refl, (refl, (refl, (refl, (refl, refl))))) h
 
-  -- Field 9 of each stands at one place, and it sets the choice.
+  -- Field 9 of each template is at one place, and it sets the choice.
   makes : (t : Template) {choice : ℕ} → choice ≡ fieldAt (s .number) 144 2 → Makes s (frontLines t) 0 choice 74
   unfolding template33 template32
   makes Bridge e =
@@ -149,7 +152,7 @@ unfolding fieldPlace linesOf basic template33 template32
 choice-place Bridge p = refl
 choice-place Resistance p = refl
 
--- The last line sets no choice and takes every code. It stands behind 306 bits at most.
+-- The last line sets no choice and takes every code. At most 306 bits come before it.
 own-lines : (t : Template) → frontLines t ++ (lineOf t (lastField t) ∷ []) ≡ templateLines t
 unfolding linesOf basic template33 template32
 own-lines Bridge = refl
@@ -177,7 +180,8 @@ front-end Resistance (suc zero) = (refl, refl, omega arith)
 front-end Resistance (suc (suc zero)) = (refl, refl, omega arith)
 front-end Resistance (suc (suc (suc p))) = (refl, refl, omega arith)
 
--- A template's own fields, at the precision that stands in the stream: all but the last are judged, and the last is parsed.
+-- A template's own fields, at the precision in the stream:
+-- all but the last are judged, and the last is parsed.
 pub own-judged : (s : Stream) (layout : Layout) → layout .precision ≡ fieldAt (s .number) (fieldPlace layout 9) 2 →
     let t = layout .template in let last = fieldPlace layout (lastField t) in let p = layout .precision in
     last ≤ s .bits → choiceBehind s (templateLines t) 0 (firstSelector + blockBits)
@@ -193,7 +197,7 @@ own-judged s layout e inside =
 
 -- ---- the first block
 
--- Its selector and number taken as one field: the selector's bits are the lowest.
+-- The selector and the number of the block read as one field: the selector's bits are the lowest.
 module _ (s : Stream) (at : ℕ) (inside : at + blockBits ≤ s .bits) {block : ℕ} (e : block ≡ fieldAt (s .number) at blockBits) where
   parts : block ≡ fieldAt (s .number) (at + 2) 8 * 4 + fieldAt (s .number) at 2
   parts = e ∙ field-add (s .number) at 8 2
@@ -208,7 +212,7 @@ module _ (s : Stream) (at : ℕ) (inside : at + blockBits ≤ s .bits) {block : 
   numbered = bits 8 >>= λ number. named at (templateOf number)
 
   abbrev tested : Bool → Outcome (Parsed Template)
-  tested b = parse s (refuse wrongBlock at if not b >>= λ u. numbered) (at + 2)
+  tested b = parse s (reject wrongBlock at if not b >>= λ u. numbered) (at + 2)
 
   at-selector : parse s firstBlock at ≡ tested (eqb (block % 4) 0)
   unfolding firstBlock selectorOf

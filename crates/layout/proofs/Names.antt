@@ -1,72 +1,40 @@
 -- What the proofs of this crate take from the kit, from the crates below and from its own definitions.
 pub use Prim.Native.Nat.{_%_, _*_, _+_, _-_, _/_, _<_, _^_, _≤_, suc, zero, ℕ}
-pub use mathlib.Core.Bool.{Bool, _&&_, _||_, cond, false, not, true, true≢false}
-pub use mathlib.Core.List.{List, [], _++_, _∷_, append-assoc, append-nil, map}
-pub use mathlib.Core.Option.{Option, none, none as none-before, some}
-pub use mathlib.Core.Path.{_∙_, _≡_, ap, ap₂, refl, subst, subst₂, sym}
-pub use borrow.Author.Needs.{needs}
-pub use borrow.Author.Tests.{eq-eqb, eqb-false, eqb-true, le-leb, le-ltb, leb-true, lt-leb, lt-ltb, ltb-false, ne-eqb, not-false}
-pub use lib.Dec.{eqb, leb, leb·suc-suc, ltb}
-pub use lib.Ieee.{binary32, ofBits}
-pub use lib.IntN.{_*ℤ_, natAbs, pos, ℤ}
+pub use mathlib.Core.{Bool.Bool, Bool._&&_, Bool._||_, Bool.cond, Bool.false, Bool.not, Bool.true, Bool.true≢false, List.List, List.[], List._++_, List._∷_, List.append-assoc, List.append-nil, List.map}
+pub use mathlib.Core.{Option.Option, Option.none, Option.none as none-before, Option.some, Path._∙_, Path._≡_, Path.ap, Path.ap₂, Path.refl, Path.subst, Path.subst₂, Path.sym}
+pub use native.Mathlib.{Decide.decLt, Nat.zero-add, Omega.arith}
 pub use lib.ListN.{drop, getD, length, length-append, set, take}
-pub use lib.Pow.{high, low}
-pub use lib.Signed.{leZ}
-pub use native.Mathlib.Decide.{decLt}
-pub use native.Mathlib.Nat.{zero-add}
-pub use native.Mathlib.Omega.{arith}
-pub use Rattle.fields.proofs.CalibrationLaws.{code-domained, domain-coded, domain-most, sum-climbs, sumAbove}
-pub use Rattle.fields.proofs.CurveLaws.{follows-some, power, power-back, power-is, power-rises}
-pub use Rattle.fields.proofs.OpenLaws.{row-open}
-pub use Rattle.fields.proofs.RuleLaws.{plain-bounds, plain-good, stepped-whole}
-pub use Rattle.fields.proofs.TemplateFacts.{bits-few, known-number, last-most, number-known, number-lt}
-pub use Rattle.fields.specs.Answers.{judgedSaid, templateSaid}
-pub use Rattle.fields.specs.Calibration.{D, R, calDeviation, calDomain, calPoint, codesOf, domainCode, domainOf, isPhysical, leastDeviation, pointCount, storedSum}
-unfoldable pub use Rattle.fields.specs.Calibration.{follows}
-pub use Rattle.fields.specs.Curves.{coefficient, curveDomain, exponent, exponentFollows, isExponent, isSegmentCount, isTermCount, leastExponent, mostTerms, segmentCount, segmentStart, startFollows, tenthsBefore}
-pub use Rattle.fields.specs.Curves.{tenthsOf, termCount}
-pub use Rattle.fields.specs.Judgement.{Open, judge}
-pub use Rattle.fields.specs.Lines.{Line, bitsBefore, chose, ending, lastField, lineOf, noLine, numberOf, rowOf, rowsOf, templateLines, templateOf}
-unfoldable pub use Rattle.fields.specs.Lines.{basic, linesOf, template32, template33}
-pub use Rattle.fields.specs.Rows.{always}
-pub use Rattle.fields.specs.Rules.{allOnes, finite, meaning, steppedValue, topCode}
-unfoldable pub use Rattle.fields.specs.Rules.{decode}
-pub use Rattle.fields.specs.declared.Codes.{Codes}
-pub use Rattle.fields.specs.declared.Domain.{Domain}
-pub use Rattle.fields.specs.declared.Domain.the-variants.{Electrical, Physical}
-pub use Rattle.fields.specs.declared.Judged.{Judged}
-pub use Rattle.fields.specs.declared.Judged.the-variants.{Refused, Stands}
-pub use Rattle.fields.specs.declared.Layout.{Layout}
-pub use Rattle.fields.specs.declared.Row.{Row}
-pub use Rattle.fields.specs.declared.Rule.{Rule}
-pub use Rattle.fields.specs.declared.Rule.the-variants.{Geometric, Plain, Single, Stepped}
-pub use Rattle.fields.specs.declared.Template.{Template}
-pub use Rattle.fields.specs.declared.Template.the-variants.{Bridge, Resistance}
-pub use Rattle.fields.specs.declared.TemplateAnswer.{TemplateAnswer}
-pub use Rattle.fields.specs.declared.TemplateAnswer.the-variants.{Is, Unknown}
-pub use Rattle.fields.specs.declared.Term.{Term}
-pub use Rattle.fields.specs.declared.Value.{Value}
-pub use Rattle.fields.specs.declared.Value.the-variants.{Whole}
+pub use lib.{Dec.eqb, Dec.leb, Dec.leb·suc-suc, Dec.ltb, Ieee.binary32, Ieee.ofBits, IntN._*ℤ_, IntN.natAbs, IntN.pos, IntN.ℤ, Pow.high, Pow.low, Signed.leZ}
+pub use borrow.Author.{Needs.needs, Tests.eq-eqb, Tests.eqb-false, Tests.eqb-true, Tests.le-leb, Tests.le-ltb, Tests.leb-true, Tests.lt-leb, Tests.lt-ltb, Tests.ltb-false, Tests.ne-eqb, Tests.not-false}
+pub use Rattle.refusal.proofs.Outcomes.{Elsewhere, Other, bind-assoc, both, good-bind, good-same, good-then, other-cond, other-test, other-then, passed, said-of, then-good, then-refused}
+pub use Rattle.refusal.specs.Rows.{notFinite, notRising, outsideTable, pastEnd, sumsNotRising, tooManyTerms, wrongBlock, wrongCurve}
+pub use Rattle.refusal.specs.{Outcome.Outcome, Outcome.good, Outcome.refused, declared.Refusal.Refusal}
+pub use Rattle.memory.proofs.PieceLaws.{Fit, Holds, fit-split, holds-back, holds-cons, holds-front, holds-mod, holds-nil, holds-piece, holds-put, holds-uncons, needed-append, pack-append}
+pub use Rattle.memory.proofs.{Chips.sizes-chip, FieldLaws.field-add, FieldLaws.field-bit, FieldLaws.field-lt, Images.image-length, Images.image-number-lt, Images.image-passes}
+pub use Rattle.memory.specs.Image.{imageOf, imageSizes, streamBits, streamNumber, sums}
+pub use Rattle.memory.specs.{Bits.bit, Bits.fieldAt, Bits.putAt, Pieces.Piece, Pieces.needed, Pieces.pack, Pieces.piece, declared.Sizes.Sizes}
+pub use Rattle.codes.specs.declared.Rule.{Rule, the-variants.Geometric, the-variants.Plain, the-variants.Single, the-variants.Stepped}
+pub use Rattle.codes.specs.declared.{Judged.Judged, Judged.the-variants.Refused, Judged.the-variants.Valid, Row.Row, Value.Value, Value.the-variants.Whole}
+pub use Rattle.codes.specs.{Answers.judgedSaid, Rules.allOnes, Rules.finite, Rules.meaning, Rules.steppedValue, Rules.topCode, Validity.Open, Validity.judge}
+unfoldable pub use Rattle.codes.specs.Rules.{decode}
+pub use Rattle.templates.proofs.CalibrationLaws.{code-domained, domain-coded, domain-most, sum-climbs, sumAbove}
+pub use Rattle.templates.proofs.CurveLaws.{follows-some, power, power-back, power-is, power-rises}
+pub use Rattle.templates.proofs.TemplateFacts.{bits-few, known-number, last-most, number-known, number-lt}
+pub use Rattle.templates.proofs.{OpenLaws.row-open, RuleLaws.plain-bounds, RuleLaws.plain-good, RuleLaws.stepped-whole}
+pub use Rattle.templates.specs.Calibration.{D, R, calDeviation, calDomain, calPoint, codesOf, domainCode, domainOf, isPhysical, leastDeviation, pointCount, storedSum}
+pub use Rattle.templates.specs.Lines.{Line, bitsBefore, chose, ending, lastField, lineOf, noLine, numberOf, rowOf, rowsOf, templateLines, templateOf}
+pub use Rattle.templates.specs.declared.Template.{Template, the-variants.Bridge, the-variants.Resistance}
+pub use Rattle.templates.specs.declared.TemplateAnswer.{TemplateAnswer, the-variants.Is, the-variants.Unknown}
+pub use Rattle.templates.specs.declared.{Codes.Codes, Domain.Domain, Domain.the-variants.Electrical, Domain.the-variants.Physical, Layout.Layout, Term.Term}
+pub use Rattle.templates.specs.{Answers.templateSaid, Curves.coefficient, Curves.curveDomain, Curves.exponent, Curves.exponentFollows, Curves.isExponent, Curves.isSegmentCount, Curves.isTermCount, Curves.leastExponent}
+pub use Rattle.templates.specs.{Curves.mostTerms, Curves.segmentCount, Curves.segmentStart, Curves.startFollows, Curves.tenthsBefore, Curves.tenthsOf, Curves.termCount, Rows.always}
+unfoldable pub use Rattle.templates.specs.{Calibration.follows, Lines.basic, Lines.linesOf, Lines.template32, Lines.template33}
 pub use Rattle.layout.specs.Contents.{Calibration, Contents, Ending, Found, FoundPair, FoundSegment, FoundTerm, Passed, bare, behindSegment, behindTerm, blockOf, codesIn, curve, named, nothingPassed, paired, table}
-unfoldable pub use Rattle.layout.specs.Contents.{blockAt, calibrationOf, charactersOf, curveOf, endingOf, fieldOf, fieldsOf, firstBlock, pairOf, pairsOf, ruledOf, segmentOf, segmentsOf, selectorOf, sheetOf}
-unfoldable pub use Rattle.layout.specs.Contents.{tableOf, termOf, termsOf}
-pub use Rattle.layout.specs.Format.{Format, Parsed, Stream, _>>=_, _>>_, bits, ends, given, looks, parse, place, refuse_if_, stops, takes}
-unfoldable pub use Rattle.layout.specs.Format.{repeated}
+pub use Rattle.layout.specs.Format.{Format, Parsed, Stream, _>>=_, _>>_, bits, ends, given, looks, parse, place, reject_if_, stops, takes}
 pub use Rattle.layout.specs.Image.{allTerms, field, figure, float, lastChoice, layoutOf, nothing, pairsIn, segmentsIn, streamIn, termIn}
-unfoldable pub use Rattle.layout.specs.Image.{contents}
 pub use Rattle.layout.specs.Judgement.{frontLines, judged}
 pub use Rattle.layout.specs.Pieces.{blockPieces, endCode}
 pub use Rattle.layout.specs.Places.{behindBlock, behindFields, blockBits, curveBits, firstNumber, firstSelector, pairBits, pairPlace, tableBits}
-unfoldable pub use Rattle.layout.specs.Places.{fieldPlace}
-pub use Rattle.memory.proofs.Chips.{sizes-chip}
-pub use Rattle.memory.proofs.FieldLaws.{field-add, field-bit, field-lt}
-pub use Rattle.memory.proofs.Images.{image-length, image-number-lt, image-passes}
-pub use Rattle.memory.proofs.PieceLaws.{Fit, Holds, fit-split, holds-back, holds-cons, holds-front, holds-mod, holds-nil, holds-piece, holds-put, holds-uncons, needed-append, pack-append}
-pub use Rattle.memory.specs.Bits.{bit, fieldAt, putAt}
-pub use Rattle.memory.specs.Image.{imageOf, imageSizes, streamBits, streamNumber, sums}
-pub use Rattle.memory.specs.Pieces.{Piece, needed, pack, piece}
-pub use Rattle.memory.specs.declared.Sizes.{Sizes}
-pub use Rattle.refusal.proofs.Outcomes.{Elsewhere, Other, bind-assoc, both, good-bind, good-same, good-then, other-cond, other-test, other-then, passed, then-good, then-refused, told}
-pub use Rattle.refusal.specs.Outcome.{Outcome, good, refused}
-pub use Rattle.refusal.specs.Rows.{notFinite, notRising, outsideTable, pastEnd, sumsNotRising, tooManyTerms, wrongBlock, wrongCurve}
-pub use Rattle.refusal.specs.declared.Refusal.{Refusal}
+unfoldable pub use Rattle.layout.specs.Contents.{blockAt, calibrationOf, charactersOf, curveOf, endingOf, fieldOf, fieldsOf, firstBlock, pairOf, pairsOf, ruledOf, segmentOf, segmentsOf, selectorOf, sheetOf}
+unfoldable pub use Rattle.layout.specs.Contents.{tableOf, termOf, termsOf}
+unfoldable pub use Rattle.layout.specs.{Format.repeated, Image.contents, Places.fieldPlace}

@@ -1,13 +1,13 @@
--- The numbers that a stream is turned down with: never 15, which no row has, or 17, a blank chip's.
+-- Laws of the numbers that refuse a stream: never 15, which no row has, or 17, a blank chip's.
 use Rattle.layout.proofs.Names.{Bool, true, false, not, _||_, _&&_, cond, List, [], _∷_, Option, none, some, ℕ, zero, suc, _+_, _/_, arith, eqb, ltb, leb, binary32, ofBits, leZ, Refusal, Outcome, good, refused}
 use Rattle.layout.proofs.Names.{wrongBlock, outsideTable, notFinite, notRising, sumsNotRising, wrongCurve, tooManyTerms, Elsewhere, Other, other-cond, other-test, other-then, Row, Rule, Plain, Stepped, Geometric}
 use Rattle.layout.proofs.Names.{Single, Template, Codes, Domain, allOnes, topCode, finite, meaning, decode, Line, chose, basic, templateLines, templateOf, calDomain, pointCount, calPoint, calDeviation, domainOf}
 use Rattle.layout.proofs.Names.{isPhysical, storedSum, follows, curveDomain, segmentCount, segmentStart, termCount, exponent, coefficient, isSegmentCount, isTermCount, mostTerms, startFollows, tenthsOf}
-use Rattle.layout.proofs.Names.{tenthsBefore, exponentFollows, Format, ends, stops, takes, looks, _>>=_, given, refuse_if_, repeated, Stream, parse, fieldOf, fieldsOf, selectorOf, named, firstBlock, paired}
+use Rattle.layout.proofs.Names.{tenthsBefore, exponentFollows, Format, ends, stops, takes, looks, _>>=_, given, reject_if_, repeated, Stream, parse, fieldOf, fieldsOf, selectorOf, named, firstBlock, paired}
 use Rattle.layout.proofs.Names.{codesIn, pairOf, pairsOf, tableOf, Passed, ruledOf, termOf, behindTerm, termsOf, segmentOf, behindSegment, nothingPassed, segmentsOf, curveOf, blockAt, calibrationOf, charactersOf}
 use Rattle.layout.proofs.Names.{endingOf, sheetOf}
 
--- Every refusal of a format has another number.
+-- No refusal of a format has number 15 or 17.
 abbrev Others : {A : Type 0} → Format A → Type 0
 Others (ends a) = Unit {0}
 Others (stops r) = Elsewhere (r .number)
@@ -26,7 +26,7 @@ others-given : {A : Type 0} (o : Outcome A) → Other o → Others (given o)
 others-given (good a) h = tt
 others-given (refused r) h = h
 
-others-test : (r : Refusal) (t : Bool) → Elsewhere (r .number) → Others (refuse r if t)
+others-test : (r : Refusal) (t : Bool) → Elsewhere (r .number) → Others (reject r if t)
 others-test r true h = h
 others-test r false h = tt
 
@@ -108,7 +108,7 @@ ruled-others : (row : Row) (rule : ℕ → Bool) → Others (ruledOf row rule)
 unfolding ruledOf
 ruled-others row rule =
     others-bind (fieldOf row) _ (field-others row) (λ x.
-    others-bind (refuse wrongCurve (x .at) if not (rule (x .code))) _ (others-test (wrongCurve (x .at)) (not (rule (x .code))) (omega arith)) (λ u. tt))
+    others-bind (reject wrongCurve (x .at) if not (rule (x .code))) _ (others-test (wrongCurve (x .at)) (not (rule (x .code))) (omega arith)) (λ u. tt))
 
 repeated-others : {A B : Type 0} (one : B → Format A) (behind : B → A → B) → ((before : B) → Others (one before)) → (n : ℕ) (before : B) → Others (repeated one behind n before)
 unfolding repeated
@@ -128,7 +128,7 @@ segment-others before =
     others-bind (ruledOf segmentStart (startFollows (before .start))) _ (ruled-others segmentStart _) (λ start.
     others-bind (ruledOf termCount isTermCount) _ (ruled-others termCount isTermCount) (λ count.
     let total = before .terms + count .code in
-    others-bind (refuse tooManyTerms total if ltb mostTerms total) _ (others-test (tooManyTerms total) (ltb mostTerms total) (omega arith)) (λ u.
+    others-bind (reject tooManyTerms total if ltb mostTerms total) _ (others-test (tooManyTerms total) (ltb mostTerms total) (omega arith)) (λ u.
     others-bind (termsOf (count .code)) _ (repeated-others termOf behindTerm term-others (count .code) none) (λ terms. tt))))
 
 curve-others : Others curveOf
@@ -147,7 +147,7 @@ unfolding calibrationOf
 calibration-others = λ at left. λ selector.
     others-cond (eqb selector 0) _ _
     (others-bind (blockAt at) _ (only-others at) (λ k. others-bind (selectorOf 3) _ (selector-others 3) (λ u. tt)))
-    (others-bind (refuse wrongBlock at if not (eqb selector 3)) _ (others-test (wrongBlock at) (not (eqb selector 3)) (omega arith)) (λ u. tt))
+    (others-bind (reject wrongBlock at if not (eqb selector 3)) _ (others-test (wrongBlock at) (not (eqb selector 3)) (omega arith)) (λ u. tt))
 
 text-others : (n : ℕ) → Others (charactersOf n)
 unfolding charactersOf

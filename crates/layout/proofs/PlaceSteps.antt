@@ -1,4 +1,4 @@
--- Places from the bits that stand before them.
+-- Laws of places, from the bits before them.
 use Rattle.layout.proofs.Names.{_≡_, refl, ap, _∙_, Bool, cond, List, [], _∷_, ℕ, zero, suc, _+_, _-_, _*_, _^_, _≤_, _<_, arith, length, length-append, lt-ltb, le-ltb, Layout, Line, basic, templateLines, linesOf}
 use Rattle.layout.proofs.Names.{lastField, ending, bitsBefore, bits-few, blockBits, fieldPlace, behindFields, tableBits, curveBits}
 

@@ -1,4 +1,4 @@
--- Where the fields of a sheet stand: row, place, code and value of each, in closed form.
+-- Laws of the fields of a sheet: row, place, code and value of each, in closed form.
 use Rattle.layout.proofs.Names.{_≡_, refl, sym, ap, ap₂, _∙_, subst, subst₂, Bool, true, cond, List, [], _∷_, _++_, map, ℕ, zero, suc, _+_, _-_, _≤_, _<_, arith, decLt, ltb, length, getD, length-append, lt-ltb}
 use Rattle.layout.proofs.Names.{le-ltb, needed, Template, Line, basic, templateLines, linesOf, lastField, lineOf, rowOf, rowsOf, bitsBefore, noLine, Contents, nothing, field, lastChoice, layoutOf, blockBits}
 use Rattle.layout.proofs.Names.{fieldPlace, behindFields}
@@ -52,7 +52,7 @@ module _ {S : ℕ} {c : Contents} (h : Formed S c) where
       ∙ last-append basic (templateLines t) (h .basics) (h .own) 0 basics-count
       ∙ ap (lastChoice (templateLines t) (h .own)) (basic-last (h .basics) 0)
 
-  -- It is the code of the field that sets widths.
+  -- The choice is the code of the field that sets widths.
   pub choice-is-code : (f : ℕ) → 1 ≤ f → f ≤ lastField t → lineOf t f .sets ≡ true → choice ≡ field c f .code
   choice-is-code f lo hi e = steady-set (linesOf t) (lines-steady t) (c .fields) 0 (f - 1) none fields-count (omega arith) e
 
@@ -62,7 +62,7 @@ module _ {S : ℕ} {c : Contents} (h : Formed S c) where
   basic-bits : needed (map pieceOf (h .basics)) ≡ bitsBefore basic choice (length basic)
   basic-bits = met-bits choice basic 0 0 (h .basics) (h .basicsLaid) (basic-met (h .basics) 0 choice)
 
-  -- Basic, 64 bits.
+  -- Basic has 64 bits.
   pub basic-is-64 : needed (map pieceOf (h .basics)) ≡ 64
   unfolding basic
   basic-is-64 = basic-bits

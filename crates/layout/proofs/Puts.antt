@@ -1,4 +1,5 @@
--- A field of a sheet at another code: the sheet may stand all the same, and one piece differs.
+-- Laws of a sheet with another code in one field:
+-- the format still allows it, and one piece differs.
 use Rattle.layout.proofs.Names.{_≡_, refl, sym, ap, _∙_, subst, subst₂, List, [], _∷_, _++_, map, append-assoc, ℕ, zero, suc, _+_, _-_, _^_, _≤_, _<_, zero-add, arith, decLt, length, getD, set, length-append}
 use Rattle.layout.proofs.Names.{good, Piece, piece, needed, putAt, Fit, Holds, needed-append, holds-put, Value, decode, Line, basic, templateLines, numberOf, linesOf, noLine, Stream, Found, Contents, nothing}
 use Rattle.layout.proofs.Names.{blockPieces}
@@ -21,18 +22,18 @@ set-back (x ∷ xs) ys (suc i) y h = ap (λ q. x ∷ q) (set-back xs ys i y (ome
 
 -- ---- the sheet
 
--- A sheet with other fields, and with field i, counted from 0, as another.
+-- A sheet with other fields, and with another field i, counted from 0.
 abbrev withFields : Contents → List Found → Contents
 withFields c xs = record { template = c .template; fields = xs; calibration = c .calibration; endBit = c .endBit; text = c .text; bits = c .bits }
 
 abbrev pub withField : Contents → ℕ → Found → Contents
 withField c i x = withFields c (set (c .fields) i x)
 
--- Its line.
+-- The line of field i.
 abbrev pub lineAt : Contents → ℕ → Line
 lineAt c i = getD (linesOf (c .template)) i noLine
 
--- Other fields of the same widths.
+-- A sheet with other fields of the same widths.
 reformed : {S : ℕ} {c : Contents} (h : Formed S c) (bs os xs : List Found) → xs ≡ bs ++ os → Laid basic 0 0 bs → Laid (templateLines (c .template)) 0 (h .ownAt) os →
     needed (map pieceOf bs) ≡ needed (map pieceOf (h .basics)) → needed (map pieceOf os) ≡ needed (map pieceOf (h .own)) → Formed S (withFields c xs)
 reformed h bs os xs fields lb lo eb eo = record {
@@ -52,7 +53,7 @@ reformed h bs os xs fields lb lo eb eo = record {
   bits-are = h .bits-are;
 }
 
--- The pieces before the field and behind it, and the sheet with the field at a code.
+-- The pieces before the field and after it, and the sheet with the code in the field.
 pub record Put {S : ℕ} {c : Contents} (h : Formed S c) (i : ℕ) (code : ℕ) (v : Value) : Type 0 where
   pub before : List Piece
   pub after : List Piece
@@ -144,7 +145,7 @@ module _ {S : ℕ} {c : Contents} (h : Formed S c) (i : ℕ) (l : i < length (c 
 
 -- ---- the stream
 
--- A field at another code, where the choice stays: it alone is parsed otherwise.
+-- A field with another code that keeps the choice: it alone is parsed differently.
 pub holding-put : (s : Stream) (c : Contents) → Holding s c → (i : ℕ) → i < length (c .fields) → (code : ℕ) (v : Value) →
     let x = getD (c .fields) i nothing in
     Keeps (lineAt c i) code (x .code) → code < 2 ^ x .row .width → decode (x .row) (x .at) code ≡ good v →

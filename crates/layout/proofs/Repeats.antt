@@ -1,8 +1,8 @@
--- Formats one after the other: what may stand for each, and the pieces that they are.
+-- Laws of formats that repeat: what each turn allows, and the pieces.
 use Rattle.layout.proofs.Names.{_≡_, refl, sym, ap, ap₂, _∙_, subst, List, [], _∷_, _++_, ℕ, zero, suc, _+_, length, Piece, needed, Format, ends, _>>=_, repeated}
 use Rattle.layout.proofs.Formats.{Parses, parses-bind, parses-halves, ends-pieces, parses-made, made-pieces}
 
--- The pieces of each, and each at the place where the one before it ends.
+-- The pieces of each item, and each item at the place where the one before it ends.
 abbrev pub eachPieces : {A : Type 0} → (A → List Piece) → List A → List Piece
 eachPieces pieces [] = []
 eachPieces pieces (x ∷ xs) = pieces x ++ eachPieces pieces xs
@@ -11,7 +11,7 @@ abbrev pub EachAt : {A B : Type 0} → (B → A → B) → (B → ℕ → A → 
 EachAt behind At pieces before at [] = Unit {0}
 EachAt behind At pieces before at (x ∷ xs) = At before at x × EachAt behind At pieces (behind before x) (at + needed (pieces x)) xs
 
--- What stands n times at a place.
+-- The n items at a place.
 pub record EachPieces {A B : Type 0} (behind : B → A → B) (At : B → ℕ → A → Type 0) (pieces : A → List Piece) (n : ℕ) (before : B) (at : ℕ) (ps : List Piece) (xs : List A) : Type 0 where
   pub count : length xs ≡ n
   pub split : ps ≡ eachPieces pieces xs

@@ -1,20 +1,23 @@
--- A calibration table as fields of 37 bits, a pair each: pairs that stand and rise are parsed.
+-- Laws of a calibration table as fields of 37 bits,
+-- one for each pair: valid pairs that rise are parsed.
 use Rattle.layout.proofs.Names.{_≡_, refl, sym, ap, _∙_, Option, none, some, ℕ, _+_, _*_, _/_, _%_, _^_, _≤_, _<_, arith, lt-leb, le-ltb, ℤ, pos, high, low, good, fieldAt, field-lt, field-add, Whole, Stepped}
+use Rattle.layout.proofs.Names.{Codes, Domain, Electrical, Physical, allOnes, topCode, steppedValue, decode, always, D, R, leastDeviation, calPoint, calDeviation, codesOf, follows, sum-climbs, _>>=_, _>>_, Stream}
+use Rattle.layout.proofs.Names.{parse, FoundPair, fieldOf, pairOf, pairBits, sumAbove}
 use Rattle.layout.proofs.Calibrations.{following}
-use Rattle.layout.proofs.Names.{Codes, Domain, Electrical, Physical, allOnes, topCode, steppedValue, decode, always, D, R, leastDeviation, calPoint, calDeviation, codesOf, follows, sum-climbs, _>>=_}
-use Rattle.layout.proofs.Names.{_>>_, Stream, parse, FoundPair, fieldOf, pairOf, pairBits, sumAbove}
 use Rattle.layout.proofs.Formats.{parsed, parse-next}
 use Rattle.layout.proofs.Fields.{found}
-use Rattle.layout.proofs.Standing.{Stands, stands-parse}
+use Rattle.layout.proofs.Standing.{Valid, stands-parse}
 
 -- ---- what may follow
 
--- Behind what stands before, any pair may follow whose point is not below `least` and, in domain 1, whose sum is not below `floor`.
+-- After this pair, any pair may follow whose point is at least
+-- `least` and, in domain 1, whose sum is at least `floor`.
 abbrev pub Admits : Domain → Option Codes → ℕ → ℕ → Type 0
 Admits domain before least floor =
     (place : ℕ) (next : Codes) → least ≤ next .point → (domain ≡ Physical → floor ≤ sumAbove next) → follows domain before place next ≡ good tt
 
--- Any pair may be the first; behind another, any above its point and, in domain 1, above its sum.
+-- Any pair may be the first; after another, any with
+-- a greater point and, in domain 1, a greater sum.
 pub admits-first : (domain : Domain) (least floor : ℕ) → Admits domain none least floor
 unfolding follows
 admits-first domain least floor place next h g = refl
@@ -35,11 +38,11 @@ stepped-good : (w : ℕ) (start : ℤ) (step at code : ℕ) → code ≤ topCode
 unfolding decode
 stepped-good w start step at code l = rw (le-ltb (topCode w) code l)
 
--- Its codes, the point's lowest.
+-- The codes of a pair, the point's lowest.
 abbrev pub codesFrom : ℕ → Codes
 codesFrom both = codesOf (both % 2 ^ 16) (both / 2 ^ 16)
 
--- The pair, where both codes stand.
+-- The pair, if both codes are valid.
 abbrev pub pairFrom : ℕ → ℕ → FoundPair
 pairFrom at both = record {
   point = found calPoint at (both % 2 ^ 16) (Whole (steppedValue (pos 0) D (both % 2 ^ 16)));
@@ -56,7 +59,7 @@ module _ (s : Stream) (at both : ℕ) (e : both ≡ fieldAt (s .number) at pairB
   deviation-is : fieldAt (s .number) (at + 16) 21 ≡ both / 2 ^ 16
   deviation-is = sym (ap (λ (n : ℕ). n / 2 ^ 16) halves ∙ high (fieldAt (s .number) (at + 16) 21) 16 (field-lt (s .number) at 16))
 
-  -- A pair of codes that stand, which may follow.
+  -- A pair of valid codes that may follow.
   pub pair-rises : (domain : Domain) (before : Option Codes) (least floor : ℕ) → Admits domain before least floor → at + pairBits ≤ s .bits →
       least ≤ both % 2 ^ 16 → (both % 2 ^ 16 ≡ allOnes 16 → ⊥) → (both / 2 ^ 16 ≡ allOnes 21 → ⊥) → (domain ≡ Physical → floor ≤ sumAbove (codesFrom both)) →
       parse s (pairOf domain before) at ≡ good (parsed (pairFrom at both) (at + pairBits))
@@ -64,12 +67,12 @@ module _ (s : Stream) (at both : ℕ) (e : both ≡ fieldAt (s .number) at pairB
   pair-rises domain before least floor admits inside l hp hd g =
       let np : both % 2 ^ 16 < 2 ^ 16 = rw (← point-is) (field-lt (s .number) at 16) in
       let nd : both / 2 ^ 16 < 2 ^ 21 = rw (← deviation-is) (field-lt (s .number) (at + 16) 21) in
-      let p : Stands s calPoint at (pairFrom at both .point) = record {
+      let p : Valid s calPoint at (pairFrom at both .point) = record {
         field = record { is = refl; fits = np; means = stepped-good 16 (pos 0) D at (both % 2 ^ 16) (omega arith) };
         code = point-is;
         inside = omega arith;
       } in
-      let d : Stands s calDeviation (at + 16) (pairFrom at both .deviation) = record {
+      let d : Valid s calDeviation (at + 16) (pairFrom at both .deviation) = record {
         field = record { is = refl; fits = nd; means = stepped-good 21 leastDeviation R (at + 16) (both / 2 ^ 16) (omega arith) };
         code = deviation-is;
         inside = omega arith;

@@ -1,4 +1,4 @@
--- A whole sheet: what may stand in a stream, and the pieces that it is.
+-- Laws of a whole sheet: what the format allows, and its pieces.
 use Rattle.layout.proofs.Names.{_≡_, refl, sym, ap, ap₂, _∙_, subst, List, [], _∷_, _++_, map, append-nil, Option, none, some, ℕ, _+_, arith, wrongBlock, Piece, piece, needed, needed-append, Template, basic}
 use Rattle.layout.proofs.Names.{templateLines, numberOf, templateOf, number-lt, number-known, known-number, Format, ends, _>>=_, bits, place, Found, Calibration, Contents, Ending, fieldsOf, selectorOf, named}
 use Rattle.layout.proofs.Names.{firstBlock, calibrationOf, endingOf, sheetOf, blockPieces}
@@ -33,7 +33,8 @@ module _ (S at : ℕ) where
 
 -- ---- the sheet
 
--- A sheet that may stand in a stream of S bits: Basic's fields, the template's own, the calibration and the ending, each where the one before ends.
+-- What the format allows in a stream of S bits: Basic's fields, the template's
+-- own, the calibration and the ending, each where the one before ends.
 pub record Formed (S : ℕ) (c : Contents) : Type 0 where
   pub basics : List Found
   pub own : List Found
@@ -50,7 +51,7 @@ pub record Formed (S : ℕ) (c : Contents) : Type 0 where
   pub ending : EndingAt S endAt (c .endBit) (c .text)
   pub bits-are : c .bits ≡ endAt + needed (endPieces S endAt (c .endBit) (c .text))
 
--- Behind the fields, and all of it.
+-- The pieces after the fields, and all pieces.
 abbrev pub restPieces : ℕ → ℕ → Contents → List Piece
 restPieces S endAt c = calibrationPieces (c .calibration) ++ (piece 2 3 ∷ []) ++ endPieces S endAt (c .endBit) (c .text)
 
@@ -86,7 +87,7 @@ made template fields calibration ending end = record {
   bits = end;
 }
 
--- The format behind each of its parts.
+-- The format after each of the sheet's parts.
 abbrev pub afterCalibration : Template → List Found → Calibration → Format Contents
 afterCalibration t xs k = endingOf >>= λ e. place >>= λ end. ends (made t xs k e end)
 

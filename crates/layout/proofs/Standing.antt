@@ -1,4 +1,4 @@
--- What stands in the stream of a sheet at the places of its fields, its pairs and its characters.
+-- Laws of the stream of a sheet at the places of its fields, its pairs and its characters.
 use Rattle.layout.proofs.Names.{_≡_, refl, sym, ap, ap₂, _∙_, subst, Bool, cond, List, [], _∷_, _++_, map, append-assoc, Option, none-before, some, ℕ, zero, suc, _+_, _-_, _*_, _^_, _≤_, _<_, zero-add, arith, ltb}
 use Rattle.layout.proofs.Names.{length, getD, le-ltb, good, refused, pastEnd, fieldAt, Piece, piece, needed, Fit, Holds, needed-append, fit-split, holds-front, holds-back, holds-piece, holds-uncons, Row, Codes}
 use Rattle.layout.proofs.Names.{Domain, decode, domainCode, calPoint, calDeviation, numberOf, lastField, rowOf, ends, _>>=_, given, Stream, parse, Found, FoundPair, Calibration, bare, table, curve, Contents}
@@ -14,13 +14,13 @@ use Rattle.layout.proofs.Puts.{formed-put}
 
 -- ---- a field
 
--- The field of a row stands at a place of a stream.
-pub record Stands (s : Stream) (row : Row) (at : ℕ) (x : Found) : Type 0 where
+-- The field of a row is at a place of a stream.
+pub record Valid (s : Stream) (row : Row) (at : ℕ) (x : Found) : Type 0 where
   pub field : FieldAt row at x
   pub code : fieldAt (s .number) at (row .width) ≡ x .code
   pub inside : at + row .width ≤ s .bits
 
-pub stands-parse : {s : Stream} {row : Row} {at : ℕ} {x : Found} → Stands s row at x → parse s (fieldOf row) at ≡ good (parsed x (at + row .width))
+pub stands-parse : {s : Stream} {row : Row} {at : ℕ} {x : Found} → Valid s row at x → parse s (fieldOf row) at ≡ good (parsed x (at + row .width))
 unfolding fieldOf
 stands-parse {s} {row} {at} {x} h =
     ap₂ (λ (t : Bool) (k : ℕ). cond t (refused (pastEnd at)) (parse s (given (decode row at k) >>= λ v. ends (found row at k v)) (at + row .width)))
@@ -28,11 +28,11 @@ stands-parse {s} {row} {at} {x} h =
     ∙ ap (λ o. parse s (given o >>= λ v. ends (found row at (x .code) v)) (at + row .width)) (h .field .means)
     ∙ ap (λ u. good (parsed u (at + row .width))) (sym (h .field .is))
 
--- ---- pairs and characters one after the other
+-- ---- pairs and characters in order
 
 pub record PairStands (s : Stream) (at : ℕ) (p : FoundPair) : Type 0 where
-  pub point : Stands s calPoint at (p .point)
-  pub deviation : Stands s calDeviation (at + 16) (p .deviation)
+  pub point : Valid s calPoint at (p .point)
+  pub deviation : Valid s calDeviation (at + 16) (p .deviation)
 
 pair-stands : (s : Stream) (domain : Domain) (before : Option Codes) (at : ℕ) (p : FoundPair) (ps : List Piece) → PairAt domain before at p → Fit (foundPairPieces p ++ ps) →
     Holds (s .number) at (foundPairPieces p ++ ps) → at + 37 ≤ s .bits → PairStands s at p × Holds (s .number) (at + 37) ps
@@ -78,7 +78,7 @@ characters-stand N at (c ∷ text) f k (suc i) l =
 
 module _ {s : Stream} {c : Contents} (h : Holding s c) where
   -- Field f, counted from 1.
-  pub field-stands : (f : ℕ) → 1 ≤ f → f ≤ lastField (c .template) → Stands s (rowOf (layoutOf c) f) (fieldPlace (layoutOf c) f) (field c f)
+  pub field-stands : (f : ℕ) → 1 ≤ f → f ≤ lastField (c .template) → Valid s (rowOf (layoutOf c) f) (fieldPlace (layoutOf c) f) (field c f)
   field-stands f lo hi =
       let a = field-at (h .formed) f lo hi in
       let x : Found = field c f in
@@ -95,7 +95,7 @@ module _ {s : Stream} {c : Contents} (h : Holding s c) where
             omega (arith, here, width-is a, ap needed (p .is), needed-append (p .before) (pieceOf x ∷ p .after), sheet-needed (h .formed), h .inside);
       }
 
-  -- ---- behind the fields
+  -- ---- after the fields
 
   abbrev rest : List Piece
   rest = restPieces (s .bits) (h .formed .endAt) c
@@ -110,7 +110,7 @@ module _ {s : Stream} {c : Contents} (h : Holding s c) where
       omega (arith, f .behind-at, f .own-at, needed-append (map pieceOf (f .basics)) (blockPieces (numberOf (c .template)) ++ map pieceOf (f .own))) in
       (subst (λ (k : ℕ). Holds (s .number) k rest) n (holds-back (s .number) 0 front rest (fit .0) (subst (Holds (s .number) 0) e (h .holds))), fit .1)
 
-  -- Where the ending begins.
+  -- The place where the ending begins.
   abbrev blockEnd : ℕ
   blockEnd = behindBlock (layoutOf c) (length (pairsIn (c .calibration))) (length (segmentsIn (c .calibration))) (length (allTerms (segmentsIn (c .calibration))))
 

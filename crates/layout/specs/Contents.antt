@@ -1,39 +1,26 @@
--- Document 01, "Layout" and "Turning down", and document 02, Notes 7, 9 and 11: the stream from its start. One format says all that a sheet may hold, in the order of the stream, with
--- the refusals on the way; a check parses an image's stream by it.
+-- Document 01, "Layout" and "Turning down", and document 02, Notes 7, 9 and 11:
+-- "the stream from its start". One format defines all that a sheet may hold, in the
+-- order of the stream, with its refusals; a check parses an image's stream by it.
 use mathlib.Core.Bool.{Bool, not, cond}
 use mathlib.Core.List.{List, [], _∷_, _++_}
 use mathlib.Core.Option.{Option, none, some}
 use Prim.Native.Nat.{ℕ, zero, suc, _+_, _/_}
 use lib.Dec.{eqb, ltb}
 use Rattle.refusal.specs.Rows.{wrongBlock, wrongCurve, tooManyTerms}
-use Rattle.fields.specs.declared.Value.{Value}
-use Rattle.fields.specs.declared.Row.{Row}
-use Rattle.fields.specs.declared.Template.{Template}
-use Rattle.fields.specs.declared.Codes.{Codes}
-use Rattle.fields.specs.declared.Domain.{Domain}
-use Rattle.fields.specs.Rules.{decode}
-use Rattle.fields.specs.Lines.{Line, chose, basic, templateLines, templateOf}
-use Rattle.fields.specs.Calibration.{calDomain, domainOf, pointCount, calPoint, calDeviation, codesOf, follows}
-use Rattle.fields.specs.Curves.{
-  curveDomain,
-  segmentCount,
-  segmentStart,
-  termCount,
-  exponent,
-  coefficient,
-  isSegmentCount,
-  isTermCount,
-  mostTerms,
-  startFollows,
-  tenthsOf,
-  tenthsBefore,
-  exponentFollows,
-}
-use Rattle.layout.specs.Format.{Format, ends, stops, _>>=_, _>>_, bits, place, remaining, given, refuse_if_, repeated}
+use Rattle.codes.specs.declared.Value.{Value}
+use Rattle.codes.specs.declared.Row.{Row}
+use Rattle.templates.specs.declared.Template.{Template}
+use Rattle.templates.specs.declared.Codes.{Codes}
+use Rattle.templates.specs.declared.Domain.{Domain}
+use Rattle.codes.specs.Rules.{decode}
+use Rattle.templates.specs.Lines.{Line, chose, basic, templateLines, templateOf}
+use Rattle.templates.specs.Calibration.{calDomain, domainOf, pointCount, calPoint, calDeviation, codesOf, follows}
+use Rattle.templates.specs.Curves.{curveDomain, segmentCount, segmentStart, termCount, exponent, coefficient, isSegmentCount, isTermCount, mostTerms, startFollows, tenthsOf, tenthsBefore, exponentFollows}
+use Rattle.layout.specs.Format.{Format, ends, stops, _>>=_, _>>_, bits, place, remaining, given, reject_if_, repeated}
 
 -- ---- what a sheet holds
 
--- A field as it stands in the stream: its row, its first bit, its code and what that means.
+-- A field in the stream: its row, its first bit, its code and the code's value.
 pub record Found : Type 0 where
   pub row : Row
   pub at : ℕ
@@ -56,13 +43,14 @@ pub record FoundSegment : Type 0 where
   pub count : Found
   pub terms : List FoundTerm
 
--- Behind the fields: nothing, a calibration table in its domain, or a curve.
+-- After the fields: nothing, a calibration table in its domain, or a curve.
 pub data Calibration : Type 0 where
   bare : Calibration
   table : Domain → List FoundPair → Calibration
   curve : List FoundSegment → Calibration
 
--- Its template, its fields from 1 on, its calibration, the end bit, the text, and the bits up to the end.
+-- The template, the fields from 1 on, the calibration,
+-- the end bit, the text, and the bits up to the end.
 pub record Contents : Type 0 where
   pub template : Template
   pub fields : List Found
@@ -91,14 +79,14 @@ fieldsOf (line ∷ lines) latest = do
 
 -- ---- the first block
 
--- Row 4: a selector that has to be the one wanted.
+-- Row 4: a selector that has to be the expected one.
 unfoldable pub selectorOf : ℕ → Format (Unit {0})
 selectorOf wanted = do
   at ← place
   selector ← bits 2
-  refuse wrongBlock at if not (eqb selector wanted)
+  reject wrongBlock at if not (eqb selector wanted)
 
--- Row 4: a template that is known, of the block whose selector stands at a place.
+-- Row 4: a known template, in the block whose selector is at a place.
 abbrev pub named : ℕ → Option Template → Format Template
 named at (some template) = ends template
 named at none = stops (wrongBlock at)
@@ -119,7 +107,7 @@ paired point deviation = record { point = point; deviation = deviation }
 abbrev pub codesIn : FoundPair → Codes
 codesIn p = codesOf (p .point .code) (p .deviation .code)
 
--- A pair: 3 and 5 of the point, 3 and 5 of its deviation, then 7, and 22 in domain 1.
+-- A pair: "3 and 5 of the point, 3 and 5 of its deviation, then 7"; in domain 1 then 22.
 unfoldable pub pairOf : Domain → Option Codes → Format FoundPair
 pairOf domain before = do
   point ← fieldOf calPoint
@@ -127,7 +115,7 @@ pairOf domain before = do
   given (follows domain before (point .at) (codesIn (paired point deviation)))
   ends (paired point deviation)
 
--- n pairs, one after the other.
+-- n pairs in order.
 unfoldable pub pairsOf : Domain → ℕ → Option Codes → Format (List FoundPair)
 pairsOf domain zero before = ends []
 pairsOf domain (suc n) before = do
@@ -145,14 +133,15 @@ tableOf = do
 
 -- ---- block 41
 
--- Row 24 behind 3, 5 and 6: the field of a row, which a rule of a curve has to take.
+-- Rows 3, 5, 6, then 24: the field of a row, which has to obey a rule of the curve.
 unfoldable pub ruledOf : Row → (ℕ → Bool) → Format Found
 ruledOf row rule = do
   x ← fieldOf row
-  refuse wrongCurve (x .at) if not (rule (x .code))
+  reject wrongCurve (x .at) if not (rule (x .code))
   ends x
 
--- A term behind the one before it in its segment: 3, 5 and 24 of the exponent, 3, 5 and 6 of the coefficient.
+-- A term after the one before it in its segment: 3, 5
+-- and 24 of the exponent, 3, 5 and 6 of the coefficient.
 unfoldable pub termOf : Option ℕ → Format FoundTerm
 termOf before = do
   x ← ruledOf exponent (λ code. exponentFollows (tenthsBefore before) (tenthsOf code))
@@ -162,11 +151,11 @@ termOf before = do
 abbrev pub behindTerm : Option ℕ → FoundTerm → Option ℕ
 behindTerm before t = some (t .exponent .code)
 
--- n terms, one after the other.
+-- n terms in order.
 unfoldable pub termsOf : ℕ → Format (List FoundTerm)
 termsOf n = repeated termOf behindTerm n none
 
--- What stands before a segment: the start of the last, if there is one, and the number of terms.
+-- What comes before a segment: the start of the last one, if any, and the number of terms so far.
 pub record Passed : Type 0 where
   pub start : Option ℕ
   pub terms : ℕ
@@ -177,7 +166,7 @@ segmentOf before = do
   start ← ruledOf segmentStart (startFollows (before .start))
   count ← ruledOf termCount isTermCount
   let total = before .terms + count .code
-  refuse tooManyTerms total if ltb mostTerms total
+  reject tooManyTerms total if ltb mostTerms total
   terms ← termsOf (count .code)
   ends (record { start = start; count = count; terms = terms })
 
@@ -187,7 +176,7 @@ behindSegment before s = record { start = some (s .start .code); terms = before 
 abbrev pub nothingPassed : Passed
 nothingPassed = record { start = none; terms = 0 }
 
--- n segments, one after the other.
+-- n segments in order.
 unfoldable pub segmentsOf : ℕ → Format (List FoundSegment)
 segmentsOf n = repeated segmentOf behindSegment n nothingPassed
 
@@ -201,40 +190,41 @@ curveOf = do
 
 -- ---- one block of either
 
--- Row 4: the block of a template's number, if it is one of them, whose selector stands at a place.
+-- Row 4: the block of a template's number, if it is 40 or 41; its selector is at a place.
 abbrev pub blockOf : ℕ → ℕ → Format Calibration
 blockOf at number = cond (eqb number 40) tableOf (cond (eqb number 41) curveOf (stops (wrongBlock at)))
 
--- The block whose selector 0 was taken at a place: template 40 or 41.
+-- The block whose selector 0 was read at a place: template 40 or 41.
 unfoldable pub blockAt : ℕ → Format Calibration
 blockAt at = do
   number ← bits 8
   blockOf at number
 
--- Behind the fields: one block and selector 3, or selector 3 alone.
+-- After the fields: one block and selector 3, or selector 3 alone.
 unfoldable pub calibrationOf : Format Calibration
 calibrationOf = do
   at ← place
   selector ← bits 2
   cond (eqb selector 0)
       (blockAt at >>= λ calibration. selectorOf 3 >> ends calibration)
-      (refuse wrongBlock at if not (eqb selector 3) >> ends bare)
+      (reject wrongBlock at if not (eqb selector 3) >> ends bare)
 
 -- ---- the ending
 
--- At most n characters of 7 bits, up to a zero character.
+-- At most n characters of 7 bits, "up to a zero character".
 unfoldable pub charactersOf : ℕ → Format (List ℕ)
 charactersOf zero = ends []
 charactersOf (suc n) = do
   c ← bits 7
   cond (eqb c 0) (ends []) (charactersOf n >>= λ text. ends (c ∷ text))
 
--- The end bit, and the text behind it.
+-- The end bit, and the text after it.
 pub record Ending : Type 0 where
   pub endBit : Bool
   pub text : List ℕ
 
--- The end bit: 0, nothing more; 1, text up to a zero character or until fewer than 7 bits remain.
+-- The end bit: "0, nothing more; 1, text in 7-bit characters
+-- up to a zero character or until fewer than 7 bits remain."
 unfoldable pub endingOf : Format Ending
 endingOf = do
   endBit ← bits 1

@@ -1,5 +1,6 @@
--- What may stand in a stream from a place on, as steps: bits are taken one field after the other, and what was taken decides what follows. Document
--- 01's "the stream from its start" is a format, and a check parses the stream by it.
+-- What a stream may hold from a place on, as steps: fields are read in
+-- order, and each code decides what follows. Document 01's "the stream
+-- from its start" is a format, and a check parses the stream by it.
 use mathlib.Core.Bool.{Bool, true, false, cond}
 use mathlib.Core.List.{List, [], _∷_}
 use Prim.Native.Nat.{ℕ, zero, suc, _+_, _-_}
@@ -10,11 +11,11 @@ use Rattle.refusal.specs.Rows.{pastEnd}
 use Rattle.memory.specs.Bits.{fieldAt}
 
 pub data Format (A : Type 0) : Type 0 where
-  -- Nothing more is taken.
+  -- Nothing more is read.
   ends : A → Format A
-  -- The stream is turned down.
+  -- The stream is refused.
   stops : Refusal → Format A
-  -- A field of so many bits; its code decides what follows.
+  -- A field of that many bits; its code decides what follows.
   takes : ℕ → (ℕ → Format A) → Format A
   -- The next bit's place and the bits that remain decide what follows.
   looks : (ℕ → ℕ → Format A) → Format A
@@ -43,18 +44,18 @@ place = looks (λ at left. ends at)
 abbrev pub remaining : Format ℕ
 remaining = looks (λ at left. ends left)
 
--- What a rule gives.
+-- The outcome of a rule.
 abbrev pub given : {A : Type 0} → Outcome A → Format A
 given (good a) = ends a
 given (refused r) = stops r
 
--- The test of a row: where it holds, the row's refusal.
-infix 2 refuse_if_
-abbrev pub refuse_if_ : Refusal → Bool → Format (Unit {0})
-refuse_if_ r true = stops r
-refuse_if_ r false = ends tt
+-- The test of a row: if it holds, the row's refusal.
+infix 2 reject_if_
+abbrev pub reject_if_ : Refusal → Bool → Format (Unit {0})
+reject_if_ r true = stops r
+reject_if_ r false = ends tt
 
--- n of a format, one after the other: each goes by what stands before it.
+-- n of a format in order; each depends on what was read before it.
 unfoldable pub repeated : {A B : Type 0} → (B → Format A) → (B → A → B) → ℕ → B → Format (List A)
 repeated one behind zero before = ends []
 repeated one behind (suc n) before = do
@@ -69,12 +70,12 @@ pub record Stream : Type 0 where
   pub bits : ℕ
   pub number : ℕ
 
--- What was found, and the place behind it.
+-- What was read, and the place after it.
 pub record Parsed (A : Type 0) : Type 0 where
   pub found : A
   pub next : ℕ
 
--- From a place on. Row 3: a field that would pass the end.
+-- Parses from a place on. Row 3: a field that would pass the end.
 abbrev pub parse : {A : Type 0} → Stream → Format A → ℕ → Outcome (Parsed A)
 parse s (ends a) at = good (record { found = a; next = at })
 parse s (stops r) at = refused r

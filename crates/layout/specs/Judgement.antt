@@ -1,15 +1,15 @@
--- Only inner contracts need these: fields judged at their places, without a walk over those before them.
+-- Only inner contracts need this: fields judged at their places, without parsing those before them.
 use mathlib.Core.List.{List, [], _∷_}
 use Prim.Native.Nat.{ℕ, _+_, _-_}
 use lib.ListN.{length, take}
 use Rattle.refusal.specs.Outcome.{Outcome, good, _>>_}
 use Rattle.memory.specs.Bits.{fieldAt}
-use Rattle.fields.specs.declared.Template.{Template}
-use Rattle.fields.specs.Judgement.{judge}
-use Rattle.fields.specs.Lines.{Line, templateLines}
+use Rattle.templates.specs.declared.Template.{Template}
+use Rattle.codes.specs.Validity.{judge}
+use Rattle.templates.specs.Lines.{Line, templateLines}
 use Rattle.layout.specs.Format.{Stream}
 
--- What the rows of lines at a choice say of the codes that stand from a place on, one after the other.
+-- The test of the codes from a place on, by the rows of these lines at a choice.
 abbrev pub judged : Stream → List Line → ℕ → ℕ → Outcome (Unit {0})
 judged s [] choice at = good tt
 judged s (l ∷ lines) choice at =

@@ -1,4 +1,4 @@
--- Document 01, "Layout", as pieces of a stream: what stands at a block's start, and for the end bit.
+-- Document 01, "Layout", as pieces of a stream: the start of a block, and the end bit.
 use mathlib.Core.Bool.{Bool, cond}
 use mathlib.Core.List.{List, [], _∷_}
 use Prim.Native.Nat.{ℕ}

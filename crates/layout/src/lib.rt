@@ -1,6 +1,6 @@
-// Document 01, "Layout" and "Turning down": what may stand in a sender's stream, and where. The format is in specs/; the code has
-// its figures and the places that follow from them.
-mod locating; // locating.rt: where fields, pairs, segments and characters stand
+// Document 01, "Layout" and "Turning down": what a sender's stream may hold, and where.
+// The format is in specs/; the code has its figures and the places that follow from them.
+mod locating; // locating.rt: the places of fields, pairs, segments and characters
 
 pub use locating::BLOCK_BITS;
 pub use locating::CHARACTER_BITS;

@@ -1,6 +1,6 @@
--- What every accepted image's sizes have.
+-- Laws of the sizes of every accepted image.
 use Rattle.memory.proofs.Names.{_≡_, refl, subst, _∙_, not, cond, List, ℕ, zero, suc, _≤_, arith, length, eqb, eqb-true, not-false, good, refused, wrongImage, good-same, no-value, good-bind, passed, bind-good}
-use Rattle.memory.proofs.Names.{chosen, Sizes, sizesOf, imageBytes, imageSizes, Whole}
+use Rattle.memory.proofs.Names.{chosen, Sizes, sizesOf, imageBytes, imageSizes, WholeImage}
 
 pub sizes-kind : (kind bytes : ℕ) (z : Sizes) → sizesOf kind ≡ good z → imageSizes kind bytes ≡ cond (eqb bytes (imageBytes z)) (good z) (refused wrongImage)
 unfolding imageSizes
@@ -13,7 +13,8 @@ sizes-others (suc zero) bytes h i j = absurd (i refl)
 sizes-others (suc (suc zero)) bytes h i j = absurd (j refl)
 sizes-others (suc (suc (suc k))) bytes h i j = refl
 
--- An image of this many bytes has a page at least, no more than 8 bytes of register, and is no longer than the longest kind's.
+-- An image of this many bytes has at least one page,
+-- at most 8 bytes of register, and at most 512 bytes.
 pub record Chip (z : Sizes) (bytes : ℕ) : Type 0 where
   pub long : bytes ≡ imageBytes z
   pub paged : 1 ≤ z .pages
@@ -34,7 +35,7 @@ sizes-chip kind bytes z e =
     let (paged, few, most) = kind-sizes kind y s in
     subst (λ x. Chip x bytes) (good-same same) (record { long = eqb-true bytes (imageBytes y) (not-false _ right); paged = paged; few = few; most = most })
 
-pub sizes-whole : (kind : ℕ) (image : List ℕ) (z : Sizes) → imageSizes kind (length image) ≡ good z → Whole z image
+pub sizes-whole : (kind : ℕ) (image : List ℕ) (z : Sizes) → imageSizes kind (length image) ≡ good z → WholeImage z image
 sizes-whole kind image z e =
     let c = sizes-chip kind (length image) z e in
     record { long = c .long; small = omega arith; paged = c .paged; few = c .few }

@@ -1,4 +1,4 @@
--- Bytes and the number that they are.
+-- Laws of bytes and the number that they form.
 use Rattle.memory.proofs.Names.{_≡_, refl, sym, ap, ap₂, _∙_, List, [], _∷_, _++_, ℕ, zero, suc, _+_, _-_, _*_, _/_, _%_, _^_, _<_, mul-assoc, add-mul, add-assoc, mod-lt, mod-one, zero-div, le-refl, arith, decLt}
 use Rattle.memory.proofs.Names.{length, take, drop, getD, set, length-set, drop-cons, take-set-le, drop-set-lt, getD-set-same, getD-drop, digits-lt, pow-pos, pow-add, high, low, mod-pow-add, shr-shr, Bytes}
 use Rattle.memory.proofs.Names.{number, bytesOf, bit, fieldAt, putAt}
@@ -56,11 +56,11 @@ bytes-number (b ∷ bytes) h =
     ap₂ {C = List ℕ} (λ (x y : ℕ). x ∷ bytesOf (length bytes) y) (low (number bytes) 8 (h 0)) (high (number bytes) 8 (h 0))
     ∙ ap (λ (x : List ℕ). b ∷ x) (bytes-number bytes (λ i. h (suc i)))
 
--- Lists of bytes of one length are known by their numbers.
+-- Lists of bytes of one length are equal if their numbers are.
 pub number-ext : (l k : List ℕ) → length l ≡ length k → Bytes l → Bytes k → number l ≡ number k → l ≡ k
 number-ext l k e hl hk h = sym (bytes-number l hl) ∙ ap₂ bytesOf e h ∙ bytes-number k hk
 
--- Document 01's order of bits: bit n is bit n mod 8 of byte n / 8.
+-- Document 01's order of bits: bit n is bit n mod 8 of byte n / 8, bit 0 lowest.
 pub bit-at : (bytes : List ℕ) → Bytes bytes → (n : ℕ) → bit (number bytes) n ≡ bit (getD bytes (n / 8) 0) (n % 8)
 bit-at [] h n = ap (λ (x : ℕ). x % 2) (zero-div (2 ^ n) ∙ sym (zero-div (2 ^ (n % 8))))
 bit-at (b ∷ bytes) h n = go (bit-at bytes (λ i. h (suc i)) (n - 8)) (decLt n 8)
@@ -83,7 +83,7 @@ bit-at (b ∷ bytes) h n = go (bit-at bytes (λ i. h (suc i)) (n - 8)) (decLt n 
 
 -- ---- a part of the bytes
 
--- The number is that of the first i bytes and, above it, that of the rest.
+-- The number splits in the first i bytes and, above them, the rest.
 pub number-split : (bytes : List ℕ) (i : ℕ) → number bytes ≡ number (drop i bytes) * 2 ^ (8 * i) + number (take i bytes)
 number-split bytes zero = omega arith
 number-split [] (suc i) = omega arith
@@ -121,7 +121,7 @@ module _ (bytes : List ℕ) (hb : Bytes bytes) (i : ℕ) (hi : i < length bytes)
       drop-cons (set bytes i b) i 0 (omega (arith, length-set bytes i b))
       ∙ ap₂ {C = List ℕ} (λ x y. x ∷ y) (getD-set-same bytes i b 0 hi) (drop-set-lt (suc i) bytes i b (le-refl (suc i)))
 
-  -- A byte stored is a field put.
+  -- Storing a byte is putting a field of 8 bits.
   pub number-set : (b : ℕ) → number (set bytes i b) ≡ putAt (number bytes) (8 * i) 8 b
   number-set b =
       let D : ℕ = number (drop (suc i) bytes) in

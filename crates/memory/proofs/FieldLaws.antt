@@ -1,8 +1,8 @@
--- Fields of a number: what is taken, what is put, and what a put leaves as it was.
+-- Laws of the fields of a number: reading one, putting one, and what a put leaves unchanged.
 use Rattle.memory.proofs.Names.{_≡_, sym, ap, ap₂, _∙_, ℕ, _+_, _-_, _*_, _/_, _%_, _^_, _≤_, _<_, add-mul, mul-assoc, add-assoc, add-comm, mod-lt, arith, digits-lt, pow-pos, pow-add, split, high, low}
 use Rattle.memory.proofs.Names.{mod-pow-add, field, mod-mod-pow, shr-shr, shr-lt, bit, fieldAt, putAt}
 
--- ---- taking
+-- ---- reading
 
 pub field-lt : (N n w : ℕ) → fieldAt N n w < 2 ^ w
 field-lt N n w = mod-lt (N / 2 ^ n) (pow-pos w)
@@ -36,12 +36,12 @@ field-mod A B S e n w h = within A ∙ ap (λ (x : ℕ). x % 2 ^ (w + n) / 2 ^ n
         sym (field M w n) ∙ ap (λ (x : ℕ). x / 2 ^ n) (sym (mod-mod-pow M (S - (w + n)) (w + n)))
         ∙ ap (λ (j : ℕ). M % 2 ^ j % 2 ^ (w + n) / 2 ^ n) (sym k)
 
--- Two digits are known by their number.
+-- Two digits are determined by their number.
 pub digits : (x y w : ℕ) {c d : ℕ} → c < 2 ^ w → d < 2 ^ w → x * 2 ^ w + c ≡ y * 2 ^ w + d → (x ≡ y) × (c ≡ d)
 digits x y w hc hd e =
     (sym (high x w hc) ∙ ap (λ (n : ℕ). n / 2 ^ w) e ∙ high y w hd, sym (low x w hc) ∙ ap (λ (n : ℕ). n % 2 ^ w) e ∙ low y w hd)
 
--- A number is what stands above a field, the field, and what stands below it.
+-- A number is determined by the part above a field, the field, and the part below it.
 pub parts-ext : (A B n w : ℕ) → A / 2 ^ (w + n) ≡ B / 2 ^ (w + n) → fieldAt A n w ≡ fieldAt B n w → A % 2 ^ n ≡ B % 2 ^ n → A ≡ B
 parts-ext A B n w h f l =
     sym (split A (w + n))
@@ -55,24 +55,24 @@ module _ (N n w code : ℕ) (hc : code < 2 ^ w) where
   pub low-lt : code * 2 ^ n + N % 2 ^ n < 2 ^ (w + n)
   low-lt = rw (pow-add 2 w n) (digits-lt hc (mod-lt N (pow-pos n)))
 
-  -- What stands above the field is as it was.
+  -- The part above the field is unchanged.
   pub put-high : putAt N n w code / 2 ^ (w + n) ≡ N / 2 ^ (w + n)
   put-high = high (N / 2 ^ (w + n)) (w + n) low-lt
 
   pub put-low : putAt N n w code % 2 ^ (w + n) ≡ code * 2 ^ n + N % 2 ^ n
   put-low = low (N / 2 ^ (w + n)) (w + n) low-lt
 
-  -- What was put is there.
+  -- The field reads back the code that was put.
   pub put-field : fieldAt (putAt N n w code) n w ≡ code
   put-field =
       sym (field (putAt N n w code) w n) ∙ ap (λ (x : ℕ). x / 2 ^ n) put-low ∙ high code n (mod-lt N (pow-pos n))
 
-  -- What stands below the field is as it was.
+  -- The part below the field is unchanged.
   pub put-below : putAt N n w code % 2 ^ n ≡ N % 2 ^ n
   put-below =
       sym (mod-mod-pow (putAt N n w code) w n) ∙ ap (λ (x : ℕ). x % 2 ^ n) put-low ∙ low code n (mod-lt N (pow-pos n))
 
-  -- From any bit behind the field on, all is as it was.
+  -- From any bit after the field on, all is unchanged.
   pub put-shr : (m : ℕ) → n + w ≤ m → putAt N n w code / 2 ^ m ≡ N / 2 ^ m
   put-shr m h = from (putAt N n w code) ∙ ap (λ (x : ℕ). x / 2 ^ (m - (w + n))) put-high ∙ sym (from N)
     where
@@ -81,21 +81,21 @@ module _ (N n w code : ℕ) (hc : code < 2 ^ w) where
           let e : m ≡ (w + n) + (m - (w + n)) = omega arith in
           ap (λ (k : ℕ). M / 2 ^ k) e ∙ sym (shr-shr M (w + n) (m - (w + n)))
 
-  -- A field that does not overlap is as it was: behind the field, and before it.
+  -- A field that does not overlap is unchanged, after the put field or before it.
   pub put-after : (m v : ℕ) → n + w ≤ m → fieldAt (putAt N n w code) m v ≡ fieldAt N m v
   put-after m v h = ap (λ (x : ℕ). x % 2 ^ v) (put-shr m h)
 
   pub put-before : (m v : ℕ) → m + v ≤ n → fieldAt (putAt N n w code) m v ≡ fieldAt N m v
   put-before = field-mod (putAt N n w code) N n put-below
 
-  -- A put within the first S bits stays there.
+  -- A put within the first S bits leaves the number within them.
   pub put-lt : (S : ℕ) → N < 2 ^ S → n + w ≤ S → putAt N n w code < 2 ^ S
   put-lt S hN h =
       let e : S ≡ (S - (w + n)) + (w + n) = omega arith in
       let g : N < 2 ^ ((S - (w + n)) + (w + n)) = rw (← e) hN in
       rw (e, pow-add 2 (S - (w + n)) (w + n)) (digits-lt (shr-lt (S - (w + n)) (w + n) g) low-lt)
 
-  -- Of a put, the first S bits.
+  -- The first S bits after a put.
   pub put-mod : (S : ℕ) → n + w ≤ S → putAt N n w code % 2 ^ S ≡ putAt (N % 2 ^ S) n w code
   put-mod S h =
       let u : ℕ = S - (w + n) in
@@ -108,7 +108,7 @@ module _ (N n w code : ℕ) (hc : code < 2 ^ w) where
       (ap (λ (k : ℕ). N % 2 ^ k / 2 ^ (w + n)) e ∙ field N u (w + n))
       (ap (λ (k : ℕ). N % 2 ^ k % 2 ^ n) f ∙ mod-mod-pow N (S - n) n))
 
--- To put what is there changes nothing.
+-- Putting the code that is there changes nothing.
 pub put-same : (N n w : ℕ) → putAt N n w (fieldAt N n w) ≡ N
 put-same N n w =
     let h : fieldAt N n w < 2 ^ w = field-lt N n w in
@@ -127,7 +127,7 @@ put-put N n v w c d hc =
     ∙ sym (add-assoc (d * 2 ^ w * 2 ^ n) (c * 2 ^ n) (N % 2 ^ n))
     ∙ ap (λ (q : ℕ). q + N % 2 ^ n) (sym (add-mul (d * 2 ^ w) c (2 ^ n))))
 
--- A field put into a wider one, and that put back, is the field put.
+-- A field put into a wider one, and that one put back, is the field put.
 pub put-in : (N n w m v code : ℕ) → code < 2 ^ v → v + m ≤ w → putAt N n w (putAt (fieldAt N n w) m v code) ≡ putAt N (n + m) v code
 put-in N n w m v code hc h =
     let e : w ≡ (w - (v + m)) + (v + m) = omega arith in

@@ -1,4 +1,4 @@
--- The image of a stream: what it has, and that nothing else has it.
+-- Laws of the image of a stream: it has that stream and right sums, and no other image has them.
 use Rattle.memory.proofs.Names.{_≡_, refl, sym, ap, ap₂, _∙_, List, [], _∷_, _++_, ℕ, zero, suc, _+_, _-_, _*_, _%_, _^_, _<_, zero-add, mod-eq-of-lt, arith, length, take, drop, getD, length-append, length-drop}
 use Rattle.memory.proofs.Names.{take-append-drop, length-take-le, take-at, drop-at, drop-drop, take-add, getD-drop, good, Sizes, Bytes, number, bytesOf, bit, imageBytes, streamBytes, streamBits, pageAt, total}
 use Rattle.memory.proofs.Names.{SumsRight, sums, checkByte, pagesStream, streamOf, streamNumber, pagesOf, withRight, imageOf}
@@ -143,12 +143,13 @@ module _ (z : Sizes) (N : ℕ) where
       image-ext z l (imageOf z N) wl image-length (f ∙ sym image-stream)
       (λ q h. right-check z l wl hb q h (s q h) ∙ ap (λ (x : List ℕ). checkByte (total (streamPart z x q))) f ∙ sym (image-check q h))
 
--- The page test accepts it if bit 64 of its stream is 0, which stands in the first page of every chip.
+-- The page test accepts the image if bit 64 of its stream
+-- is 0. That bit is in the first page of every chip.
 pub image-passes : (z : Sizes) (bytes : ℕ) → Chip z bytes → (N : ℕ) → N < 2 ^ streamBits z → bit N 64 ≡ 0 → sums z (imageOf z N) ≡ good tt
 image-passes z bytes chip N small e =
     right-sums z (imageOf z N) (image-length z N) (chip .paged) (image-sums z N)
     (unblank-bit z (imageOf z N) (image-length z N) (image-bytes z N) (chip .paged) 8 (chip .few) (omega arith) (ap (λ (n : ℕ). bit n 64) (image-number-lt z N small) ∙ e))
 
--- Two views of one thing: an image with right sums is the image of its stream.
+-- An image with right sums is the image of its stream.
 pub two-views : (z : Sizes) (image : List ℕ) → length image ≡ imageBytes z → Bytes image → SumsRight z image → imageOf z (streamNumber z image) ≡ image
 two-views z image whole hb s = sym (image-is z (streamNumber z image) image whole hb s refl)

@@ -1,4 +1,4 @@
--- A page's stream bytes, as a part of the image.
+-- Laws of a page's stream bytes, as a part of the image.
 use Rattle.memory.proofs.Names.{_≡_, sym, ap, _∙_, Bool, cond, List, [], ℕ, _+_, _-_, _≤_, _<_, add-sub-cancel-left, add-one, arith, length, take, drop, drop-cons, lt-ltb, le-ltb, good, Refusal, Sizes}
 use Rattle.memory.proofs.Names.{SizesAnswer, Are, Refused, imageSizes, pageAt, page, partOf, pageBytes, sizesSaid}
 use Rattle.memory.proofs.Chips.{Chip, sizes-chip}

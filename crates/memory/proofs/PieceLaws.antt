@@ -1,4 +1,4 @@
--- Pieces of a stream: what a number holds from a place on.
+-- Laws of pieces: what a number holds from a bit on.
 use Rattle.memory.proofs.Names.{_≡_, sym, ap, ap₂, _∙_, List, [], _∷_, _++_, ℕ, _+_, _*_, _/_, _%_, _^_, _≤_, _<_, mod-eq-of-lt, mod-one, mul-assoc, le-refl, arith, digits-lt, pow-add, fieldAt, putAt, Piece}
 use Rattle.memory.proofs.Names.{piece, pack, needed}
 use Rattle.memory.proofs.FieldLaws.{field-add, field-lt, field-mod, digits, put-field, put-before, put-after}
@@ -45,11 +45,11 @@ module _ (N at : ℕ) (p : Piece) (ps : List Piece) where
 pub holds-nil : (N at : ℕ) → Holds N at []
 holds-nil N at = mod-one (N / 2 ^ at)
 
--- What a number holds below a bit, each number with the same lower bits holds.
+-- The pieces that a number holds below bit S are held by every number with the same first S bits.
 pub holds-mod : (A B S : ℕ) → A % 2 ^ S ≡ B % 2 ^ S → (at : ℕ) (ps : List Piece) → at + needed ps ≤ S → Holds A at ps → Holds B at ps
 holds-mod A B S e at ps l h = sym (field-mod A B S e at (needed ps) l) ∙ h
 
--- ---- pieces behind pieces
+-- ---- pieces after pieces
 
 module _ (N at : ℕ) (ps qs : List Piece) where
   field-append : fieldAt N at (needed (ps ++ qs)) ≡ fieldAt N (at + needed ps) (needed qs) * 2 ^ needed ps + fieldAt N at (needed ps)
@@ -67,14 +67,14 @@ module _ (N at : ℕ) (ps qs : List Piece) where
   pub holds-back : Fit ps → Holds N at (ps ++ qs) → Holds N (at + needed ps) qs
   holds-back f h = holds-parts f h .0
 
--- One piece among the others stands behind those before it.
+-- One piece among others is at the end of those before it.
 pub holds-piece : (N at : ℕ) (before : List Piece) (p : Piece) (after : List Piece) → Fit (before ++ (p ∷ after)) → Holds N at (before ++ (p ∷ after))
     → fieldAt N (at + needed before) (p .width) ≡ p .code
 holds-piece N at before p after f h =
     let s = fit-split before (p ∷ after) f in
     holds-uncons N (at + needed before) p after (s .1 .0) (holds-back N at before (p ∷ after) (s .0) h) .1
 
--- Another code put there: the other pieces stand as they were.
+-- If one piece is replaced by another code, the other pieces are unchanged.
 pub holds-put : (N at : ℕ) (before : List Piece) (w code old : ℕ) (after : List Piece) → Fit (before ++ (piece w old ∷ after)) → code < 2 ^ w
     → Holds N at (before ++ (piece w old ∷ after)) → Holds (putAt N (at + needed before) w code) at (before ++ (piece w code ∷ after))
 holds-put N at before w code old after f hc h =

@@ -1,4 +1,4 @@
--- An image with one page's check byte made right.
+-- Laws of an image in which one page's check byte was made right.
 use Rattle.memory.proofs.Names.{_≡_, sym, ap, ap₂, _∙_, List, ℕ, _+_, _%_, _<_, zero-add, arith, length, getD, set, length-set, getD-set-same, getD-set-other, Sizes, Bytes, number, imageBytes, pageAt, total}
 use Rattle.memory.proofs.Names.{pageSum, checkByte, streamOf, streamNumber, sealed}
 use Rattle.memory.proofs.Digits.{bytes-set}
@@ -6,7 +6,7 @@ use Rattle.memory.proofs.Streams.{stream-check}
 use Rattle.memory.proofs.SumLaws.{streamPart, covered-total, sum-parts, sum-same, check-right, check-is, check-lt}
 
 module _ (z : Sizes) (image : List ℕ) (whole : length image ≡ imageBytes z) (p : ℕ) (hp : p < z .pages) where
-  -- The check byte that page p's part of the stream asks for.
+  -- The right check byte for page p's part of the stream.
   abbrev wanted : ℕ
   wanted = checkByte (total (streamPart z (streamOf z image) p))
 
@@ -34,14 +34,14 @@ module _ (z : Sizes) (image : List ℕ) (whole : length image ≡ imageBytes z) 
   seal-check : getD (sealed z image p) (pageAt z p) 0 ≡ wanted
   seal-check = ap (λ (x : List ℕ). getD x (pageAt z p) 0) sealed-set ∙ getD-set-same image (pageAt z p) wanted 0 (omega arith)
 
-  -- The page adds up to 0.
+  -- The sealed page adds up to 0.
   pub seal-sum : pageSum z (sealed z image p) p ≡ 0
   seal-sum =
       sum-parts z (sealed z image p) seal-length p hp
       ∙ ap₂ (λ (x : ℕ) (y : List ℕ). (x + total (streamPart z y p)) % 256) seal-check seal-stream
       ∙ check-right (total (streamPart z (streamOf z image) p))
 
-  -- Any other byte is as it was, and any other page's sum.
+  -- Any other byte is unchanged, and so is any other page's sum.
   pub seal-other : (i : ℕ) → (i ≡ pageAt z p → ⊥) → getD (sealed z image p) i 0 ≡ getD image i 0
   seal-other i n = ap (λ (x : List ℕ). getD x i 0) sealed-set ∙ getD-set-other image (pageAt z p) i wanted 0 n
 

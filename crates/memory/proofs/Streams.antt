@@ -1,4 +1,4 @@
--- Where the stream lies in an image.
+-- Laws of the offset of each stream byte in an image.
 use Rattle.memory.proofs.Names.{_≡_, refl, sym, ap, _∙_, List, _++_, ℕ, zero, suc, _+_, _-_, _*_, _/_, _%_, _^_, _≤_, _<_, arith, decLt, ℕ-discrete, length, take, drop, getD, set, length-append, length-drop}
 use Rattle.memory.proofs.Names.{length-set, List·getD-append, List·getD-eq-default, length-take-le, getD-append-add, getD-take, getD-drop, getD-set-same, getD-set-other, ext-getD, lt-ltb, le-ltb, Sizes, Bytes}
 use Rattle.memory.proofs.Names.{bytesOf, bit, imageBytes, streamBytes, streamBits, pageAt, pagesStream, streamOf, streamNumber, streamIndex}
@@ -41,7 +41,7 @@ pages-at (suc n) bytes j h k = go (pages-at n (drop 32 bytes) (j - 31)) (decLt j
         ∙ ih (omega (arith, length-drop 32 bytes)) (omega arith)
         ∙ getD-drop 32 bytes _ 0 ∙ ap (λ (i : ℕ). getD bytes i 0) (omega arith)
 
--- ---- where a byte of the stream stands
+-- ---- the offset of a byte of the stream
 
 module _ (z : Sizes) where
   pub index-register : (i : ℕ) → i < z .register → streamIndex z i ≡ i
@@ -82,15 +82,15 @@ module _ (z : Sizes) where
       go (yes s) = omega (arith, index-register i s)
       go (no s) = omega (arith, index-page i (omega arith))
 
-  -- Each byte of an image is one or the other.
-  pub data Stands (j : ℕ) : Type 0 where
-    check : (q : ℕ) → q < z .pages → j ≡ pageAt z q → Stands j
-    stream : (i : ℕ) → i < streamBytes z → j ≡ streamIndex z i → Stands j
+  -- Each byte of an image is a byte of the stream or a check byte.
+  pub data Valid (j : ℕ) : Type 0 where
+    check : (q : ℕ) → q < z .pages → j ≡ pageAt z q → Valid j
+    stream : (i : ℕ) → i < streamBytes z → j ≡ streamIndex z i → Valid j
 
-  pub stands : (j : ℕ) → j < imageBytes z → Stands j
+  pub stands : (j : ℕ) → j < imageBytes z → Valid j
   stands j h = go (decLt j (z .register)) (ℕ-discrete ((j - z .register) % 32) 0)
     where
-      go : Dec (j < z .register) → Dec ((j - z .register) % 32 ≡ 0) → Stands j
+      go : Dec (j < z .register) → Dec ((j - z .register) % 32 ≡ 0) → Valid j
       go (yes s) d = stream j (omega arith) (sym (index-register j s))
       go (no s) (yes d) = check ((j - z .register) / 32) (omega arith) (omega arith)
       go (no s) (no d) = stream (j - (j - z .register) / 32 - 1) (omega arith) (omega (arith, index-page (j - (j - z .register) / 32 - 1) (omega arith)))
@@ -139,7 +139,7 @@ module _ (z : Sizes) (image : List ℕ) (whole : length image ≡ imageBytes z) 
     pub stream-bit : (n : ℕ) → n < streamBits z → bit (streamNumber z image) n ≡ bit (getD image (streamIndex z (n / 8)) 0) (n % 8)
     stream-bit n h = bit-at (streamOf z image) stream-bytes n ∙ ap (λ (b : ℕ). bit b (n % 8)) (stream-at (n / 8) (omega arith))
 
-    -- The stream's bytes, out of its number.
+    -- The stream's bytes, from its number.
     pub bytes-stream : bytesOf (streamBytes z) (streamNumber z image) ≡ streamOf z image
     bytes-stream = rw (← stream-length) (bytes-number (streamOf z image) stream-bytes)
 
@@ -150,7 +150,7 @@ pub image-ext : (z : Sizes) (l k : List ℕ) → length l ≡ imageBytes z → l
     → ((q : ℕ) → q < z .pages → getD l (pageAt z q) 0 ≡ getD k (pageAt z q) 0) → l ≡ k
 image-ext z l k wl wk e c = ext-getD 0 l k (wl ∙ sym wk) (λ j h. go j (stands z j (omega arith)))
   where
-    go : (j : ℕ) → Stands z j → getD l j 0 ≡ getD k j 0
+    go : (j : ℕ) → Valid z j → getD l j 0 ≡ getD k j 0
     go j (check q h s) = rw s (c q h)
     go j (stream i h s) = rw s (sym (stream-at z l wl i h) ∙ ap (λ (x : List ℕ). getD x i 0) e ∙ stream-at z k wk i h)
 

@@ -1,11 +1,11 @@
--- Sums of pages: what they add up, and what the check of all pages says.
+-- Laws of page sums, and of the check of all pages.
 use Rattle.memory.proofs.Names.{_≡_, refl, sym, ap, ap₂, _∙_, subst, Bool, true, false, true≢false, not, List, [], _∷_, _++_, ℕ, zero, suc, _+_, _-_, _*_, _/_, _%_, _≤_, _<_, add-zero, add-sub-cancel-left}
 use Rattle.memory.proofs.Names.{le-refl, add-one, arith, ℕ-discrete, lt-of-le-ne, eqb, length, take, drop, getD, length-drop, drop-cons, take-add, length-take-le, getD-take, getD-drop, ext-getD, eqb-true, eq-eqb}
 use Rattle.memory.proofs.Names.{ne-eqb, not-false, good, refused, refuse_if_, _>>_, wrongSum, blankChip, passed, both, Other, other-then, Sizes, Good, Wrong, Blank, Bytes, bit, imageBytes, pageAt, page, covered}
 use Rattle.memory.proofs.Names.{total, pageSum, SumsRight, allFF, blankPage, pageTest, isGood, blankFrom, sumsFrom, sums, checkByte, streamOf, streamNumber, streamIndex}
 use Rattle.memory.proofs.Streams.{stream-length, stream-at, stream-bit, index-register, index-page}
 
--- ---- what a page's sum adds up
+-- ---- what a page's sum covers
 
 pub total-append : (l k : List ℕ) → total (l ++ k) ≡ total l + total k
 total-append [] k = omega arith
@@ -48,7 +48,7 @@ module _ (z : Sizes) (image : List ℕ) (whole : length image ≡ imageBytes z) 
         ap (λ (x : List ℕ). total (take 32 x)) (drop-cons image (pageAt z q) 0 (omega arith))
         ∙ ap (λ (x : List ℕ). getD image (pageAt z q) 0 + total x) (sym page-part)
 
--- The check byte and the stream bytes that it covers.
+-- The sum of a page is its check byte and the stream bytes that it covers.
 pub covered-total : (z : Sizes) (image : List ℕ) → length image ≡ imageBytes z → (q : ℕ) → q < z .pages
     → total (covered z image q) ≡ getD image (pageAt z q) 0 + total (streamPart z (streamOf z image) q)
 covered-total z image whole zero h =
@@ -65,7 +65,7 @@ module _ (z : Sizes) (image : List ℕ) (whole : length image ≡ imageBytes z) 
   pub sum-parts : pageSum z image q ≡ (getD image (pageAt z q) 0 + total (streamPart z (streamOf z image) q)) % 256
   sum-parts = ap (λ (x : ℕ). x % 256) (covered-total z image whole q hq)
 
-  -- A page's sum is that of any image with its check byte and its part of the stream.
+  -- A page's sum depends only on its check byte and its part of the stream.
   pub sum-same : (l : List ℕ) → length l ≡ imageBytes z → getD l (pageAt z q) 0 ≡ getD image (pageAt z q) 0
       → streamPart z (streamOf z l) q ≡ streamPart z (streamOf z image) q → pageSum z l q ≡ pageSum z image q
   sum-same l wl c p =
@@ -73,7 +73,7 @@ module _ (z : Sizes) (image : List ℕ) (whole : length image ≡ imageBytes z) 
       ∙ ap₂ (λ (x : ℕ) (y : List ℕ). (x + total y) % 256) c p
       ∙ sym sum-parts
 
--- As the code adds it up: the register with page 0, and any other page.
+-- The sum as the code computes it: the register with page 0, or one other page.
 pub sum-first : (z : Sizes) (image : List ℕ) (q : ℕ) → q ≡ 0 → total (take (pageAt z q + 32) image) % 256 ≡ pageSum z image q
 sum-first z image zero e = ap (λ (n : ℕ). total (take (n + 32) image) % 256) (add-zero (z .register))
 sum-first z image (suc q) e = absurd (omega arith)
@@ -93,7 +93,7 @@ check-is c s h e = omega arith
 pub check-lt : (s : ℕ) → checkByte s < 256
 check-lt s = omega arith
 
--- Where a page's sum is 0, its check byte is the one that its part of the stream asks for.
+-- If a page's sum is 0, its check byte is the right one for its part of the stream.
 pub right-check : (z : Sizes) (image : List ℕ) → length image ≡ imageBytes z → Bytes image → (q : ℕ) → q < z .pages → pageSum z image q ≡ 0
     → getD image (pageAt z q) 0 ≡ checkByte (total (streamPart z (streamOf z image) q))
 right-check z image whole hb q hq e =
@@ -101,7 +101,7 @@ right-check z image whole hb q hq e =
 
 -- ---- the page test
 
--- As the code takes the bytes of a page.
+-- A page's bytes, as the code slices them.
 pub page-taken : (z : Sizes) (image : List ℕ) (q : ℕ) → take (pageAt z q + 32 - pageAt z q) (drop (pageAt z q) image) ≡ page z image q
 page-taken z image q = ap (λ (n : ℕ). take n (drop (pageAt z q) image)) (add-sub-cancel-left (pageAt z q) 32)
 
@@ -156,7 +156,7 @@ module _ (z : Sizes) (image : List ℕ) (whole : length image ≡ imageBytes z) 
       at-ff (page z image q) (λ i h.
       getD-take 32 (drop (pageAt z q) image) i 0 (omega (arith, page-length)) ∙ getD-drop (pageAt z q) image i 0 ∙ f i (omega (arith, page-length)))
 
--- A page behind the first that adds up to 0 is not blank: 32 times 255 does not.
+-- A page after the first that adds up to 0 is not blank: 32 times 255 is not 0 modulo 256.
 later-sum : (z : Sizes) (image : List ℕ) → length image ≡ imageBytes z → (q : ℕ) → suc q < z .pages → pageSum z image (suc q) ≡ 0 → blankPage z image (suc q) ≡ false
 later-sum z image whole q hq e = go (blankPage z image (suc q)) refl
   where
@@ -169,7 +169,7 @@ later-sum z image whole q hq e = go (blankPage z image (suc q)) refl
 
 -- ---- the check of all pages
 
--- Page i, or one behind it.
+-- A property of page i and of every page after it.
 from : (P : ℕ → Type 0) {i q : ℕ} → P i → (suc i ≤ q → P q) → i ≤ q → Dec (i ≡ q) → P q
 from P first others h (yes d) = subst P d first
 from P first others h (no d) = others (lt-of-le-ne h d)
@@ -191,7 +191,7 @@ module _ (z : Sizes) (image : List ℕ) where
   unfolding blankFrom
   step-written n i e = rw e
 
-  -- One page of the pages from page i on, as the code goes through them.
+  -- One of the pages from page i on, in the order of the loop.
   module _ (n i : ℕ) (h : i < n) where
     left : n - i ≡ suc (n - (i + 1))
     left = omega arith
@@ -237,13 +237,14 @@ module _ (z : Sizes) (image : List ℕ) where
   sums-other zero i = tt
   sums-other (suc n) i = other-then (wrongSum i) (not (isGood (pageTest z image i))) _ (omega arith) (sums-other n (suc i))
 
-  -- What the check accepts adds up to 0, page by page.
+  -- If the check accepts, every page adds up to 0.
   pub sums-right : sums z image ≡ good tt → SumsRight z image
   sums-right e q h =
       let (b, s) = passed blankChip (blankFrom z image (z .pages) 0) (sumsFrom z image (z .pages) 0) tt e in
       good-sum z image q (good-from (z .pages) 0 s q (omega arith) (omega arith))
 
--- It accepts an image whose every page adds up to 0, if its first page is not blank: with the register, a blank one may add up to 0 too.
+-- The check accepts an image whose every page adds up to 0, if its first page
+-- is not blank. With the register, a blank first page may add up to 0 too.
 pub right-sums : (z : Sizes) (image : List ℕ) → length image ≡ imageBytes z → 1 ≤ z .pages → SumsRight z image → blankPage z image 0 ≡ false →
     sums z image ≡ good tt
 right-sums z image whole paged right first =
@@ -261,7 +262,7 @@ right-sums z image whole paged right first =
     written : blankFrom z image (z .pages) 0 ≡ false
     written = go (blankFrom z image (z .pages) 0) refl
 
--- A first page is not blank where a bit of its stream is 0: the lowest of byte i.
+-- The first page is not blank if some bit 0 of a byte of its stream is 0.
 pub unblank-bit : (z : Sizes) (image : List ℕ) → length image ≡ imageBytes z → Bytes image → 1 ≤ z .pages →
     (i : ℕ) → z .register ≤ i → i < z .register + 31 → bit (streamNumber z image) (8 * i) ≡ 0 → blankPage z image 0 ≡ false
 unblank-bit z image whole bytes paged i least most e = go (blankPage z image 0) refl

@@ -1,4 +1,5 @@
--- An image with another stream, and with a field put: what it has, and that nothing else has it.
+-- Laws of an image with another stream, and of one with a
+-- field put: what it holds, and that no other image holds it.
 use Rattle.memory.proofs.Names.{_≡_, refl, sym, ap, ap₂, _∙_, List, [], _∷_, _++_, ℕ, zero, suc, _+_, _-_, _*_, _%_, _^_, _≤_, _<_, mod-eq-of-lt, arith, decLt, length, take, drop, getD, length-append, length-drop}
 use Rattle.memory.proofs.Names.{take-append-drop, List·getD-eq-default, length-take-le, take-at, drop-at, drop-drop, getD-take, getD-drop, Sizes, Bytes, number, bytesOf, putAt, imageBytes, streamBytes, streamBits}
 use Rattle.memory.proofs.Names.{pageAt, pagesStream, streamOf, streamNumber, pagesWith, withStream, putIn}
@@ -100,7 +101,7 @@ module _ (z : Sizes) (image : List ℕ) (whole : length image ≡ imageBytes z) 
   pub written-number : streamNumber z (withStream z image N) ≡ N % 2 ^ streamBits z
   written-number = ap number written-stream ∙ number-bytes (streamBytes z) N
 
-  -- Every check byte is as it was.
+  -- Every check byte is unchanged.
   pub written-check : (q : ℕ) → getD (withStream z image N) (pageAt z q) 0 ≡ getD image (pageAt z q) 0
   unfolding withStream
   written-check q = go (decLt q (z .pages))

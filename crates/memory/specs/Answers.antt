@@ -1,4 +1,5 @@
--- What inner contracts need: the image that sizes fit, where the stream's bytes stand in it, and what each case of an answer says in the terms of Image.
+-- Only inner contracts need this: the image that sizes fit, the
+-- offset of each stream byte in it, and the answers as outcomes.
 use mathlib.Core.Path.{_≡_}
 use mathlib.Core.Bool.{cond}
 use mathlib.Core.List.{List}
@@ -14,14 +15,15 @@ use Rattle.memory.specs.declared.pages.Sums.{Sums}
 use Rattle.memory.specs.declared.pages.Sums.the-variants.{Right, Wrong, Blank}
 use Rattle.memory.specs.Image.{imageBytes}
 
--- An image of these sizes: a page at least, no more than 8 bytes of register. No chip has 2^32 bytes.
-pub record Whole (z : Sizes) (image : List ℕ) : Type 0 where
+-- An image of these sizes: at least one page, at most 8 bytes of register. No chip has 2^32 bytes.
+pub record WholeImage (z : Sizes) (image : List ℕ) : Type 0 where
   pub long : length image ≡ imageBytes z
   pub small : imageBytes z < 2 ^ 32
   pub paged : 1 ≤ z .pages
   pub few : z .register ≤ 8
 
--- Where byte i of the stream stands in the image: behind the check byte of its page and those before.
+-- The offset of stream byte i in the image: the check bytes
+-- of its page and of the pages before it are skipped.
 abbrev pub streamIndex : Sizes → ℕ → ℕ
 streamIndex z i = cond (ltb i (z .register)) i (i + (i - z .register) / 31 + 1)
 

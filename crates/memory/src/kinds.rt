@@ -1,4 +1,4 @@
-// The three kinds of chip, and their sizes.
+// The kinds of chip, and their sizes.
 ghost use mathlib.Core.Path.{_≡_};
 ghost use mathlib.Core.Bool.{cond};
 ghost use Prim.Native.Nat.{_^_, _<_};
@@ -10,12 +10,14 @@ ghost use Rattle.memory.specs.Answers.{sizesSaid};
 use crate::Sizes;
 use refusal::Refusal;
 
+// The sizes of an accepted kind and length, or the refusal.
 pub enum SizesAnswer {
     Are(Sizes),
     Refused(Refusal),
 }
 
-// The sizes of an image of this kind and length, or 1 where the kind is not 0 to 2 or the length is not the kind's.
+// The sizes of an image of this kind and length; or 1 if
+// the kind is not 0 to 2 or the length is not the kind's.
 pub fn image_sizes(kind: u8, bytes: usize) -> SizesAnswer
     ensures { λ r. ⌜ sizesSaid r ≡ imageSizes kind bytes ⌝ }
 {
@@ -45,7 +47,7 @@ pub fn image_sizes(kind: u8, bytes: usize) -> SizesAnswer
     }
 }
 
-// These sizes, or 1 where the length is not theirs.
+// The given sizes, or 1 if the length is not theirs.
 fn fitting(sizes: Sizes, bytes: usize) -> SizesAnswer
     requires { ⌜ imageBytes sizes < 2 ^ 32 ⌝ }
     ensures { λ r. ⌜ sizesSaid r ≡ cond (eqb bytes (imageBytes sizes)) (good sizes) (refused wrongImage) ⌝ }
@@ -56,7 +58,8 @@ fn fitting(sizes: Sizes, bytes: usize) -> SizesAnswer
     SizesAnswer::Refused(refusal::wrong_image())
 }
 
-// The bits of the stream.
+// The bits of the stream: 8 for each byte of the
+// register and of the pages, without the check bytes.
 pub fn stream_bits(sizes: Sizes) -> usize
     requires { ⌜ imageBytes sizes < 2 ^ 32 ⌝ }
     ensures { λ r. ⌜ r ≡ streamBits sizes ⌝ }

@@ -1,6 +1,6 @@
-// Document 01, "Image and stream": a chip's image, its pages and check bytes, and what the stream of bits between them is.
-// Every function is proved, and nothing is assumed. A dash calls `page_bytes`, which asks nothing of its caller;
-// what the other functions require, the layers above test first.
+// Document 01, "Image and stream": a chip's image, its pages and check bytes,
+// and the stream of bits between them. `page_bytes`, the call of a dash, has
+// no `requires`; the crates above test what the other functions require.
 
 mod kinds;
 mod pages;
@@ -14,7 +14,8 @@ pub use pages::page_bytes;
 pub use pages::seal;
 pub use pages::sum;
 
-// A chip's memory: the bytes of its register, and its pages of 32 bytes.
+// A chip's memory: the bytes of its register, and its number of pages. Page and
+// kind are document 01's terms: a page is 32 bytes, a kind is one of three chips.
 pub struct Sizes {
     pub register: usize,
     pub pages: usize,

@@ -1,31 +1,21 @@
 // Pages, their sums and their check bytes.
 ghost use mathlib.Core.Path.{_≡_};
 ghost use Prim.Native.Nat.{_%_, _<_};
-ghost use Rattle.memory.specs.Image.{
-  total,
-  pageSum,
-  allFF,
-  blankPage,
-  pageTest,
-  isGood,
-  blankFrom,
-  sumsFrom,
-  sums,
-  pageBytes,
-};
+ghost use Rattle.memory.specs.Image.{total, pageSum, allFF, blankPage, pageTest, isGood, blankFrom, sumsFrom, sums, pageBytes};
 ghost use Rattle.memory.specs.Laid.{sealed};
-ghost use Rattle.memory.specs.Answers.{sumsSaid, Whole};
+ghost use Rattle.memory.specs.Answers.{sumsSaid, WholeImage};
 use crate::Sizes;
 use crate::SizesAnswer;
 use crate::kinds;
 
-// What the page test tells of a page.
+// The page test of document 02, Note 1: good, wrong, or blank.
 enum PageTest {
     Good,
     Wrong,
     Blank,
 }
 
+// The sums of all pages: right, or the refusal's case.
 pub enum Sums {
     Right,
     // The first page that is not good.
@@ -47,9 +37,9 @@ pub fn sum(bytes: &[u8]) -> u8
     acc
 }
 
-// The sum of what a page's check byte covers: the page, and with page 0 the register.
+// The sum of the bytes that a page's check byte covers: the page, and for page 0 the register too.
 fn page_sum(sizes: Sizes, image: &[u8], page: usize) -> u8
-    requires { ⌜ Whole sizes (now image) × (page < sizes .pages) ⌝ }
+    requires { ⌜ WholeImage sizes (now image) × (page < sizes .pages) ⌝ }
     ensures { λ r. ⌜ r ≡ pageSum sizes (now (image .entry)) page ⌝ }
 {
     let at = sizes.register + 32 * page;
@@ -74,9 +64,9 @@ fn all_ff(bytes: &[u8]) -> bool
     true
 }
 
-// Whether the 32 bytes of a page are blank. The register is not looked at.
+// Whether the 32 bytes of a page are blank. The register does not count.
 fn is_blank(sizes: Sizes, image: &[u8], page: usize) -> bool
-    requires { ⌜ Whole sizes (now image) × (page < sizes .pages) ⌝ }
+    requires { ⌜ WholeImage sizes (now image) × (page < sizes .pages) ⌝ }
     ensures { λ r. ⌜ r ≡ blankPage sizes (now (image .entry)) page ⌝ }
 {
     let at = sizes.register + 32 * page;
@@ -84,9 +74,9 @@ fn is_blank(sizes: Sizes, image: &[u8], page: usize) -> bool
     all_ff(&image[at..end])
 }
 
-// The page test: a blank page is blank, whatever it adds up to.
+// The page test: a page of FF is blank, whatever its sum.
 fn test_page(sizes: Sizes, image: &[u8], page: usize) -> PageTest
-    requires { ⌜ Whole sizes (now image) × (page < sizes .pages) ⌝ }
+    requires { ⌜ WholeImage sizes (now image) × (page < sizes .pages) ⌝ }
     ensures { λ r. ⌜ r ≡ pageTest sizes (now (image .entry)) page ⌝ }
 {
     if is_blank(sizes, image, page) {
@@ -110,7 +100,7 @@ fn is_good(test: PageTest) -> bool
 
 // Whether every page is blank.
 fn all_blank(sizes: Sizes, image: &[u8]) -> bool
-    requires { ⌜ Whole sizes (now image) ⌝ }
+    requires { ⌜ WholeImage sizes (now image) ⌝ }
     ensures { λ r. ⌜ r ≡ blankFrom sizes (now (image .entry)) (sizes .pages) 0 ⌝ }
 {
     let pages = sizes.pages;
@@ -126,7 +116,7 @@ fn all_blank(sizes: Sizes, image: &[u8]) -> bool
 
 // Whether every page is good, or which is the first that is not.
 fn test_pages(sizes: Sizes, image: &[u8]) -> Sums
-    requires { ⌜ Whole sizes (now image) ⌝ }
+    requires { ⌜ WholeImage sizes (now image) ⌝ }
     ensures { λ r. ⌜ sumsSaid r ≡ sumsFrom sizes (now (image .entry)) (sizes .pages) 0 ⌝ }
 {
     let pages = sizes.pages;
@@ -142,7 +132,7 @@ fn test_pages(sizes: Sizes, image: &[u8]) -> Sums
 
 // Whether every page is blank, every page is good, or which is the first that is not good.
 pub fn check_sums(sizes: Sizes, image: &[u8]) -> Sums
-    requires { ⌜ Whole sizes (now image) ⌝ }
+    requires { ⌜ WholeImage sizes (now image) ⌝ }
     ensures { λ r. ⌜ sumsSaid r ≡ sums sizes (now (image .entry)) ⌝ }
 {
     if all_blank(sizes, image) {
@@ -151,8 +141,8 @@ pub fn check_sums(sizes: Sizes, image: &[u8]) -> Sums
     test_pages(sizes, image)
 }
 
-// The stream bytes of a page, its bytes 1 to 31, as a part of the caller's image. The part is empty where the kind is
-// not 0 to 2, the image is not of the kind's length, or the image has no such page.
+// The stream bytes of a page, its bytes 1 to 31, as a part of the caller's image. Empty if the
+// kind is not 0 to 2, the image is not of the kind's length, or the image has no such page.
 pub fn page_bytes(kind: u8, image: &[u8], page: u64) -> &[u8]
     ensures { λ r. ⌜ now r ≡ pageBytes kind (now (image .entry)) page ⌝ }
 {
@@ -168,9 +158,10 @@ pub fn page_bytes(kind: u8, image: &[u8], page: u64) -> &[u8]
     &image[none..none]
 }
 
-// Writes the check byte of a page, so that the page adds up to 0. No other byte is written.
+// Writes the check byte of a page, so that the page
+// adds up to 0 modulo 256. No other byte is written.
 pub fn seal(sizes: Sizes, image: &mut [u8], page: usize)
-    requires { ⌜ Whole sizes (now image) × (page < sizes .pages) ⌝ }
+    requires { ⌜ WholeImage sizes (now image) × (page < sizes .pages) ⌝ }
     ensures { λ _. ⌜ now (image .exit) ≡ sealed sizes (now (image .entry)) page ⌝ }
 {
     let at = sizes.register + 32 * page;

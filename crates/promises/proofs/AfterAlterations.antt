@@ -1,4 +1,5 @@
--- Demand 2 after each change or commit: the image is accepted and holds what they make of it.
+-- Proof of demand 2 after each change or commit: the image
+-- is accepted, and its contents are what they make of it.
 use Rattle.promises.proofs.Names.{_≡_, refl, sym, ap, _∙_, subst, Bool, true, false, not, cond, List, [], _∷_, ℕ, zero, suc, _-_, arith, eqb, length, eqb-true, eqb-false, not-false, Refusal, Outcome, good}
 use Rattle.promises.proofs.Names.{refused, _>>_, _>>=_, refuse_if_, wrongImage, afterwards, good-same, no-value, passed, Sizes, Bytes, imageSizes, Value, Level, decode, kept, Real, Found, Contents, contents}
 use Rattle.promises.proofs.Names.{field, Accepted, contents-accepted, withField, codeFor, recodedIn, mayCommit, code-found, change-unread, change-is, change-made, made-length, made-bytes, stored-contents}
@@ -7,7 +8,7 @@ use Rattle.promises.proofs.Names.{RealAlteration, changedBy, committedB
 
 -- ---- another kind
 
--- The kind that an image's length tells.
+-- The kind with an image's length.
 kindOf : ℕ → ℕ
 kindOf bytes = cond (eqb bytes 40) 0 (cond (eqb bytes 128) 1 2)
 
@@ -21,7 +22,7 @@ kind-told (suc zero) bytes z e = ap kindOf (told bytes 128 _ _ e)
 kind-told (suc (suc zero)) bytes z e = ap kindOf (told bytes 512 _ _ e)
 kind-told (suc (suc (suc k))) bytes z e = absurd (let q : _≡_ {A = ℕ} 0 1 = cc in omega arith)
 
--- An image is of one kind: as of any other it is refused.
+-- An image is of one kind: with any other it is refused.
 pub same-kind : (kind other : ℕ) (image : List ℕ) (c d : Contents) → contents kind image ≡ good c → contents other image ≡ good d → other ≡ kind
 same-kind kind other image c d e h =
     let a = contents-accepted kind image c e in
@@ -37,7 +38,7 @@ other-kind kind other image c e n = go (contents other image) refl
 
 -- ---- one change
 
--- What a sheet holds after a change of its own kind.
+-- The contents after a change of the sheet's own kind.
 after-own : (image : List ℕ) (c : Contents) (ch : Change) → Bytes image → Real (ch .value) → contents (ch .kind) image ≡ good c →
     contents (ch .kind) (changedBy image ch) ≡ good (left c (changeIn c (ch .level) (ch .field) (ch .value)))
 after-own image c ch bytes real e = go (codeFor c level f v) refl
@@ -71,7 +72,7 @@ after-own image c ch bytes real e = go (codeFor c level f v) refl
 
 -- ---- one commit
 
--- A code that may stand means a value, so nothing is refused behind the tests.
+-- A code that a field can hold has a value, so nothing is refused after the tests.
 after-own-commit : (image : List ℕ) (c : Contents) (co : Commit) → Bytes image → contents (co .kind) image ≡ good c →
     contents (co .kind) (committedBy image co) ≡ good (left c (commitIn c (co .level) (co .field) (co .present) (co .new)))
 after-own-commit image c co bytes e = go (mayCommit c level f present new) refl
@@ -112,9 +113,9 @@ after-own-commit image c co bytes e = go (mayCommit c level f present new) refl
         after (good u) h ∙ committed-contents k image c (a .sizes) bytes e (a .sized) level f present new t v means
         ∙ ap (λ d. good (left c (valued d))) (sym means)
 
--- ---- one of either
+-- ---- one change or commit
 
--- Of its own kind it is as above, and as of another kind the image is refused.
+-- An alteration of the sheet's own kind has its effect; one of another kind is refused.
 by-kind : (kind other : ℕ) (image after : List ℕ) (c d : Contents) → contents kind image ≡ good c →
     (contents other image ≡ good c → contents other after ≡ good d) → ((r : Refusal) → contents other image ≡ refused r → after ≡ image) →
     contents kind after ≡ good (cond (eqb other kind) d c)
@@ -137,9 +138,9 @@ after-one kind image c (commits co) bytes real e =
     by-kind kind (co .kind) image (committedBy image co) c (left c (commitIn c (co .level) (co .field) (co .present) (co .new))) e (after-own-commit image c co bytes)
     (λ r h. ap (afterwards image) (commit-unread (co .kind) image (co .level) (co .field) (co .present) (co .new) r h))
 
--- ---- every one
+-- ---- every change or commit
 
--- The bytes of an image, as many as before, accepted or refused.
+-- The image keeps its length and consists of bytes, accepted or refused.
 kept-bytes : (image : List ℕ) (o : Outcome (List ℕ)) → Bytes image → ((after : List ℕ) → o ≡ good after → Bytes after) → Bytes (afterwards image o)
 kept-bytes image (refused r) bytes h = bytes
 kept-bytes image (good after) bytes h = h after refl
@@ -160,7 +161,8 @@ changed-to-the-same kind image after c level f bytes e h =
     let (free, stored) = code-found c level f (field c f .value) (m .code) (subst (λ d. codeFor d level f (field c f .value) ≡ good (m .code)) q (m .coded)) in
     m .is ∙ ap (λ d. recodedIn (m .sizes) image (field d f) (m .code)) q ∙ same-value kind image c (m .sizes) bytes e (m .sized) level f free (m .code) stored
 
--- What a check refuses it still refuses: an image that is altered is of another kind, which the altered one is too.
+-- What a check refuses it still refuses: only with another kind can
+-- the image be altered, and the altered one is of that kind too.
 module _ (kind : ℕ) (r : Refusal) where
   unsized : (image : List ℕ) (q : Refusal) → imageSizes kind (length image) ≡ refused q → contents kind image ≡ refused q
   unfolding contents
@@ -194,9 +196,9 @@ module _ (kind : ℕ) (r : Refusal) where
   refused-after image [] e = e
   refused-after image (a ∷ alterations) e = refused-after (alteredBy image a) alterations (one-refused image a e)
 
--- ---- what none of them alters
+-- ---- what no change or commit alters
 
--- What does not go by the fields is as it was, and so is the calibration.
+-- What does not depend on the fields is unchanged, and so is the calibration.
 module _ {A : Type 0} (g : Contents → A) (same : (c : Contents) (i : ℕ) (x : Found) → g (withField c i x) ≡ g c) where
   change-keeps : (c : Contents) (f : ℕ) (v : Value) (t : Bool) (o : Outcome ℕ) →
       g (cond t (left c (o >>= λ code. good (replaced c f code (kept (field c f .row) v)))) c) ≡ g c

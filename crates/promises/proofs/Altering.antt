@@ -1,4 +1,4 @@
--- Fields of the stream, and what a change or a commit leaves alone.
+-- Laws of fields of the stream, and of what a change or a commit leaves unchanged.
 use Rattle.promises.proofs.Names.{_≡_, sym, ap, ap₂, _∙_, subst, List, _⊎_, inl, inr, ℕ, _+_, _^_, _≤_, _<_, arith, length, good, good-same, Sizes, Bytes, bit, putAt, imageSizes, streamBits, streamOf}
 use Rattle.promises.proofs.Names.{streamNumber, field-bit, put-field, put-before, put-after, put-lt, bit-at, sizes-chip, stream-bytes, stream-lt, sums-right, image-number-lt, mended-check, Level, reads-back}
 use Rattle.promises.proofs.Names.{Found, Contents, contents, field, accepted-at, codeFor, recodedIn, Changeable, code-found, change-made, field-sound, field-inside, Committed, stands-fits, commit-made, StreamBit}
@@ -17,7 +17,7 @@ puts N n w code fits = record { stands = put-field N n w code fits; others = oth
     others i (inl h) = put-before N n w code fits i 1 (omega arith)
     others i (inr h) = put-after N n w code fits i 1 h
 
--- A field at a code that fits it.
+-- A field with a code that fits it.
 module _ (kind : ℕ) (image : List ℕ) (z : Sizes) (c : Contents) (level : Level) (f : ℕ) (bytes : Bytes image) (sizes : imageSizes kind (length image) ≡ good z)
     (e : contents kind image ≡ good c) (free : Changeable c level f) where
   abbrev x : Found

@@ -1,6 +1,6 @@
--- The distance told beforehand is that of the certificate, at the least slope.
-use Rattle.promises.proofs.Names.{sym, _||_, List, [], _∷_, _%_, eqb, ltb, ℤ, length, wrongList, passed, Electrical, pairsLent, listed, plan, steepest, toldBy, distance-told, told-by, least-slope, Straight}
-use Rattle.promises.proofs.Names.{ToldWhereBuilt, DistanceTold}
+-- Proof that the distance known beforehand is that of the certificate, at the least slope.
+use Rattle.promises.proofs.Names.{sym, _||_, List, [], _∷_, _%_, eqb, ltb, ℤ, length, wrongList, passed, Electrical, pairsLent, listed, plan, steepest, bySlope, distance-told, told-by, least-slope, Straight}
+use Rattle.promises.proofs.Names.{ToldWhereBuilt, DistanceBeforehand}
 use Rattle.promises.proofs.PlannedSheet.{plan-parts}
 use Rattle.promises.proofs.Written.{built}
 use Rattle.promises.proofs.Distance.{certificate-distance}
@@ -10,13 +10,13 @@ unfolding plan
 told-where-built kind buffer sheet text points image e =
     let b = built kind buffer sheet text (listed Electrical points) image e in
     let list = passed (wrongList (length points)) (eqb (length points % 2) 1 || ltb 254 (length points)) _ (b .pieces) (b .plans) .0 in
-    (toldBy (steepest (pairsLent points)), sym (distance-told points list (plan-parts sheet text (listed Electrical points) (b .pieces) (b .plans) .behindPlanned)))
+    (bySlope (steepest (pairsLent points)), sym (distance-told points list (plan-parts sheet text (listed Electrical points) (b .pieces) (b .plans) .behindPlanned)))
 
 straight : (points : List ℤ) → Straight Electrical points
 straight [] = tt
 straight (x ∷ points) = tt
 
-pub distance-holds : DistanceTold
+pub distance-holds : DistanceBeforehand
 distance-holds kind buffer sheet text points image alterations readingKind v dash r d told lendable real made taken =
     let t = told-by points d told in
     rw (sym (t .is))

@@ -1,4 +1,4 @@
--- Which images are named blank.
+-- Laws of the images that are named blank.
 use Rattle.promises.proofs.Names.{_≡_, refl, sym, ap, _∙_, Bool, true, false, List, _∷_, ℕ, _+_, _-_, _/_, _%_, _<_, arith, length, getD, Outcome, good, refused, _>>=_, _>>_, blankChip, occurs, streamRows, Other}
 use Rattle.promises.proofs.Names.{other-number, Sizes, imageSizes, imageBytes, pageAt, blankFrom, sumsFrom, sums, sizes-chip, blank-all, all-blank, blank-at, at-blank, sums-other, Parsed, parse, Contents, sheetOf}
 use Rattle.promises.proofs.Names.{streamIn, contents, parse-other, sheet-others, AllBlank, NamedBlank}

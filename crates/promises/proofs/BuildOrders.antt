@@ -1,11 +1,10 @@
--- The rows of a build, with a points list or a curve, and of the distance.
--- Assumes nothing.
+-- Laws of the rows of a build, with a points list or a curve, and of the distance.
 use Rattle.promises.proofs.Names.{_≡_, refl, Bool, not, _||_, _&&_, List, [], _∷_, Option, none, some, ℕ, suc, _+_, _%_, arith, eqb, ltb, leb, ℤ, pos, _*ℤ_, length, take, drop, leZ, Outcome, good, refused, _>>=_}
 use Rattle.promises.proofs.Names.{_>>_, wrongSort, outOfRange, tooLong, wrongList, notRising, sumsNotRising, wrongCurve, tooManyTerms, By, buildOrder, curveOrder, distanceOrder, Among, by-among, by-bind, by-then}
 use Rattle.promises.proofs.Names.{by-test, by-last, imageSizes, streamBits, needed, Value, Whole, Single, Row, Pair, Codes, Domain, Electrical, Segment, Term, Curve, Stepped, topCode, steppedValue, steppedCode}
 use Rattle.promises.proofs.Names.{outside, encode, Line, chose, basic, templateLines, ending, D, R, leastDeviation, calPoint, calDeviation, isPhysical, storedSum, follows, segmentStart, exponent, coefficient}
 use Rattle.promises.proofs.Names.{isSegmentCount, isTermCount, mostTerms, startFollows, exponentFollows, exponentCode, Sheet, templateIn, lent, linePieces, fieldPieces, unfit, endingPieces, pairsLent, codesFor}
-use Rattle.promises.proofs.Names.{pairCodes, pairPieces, tablePieces, termPieces, countTested, startCode, segmentPieces, curvePieces, Table, listed, drawn, listTested, behindPieces, plan, builtIn, buildWith}
+use Rattle.promises.proofs.Names.{pairCodes, pairPieces, tablePieces, termPieces, countTested, startCode, segmentPieces, curvePieces, Table, listed, byCurve, listTested, behindPieces, plan, builtIn, buildWith}
 use Rattle.promises.proofs.Names.{distance, WritesByOrder}
 use Rattle.promises.proofs.Refusals.{image-by, encode-by, change-by, propose-by, commit-by}
 
@@ -145,5 +144,5 @@ writes-by-order kind image = record {
   builds = λ sheet text domain points. built-by buildOrder (omega arith) (listed domain points) (listed-by buildOrder domain points (omega arith))
       (table-by buildOrder domain (omega arith) (λ before i codes. by-among (7 ∷ 22 ∷ []) buildOrder (follows domain before i codes) (omega arith) (follows-by domain before i codes)) (pairsLent points))
       kind image sheet text;
-  buildsCurves = λ sheet text curve. built-by curveOrder (omega arith) (drawn curve) tt (curve-by curve) kind image sheet text;
+  buildsCurves = λ sheet text curve. built-by curveOrder (omega arith) (byCurve curve) tt (curve-by curve) kind image sheet text;
 }

@@ -1,11 +1,11 @@
--- How far a check judges an image, and what is read of it: the laws of the layers below.
+-- Laws of what a check judges and reads return, from the crates below.
 use Rattle.promises.proofs.Names.{_≡_, sym, subst, List, ℕ, Refusal, Outcome, good, refused, _>>=_, good-same, good-bind, no-value, Contents, contents, agree, Summary, summary, check, accepted-reads}
 use Rattle.promises.proofs.Names.{refused-reads, BitsBehindNotJudged, ReadsEach, ReadsNone, ReadByIndex}
 
 pub bits-behind-not-judged : BitsBehindNotJudged
 bits-behind-not-judged = agree
 
--- What a check gives comes from what the image holds, and its refusal too.
+-- What a check gives depends on the contents, and so does its refusal.
 pub check-holds : (kind : ℕ) (image : List ℕ) (s : Summary) → check kind image ≡ good s → (c : Contents) × (contents kind image ≡ good c) × (summary c ≡ s)
 unfolding check
 check-holds kind image s e = let (c, h, g) = good-bind (contents kind image) (λ c. good (summary c)) s e in (c, h, good-same g)

@@ -1,5 +1,4 @@
--- Calls one after the other: what they answer and leave, and demand 3 of it.
--- Assumes nothing.
+-- Laws of calls in order: what they answer and leave, and demand 3 for them.
 use Rattle.promises.proofs.Names.{_≡_, sym, ap, _∙_, subst, List, ℕ, ℤ, writtenSaid, Domain, Sheet, build, Dash, takeReading, readingSaid, Answers, Lendable, Alteration, RealAlterations, altered, made, Answered}
 use Rattle.promises.proofs.Distance.{certificate-distance}
 

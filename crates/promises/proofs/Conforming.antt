@@ -1,10 +1,11 @@
--- Conformity: what the call tells holds of every reading, is what was told beforehand or less, is moved by nothing, and is no more than it need be.
+-- Laws of conformity: the answer holds for every reading, is at most what is known
+-- beforehand, is changed by no alteration, and is no greater than necessary.
 use Rattle.promises.proofs.Names.{_≡_, refl, sym, ap, _∙_, subst, false, List, [], _∷_, map, none, some, ℕ, _+_, _*_, _<_, arith, ℤ, pos, natAbs, _+ℤ_, _-ℤ_, _*ℤ_, _<ℤ_, sub-parts-ℤ, abs-parts, ltZ-parts, Outcome}
 use Rattle.promises.proofs.Names.{good, refused, good-same, Bytes, pack, image-bytes, Domain, Electrical, Physical, Pair, D, R, billion, Calibration, bare, table, curve, Contents, contents, pairIn, pairsIn}
 use Rattle.promises.proofs.Names.{points, segmentIn, segmentsIn, contents-accepted, CalibrationAt, Is, domainIn, Sheet, pairsLent, listed, build, Rises, Slopes, WithinOf, deviation, certificateLine}
-use Rattle.promises.proofs.Names.{close-conforms, ToldDistance, distance, toldBy, told-by, least-slope, no-slope, taking, isResistance, least, greatest, position, calibration-table, shown, by-deviation}
+use Rattle.promises.proofs.Names.{close-conforms, CertificateBound, distance, bySlope, told-by, least-slope, no-slope, taking, isResistance, least, greatest, position, calibration-table, shown, by-deviation}
 use Rattle.promises.proofs.Names.{greatestDifference, comparedWith, straightTable, compared, conformity, greatest-within, greatest-least, greatest-attained, compares-refused, compares, compared-from}
-use Rattle.promises.proofs.Names.{straight-points, keptPair, altered, held, Straight, leastIn, greatestIn, lineFor, StraysAtMost, Conforms, FigureConforms, ToldIsKept, NoAlterationMoves, BoundTight, NoCurve}
+use Rattle.promises.proofs.Names.{straight-points, keptPair, altered, held, Straight, leastIn, greatestIn, lineFor, StraysAtMost, Conforms, FigureConforms, BeforehandIsKept, NoAlterationMoves, BoundTight, NoCurve}
 use Rattle.promises.proofs.PlannedSheet.{plan-parts}
 use Rattle.promises.proofs.Written.{built, written-and-read-again}
 use Rattle.promises.proofs.AfterAlterations.{after-alterations, refused-after, held-keeps, held-calibration}
@@ -36,9 +37,9 @@ conforms kind image lent v dash r d told taken =
     let same : k .holds ≡ c = good-same (sym (k .accepted) ∙ s .accepted) in
     let table = straight-points (c .calibration) (k .stored) (subst (λ (x : Contents). straightTable (x .calibration) ≡ some (k .stored)) same (k .straight)) in
     let ends = ends-read kind image c (s .accepted) in
-    subst (λ (x : ToldDistance). StraysAtMost (x .bound) (r .fraction) (lineFor lent v (leastIn kind image) (greatestIn kind image))) (k .is)
-    (conforming (k .stored) (pairsLent lent) (k .told .slope) (r .fraction) v (least c) (greatest c) _ _
-    (subst Rises (table .0) (stored-rise kind image c (s .accepted))) (taking lent (k .told) (k .distance) .table .rises) (least-slope lent (k .told) (k .distance) .meets) (s .rises)
+    subst (λ (x : CertificateBound). StraysAtMost (x .bound) (r .fraction) (lineFor lent v (leastIn kind image) (greatestIn kind image))) (k .is)
+    (conforming (k .stored) (pairsLent lent) (k .beforehand .slope) (r .fraction) v (least c) (greatest c) _ _
+    (subst Rises (table .0) (stored-rise kind image c (s .accepted))) (taking lent (k .beforehand) (k .distance) .table .rises) (least-slope lent (k .beforehand) (k .distance) .meets) (s .rises)
     (s .shows ∙ by-deviation (c .calibration) _ (table .1) ∙ ap (λ (pairs : List Pair). position v (least c) (greatest c) +ℤ deviation pairs (position v (least c) (greatest c))) (table .0))
     (ends .0) (ends .1))
 
@@ -53,7 +54,7 @@ figure-conforms kind image lent v dash r d told taken =
     figure-strays kind image (k .holds) v dash r (d .bound) _ (k .accepted) (straight-plain (k .holds .calibration) (k .stored) (k .straight)) taken
     (conforms kind image lent v dash r d told taken)
 
--- ---- told beforehand
+-- ---- known beforehand
 
 straight-held : (at : ℕ) (k : Calibration) → CalibrationAt at k → (domainIn k ≡ Is Physical → ⊥) → map segmentIn (segmentsIn k) ≡ [] → straightTable k ≡ some (map pairIn (pairsIn k))
 straight-held at bare h n e = refl
@@ -63,12 +64,12 @@ straight-held at (curve []) h n e = absurd (omega (arith, h .some))
 straight-held at (curve (s ∷ segments)) h n e = absurd (let z : _≡_ {A = ℕ} 0 1 = cc in omega arith)
 
 listed-told : (kind : ℕ) (buffer : List ℕ) (sheet : Sheet) (text : List ℕ) (domain : Domain) (lent : List ℤ) (image : List ℕ) → Straight domain lent → build kind buffer sheet text domain lent ≡ good image →
-    (d : ToldDistance) × (distance lent ≡ good d)
-listed-told kind buffer sheet text domain [] image h e = (toldBy 0, no-slope .0)
+    (d : CertificateBound) × (distance lent ≡ good d)
+listed-told kind buffer sheet text domain [] image h e = (bySlope 0, no-slope .0)
 listed-told kind buffer sheet text Electrical (x ∷ lent) image h e = told-where-built kind buffer sheet text (x ∷ lent) image e
 listed-told kind buffer sheet text Physical (x ∷ lent) image h e = absurd h
 
-pub told-is-kept : ToldIsKept
+pub told-is-kept : BeforehandIsKept
 told-is-kept kind buffer sheet text domain lent image alterations lendable real straight template made =
     let b = built kind buffer sheet text (listed domain lent) image made in
     let bytes : Bytes image = subst Bytes (b .made) (image-bytes (b .sizes) (pack (b .pieces))) in
@@ -89,11 +90,11 @@ told-is-kept kind buffer sheet text domain lent image alterations lendable real 
     (close-conforms D R (d .slope) (pairsLent lent) (map keptPair (pairsLent lent)) (stored-close domain none 0 (pairsLent lent) ps pairs) (risen .lent) (risen .kept) (least-slope lent d told .meets)) in
     record {
       beforehand = d;
-      told = told;
+      known = told;
       found = comparedWith (d .slope) (map keptPair (pairsLent lent)) (pairsLent lent);
       conforms = sym (ap (λ o. good (compared (d .slope) (pairsLent lent) o)) (sym table) ∙ compares kind last lent accepted bridge told);
       slope = refl;
-      bound = omega (arith, most, ap (λ (x : ToldDistance). x .bound) (t .is), ap (λ (x : ToldDistance). x .slope) (t .is), ap (λ (x : ToldDistance). x .slope * (D + 1)) (t .is));
+      bound = omega (arith, most, ap (λ (x : CertificateBound). x .bound) (t .is), ap (λ (x : CertificateBound). x .slope) (t .is), ap (λ (x : CertificateBound). x .slope * (D + 1)) (t .is));
     }
 
 -- ---- no change or commit
@@ -112,16 +113,16 @@ no-alteration-moves kind image lent alterations bytes real = go (contents kind i
         same-answer kind image (altered image alterations) lent c (held kind c alterations) e (after-alterations kind image c alterations bytes real e)
         (held-keeps (λ x. x .template) (λ x i y. refl) kind c alterations) (held-calibration kind c alterations)
 
--- ---- no more than it need be
+-- ---- no greater than necessary
 
 pub bound-tight : BoundTight
 bound-tight kind image lent c d accepted told =
     let k = compared-from kind image lent d told in
     let same : k .holds ≡ c = good-same (sym (k .accepted) ∙ accepted) in
     let table = straight-points (c .calibration) (k .stored) (subst (λ (x : Contents). straightTable (x .calibration) ≡ some (k .stored)) same (k .straight)) in
-    let rises = taking lent (k .told) (k .distance) .table .rises in
+    let rises = taking lent (k .beforehand) (k .distance) .table .rises in
     record {
       greatest = greatestDifference (points c) (pairsLent lent);
-      is = sym (ap (λ (x : ToldDistance). x .bound) (k .is)) ∙ omega (arith, ap (λ (x : ToldDistance). x .slope) (k .is), ap (λ (pairs : List Pair). greatestDifference pairs (pairsLent lent)) (table .0));
+      is = sym (ap (λ (x : CertificateBound). x .bound) (k .is)) ∙ omega (arith, ap (λ (x : CertificateBound). x .slope) (k .is), ap (λ (pairs : List Pair). greatestDifference pairs (pairsLent lent)) (table .0));
       attained = greatest-attained (points c) (pairsLent lent) (stored-rise kind image c accepted) rises;
     }

@@ -1,17 +1,17 @@
--- Note 9: a reading in domain 1 shows the crossing.
+-- Proof of Note 9: a reading in domain 1 shows the crossing.
 use Rattle.promises.proofs.Names.{_≡_, refl, sym, ap, ap₂, _∙_, subst, List, [], _∷_, map, ℕ, arith, ℤ, good, good-same, Pair, Electrical, Physical, Calibration, bare, table, curve, Contents, contents, pairIn}
 use Rattle.promises.proofs.Names.{pairsIn, points, CalibrationAt, contents-accepted, TableDomain, Is, domainIn, pairsLent, SumsRise, crossing, crosses, Reading, Dash, position, fraction, takeReading}
 use Rattle.promises.proofs.Names.{calibration-table, calibration-rises, shown, by-crossing, domainLent, altered, OnlyCrossing, positionIn, CrossingShown, CrossingFromLent}
 use Rattle.promises.proofs.KeptLent.{kept-lent, ends-read}
 
--- Sums rise where the domain is not 0.
+-- Sums rise if the domain is not 0.
 sums-rise : (at : ℕ) (k : Calibration) → CalibrationAt at k → (domainIn k ≡ Is Electrical → ⊥) → SumsRise (map pairIn (pairsIn k))
 sums-rise at bare h n = tt
 sums-rise at (table Electrical pairs) h n = absurd (n refl)
 sums-rise at (table Physical pairs) h n = calibration-rises at (table Physical pairs) Physical h refl
 sums-rise at (curve segments) h n = tt
 
--- Two domains.
+-- The two domains differ.
 not-electrical : (d : TableDomain) → d ≡ Is Physical → d ≡ Is Electrical → ⊥
 not-electrical d e f = absurd (let z : _≡_ {A = ℕ} 0 1 = cc in omega arith)
 
@@ -19,7 +19,7 @@ none-electrical : (pairs : List Pair) → domainLent Physical pairs ≡ Is Elect
 none-electrical [] e = absurd (let z : _≡_ {A = ℕ} 0 1 = cc in omega arith)
 none-electrical (p ∷ pairs) e = absurd (let z : _≡_ {A = ℕ} 0 1 = cc in omega arith)
 
--- Of an image whose table, if it has one, is not of domain 0.
+-- For an image whose table, if it has one, is not of domain 0.
 crossed : (kind : ℕ) (image : List ℕ) (c : Contents) (v : ℤ) (dash : Dash) (r : Reading) → contents kind image ≡ good c → (domainIn (c .calibration) ≡ Is Electrical → ⊥) →
     takeReading kind image v dash ≡ good r → OnlyCrossing (points c) (positionIn kind image v) (r .fraction)
 crossed kind image c v dash r e n taken =

@@ -1,8 +1,9 @@
--- The segment that serves, and the starts of an accepted curve.
-use Rattle.promises.proofs.Names.{_≡_, refl, ap, subst, ℕ, _<_, _*_, pos, List, [], _∷_, arith, ℤ, _≤ℤ_, _<ℤ_, leZ-parts, ltZ-parts, parts-<ℤ, FoundSegment, by-order, serving, startOf, StartsRise, AllAbove, Serves, LastSegmentServes}
-use Rattle.promises.proofs.Names.{Found, FieldAt, figure, steppedValue, stepped-whole, Passed, SegmentsAt, behindSegment, nothingPassed, CalibrationAt, curve, contents-accepted, add-parts}
+-- Laws of the segment that serves, and of the starts of an accepted curve.
+use Rattle.promises.proofs.Names.{_≡_, refl, ap, subst, ℕ, _<_, _*_, pos, List, [], _∷_, arith, ℤ, _≤ℤ_, _<ℤ_, leZ-parts, ltZ-parts, parts-<ℤ, FoundSegment, by-order, serving, startOf, StartsRise, AllAbove}
+use Rattle.promises.proofs.Names.{Serves, LastSegmentServes, Found, FieldAt, figure, steppedValue, stepped-whole, Passed, SegmentsAt, behindSegment, nothingPassed, CalibrationAt, curve, contents-accepted}
+use Rattle.promises.proofs.Names.{add-parts}
 use borrow.Author.Tests.{ltb-true}
-use Rattle.fields.specs.Curves.{segmentStart}
+use Rattle.templates.specs.Curves.{segmentStart}
 use Rattle.promises.specs.Curves.{CurveStartsRise}
 
 all-above : (p : ℤ) (s : FoundSegment) (segments : List FoundSegment) → p <ℤ startOf s → StartsRise (s ∷ segments) → AllAbove p (s ∷ segments)

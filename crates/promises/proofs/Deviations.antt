@@ -1,12 +1,11 @@
--- The deviation of a table whose points rise.
--- Assumes nothing.
+-- Laws of the deviation of a table whose points rise.
 use Rattle.promises.proofs.Names.{_≡_, ap, _∙_, List, [], _∷_, _++_, ℕ, _+_, _*_, _<_, _≤_, mul-le-mul-right, arith, ℤ, pos, _*ℤ_, _≤ℤ_, _<ℤ_, up, dn, _over_, nearest, same, mul-parts, leZ-parts, ltZ-parts}
 use Rattle.promises.proofs.Names.{parts-≤ℤ, le-leZ, lt-leZ, nearest-rises-parts, nearest-exact, nearest-is, Pair, Correction, atEnd, between, correctionAfter, correction, deviation, Rises, AtMost, at-most, scaled}
 use Rattle.promises.proofs.Names.{at, weights-run, weights-num, FirstHolds, LastHolds, AllWithin, DeviationWithin}
-use Rattle.line.proofs.Order.{by-test}
+use Rattle.correction.proofs.Order.{by-test}
 use Rattle.promises.proofs.Rounding.{correction-some}
 
--- Where a deviation holds it is whole.
+-- A deviation that holds is a whole number.
 held : (a : Pair) → nearest (atEnd 1 a .num over atEnd 1 a .run) ≡ a .deviation
 held a = nearest-exact (a .deviation) 1 (omega arith)
 
@@ -21,7 +20,7 @@ last-most : (a : Pair) (pairs : List Pair) (last : Pair) → Rises (a ∷ (pairs
 last-most a [] last rises = ltZ-parts (a .point) (last .point) (rises .0 .lt)
 last-most a (b ∷ pairs) last rises = omega (arith, ltZ-parts (a .point) (b .point) (rises .0 .lt), last-most b pairs last (rises .1))
 
--- A correction of t exactly.
+-- The correction is exactly t.
 abbrev Exactly : ℤ → Correction → Type 0
 Exactly t c = up (c .num) + dn t * c .run ≡ dn (c .num) + up t * c .run
 

@@ -1,20 +1,21 @@
--- Demand 3: what was built holds points near those lent, no change or commit moves them, and a reading of them stays within the distance.
+-- Proof of demand 3: a built image holds points near those lent, no change
+-- or commit moves them, and a reading of them is within the distance.
 use Rattle.promises.proofs.Names.{_≡_, refl, sym, _∙_, List, [], _∷_, map, none, ℕ, _+_, arith, ℤ, pos, negsuc, natAbs, _+ℤ_, _-ℤ_, _*ℤ_, _<ℤ_, up, dn, sub-parts-ℤ, abs-parts, ltZ-parts, good, Piece, Pair, Domain}
 use Rattle.promises.proofs.Names.{Electrical, Physical, D, R, billion, points, Is, pairsLent, pairPieces, tablePieces, listed, table-planned, deviation, certificateLine, Slopes, bound, least, greatest, position}
 use Rattle.promises.proofs.Names.{shown, by-deviation, keptPair, domainLent, altered, Straight, CertificateDistance, LentPointsRise, EndsRise, DifferenceAbove}
-use Rattle.line.specs.Certificate.{Within}
+use Rattle.correction.specs.Certificate.{Within}
 use Rattle.promises.proofs.PlannedSheet.{plan-parts}
 use Rattle.promises.proofs.Written.{built}
 use Rattle.promises.proofs.KeptLent.{kept-lent, ends-read}
 use Rattle.promises.proofs.StoredPoints.{stored-close, stored-rises}
 
--- The pairs of a table that was planned.
+-- The pairs of a planned table.
 pub planned-pairs : (domain : Domain) (pairs : List Pair) (ts : List Piece) → tablePieces domain pairs ≡ good ts → (ps : List Piece) × (pairPieces domain none 0 pairs ≡ good ps)
 unfolding pairPieces
 planned-pairs domain [] ts e = ([], refl)
 planned-pairs domain (p ∷ pairs) ts e = let d = table-planned domain p pairs ts e in (d .pieces, d .plans)
 
--- Points that the distance is for are not of domain 1.
+-- Points in the scope of the distance are not of domain 1.
 pub straight-lent : (domain : Domain) (lentPoints : List ℤ) → Straight domain lentPoints → domainLent domain (pairsLent lentPoints) ≡ Is Physical → ⊥
 straight-lent domain [] h e = absurd (let z : _≡_ {A = ℕ} 0 1 = cc in omega arith)
 straight-lent domain (a ∷ []) h e = absurd (let z : _≡_ {A = ℕ} 0 1 = cc in omega arith)
@@ -32,13 +33,13 @@ distance domain lent ps v e f K h span slopes =
     bound D R K lent (map keptPair lent) (stored-close domain none 0 lent ps h) (rises .lent) (rises .kept) slopes ((v -ℤ e) *ℤ pos billion) (natAbs (f -ℤ e))
     (omega (arith, ltZ-parts e f (span .lt), sub-parts-ℤ f e, abs-parts (f -ℤ e)))
 
--- The same of what was read, under other names.
+-- The distance for what was read, under other names.
 distance-of : (domain : Domain) (lent stored : List Pair) (ps : List Piece) (q v e f low high : ℤ) (K : ℕ) → pairPieces domain none 0 lent ≡ good ps → e <ℤ f → Slopes K lent →
     stored ≡ map keptPair lent → q ≡ position v e f +ℤ deviation stored (position v e f) → low ≡ e → high ≡ f →
     Within D R K q (certificateLine lent ((v -ℤ low) *ℤ pos billion) (natAbs (high -ℤ low)))
 distance-of domain lent stored ps q v e f low high K h span slopes p r l g = rw (r, p, l, g) (distance domain lent ps v e f K h span slopes)
 
--- Demand 3.
+-- Demand 3, in the words of its statement.
 pub certificate-distance : CertificateDistance
 certificate-distance kind buffer sheet text domain lentPoints image alterations readingKind v dash r K lendable real straight made taken slopes =
     let b = built kind buffer sheet text (listed domain lentPoints) image made in
@@ -49,7 +50,7 @@ certificate-distance kind buffer sheet text domain lentPoints image alterations 
     distance-of domain (pairsLent lentPoints) (points (s .holds)) ps (r .fraction) v (least (s .holds)) (greatest (s .holds)) _ _ K pairs (s .rises) slopes
     (k .keepsPoints) (s .shows ∙ by-deviation (s .holds .calibration) _ (λ e. straight-lent domain lentPoints straight (sym (k .keepsDomain) ∙ e))) (ends .0) (ends .1)
 
--- ---- what is above 0 in it
+-- ---- the factors above 0
 
 pub lent-points-rise : LentPointsRise
 lent-points-rise kind buffer sheet text domain lentPoints image made =

@@ -1,4 +1,4 @@
--- The cases hold: by computation, and the dates by the calendar's law.
+-- Proof of the cases of "Edges": by computation, and the dates by the law of the calendar.
 use Rattle.promises.proofs.Names.{refl, lit≤, ofInt, toBits, ofBits, nanBits, ofFields, round, odd, span, climb, neg, nearest, imageSizes, pageTest, blankFrom, sumsFrom, streamOf, imageOf, decode, encode}
 use Rattle.promises.proofs.Names.{geometricValue, goesUp, storedAt, basic, template33, template32, linesOf, follows, outsideTwo, nanovolts, fieldOf, fieldsOf, selectorOf, firstBlock, pairOf, pairsOf, tableOf}
 use Rattle.promises.proofs.Names.{blockAt, calibrationOf, charactersOf, endingOf, sheetOf, contents, codesFor, linePieces, fieldPieces, endingPieces, pairCodes, pairPieces, tablePieces, plan, builtIn, buildWith}
@@ -8,8 +8,8 @@ use lib.Ieee.{units, size, add, sub, mul, div, sum}
 use Rattle.build.specs.Build.{termPieces, countTested, startCode, segmentPieces, curvePieces}
 use Rattle.layout.specs.Format.{repeated}
 use Rattle.layout.specs.Contents.{ruledOf, termOf, termsOf, segmentOf, segmentsOf, curveOf}
-use Rattle.curve.specs.Curve.{coefficients, nested, argument, fractionBy}
-use Rattle.fields.specs.Figure.{physicalFigure}
+use Rattle.correction.specs.Curve.{coefficients, nested, argument, fractionBy}
+use Rattle.figures.specs.Figure.{physicalFigure}
 use Rattle.reading.specs.Reading.{serving}
 
 pub edges : Edges

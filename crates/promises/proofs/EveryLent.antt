@@ -1,5 +1,4 @@
--- Every list of changes and commits can be lent as slices.
--- Assumes nothing.
+-- Proof that every list of changes and commits can be lent as slices.
 use Rattle.promises.proofs.Names.{_≡_, refl, ap, ap₂, _∙_, cond, List, [], _∷_, _++_, map, ℕ, zero, suc, eqb, ℤ, Float, length, Value, Whole, Single, Missing, Level, Owner, CalibrationRoom, Maker, Alteration}
 use Rattle.promises.proofs.Names.{changes, commits, levelLent, valueOfSort, alterationLent, alterationsBefore, kindIn, levelNumber, levelIn, fieldIn, sortOf, sortIn, wholeOf, wholeIn, singleOf, singleIn}
 use Rattle.promises.proofs.Names.{presentIn, newIn, EveryListLent}
@@ -18,7 +17,7 @@ change-back kind field level (Single x) = refl
 change-back kind field level Missing = refl
 
 module _ (k l f s : ℕ) (w : ℤ) (x : Float) (p n : ℕ) (ks ls fs ss : List ℕ) (ws : List ℤ) (xs : List Float) (ps ns : List ℕ) where
-  -- The first, and those behind it.
+  -- The first alteration, and those after it.
   first-of : (i : ℕ) →
       alterationsBefore (k ∷ ks) (l ∷ ls) (f ∷ fs) (s ∷ ss) (w ∷ ws) (x ∷ xs) (p ∷ ps) (n ∷ ns) (suc i)
       ≡ alterationLent (k ∷ ks) (l ∷ ls) (f ∷ fs) (s ∷ ss) (w ∷ ws) (x ∷ xs) (p ∷ ps) (n ∷ ns) 0 ∷ alterationsBefore ks ls fs ss ws xs ps ns i

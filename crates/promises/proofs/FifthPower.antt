@@ -1,8 +1,8 @@
--- The nested rule from the fifth power: absent powers are 0, and change at most the sign of a correction of zero.
+-- Laws of the nested rule from the fifth power: absent powers
+-- are 0, and change at most the sign of a correction of zero.
 use Rattle.promises.proofs.Names.{_≡_, refl, sym, ap, _∙_, subst, Bool, false, _&&_, List, [], _∷_, _++_, ℕ, zero, suc, _+_, _-_, _*_, _^_, _≤_, _<_, arith, mul-le-mul-right, le-mul-of-pos-right, T, lit≤, ℤ, pos}
-use Rattle.promises.proofs.Names.{natAbs, length, replicate}
-use Rattle.promises.proofs.Names.{Float, binary64, fits, mul, ofInt, overflow, Term, coefficients, nested, argument, fractionBy, fractionOf, servingTerms, Calibration, curve, CalibrationAt, contents-accepted}
-use Rattle.promises.proofs.Names.{position, fraction, least, greatest}
+use Rattle.promises.proofs.Names.{natAbs, length, replicate, Float, binary64, fits, mul, ofInt, overflow, Term, coefficients, nested, argument, fractionBy, fractionOf, servingTerms, Calibration, curve}
+use Rattle.promises.proofs.Names.{CalibrationAt, contents-accepted, position, fraction, least, greatest}
 use lib.Pow.{pow-pos}
 use lib.IntN.{negsuc}
 use lib.Ieee.{low, div, unlike, round}
@@ -23,7 +23,7 @@ zeroed-value = whole-is binary64 (pos 0) (lit≤ tt)
 
 -- ---- the nested rule
 
--- Numbers that f64 holds.
+-- Numbers of the format f64.
 abbrev Held : List Float → Type 0
 Held [] = Unit {0}
 Held (c ∷ cs) = T (fits binary64 c) × T (isFinite c) × Held cs

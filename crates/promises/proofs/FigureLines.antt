@@ -1,4 +1,4 @@
--- From the certificate line to the figure.
+-- Laws of the figure near the certificate line.
 use Rattle.promises.proofs.Names.{_≡_, ap, List, [], _∷_, map, some, ℕ, _+_, _*_, _≤_, le-refl, arith, ℤ, Fraction, good, D, R, lastField, span-listed, Calibration, bare, table, curve, Contents, contents}
 use Rattle.promises.proofs.Names.{segmentIn, segmentsIn, contents-accepted, CalibrationAt, accepted-reads, Dash, Reading, takeReading, shown, figure-near-line, StraysAtMost, altered, NoCurve, low, high, single}
 use Rattle.promises.proofs.Names.{lowIn, highIn, FigureStraysAtMost, CertificateFigure}
@@ -6,14 +6,14 @@ use Rattle.promises.proofs.Distance.{certificate-distance}
 use Rattle.promises.proofs.KeptLent.{kept-lent}
 use Rattle.promises.proofs.Figures.{taken, figure-is}
 
--- The physical ends as they are read.
+-- The physical ends as read.
 pub physical-read : (kind : ℕ) (image : List ℕ) (c : Contents) → contents kind image ≡ good c → (lowIn kind image ≡ low c) × (highIn kind image ≡ high c)
 physical-read kind image c e =
     let read = accepted-reads kind image c e .fields in
     let many : 11 ≤ lastField (c .template) = span-listed (c .template) (le-refl 11) in
     (ap single (read 7 (omega arith) (omega (arith, many))), ap single (read 8 (omega arith) (omega (arith, many))))
 
--- Wherever q is near a point of the line.
+-- The figure's bound wherever q is near a point of the line.
 pub figure-strays : (kind : ℕ) (image : List ℕ) (c : Contents) (v : ℤ) (dash : Dash) (r : Reading) (B : ℕ) (line : Fraction) → contents kind image ≡ good c → NoCurve (c .calibration) →
     takeReading kind image v dash ≡ good r → StraysAtMost B (r .fraction) line → FigureStraysAtMost B (lowIn kind image) (highIn kind image) r line
 figure-strays kind image c v dash r B line accepted plain e strays =
@@ -21,7 +21,7 @@ figure-strays kind image c v dash r B line accepted plain e strays =
     let ends = physical-read kind image c accepted in
     rw (ends .0, ends .1, figure-is c v r t plain) (figure-near-line (low c) (high c) (r .fraction) (line .num) (line .den) B (t .foot) (t .top) (t .small) strays)
 
--- What a build from a list of points leaves has no curve.
+-- An image built from a list of points has no curve.
 pub no-curve : (at : ℕ) (k : Calibration) → CalibrationAt at k → map segmentIn (segmentsIn k) ≡ [] → NoCurve k
 no-curve at bare h e = tt
 no-curve at (table domain pairs) h e = tt

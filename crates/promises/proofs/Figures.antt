@@ -1,11 +1,12 @@
--- The figure that a reading shows: its ends are finite Singles and its fraction is small, so the laws of the figure hold of it.
+-- Laws of the figure of a reading: its ends are finite Singles and
+-- its fraction is small, so that the laws of `figures` hold for it.
 use Rattle.promises.proofs.Names.{_≡_, refl, sym, ap, _∙_, subst, Bool, true, false, not, _&&_, cond, List, ℕ, _^_, _≤_, arith, not-false, T, eqb, ℤ, natAbs, length, _<ℤ_, binary32, ofBits, ofBits-fits, good}
 use Rattle.promises.proofs.Names.{wrongBlock, outsideSpan, tooManyPoints, outsideTable, notFinite, good-same, good-bind, passed, Value, Whole, Single, Missing, Ieee, Row, Template, Bridge, floatFraction}
 use Rattle.promises.proofs.Names.{physicalFigure, Line, lineOf, allOnes, finite, meaning, decode, span-listed, span-lines, Found, Calibration, bare, table, curve, Contents, contents, field, layoutOf, points}
 use Rattle.promises.proofs.Names.{firstSelector, fieldPlace, Accepted, contents-accepted, CalibrationAt, FieldAt, field-at, Is, domainIn, Opens, openedAs, Physical, Dash, Reading, Span, isResistance, tooMany}
-use Rattle.promises.proofs.Names.{isMissing, least, greatest, spanOf, tooFar, position, fraction, servingTerms, share, readingAt, takeReading, bridge, shown, spanned, span-ready, position-small, fraction-small}
-use Rattle.promises.proofs.Names.{NeverFalls, End, near-share, fractionOf, figure-finite, figure-close, figure-follows, fraction-finite, fraction-rises, NoCurve, low, high, CurveShownNear, ShownNear, ShownFinite}
-use Rattle.promises.proofs.Names.{ShownFollows, ShownRises, ShownRisesByPhysicalPoint, float}
+use Rattle.promises.proofs.Names.{isMissing, least, greatest, spanOf, tooFar, position, fraction, servingTerms, physicalFraction, readingAt, takeReading, bridge, shown, spanned, span-ready, position-small}
+use Rattle.promises.proofs.Names.{fraction-small, NeverFalls, End, near-fraction, fractionOf, figure-finite, figure-close, figure-follows, fraction-finite, fraction-rises, NoCurve, low, high, CurveShownNear}
+use Rattle.promises.proofs.Names.{ShownNear, ShownFinite, ShownFollows, ShownRises, ShownRisesByPhysicalPoint, float}
 use Rattle.promises.proofs.Needles.{needle, needle-by-physical-point}
 use Rattle.figures.specs.Figures.{figure}
 use Rattle.promises.proofs.CurveFigures.{curve-held, curve-number}
@@ -43,7 +44,7 @@ pub record Taken (c : Contents) (v : ℤ) (r : Reading) : Type 0 where
   pub near : natAbs (position v (least c) (greatest c)) ≤ 2 ^ 31
   pub small : natAbs (r .fraction) ≤ 2 ^ 50
   pub counts : r .fraction ≡ fraction (c .calibration) (position v (least c) (greatest c))
-  pub shows : r .figure ≡ physicalFigure (low c) (high c) (share (c .calibration) (position v (least c) (greatest c)))
+  pub shows : r .figure ≡ physicalFigure (low c) (high c) (physicalFraction (c .calibration) (position v (least c) (greatest c)))
 
 -- Fields 7 and 8 of template 33.
 module _ (kind : ℕ) (image : List ℕ) (c : Contents) (accepted : contents kind image ≡ good c) (b : isResistance (c .template) ≡ false) where
@@ -81,7 +82,7 @@ taken kind image c v dash r accepted e =
     let t = passed outsideSpan (tooFar v (s .least) (s .greatest)) _ r g in
     let k = spanned d s found in
     let q : r .fraction ≡ fraction (d .calibration) (position v (s .least) (s .greatest)) = sym (ap (λ (y : Reading). y .fraction) (good-same (t .1))) in
-    let x : r .figure ≡ physicalFigure (s .low) (s .high) (share (d .calibration) (position v (s .least) (s .greatest))) = sym (ap (λ (y : Reading). y .figure) (good-same (t .1))) in
+    let x : r .figure ≡ physicalFigure (s .low) (s .high) (physicalFraction (d .calibration) (position v (s .least) (s .greatest))) = sym (ap (λ (y : Reading). y .figure) (good-same (t .1))) in
     subst (λ (y : Contents). Taken y v r) (good-same (sym holds ∙ accepted))
     (record {
       foot = low-end kind image d holds b s found;
@@ -91,11 +92,11 @@ taken kind image c v dash r accepted e =
       near = subst (λ (y : Span). natAbs (position v (y .least) (y .greatest)) ≤ 2 ^ 31) (sym (k .is)) (within kind image d holds b s found v (t .0));
       small = rw q (omega (arith, few kind image d holds b s found v (t .0)));
       counts = q ∙ ap (λ (y : Span). fraction (d .calibration) (position v (y .least) (y .greatest))) (sym (k .is));
-      shows = x ∙ ap (λ (y : Span). physicalFigure (y .low) (y .high) (share (d .calibration) (position v (y .least) (y .greatest)))) (sym (k .is));
+      shows = x ∙ ap (λ (y : Span). physicalFigure (y .low) (y .high) (physicalFraction (d .calibration) (position v (y .least) (y .greatest)))) (sym (k .is));
     })
 
--- Without a curve the share is the fraction's.
-by-fraction : (k : Calibration) (p : ℤ) → NoCurve k → share k p ≡ floatFraction (fraction k p)
+-- Without a curve the figure is computed from q.
+by-fraction : (k : Calibration) (p : ℤ) → NoCurve k → physicalFraction k p ≡ floatFraction (fraction k p)
 by-fraction bare p h = refl
 by-fraction (table domain pairs) p h = refl
 by-fraction (curve segments) p h = absurd h
@@ -103,7 +104,7 @@ by-fraction (curve segments) p h = absurd h
 pub figure-is : (c : Contents) (v : ℤ) (r : Reading) → Taken c v r → NoCurve (c .calibration) → r .figure ≡ figure (low c) (high c) (r .fraction)
 figure-is c v r t h = t .shows ∙ ap (physicalFigure (low c) (high c)) (by-fraction (c .calibration) (position v (least c) (greatest c)) h ∙ ap floatFraction (sym (t .counts)))
 
--- ---- what is promised
+-- ---- the statements
 
 pub shown-near : ShownNear
 shown-near kind image c v dash r accepted plain e =
@@ -122,7 +123,7 @@ shown-finite kind image v dash r e =
     ap finite (t .shows) ∙ go c t _ (c .calibration) (contents-accepted kind image c (x .accepted) .holding .formed .calibrated) (rw (t .counts) at (t .small))
   where
     go : (c : Contents) → Taken c v r → (at : ℕ) (k : Calibration) → CalibrationAt at k → natAbs (fraction k (position v (least c) (greatest c))) ≤ 2 ^ 50
-        → finite (physicalFigure (low c) (high c) (share k (position v (least c) (greatest c)))) ≡ true
+        → finite (physicalFigure (low c) (high c) (physicalFraction k (position v (least c) (greatest c)))) ≡ true
     go c t at bare h l = figure-finite (low c) (high c) (fraction bare (position v (least c) (greatest c))) (t .foot) (t .top) l
     go c t at (table domain pairs) h l = figure-finite (low c) (high c) (fraction (table domain pairs) (position v (least c) (greatest c))) (t .foot) (t .top) l
     go c t at (curve segments) h l = curve-number (low c) (high c) (position v (least c) (greatest c)) _ segments (t .foot) (t .top) (t .near) (h .stand)
@@ -132,10 +133,10 @@ curve-shown-near kind image c segments v dash r accepted e reads =
     let t = taken kind image c v dash r accepted reads in
     let p = position v (least c) (greatest c) in
     let q : r .fraction ≡ p = t .counts ∙ ap (λ (k : Calibration). fraction k p) e in
-    let x : r .figure ≡ physicalFigure (low c) (high c) (fractionOf (servingTerms p segments) p) = t .shows ∙ ap (λ (k : Calibration). physicalFigure (low c) (high c) (share k p)) e in
+    let x : r .figure ≡ physicalFigure (low c) (high c) (fractionOf (servingTerms p segments) p) = t .shows ∙ ap (λ (k : Calibration). physicalFigure (low c) (high c) (physicalFraction k p)) e in
     let h : CalibrationAt _ (curve segments) = subst (CalibrationAt _) e (contents-accepted kind image c accepted .holding .formed .calibrated) in
     let w = curve-held p _ segments (t .near) (h .stand) in
-    rw (x, q) (near-share (low c) (high c) (fractionOf (servingTerms p segments) p) (t .foot) (t .top) (w .negative) (w .count) (w .value) (w .most))
+    rw (x, q) (near-fraction (low c) (high c) (fractionOf (servingTerms p segments) p) (t .foot) (t .top) (w .negative) (w .count) (w .value) (w .most))
 
 pub shown-follows : ShownFollows
 shown-follows kind image c v w one other r s accepted plain e k more =

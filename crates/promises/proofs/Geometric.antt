@@ -1,5 +1,4 @@
--- A geometric figure is stored by ratio.
--- Assumes nothing.
+-- Proof that a geometric figure is stored by ratio.
 use Rattle.promises.proofs.Names.{_≡_, ap, _∙_, ℕ, suc, _≤_, arith, pos, good, le-ltZ, Scale, Row, Geometric, Whole, topCode, progression, geometricValue, storedAt, encode, Rising, values-rise, no-less}
 use Rattle.promises.proofs.Names.{geometric-by-ratio, EncodedByRatio}
 

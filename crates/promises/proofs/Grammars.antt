@@ -1,10 +1,10 @@
--- One grammar for a build and a check.
-use Rattle.promises.proofs.Names.{_≡_, refl, sym, ap₂, subst, Bool, _&&_, List, [], _∷_, _++_, map, ℕ, _+_, _-_, leb, Piece, piece, needed, Format, ends, stops, takes, looks}
-use Rattle.promises.proofs.Names.{sheetOf, Parses, zeroIf, sheet-parses, laid, OneGrammar}
+-- Proof that a build and a check share one grammar.
+use Rattle.promises.proofs.Names.{_≡_, refl, sym, ap₂, subst, Bool, _&&_, List, [], _∷_, _++_, map, ℕ, _+_, _-_, leb, Piece, piece, needed, Format, ends, stops, takes, looks, sheetOf, Parses, zeroIf, sheet-parses}
+use Rattle.promises.proofs.Names.{laid, OneGrammar}
 use Rattle.promises.proofs.PlannedSheet.{plan-stands}
 use Rattle.promises.proofs.Written.{real-at}
 
--- The first pieces that a format takes are given to their codes.
+-- The first pieces that a format reads are those laid by their codes.
 codes-laid : {A : Type 0} (S : ℕ) (f : Format A) (at : ℕ) (ps qs : List Piece) (b : A) → Parses S f at (ps ++ qs) b → laid S f at (map (λ p. p .code) ps) ≡ ps
 codes-laid S (ends a) at [] qs b l = refl
 codes-laid S (ends a) at (p ∷ ps) qs b l = absurd l

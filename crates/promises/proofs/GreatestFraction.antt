@@ -1,17 +1,17 @@
--- The greatest fraction that a reading without a curve can have, and the figure's distance told beforehand.
-use Rattle.promises.proofs.Names.{_≡_, refl, ap, Bool, true, false, _||_, true≢false, List, [], _∷_, map, Option, none, some, ℕ, _+_, _*_, _≤_, _<_, mul-le-mul-left, mul-le-mul-right, arith, ltb-false}
-use Rattle.promises.proofs.Names.{ltb, ℤ, pos, natAbs, negℤ, _+ℤ_, _-ℤ_, _*ℤ_, ltZ, _<ℤ_, Float, up, dn, Fraction, _over_, add-parts, sub-parts-ℤ, mul-parts, abs-parts, up-neg, dn-neg, ltZ-parts, nltZ-parts}
-use Rattle.promises.proofs.Names.{is-false, outsideTable, passed, Codes, Domain, Electrical, Physical, R, leastDeviation, calDeviation, billion, topCode, steppedValue, decode, stepped-whole, Found, FoundPair}
-use Rattle.promises.proofs.Names.{Calibration, bare, table, curve, codesIn, figure, pairIn, contents-accepted, FieldAt, PairsAt, CalibrationAt, deviation, less, above-parts, near-abs, scaled}
-use Rattle.promises.proofs.Names.{nearest-small, Deviations, deviation-within, crossing-within, calibration-rises, least, greatest, tooFar, position, fraction, pairs-table, shown, altered, leastIn, greatestIn}
-use Rattle.promises.proofs.Names.{lineFor, NoCurve}
+-- Laws of the greatest fraction of a reading without a
+-- curve, and of the figure's distance known beforehand.
+use Rattle.promises.proofs.Names.{_≡_, refl, ap, Bool, true, false, _||_, true≢false, List, [], _∷_, map, Option, none, some, ℕ, _+_, _*_, _≤_, _<_, mul-le-mul-left, mul-le-mul-right, arith, ltb-false, ltb, ℤ}
+use Rattle.promises.proofs.Names.{pos, natAbs, negℤ, _+ℤ_, _-ℤ_, _*ℤ_, ltZ, _<ℤ_, Float, up, dn, Fraction, _over_, add-parts, sub-parts-ℤ, mul-parts, abs-parts, up-neg, dn-neg, ltZ-parts, nltZ-parts, is-false}
+use Rattle.promises.proofs.Names.{outsideTable, passed, Codes, Domain, Electrical, Physical, R, leastDeviation, calDeviation, billion, topCode, steppedValue, decode, stepped-whole, Found, FoundPair, Calibration}
+use Rattle.promises.proofs.Names.{bare, table, curve, codesIn, figure, pairIn, contents-accepted, FieldAt, PairsAt, CalibrationAt, deviation, less, above-parts, near-abs, scaled, nearest-small, Deviations}
+use Rattle.promises.proofs.Names.{deviation-within, crossing-within, calibration-rises, least, greatest, tooFar, position, fraction, pairs-table, shown, altered, leastIn, greatestIn, lineFor, NoCurve}
 use Rattle.promises.proofs.Names.{FigureWithin, lowIn, highIn, greatestFraction, FractionAtMost, DistanceFigure, units}
 use Rattle.promises.proofs.KeptLent.{kept-lent}
 use Rattle.promises.proofs.Beforehand.{distance-holds}
 use Rattle.promises.proofs.Figures.{taken}
 use Rattle.promises.proofs.FigureLines.{figure-strays, no-curve}
 
--- ---- the position reaches 1,100,000,000
+-- ---- the position is at most 1,100,000,000
 
 last-two : (a b c d : Bool) → (a || b || c || d) ≡ false → (c ≡ false) × (d ≡ false)
 last-two true b c d e = absurd (true≢false e)
@@ -32,7 +32,7 @@ position-most v e f span near =
     nearest-small 1_100_000_000 (w *ℤ pos billion over natAbs g) some
     (omega (arith, run, low, high, up-neg g, dn-neg g, mul-parts (pos 10) w, mul-parts (pos 11) g, scaled w billion))
 
--- ---- a deviation 1,097,150,000
+-- ---- a deviation is at most 1,097,150,000
 
 deviation-most : {at : ℕ} {x : Found} → FieldAt calDeviation at x → natAbs (figure (x .value)) ≤ 1_097_150_000
 unfolding decode
@@ -68,7 +68,7 @@ fraction-at-most kind image c v dash r accepted plain e =
     (fraction-most _ (c .calibration) (position v (least c) (greatest c)) (contents-accepted kind image c accepted .holding .formed .calibrated) plain
     (position-most v (least c) (greatest c) (t .rises) (t .inside)))
 
--- ---- told beforehand
+-- ---- known beforehand
 
 more : (B q Q : ℕ) (low high figure : Float) (line : Fraction) → q ≤ Q → FigureWithin B q low high figure line → FigureWithin B Q low high figure line
 more B q Q low high figure line l h =

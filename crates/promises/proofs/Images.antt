@@ -1,5 +1,4 @@
--- An image and its stream.
--- Assumes nothing.
+-- Laws of an image and its stream.
 use Rattle.promises.proofs.Names.{refl, image-length, image-bytes, image-sums, image-number-lt, two-views, StreamSizes, StreamToImage, ImageToStream}
 
 pub stream-sizes : StreamSizes

@@ -1,4 +1,4 @@
--- An index, and fields fetched through it.
+-- Laws of an index, and of fields fetched through it.
 use Rattle.promises.proofs.Names.{_≡_, refl, sym, ap, _∙_, Bool, true, false, cond, List, [], _∷_, _++_, map, ℕ, suc, _-_, _≤_, _<_, arith, decLt, eqb, length, drop, map-set-same, Outcome, good, refused, _>>_}
 use Rattle.promises.proofs.Names.{_>>=_, good-same, Sizes, imageSizes, sums, sizes-chip, Layout, lastField, last-most, bits-least, Contents, contents, nothing, field, layoutOf, pairsIn, contents-accepted}
 use Rattle.promises.proofs.Names.{readField, fields-end, refused-reads, Value, decode, kept, codeFor, mayCommit, Entry, fieldEntry, pairEntry, entries, entryBytes, entryAt, index, fetch, entryOf, bytes-count}
@@ -43,7 +43,7 @@ index-sorted kind image buffer made c i e h l =
       lies (contents-accepted kind image c e .holding) i (omega arith) .some,
     )
 
--- ---- its bytes
+-- ---- the bytes of an index
 
 pub index-fits : IndexFits
 index-fits kind image c e = go (decLt (lastField (c .template)) (length (entries c)))
@@ -73,7 +73,7 @@ index-fits kind image c e = go (decLt (lastField (c .template)) (length (entries
 
 -- ---- after changes and commits
 
--- Both leave rows and places as they are, and with them the entries.
+-- A change or a commit keeps rows and places, and so the entries.
 module _ (c : Contents) where
   recoded-entries : (f code : ℕ) (v : Value) → entries (replaced c f code v) ≡ entries c
   recoded-entries f code v = ap (λ (es : List Entry). es ++ map pairEntry (pairsIn (c .calibration))) (map-set-same fieldEntry (c .fields) (f - 1) _ nothing refl)

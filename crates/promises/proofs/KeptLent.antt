@@ -1,11 +1,12 @@
--- What a reading is taken from: the points that were lent and the ends of the span, as an image holds them after a build and whatever changes and commits.
+-- Laws of what a reading uses: the lent points and the ends of the
+-- span, in an image after a build and any changes and commits.
 use Rattle.promises.proofs.Names.{_≡_, sym, ap, _∙_, subst, List, [], map, ℕ, _≤_, le-refl, arith, ℤ, good, good-same, Bytes, pack, image-bytes, Domain, lastField, span-listed, Calibration, Contents, contents}
 use Rattle.promises.proofs.Names.{pairIn, pairsIn, points, segmentIn, segmentsIn, segments, domainIn, accepted-reads, Sheet, pairsLent, listed, build, least, greatest, Lendable, keptPair, domainLent, Alteration}
 use Rattle.promises.proofs.Names.{RealAlterations, altered, held, whole, leastIn, greatestIn}
 use Rattle.promises.proofs.Written.{built, written-and-read-again}
 use Rattle.promises.proofs.AfterAlterations.{same-kind, after-alterations, held-calibration}
 
--- The points lent, each at its step, and their domain.
+-- The lent points, each as its step keeps it, and their domain.
 pub record KeptLent (domain : Domain) (lentPoints : List ℤ) (c : Contents) : Type 0 where
   pub keepsPoints : points c ≡ map keptPair (pairsLent lentPoints)
   pub keepsDomain : domainIn (c .calibration) ≡ domainLent domain (pairsLent lentPoints)
@@ -29,7 +30,7 @@ kept-lent kind buffer sheet text domain lentPoints image alterations readingKind
       keepsSegments = ap (λ (q : Calibration). map segmentIn (segmentsIn q)) same ∙ w .2 .sameSegments;
     }
 
--- e and f as they are read.
+-- e and f as read.
 pub ends-read : (kind : ℕ) (image : List ℕ) (c : Contents) → contents kind image ≡ good c → (leastIn kind image ≡ least c) × (greatestIn kind image ≡ greatest c)
 ends-read kind image c e =
     let read = accepted-reads kind image c e .fields in

@@ -1,14 +1,13 @@
--- What the type of a parameter says: a sheet that is lent is `Lendable`.
--- Assumes nothing.
+-- Proof that a sheet of a parameter's type is `Lendable`.
 use Rattle.promises.proofs.Names.{subst, List, [], _∷_, map, length-map, Val, shadow, each, tells, Value, Real, the-laws, lent-real, Slot, Sheet, AllReal, Lendable}
 use denote.Laws.{Is}
 use denote.Enum.Declared as enum
 use denote.Struct.Declared as struct
-use Rattle.fields.proofs.Value as value
+use Rattle.codes.proofs.Value as value
 use Rattle.build.proofs.Slot as slot
 use Rattle.build.proofs.Sheet as sheet
 
--- A value, whatever machine values stand for it.
+-- A value, whatever machine values represent it.
 value-real : (v : Value) (vs : List Val) → Is (enum.row value.the-type) v vs → Real v
 value-real v vs h = lent-real v (subst (Is (enum.row value.the-type) v) (tells value.the-type the-laws v vs h) h)
 

@@ -1,7 +1,7 @@
--- Changes and commits lent as slices.
--- Assumes nothing.
-use Rattle.promises.proofs.Names.{_≡_, refl, sym, ap, _∙_, subst, List, [], _∷_, _++_, _≢_, ℕ, zero, suc, _+_, _≤_, _<_, add-one, arith, ne-eqb, ℤ, pos, Float, nan, length, getD, afterwards, Value, Missing, Level}
-use Rattle.promises.proofs.Names.{Owner, Real, change, commit, Alteration, RealAlteration, RealAlterations, alteredBy, altered, levelLent, valueOfSort, valueAt, alterationLent, alterationsBefore, alterationsLent}
+-- Laws of changes and commits lent as slices.
+use Rattle.promises.proofs.Names.{_≡_, refl, sym, ap, _∙_, subst, List, [], _∷_, _++_, _≢_, ℕ, zero, suc, _+_, _≤_, _<_, add-one, arith, ne-eqb, ℤ, pos, Float, nan, length, getD, afterwards, Missing, Owner, Real}
+use Rattle.promises.proofs.Names.{change, commit, Alteration, RealAlteration, RealAlterations, alteredBy, altered, levelLent, valueOfSort, valueAt, alterationLent, alterationsBefore, alterationsLent, Bool, true}
+use Rattle.promises.proofs.Names.{false, cond, eqb, changes, commits, alterationOf, changeOf, commitOf, contentAt, targetAt, Target, Content}
 
 pub level-other : (n : ℕ) → n ≢ 1 → n ≢ 2 → Owner ≡ levelLent n
 level-other zero no1 no2 = refl
@@ -19,23 +19,23 @@ missing-sort zero whole single no0 no1 = absurd (no0 refl)
 missing-sort (suc zero) whole single no0 no1 = absurd (no1 refl)
 missing-sort (suc (suc n)) whole single no0 no1 = refl
 
--- Past the end of a slice.
-pub value-out : (sorts : List ℕ) (wholes : List ℤ) (singles : List Float) (i : ℕ) → (i < length sorts → i < length wholes → i < length singles → ⊥) →
-    Missing ≡ valueAt sorts wholes singles i
+-- An index past the end of a slice.
+pub value-out : (tags : List ℕ) (wholes : List ℤ) (singles : List Float) (i : ℕ) → (i < length tags → i < length wholes → i < length singles → ⊥) →
+    Missing ≡ valueAt tags wholes singles i
 value-out [] wholes singles i h = refl
-value-out (s ∷ sorts) [] singles i h = refl
-value-out (s ∷ sorts) (w ∷ wholes) [] i h = refl
-value-out (s ∷ sorts) (w ∷ wholes) (x ∷ singles) zero h = absurd (h (omega arith) (omega arith) (omega arith))
-value-out (s ∷ sorts) (w ∷ wholes) (x ∷ singles) (suc i) h = value-out sorts wholes singles i (λ a b c. h (omega arith) (omega arith) (omega arith))
+value-out (s ∷ tags) [] singles i h = refl
+value-out (s ∷ tags) (w ∷ wholes) [] i h = refl
+value-out (s ∷ tags) (w ∷ wholes) (x ∷ singles) zero h = absurd (h (omega arith) (omega arith) (omega arith))
+value-out (s ∷ tags) (w ∷ wholes) (x ∷ singles) (suc i) h = value-out tags wholes singles i (λ a b c. h (omega arith) (omega arith) (omega arith))
 
--- Inside all of them.
-pub value-in : (sorts : List ℕ) (wholes : List ℤ) (singles : List Float) (i : ℕ) → i < length sorts → i < length wholes → i < length singles →
-    valueOfSort (getD sorts i 0) (getD wholes i (pos 0)) (getD singles i nan) ≡ valueAt sorts wholes singles i
+-- An index inside all slices.
+pub value-in : (tags : List ℕ) (wholes : List ℤ) (singles : List Float) (i : ℕ) → i < length tags → i < length wholes → i < length singles →
+    valueOfSort (getD tags i 0) (getD wholes i (pos 0)) (getD singles i nan) ≡ valueAt tags wholes singles i
 value-in [] wholes singles i a b c = absurd (omega arith)
-value-in (s ∷ sorts) [] singles i a b c = absurd (omega arith)
-value-in (s ∷ sorts) (w ∷ wholes) [] i a b c = absurd (omega arith)
-value-in (s ∷ sorts) (w ∷ wholes) (x ∷ singles) zero a b c = refl
-value-in (s ∷ sorts) (w ∷ wholes) (x ∷ singles) (suc i) a b c = value-in sorts wholes singles i (omega arith) (omega arith) (omega arith)
+value-in (s ∷ tags) [] singles i a b c = absurd (omega arith)
+value-in (s ∷ tags) (w ∷ wholes) [] i a b c = absurd (omega arith)
+value-in (s ∷ tags) (w ∷ wholes) (x ∷ singles) zero a b c = refl
+value-in (s ∷ tags) (w ∷ wholes) (x ∷ singles) (suc i) a b c = value-in tags wholes singles i (omega arith) (omega arith) (omega arith)
 
 -- ---- one more
 
@@ -47,34 +47,51 @@ real-more : (list : List Alteration) (a : Alteration) → RealAlterations list �
 real-more [] a h r = (r, tt)
 real-more (b ∷ list) a h r = (h .0, real-more list a (h .1) r)
 
-module _ (kinds levels fields sorts : List ℕ) (wholes : List ℤ) (singles : List Float) (presents news : List ℕ) where
-  -- What stands at an index, from what was read there.
+-- ---- one of them
+
+abbrev Made : List ℕ → List ℕ → Target → Content → Type 0
+Made image after t c = (after ≡ alteredBy image (alterationOf t c)) × RealAlteration (alterationOf t c)
+
+pub committed : (image after : List ℕ) (t : Target) (c : Content) → c .sort ≡ 3 →
+    after ≡ afterwards image (commit (t .kind) image (t .level) (t .field) (c .present) (c .new)) → after ≡ alteredBy image (alterationOf t c)
+committed image after t c s e = rw s e
+
+pub changed : (image after : List ℕ) (t : Target) (c : Content) → c .sort ≢ 3 →
+    after ≡ afterwards image (change (t .kind) image (t .level) (t .field) (c .value)) → after ≡ alteredBy image (alterationOf t c)
+changed image after t c s e = rw (ne-eqb (c .sort) 3 s) e
+
+real-by : (b : Bool) (t : Target) (c : Content) → Real (c .value) → RealAlteration (cond b (commits (commitOf t c)) (changes (changeOf t c)))
+real-by true t c r = tt
+real-by false t c r = r
+
+module _ (kinds levels fields tags : List ℕ) (wholes : List ℤ) (singles : List Float) (presents news : List ℕ) where
   abbrev here : ℕ → Alteration
-  here i = alterationLent kinds levels fields sorts wholes singles presents news i
+  here i = alterationLent kinds levels fields tags wholes singles presents news i
 
-  module _ (image after : List ℕ) (i kind number : ℕ) (level : Level) (k : kind ≡ getD kinds i 0) (n : number ≡ getD levels i 0) (l : level ≡ levelLent number) where
-    pub committed-at : (sort present new : ℕ) → sort ≡ getD sorts i 0 → sort ≡ 3 → present ≡ getD presents i 0 → new ≡ getD news i 0 →
-        after ≡ afterwards image (commit kind image level (getD fields i 0) present new) → (after ≡ alteredBy image (here i)) × RealAlteration (here i)
-    committed-at sort present new s t p q e = rw (← s, t) (e ∙ rw (k, l, n, p, q), tt)
+  made-here : (image after : List ℕ) (i : ℕ) (t : Target) (c : Content) →
+      t ≡ targetAt kinds levels fields i → (c ≡ contentAt tags wholes singles presents news i) × Real (c .value) →
+      after ≡ alteredBy image (alterationOf t c) → (after ≡ alteredBy image (here i)) × RealAlteration (here i)
+  made-here image after i t c p (q, r) e =
+      subst (λ (d : Content). Made image after (targetAt kinds levels fields i) d) q
+      (subst (λ (u : Target). Made image after u c) p (e, real-by (eqb (c .sort) 3) t c r))
 
-    pub changed-at : (sort : ℕ) (value : Value) → sort ≡ getD sorts i 0 → sort ≢ 3 → (value ≡ valueAt sorts wholes singles i) × Real value →
-        after ≡ afterwards image (change kind image level (getD fields i 0) value) → (after ≡ alteredBy image (here i)) × RealAlteration (here i)
-    changed-at sort value s t (v, real) e = rw (ne-eqb (getD sorts i 0) 3 (λ f. t (s ∙ f))) (e ∙ rw (k, l, n, v), subst Real v real)
-
-  -- The image is as those before an index leave it.
+  -- The image is as the alterations before an index leave it.
   pub record Altered (start image : List ℕ) (i : ℕ) : Type 0 where
-    pub bytes : image ≡ altered start (alterationsBefore kinds levels fields sorts wholes singles presents news i)
-    pub real : RealAlterations (alterationsBefore kinds levels fields sorts wholes singles presents news i)
+    pub bytes : image ≡ altered start (alterationsBefore kinds levels fields tags wholes singles presents news i)
+    pub real : RealAlterations (alterationsBefore kinds levels fields tags wholes singles presents news i)
 
-  pub one-more : (start image after : List ℕ) (i : ℕ) → Altered start image i → (after ≡ alteredBy image (here i)) × RealAlteration (here i) → Altered start after (i + 1)
-  one-more start image after i h (e, r) =
-      let list = alterationsBefore kinds levels fields sorts wholes singles presents news i in
+  pub one-more : (start image after : List ℕ) (i : ℕ) (t : Target) (c : Content) → Altered start image i →
+      t ≡ targetAt kinds levels fields i → (c ≡ contentAt tags wholes singles presents news i) × Real (c .value) →
+      after ≡ alteredBy image (alterationOf t c) → Altered start after (i + 1)
+  one-more start image after i t c h p q e =
+      let list = alterationsBefore kinds levels fields tags wholes singles presents news i in
+      let (m, r) = made-here image after i t c p q e in
       rw (add-one i)
       (record {
-        bytes = e ∙ ap (λ l. alteredBy l (here i)) (h .bytes) ∙ sym (altered-more start list (here i));
+        bytes = m ∙ ap (λ l. alteredBy l (here i)) (h .bytes) ∙ sym (altered-more start list (here i));
         real = real-more list (here i) (h .real) r;
       })
 
   pub all-of-them : (start image : List ℕ) (i : ℕ) → i ≡ length fields → Altered start image i →
-      let list = alterationsLent kinds levels fields sorts wholes singles presents news in (image ≡ altered start list) × RealAlterations list
+      let list = alterationsLent kinds levels fields tags wholes singles presents news in (image ≡ altered start list) × RealAlterations list
   all-of-them start image i e h = rw (← e) (h .bytes, h .real)

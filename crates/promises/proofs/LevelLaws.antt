@@ -1,4 +1,4 @@
--- Note 6: what a level may write.
+-- Laws of Note 6: what a level may write.
 use Rattle.promises.proofs.Names.{_≡_, refl, sym, ap, _∙_, Bool, true, false, _||_, List, [], _∷_, ℕ, suc, _≤_, arith, eqb, ltb, length, ne-eqb, le-ltb, good, refused, _>>_, _>>=_, refuse_if_, afterwards, noSuch}
 use Rattle.promises.proofs.Names.{changedAlone, levelTooLow, bind-same, bind-good, bind-refused, then-good, Value, Level, Owner, CalibrationRoom, Maker, Mark, Id, Cal, Usr, encode, Line, chose, basic, template33}
 use Rattle.promises.proofs.Names.{template32, templateLines, linesOf, lineOf, mayWrite, rank, piece, Found, Contents, contents, field, Sheet, lent, templateIn, linePieces, fieldPieces, plan, builtIn, buildWith}
@@ -11,7 +11,7 @@ fields-of-levels = record { owner = refl; calibrationRoom = refl; maker = refl; 
 
 -- ---- the maker
 
--- The same tests with the level's, which a maker passes, and without.
+-- The tests with the level's, which a maker passes, agree with those without.
 module _ (kind : ℕ) (image : List ℕ) (f : ℕ) (v : Value) (x : Found) where
   same-tests : (none sets : Bool) →
       ((((refuse noSuch f if none) >> good x) >>= λ y. (refuse changedAlone f if sets) >> good y) >>= (λ y. encode (y .row) f v) >>= rewritten kind image x)
@@ -26,7 +26,7 @@ maker-as-before kind image f v =
     bind-same (contents kind image)
     (λ c. same-tests kind image f v (field c f) (eqb f 0 || ltb (length (c .fields)) f) (lineOf (c .template) f .sets))
 
--- ---- the others
+-- ---- the other levels
 
 module _ (level : Level) (kind : ℕ) (image : List ℕ) (c : Contents) (f : ℕ) (e : contents kind image ≡ good c) (lo : 1 ≤ f) (hi : f ≤ length (c .fields))
     (free : lineOf (c .template) f .sets ≡ false) (low : mayWrite level (lineOf (c .template) f .mark) ≡ false) where

@@ -1,5 +1,4 @@
--- Note 6: 20 is returned only where the level does not hold the field.
--- Assumes nothing.
+-- Proof of Note 6: 20 is returned only if the level may not write the field.
 use Rattle.promises.proofs.Names.{_≡_, refl, sym, ap, _∙_, subst, Bool, true, false, not, _||_, List, [], _∷_, ℕ, _<_, arith, eqb, ltb, length, eqb-false, ltb-false, Refusal, Outcome, good, refused, _>>=_, _>>_}
 use Rattle.promises.proofs.Names.{refuse_if_, noSuch, changedAlone, levelTooLow, outOfRange, otherCode, occurs, By, checkOrder, neither, bind-assoc, by-among, by-bind, by-then, by-test, by-last, by-number, Value}
 use Rattle.promises.proofs.Names.{Level, decode, encode, lineOf, mayWrite, Found, Contents, contents, field, changeable, codeFor, rewritten, change, propose, mayStand, mayCommit, commit, NotHeld, RefusedOnlyThere}
@@ -17,7 +16,7 @@ then-assoc (good a) f next = refl
 then-assoc (refused r) f next = refl
 
 module _ (level : Level) (kind : ℕ) (image : List ℕ) (f : ℕ) (r : Refusal) (twenty : r .number ≡ 20) where
-  -- Of the tests of a field, with what a call does after them.
+  -- The tests of a field, and the rest of a call.
   tested : {B : Type 0} (c : Contents) (next : Found → Outcome B) → ((x : Found) → By added (next x)) → contents kind image ≡ good c →
       (changeable c level f >>= next) ≡ refused r → NotHeld level kind image f
   unfolding changeable
@@ -43,7 +42,7 @@ module _ (level : Level) (kind : ℕ) (image : List ℕ) (f : ℕ) (r : Refusal)
             held = m;
           }
 
-  -- Of a call that begins with the check.
+  -- A call that begins with the check.
   checked : {B : Type 0} (next : Contents → Outcome B) → ((c : Contents) → contents kind image ≡ good c → next c ≡ refused r → NotHeld level kind image f) →
       (contents kind image >>= next) ≡ refused r → NotHeld level kind image f
   checked next h e = go (contents kind image) refl (contents-by kind image) e

@@ -1,16 +1,16 @@
--- Row 11: the bits that a build needs.
+-- Laws of row 11: the bits that a build needs.
 use Rattle.promises.proofs.Names.{_≡_, refl, sym, ap, ap₂, _∙_, Bool, true, false, cond, List, [], _∷_, _++_, map, Option, none-before, some, ℕ, zero, suc, _+_, _-_, _≤_, arith, leb, pos, length, drop, length-map}
 use Rattle.promises.proofs.Names.{length-append, length-take-le, lt-ltb, leb-true, good, _>>=_, outOfRange, good-same, good-bind, passed, both, Piece, piece, needed, needed-append, Whole, Plain, Template, Bridge}
 use Rattle.promises.proofs.Names.{Resistance, outside, encode, always, bridgePrecision, resistancePrecision, Line, chose, basic, template33, template32, templateLines, linesOf, numberOf, bitsBefore, Segment, Term}
 use Rattle.promises.proofs.Names.{pairIn, pairsIn, segmentsIn, segmentIn, allTerms, termIn, blockBits, fieldPlace, behindFields, tableBits, curveBits, blockPieces, endCode, Steady, basic-settled, template-steady}
-use Rattle.promises.proofs.Names.{bits-append, calibration-needed, text-needed, Sheet, lent, templateIn, linePieces, pairsLent, segmentPieces, Table, listed, drawn, behindPieces, segments-planned, block-planned}
+use Rattle.promises.proofs.Names.{bits-append, calibration-needed, text-needed, Sheet, lent, templateIn, linePieces, pairsLent, segmentPieces, Table, listed, byCurve, behindPieces, segments-planned, block-planned}
 use Rattle.promises.proofs.Names.{start-planned, keptPair, keptSegment, segmentsLent, termsIn, behindBits, BitsNeeded, BridgeBits, ResistanceBits, LendableTable}
 use Rattle.promises.proofs.PlannedSheet.{plan-parts, BehindStands, behind-stands}
 
 -- ---- the bits of lines
 
 module _ (sheet : Sheet) where
-  -- Where none sets widths, at the latest choice.
+  -- If no line sets widths, at the latest choice.
   settled-needed : (lines : List Line) → Steady true lines → (latest f : ℕ) (ps : List Piece) → linePieces sheet lines latest f ≡ good ps →
       needed ps ≡ bitsBefore lines latest (length lines)
   unfolding linePieces
@@ -21,7 +21,7 @@ module _ (sheet : Sheet) where
       let k : linePieces sheet lines latest (suc f) ≡ good rest = ap (λ (t : Bool). linePieces sheet lines (chose t code latest) (suc f)) (sym (h .0)) ∙ e3 in
       omega (arith, ap needed (sym (good-same e4)), settled-needed lines (h .1) latest (suc f) rest k)
 
-  -- A choice is the code of the line that sets widths.
+  -- The choice is the code of the line that sets widths.
   abbrev pick : Bool → Type 0 → Type 0 → Type 0
   pick true A B = A
   pick false A B = B
@@ -53,12 +53,12 @@ module _ (sheet : Sheet) where
 
 -- ---- the bits of a plan
 
--- Basic's rows go by no choice.
+-- Basic's rows depend on no choice.
 basic-bits : (latest : ℕ) → bitsBefore basic latest (length basic) ≡ 64
 unfolding basic
 basic-bits latest = refl
 
--- The choice of a sheet is the precision that it lends.
+-- The choice of a sheet is the precision that is lent.
 plain-choice : (least greatest precision choice : ℕ) → encode (always 2 (Plain least greatest)) 9 (Whole (pos precision)) ≡ good choice → precision ≡ choice
 unfolding encode
 plain-choice least greatest precision choice e =
@@ -80,7 +80,7 @@ fields-needed t choice =
       ap (λ (b : Bool). cond b blockBits 0) (lt-ltb (length basic) (suc (length (basic ++ templateLines t))) (omega (arith, length-append basic (templateLines t)))),
     )
 
--- The bits of what stands behind the fields.
+-- The bits of what follows the fields.
 behind-bits : (table : Table) → LendableTable table → (ps : List Piece) → behindPieces table ≡ good ps → (k : BehindStands 0 table ps) →
     tableBits (length (pairsIn (k .calibration))) + curveBits (length (segmentsIn (k .calibration))) (length (allTerms (segmentsIn (k .calibration)))) ≡ behindBits table
 behind-bits (listed domain points) lendable ps e k =
@@ -88,7 +88,7 @@ behind-bits (listed domain points) lendable ps e k =
     sym (length-map (pairsIn (k .calibration)) pairIn) ∙ ap length (k .keepsPoints) ∙ length-map (pairsLent points) keptPair in
     let none : length (segmentsIn (k .calibration)) ≡ 0 = sym (length-map (segmentsIn (k .calibration)) segmentIn) ∙ ap length (k .keepsSegments) in
     omega (arith, ap tableBits count, ap (λ (n : ℕ). curveBits n (length (allTerms (segmentsIn (k .calibration))))) none)
-behind-bits (drawn given) lendable ps e k =
+behind-bits (byCurve given) lendable ps e k =
     let b = block-planned given ps e in
     let most = leb-true (given .count) 20 (both (leb 1 (given .count)) (leb (given .count) 20) (b .counted) .1) in
     let none : length (pairsIn (k .calibration)) ≡ 0 = sym (length-map (pairsIn (k .calibration)) pairIn) ∙ ap length (k .keepsPoints) in

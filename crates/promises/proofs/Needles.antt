@@ -1,7 +1,7 @@
--- Note 14: the position never falls, and the fraction goes by it.
+-- Proof of Note 14: the position never falls, and the fraction follows it.
 use Rattle.promises.proofs.Names.{_≡_, refl, sym, ap, _∙_, subst₂, List, map, ℕ, arith, ℤ, _≤ℤ_, good, good-same, Electrical, Physical, Calibration, bare, table, curve, Contents, contents, pairIn, CalibrationAt}
 use Rattle.promises.proofs.Names.{contents-accepted, Is, domainIn, deviated-never-falls, crossing-never-falls, least, greatest, position, fraction, calibration-table, calibration-rises, shown, position-rises}
-use Rattle.promises.proofs.Names.{NeverFalls, NeverDrops, Needle, NeedleByPhysicalPoint}
+use Rattle.promises.proofs.Names.{NeverFalls, NeverDrops, ReadingMonotone, MonotoneByPhysicalPoint}
 
 -- A greater position never has a smaller fraction.
 abbrev Follows : Calibration → Type 0
@@ -20,7 +20,7 @@ in-domain-1 at (table Physical pairs) h e p r le =
     crossing-never-falls (map pairIn pairs) (calibration-table at (table Physical pairs) h .rises) (calibration-rises at (table Physical pairs) Physical h refl) p r le
 in-domain-1 at (curve segments) h e p r le = le
 
--- So readings follow their inputs.
+-- Readings follow their inputs.
 never-drops : (kind : ℕ) (image : List ℕ) (c : Contents) → contents kind image ≡ good c → Follows (c .calibration) → NeverDrops kind image
 never-drops kind image c e follows v w one other r s taken later le =
     let x = shown kind image v one r taken in
@@ -31,8 +31,8 @@ never-drops kind image c e follows v w one other r s taken later le =
     subst₂ _≤ℤ_ (sym (x .shows ∙ ap (at v) same)) (sym (y .shows ∙ ap (at w) same′))
     (follows (position v (least c) (greatest c)) (position w (least c) (greatest c)) (position-rises (least c) (greatest c) (rw same at (x .rises)) v w le))
 
-pub needle : Needle
+pub needle : ReadingMonotone
 needle kind image c e falls = never-drops kind image c e (in-domain-0 _ (c .calibration) (contents-accepted kind image c e .holding .formed .calibrated) falls)
 
-pub needle-by-physical-point : NeedleByPhysicalPoint
+pub needle-by-physical-point : MonotoneByPhysicalPoint
 needle-by-physical-point kind image c e domain = never-drops kind image c e (in-domain-1 _ (c .calibration) (contents-accepted kind image c e .holding .formed .calibrated) domain)

@@ -1,5 +1,4 @@
--- Every call refuses by a row that its order names.
--- Assumes nothing.
+-- Proof that every call refuses by a row that its order names.
 use Rattle.promises.proofs.Names.{refl, RefusedByOrder, NeverZero, NeverFifteen}
 use Rattle.promises.proofs.Refusals.{reads-by-order, text-by, code-by}
 use Rattle.promises.proofs.BuildOrders.{writes-by-order, distance-by}

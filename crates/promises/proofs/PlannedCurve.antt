@@ -1,4 +1,4 @@
--- A curve: what a build plans may stand there, and what stands there is planned again.
+-- Laws of curves: the format allows what a build plans, and a parsed curve is planned again.
 use Rattle.promises.proofs.Names.{_≡_, refl, sym, ap, ap₂, _∙_, subst, Bool, true, false, not, true≢false, List, [], _∷_, _++_, map, map-append, Option, none, some, ℕ, zero, suc, _+_, _*_, _≤_, arith, not-false}
 use Rattle.promises.proofs.Names.{le-ltb, le-leb, leb-true, ltb, leb, ℤ, pos, negsuc, _*ℤ_, length, take, drop, length-map, length-append, length-take, length-drop, take-add, take-append-seam, drop-append-seam}
 use Rattle.promises.proofs.Names.{length-take-le, ltZ, up, dn, same, nltZ-parts, is-false, good, wrongCurve, good-same, passed, both, Piece, piece, needed, Whole, Single, Segment, Term, Curve, encode, kept}
@@ -7,11 +7,11 @@ use Rattle.promises.proofs.Names.{stepped-whole, reads-back, stored-aga
 use Rattle.promises.proofs.Names.{behindSegment, nothingPassed, figure, float, allTerms, segmentIn, termIn, blockPieces, found, width-is, plain-field, TermAt, TermsAt, termsPieces, SegmentAt, SegmentsAt}
 use Rattle.promises.proofs.Names.{segmentsPieces, coefficient-is, exponent-is, exponent-power, exponent-back, calibrationPieces, CalibrationAt, terms-planned, no-term, segments-planned, no-segment, block-planned}
 use Rattle.promises.proofs.Names.{start-planned, AllRealTerms, LendableCurve, keptSegment, segmentsLent, termsIn, termsLent}
-use Rattle.fields.proofs.CurveLaws.{between}
+use Rattle.templates.proofs.CurveLaws.{between}
 use Rattle.layout.proofs.Curves.{segmentPieces}
 use Rattle.build.specs.Build as plan
 
--- ---- an exponent that was planned
+-- ---- a planned exponent
 
 record Power (before : Option ℤ) (e : ℤ) (code : ℕ) : Type 0 where
   exact : tenthsOf code ≡ pos 10 *ℤ e
@@ -147,7 +147,7 @@ segments-stand before i at (s ∷ segments) terms ps real room e =
           ∙ sym (take-add n (termsIn segments) terms);
     }
 
--- Terms that begin with those of the segments that stand.
+-- Terms that begin with those of the parsed segments.
 segments-again : (before : Passed) (i at : ℕ) (xs : List FoundSegment) (terms : List Term) → SegmentsAt before at xs → take (length (allTerms xs)) terms ≡ map termIn (allTerms xs) →
     plan.segmentPieces (before .start) i (before .terms) (map segmentIn xs) terms ≡ good (segmentsPieces xs)
 unfolding plan.segmentPieces plan.startCode plan.countTested

@@ -1,12 +1,14 @@
--- What a build plans by lines may stand there, and what stands there is planned again: for any lines.
+-- Laws of fields, for any lines: the format allows what
+-- a build plans, and parsed fields are planned again.
 use Rattle.promises.proofs.Names.{_≡_, refl, sym, ap, _∙_, subst, List, [], _∷_, _++_, map, ℕ, suc, _+_, _-_, arith, length, getD, good, _>>=_, good-same, good-bind, Piece, piece, Value, Missing, Row, encode}
 use Rattle.promises.proofs.Names.{kept, Real, AllSound, Line, chose, rowsOf, reads-back, stored-again, Found, pieceOf, found, row-is, Laid, Slot, Sheet, slot, lent, linePieces}
 
--- The rows are sound whatever the choice.
+-- The rows are sound at every choice.
 abbrev pub SoundLines : List Line → Type 0
 SoundLines lines = (latest : ℕ) → AllSound (rowsOf lines latest)
 
--- Of each field found, counted from f: its value is what its row keeps of the one lent; its value is the one lent.
+-- For each parsed field, counted from f: its value is what
+-- its row keeps of the lent one; its value is the lent one.
 abbrev pub KeptFrom : Sheet → ℕ → List Found → Type 0
 KeptFrom sheet f [] = Unit {0}
 KeptFrom sheet f (x ∷ xs) = (x .value ≡ kept (x .row) (lent sheet f)) × KeptFrom sheet (suc f) xs
@@ -15,7 +17,7 @@ abbrev pub LentFrom : Sheet → ℕ → List Found → Type 0
 LentFrom sheet f [] = Unit {0}
 LentFrom sheet f (x ∷ xs) = (lent sheet f ≡ x .value) × LentFrom sheet (suc f) xs
 
--- Planned, and standing.
+-- Planned fields are what the format allows.
 pub record LinesStand (sheet : Sheet) (lines : List Line) (latest f at : ℕ) (ps : List Piece) : Type 0 where
   pub fields : List Found
   pub pieces : ps ≡ map pieceOf fields
@@ -40,7 +42,7 @@ lines-stand sheet real (l ∷ lines) latest f at ps sound e =
       keeps = (refl, k .keeps);
     }
 
--- Standing, and planned again.
+-- Parsed fields are planned again.
 pub lines-again : (sheet : Sheet) (lines : List Line) (latest f at : ℕ) (xs : List Found) → SoundLines lines → Laid lines latest at xs → LentFrom sheet f xs →
     linePieces sheet lines latest f ≡ good (map pieceOf xs)
 unfolding linePieces
@@ -54,7 +56,7 @@ lines-again sheet (l ∷ lines) latest f at (x ∷ xs) sound h k =
     rw (e, lines-again sheet lines (chose (l .sets) (x .code) latest) (suc f) (at + row .width) xs (λ c. sound c .1) (h .1) (k .1))
     (ap (λ r. good (piece (r .width) (x .code) ∷ map pieceOf xs)) (sym (row-is (h .0))))
 
--- ---- the values lent, from a list of slots
+-- ---- the lent values, from a list of slots
 
 abbrev pub valueAt : List Slot → ℕ → Value
 valueAt slots i = getD slots i (slot Missing) .value

@@ -1,4 +1,5 @@
--- The calibration pairs: what a build plans may stand there, and what stands there is planned again.
+-- Laws of calibration pairs: the format allows what
+-- a build plans, and parsed pairs are planned again.
 use Rattle.promises.proofs.Names.{_≡_, refl, sym, ap, ap₂, _∙_, subst, List, [], _∷_, _++_, map, Option, none, some, ℕ, suc, _+_, _≤_, arith, length, length-map, ℤ, good, _>>=_, _>>_, Piece, piece, Value, Whole}
 use Rattle.promises.proofs.Names.{Pair, Codes, Domain, encode, kept, domainCode, calPoint, calDeviation, point-sound, deviation-sound, stepped-whole, follows-anywhere, reads-back, stored-again, FoundPair}
 use Rattle.promises.proofs.Names.{Calibration, bare, table, curve, paired, codesIn, figure, pairIn, pairsIn, segmentsIn, blockPieces, found, width-is, PairAt, foundPairsPieces, PairsAt, calibrationPieces}
@@ -6,7 +7,7 @@ use Rattle.promises.proofs.Names.{CalibrationAt, domainIn, codesFor, pa
 
 -- ---- one pair
 
--- A pair that was planned stands at any place.
+-- A planned pair is allowed at any place.
 pair-stands : (domain : Domain) (before : Option Codes) (i at : ℕ) (p : Pair) (codes : Codes) → PairPlanned domain before i p codes →
     (x : FoundPair) × (codesIn x ≡ codes) × PairAt domain before at x × (pairIn x ≡ keptPair p)
 pair-stands domain before i at p codes h =
@@ -23,7 +24,7 @@ pair-stands domain before i at p codes h =
       refl,
     )
 
--- A pair that stands has its own codes again.
+-- A parsed pair has its own codes again.
 pair-again : (domain : Domain) (before : Option Codes) (i at : ℕ) (x : FoundPair) → PairAt domain before at x → pairCodes domain before i (pairIn x) ≡ good (codesIn x)
 unfolding pairCodes codesFor
 pair-again domain before i at x h =

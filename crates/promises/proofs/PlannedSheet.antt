@@ -1,11 +1,12 @@
--- A whole plan: what it writes may stand in a stream, with the zero that may end the text, and what stands there is planned again.
-use Rattle.promises.proofs.Names.{_≡_, refl, sym, ap, ap₂, _∙_, subst, Bool, true, false, _&&_, _||_, List, [], _∷_, _++_, map, append-assoc, ℕ, suc, _+_, _-_, _*_, _/_, _%_, _≤_, _<_, arith, eqb, ltb, leb}
-use Rattle.promises.proofs.Names.{ℤ, length, take, length-map, ltb-false, le-ltb, lt-ltb, leb-true, leb-false, ne-eqb, good, wrongSort, outOfRange, wrongList, good-same, good-bind}
-use Rattle.promises.proofs.Names.{good-then, passed, neither, bind-good, Piece, piece, needed, needed-append, Template, basic, templateLines, numberOf, ending, Real, Domain, basic-sound, lines-sound}
-use Rattle.promises.proofs.Names.{Calibration, bare, tableFound, curveFound, Contents, pairIn, pairsIn, segmentsIn, allTerms, segmentIn, termIn, points, segments, terms, blockPieces, endCode, pieceOf, laid-length}
-use Rattle.promises.proofs.Names.{calibrationPieces, CalibrationAt, Characters, zeroIf, text-needed, charactersFrom, endPieces, Formed, sheetPieces, domainIn, Sheet, lent, templateIn, linePieces, fieldPieces}
-use Rattle.promises.proofs.Names.{unfit, endingPieces, pairsLent, tablePieces, Table, listed, drawn, listTested, behindPieces, plan, LendableTable, segmentsLent, keptPoints, keptDomain, keptSegments, keptTerms}
-use Rattle.promises.proofs.Names.{InDomain, not-refused, fit-characters, strayText}
+-- Laws of a whole plan: the format allows what it writes, with the
+-- zero that may end the text, and a parsed sheet is planned again.
+use Rattle.promises.proofs.Names.{_≡_, refl, sym, ap, ap₂, _∙_, subst, Bool, true, false, _&&_, _||_, List, [], _∷_, _++_, map, append-assoc, ℕ, suc, _+_, _-_, _*_, _/_, _%_, _≤_, _<_, arith, eqb, ltb, leb, ℤ}
+use Rattle.promises.proofs.Names.{length, take, length-map, ltb-false, le-ltb, lt-ltb, leb-true, leb-false, ne-eqb, good, wrongSort, outOfRange, wrongList, good-same, good-bind, good-then, passed, neither}
+use Rattle.promises.proofs.Names.{bind-good, Piece, piece, needed, needed-append, Template, basic, templateLines, numberOf, ending, Real, Domain, basic-sound, lines-sound, Calibration, bare, tableFound}
+use Rattle.promises.proofs.Names.{curveFound, Contents, pairIn, pairsIn, segmentsIn, allTerms, segmentIn, termIn, points, segments, terms, blockPieces, endCode, pieceOf, laid-length, calibrationPieces}
+use Rattle.promises.proofs.Names.{CalibrationAt, Characters, zeroIf, text-needed, charactersFrom, endPieces, Formed, sheetPieces, domainIn, Sheet, lent, templateIn, linePieces, fieldPieces, unfit, endingPieces}
+use Rattle.promises.proofs.Names.{pairsLent, tablePieces, Table, listed, byCurve, listTested, behindPieces, plan, LendableTable, segmentsLent, keptPoints, keptDomain, keptSegments, keptTerms, InDomain}
+use Rattle.promises.proofs.Names.{not-refused, fit-characters, strayText}
 use Rattle.promises.proofs.PlannedFields.{KeptFrom, LentFrom, lines-stand, lines-again, kept-append, lent-split}
 use Rattle.promises.proofs.PlannedPairs.{table-stands, table-again}
 use Rattle.promises.proofs.PlannedCurve.{curve-stands, curve-again}
@@ -25,7 +26,7 @@ room-text : (S : ℕ) (endBit : Bool) (at : ℕ) (text : List ℕ) → length te
 room-text S true at text h = refl
 room-text S false at text h = le-ltb 0 (length text) h
 
--- A zero stands behind the text where the end bit is 1 and 7 bits remain.
+-- A zero follows the text if the end bit is 1 and 7 bits remain.
 zero-room : (S : ℕ) (endBit : Bool) (at n : ℕ) → ltb n (charactersFrom S endBit at) ≡ (endBit && leb (at + 7 * n + 7) S)
 zero-room S true at n = go (leb (at + 7 * n + 7) S) refl
   where
@@ -87,7 +88,7 @@ half [] = omega arith
 half (a ∷ []) = omega arith
 half (a ∷ s ∷ lentPoints) = omega (arith, half lentPoints)
 
--- ---- what stands behind the fields
+-- ---- what follows the fields
 
 few-lent : (domain : Domain) (lentPoints : List ℤ) → listTested (listed domain lentPoints) ≡ good tt → length lentPoints ≤ 254
 few-lent domain lentPoints e =
@@ -114,7 +115,7 @@ behind-stands at (listed domain lentPoints) ps lendable t e =
       keepsSegments = ap (map segmentIn) (k .straight);
       keepsTerms = ap (λ l. map termIn (allTerms l)) (k .straight);
     }
-behind-stands at (drawn given) ps lendable t e =
+behind-stands at (byCurve given) ps lendable t e =
     let k = curve-stands at given ps lendable e in
     record {
       calibration = curveFound (k .founds);
@@ -149,7 +150,7 @@ module _ (S number : ℕ) (endBit : Bool) (text : List ℕ) (bs os ts : List Pie
         text-needed text,
       )
 
-  -- With the zero that may follow.
+  -- The pieces in order, with the zero that may follow the text.
   reordered : bs ++ (blockPieces number ++ (os ++ (ts ++ (piece 2 3 ∷ []) ++ endPieces S endPlace endBit text))) ≡ laidDown ++ zeroIf (endBit && leb (needed laidDown + 7) S)
   reordered =
       let z : ltb (length text) (charactersFrom S endBit (endPlace + 1)) ≡ (endBit && leb (needed laidDown + 7) S) =
@@ -157,7 +158,7 @@ module _ (S number : ℕ) (endBit : Bool) (text : List ℕ) (bs os ts : List Pie
       ap (λ t. bs ++ (blockPieces number ++ (os ++ (ts ++ (piece 2 3 ∷ []) ++ (piece 1 (endCode endBit) ∷ (map (piece 7) text ++ zeroIf t)))))) z
       ∙ regroup bs (blockPieces number) os ts (map (piece 7) text) (zeroIf (endBit && leb (needed laidDown + 7) S)) (endCode endBit)
 
--- ---- planned, and standing
+-- ---- planned sheets are what the format allows
 
 pub record PlanStands (S : ℕ) (sheet : Sheet) (text : List ℕ) (table : Table) (pieces : List Piece) : Type 0 where
   pub contents : Contents
@@ -229,7 +230,7 @@ plan-stands S sheet text table pieces real lendable e inside =
       sameText = refl;
     }
 
--- ---- standing, and planned again
+-- ---- parsed sheets are planned again
 
 right-length : (lentPoints : List ℤ) (n : ℕ) → length lentPoints ≡ 2 * n → n ≤ 127 → (eqb (length lentPoints % 2) 1 || ltb 254 (length lentPoints)) ≡ false
 right-length lentPoints n e few =
@@ -243,22 +244,22 @@ few-pairs at c h = omega (arith, length-map (pairsIn (c .calibration)) pairIn, g
     go (tableFound domain pairs) h = h .most
     go (curveFound segments) h = omega arith
 
--- What is lent behind the fields is what stands there.
+-- What is lent after the fields is what was parsed there.
 abbrev pub LentBehind : Table → Contents → Type 0
 LentBehind (listed domain lentPoints) c =
     (pairsLent lentPoints ≡ points c) × (length lentPoints ≡ 2 * length (points c)) × (segmentsIn (c .calibration) ≡ []) × InDomain (domainIn (c .calibration)) domain
-LentBehind (drawn given) c =
+LentBehind (byCurve given) c =
     (given .count ≡ length (segments c)) × (segmentsLent given ≡ segments c) × (take (length (terms c)) (given .terms) ≡ terms c) × (0 < length (segments c))
 
 tested-again : (at : ℕ) (c : Contents) → CalibrationAt at (c .calibration) → (table : Table) → LentBehind table c → listTested table ≡ good tt
 tested-again at c h (listed domain lentPoints) l = rw (right-length lentPoints (length (points c)) (l .1) (few-pairs at c h))
-tested-again at c h (drawn given) l = refl
+tested-again at c h (byCurve given) l = refl
 
 behind-again : (at : ℕ) (c : Contents) → CalibrationAt at (c .calibration) → (table : Table) → LentBehind table c → behindPieces table ≡ good (calibrationPieces (c .calibration))
 behind-again at c h (listed domain lentPoints) l = ap (tablePieces domain) (l .0) ∙ table-again at (c .calibration) domain h (l .2) (l .3)
-behind-again at c h (drawn given) l = go (c .calibration) refl h
+behind-again at c h (byCurve given) l = go (c .calibration) refl h
   where
-    go : (k : Calibration) → c .calibration ≡ k → CalibrationAt at k → behindPieces (drawn given) ≡ good (calibrationPieces (c .calibration))
+    go : (k : Calibration) → c .calibration ≡ k → CalibrationAt at k → behindPieces (byCurve given) ≡ good (calibrationPieces (c .calibration))
     go bare e h = absurd (omega (arith, l .3, ap (λ q. length (map segmentIn (segmentsIn q))) e))
     go (tableFound domain pairs) e h = absurd (omega (arith, l .3, ap (λ q. length (map segmentIn (segmentsIn q))) e))
     go (curveFound xs) e h =

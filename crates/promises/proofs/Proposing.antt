@@ -1,4 +1,5 @@
--- Note 5: a proposal and its commit are the change; what a commit stores; a commit after another change.
+-- Laws of Note 5: a proposal and its commit are the change;
+-- what a commit stores; and a commit after another change.
 use Rattle.promises.proofs.Names.{_≡_, refl, sym, ap, _∙_, subst, List, ℕ, _-_, arith, length-set, getD-set-same, Refusal, Outcome, good, refused, _>>=_, good-same, bind-good, bind-refused, then-good}
 use Rattle.promises.proofs.Names.{then-refused, Bytes, Value, Level, kept, Real, reads-back, Found, Contents, nothing, contents, field, recoded, Accepted, contents-accepted, withField, Proposal, codeFor}
 use Rattle.promises.proofs.Names.{recodedIn, change, propose, commit, Changeable, code-found, change-unread, change-is, field-sound, stored-contents, propose-unread, commit-is, Committed, means-stands}
@@ -14,7 +15,7 @@ module _ (kind : ℕ) (image : List ℕ) (level : Level) (f : ℕ) (v : Value) (
     changes-as : change kind image level f v ≡ (codeFor c level f v >>= λ code. good (recodedIn (a .sizes) image (field c f) code))
     changes-as = change-is kind image c (a .sizes) e (a .sized) level f v
 
-    -- Where no code is found for the value.
+    -- If the value has no code.
     module _ {r : Refusal} (h : codeFor c level f v ≡ refused r) where
       not-proposed : propose kind image level f v ≡ refused r
       not-proposed = propose-is kind image c e level f v ∙ bind-refused _ h
@@ -22,7 +23,7 @@ module _ (kind : ℕ) (image : List ℕ) (level : Level) (f : ℕ) (v : Value) (
       not-changed : change kind image level f v ≡ refused r
       not-changed = changes-as ∙ bind-refused _ h
 
-    -- Where one is: it may stand there, and reads back what is kept.
+    -- If the value has a code: the field can hold it, and it reads back what is kept.
     module _ {code : ℕ} (h : codeFor c level f v ≡ good code) where
       abbrev proposal : Proposal
       proposal = record { present = field c f .code; new = code; value = kept (field c f .row) v }
@@ -84,7 +85,7 @@ commit-stores kind image after c level f present new bytes e h =
           ∙ committed-contents kind image c (m .sizes) bytes e (m .sized) level f present new t v means,
     )
 
--- The field that a change has stored, in the sheet that the changed image holds.
+-- The field that a change has stored, in the contents of the changed image.
 module _ (c : Contents) (level : Level) (f : ℕ) (h : Changeable c level f) (code : ℕ) (v : Value) where
   abbrev then-held : Contents
   then-held = withField c (f - 1) (recoded (field c f) code v)

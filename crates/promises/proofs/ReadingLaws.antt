@@ -1,8 +1,8 @@
--- The small dash.
+-- Laws of the small dash.
 use Rattle.promises.proofs.Names.{_≡_, Bool, true, false, ltb, length, le-ltb, Refusal, Outcome, good, _>>_, refuse_if_, wrongBlock, tooManyPoints, no-value, good-bind, passed, contents, points, firstSelector}
 use Rattle.promises.proofs.Names.{isResistance, takeReading, SmallShowsLarge, SmallTakesFew}
 
--- Behind the test of the points the two go on alike.
+-- After the test of the points the two dashes continue alike.
 goes-on : {A : Type 0} (t : Bool) (r : Refusal) (o : Outcome A) (a : A) → ((refuse r if t) >> o) ≡ good a → ((refuse r if false) >> o) ≡ good a
 goes-on true r o a e = no-value e
 goes-on false r o a e = e

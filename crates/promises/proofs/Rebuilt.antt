@@ -1,16 +1,16 @@
--- Demand 2: read and rebuilt.
+-- Proof of demand 2: read and rebuilt.
 use Rattle.promises.proofs.Names.{_≡_, refl, sym, ap, _∙_, subst, Bool, _&&_, List, [], _∷_, _++_, map, ℕ, suc, _+_, _-_, _*_, _^_, _≤_, _<_, arith, leb, length, getD, take, replicate, length-map, ext-getD}
 use Rattle.promises.proofs.Names.{take-append-seam, length-take-le, getD-take, le-ltb, good, bind-good, Sizes, Bytes, imageSizes, streamBits, streamNumber, imageOf, Piece, pack, needed, pack-unique, needed-append}
 use Rattle.promises.proofs.Names.{sizes-chip, sums-right, two-views, Pair, Domain, noPair, noSegment, noTerm, Found, Calibration, bare, tableFound, curveFound, Contents, contents, nothing, pairIn, pairsIn}
 use Rattle.promises.proofs.Names.{segmentsIn, segmentIn, allTerms, termIn, points, segments, terms, zeroIf, zero-pack, sheetPieces, sheet-needed, accepted-at, contents-accepted, CalibrationAt, Summary, domainIn}
-use Rattle.promises.proofs.Names.{summary, curve-few, fields-are, accepted-reads, Slot, Sheet, slot, lent, templateIn, pairsLent, Table, listed, drawn, builtIn, buildWith, pairs-length, LendableTable, sheetRead}
+use Rattle.promises.proofs.Names.{summary, curve-few, fields-are, accepted-reads, Slot, Sheet, slot, lent, templateIn, pairsLent, Table, listed, byCurve, builtIn, buildWith, pairs-length, LendableTable, sheetRead}
 use Rattle.promises.proofs.Names.{turns, tableRead, segmentsLent, InDomain, TableReadOff, RebuiltSameBytes, RebuiltFromReads}
 use Rattle.promises.specs.Again.{tableOf}
 use Rattle.promises.proofs.PlannedFields.{LentFrom, Slots, slots-all, slot-first, slots-others}
 use Rattle.promises.proofs.ByIndex.{check-holds}
 use Rattle.promises.proofs.PlannedSheet.{LentBehind, again, plan-again, zero-behind}
 
--- ---- what an image reads, lent
+-- ---- what an image reads, as lent
 
 pairs-turned : (pairs : List Pair) → pairsLent (turns pairs) ≡ pairs
 pairs-turned [] = refl
@@ -28,7 +28,7 @@ read-lent sheet f (x ∷ xs) more h =
 
 -- ---- the image
 
--- From a sheet and a table that hold what the image holds.
+-- From a sheet and a table with the image's contents.
 rebuilt : (kind : ℕ) (image buffer : List ℕ) (z : Sizes) (c : Contents) (sheet : Sheet) (table : Table) → Bytes image → length buffer ≡ length image →
     imageSizes kind (length image) ≡ good z → contents kind image ≡ good c → streamNumber z image < 2 ^ c .bits →
     LentFrom sheet 1 (c .fields) → templateIn sheet ≡ c .template → sheet .«end_bit» ≡ c .endBit → LentBehind table c →
@@ -49,7 +49,7 @@ rebuilt kind image buffer z c sheet table bytes long hz e zeros lents template e
     ∙ rw (le-ltb (streamBits z) (needed ps) inside) (ap (λ (n : ℕ). good (imageOf z n)) (sym number)
     ∙ ap good (two-views z image (sizes-chip kind (length image) z hz .long) bytes (sums-right z image summed)))
 
--- What stands behind the fields, lent as it is read.
+-- What follows the fields, lent as it is read.
 read-behind : (c : Contents) (domain : Domain) (at : ℕ) → CalibrationAt at (c .calibration) → LentBehind (tableRead c domain) c
 read-behind c domain at stands = go (c .calibration) refl stands
   where
@@ -90,7 +90,7 @@ none-left : {A B : Type 0} (f : A → B) (l : List A) → length (map f l) ≡ 0
 none-left f [] e = refl
 none-left f (x ∷ l) e = absurd (omega arith)
 
--- Behind the fields.
+-- What follows the fields, read through the calls.
 behind-read : (kind : ℕ) (image : List ℕ) (c : Contents) (s : Summary) (table : Table) → contents kind image ≡ good c → summary c ≡ s → LendableTable table → TableReadOff kind image s table → LentBehind table c
 behind-read kind image c s (listed domain pts) h g lendable r =
     let l = accepted-reads kind image c h in
@@ -101,7 +101,7 @@ behind-read kind image c s (listed domain pts) h g lendable r =
       none-left segmentIn (segmentsIn (c .calibration)) (ap (λ y. y .segments) g ∙ r .none),
       subst (λ y. InDomain (y .domain) domain) (sym g) (r .inDomain),
     )
-behind-read kind image c s (drawn given) h g lendable r =
+behind-read kind image c s (byCurve given) h g lendable r =
     let l = accepted-reads kind image c h in
     let few = curve-few _ (c .calibration) (contents-accepted kind image c h .holding .formed .calibrated) in
     let ns = length-map (segmentsIn (c .calibration)) segmentIn in

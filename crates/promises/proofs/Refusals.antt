@@ -1,5 +1,4 @@
--- The rows of each call.
--- Assumes nothing.
+-- Laws of the rows of each call.
 use Rattle.promises.proofs.Names.{Bool, not, _||_, _&&_, List, [], _∷_, map, ℕ, zero, suc, _+_, _*_, _-_, _/_, arith, eqb, ltb, leb, ℤ, pos, natAbs, binary32, ofBits, toBits, length, leZ, Refusal, Outcome, good}
 use Rattle.promises.proofs.Names.{refused, _>>=_, _>>_, refuse_if_, wrongImage, wrongSum, wrongBlock, outsideTable, notFinite, noSuch, wrongSort, outOfRange, changedAlone, noSpan, outsideSpan, blankChip}
 use Rattle.promises.proofs.Names.{shortIndex, otherCode, levelTooLow, endOutside, tooManyPoints, wrongTicks, By, streamRows, checkOrder, readOrder, textOrder, changeOrder, commitOrder, indexOrder, fetchOrder}
@@ -43,7 +42,7 @@ contents-by kind image =
     (by-bind checkOrder (parse (streamIn z image) sheetOf 0) _
     (by-among (2 ∷ streamRows) checkOrder (parse (streamIn z image) sheetOf 0) (omega arith) (parse-other (streamIn z image) sheetOf 0 sheet-others)) (λ x. tt)))
 
--- After the check, whatever a call's order adds to it.
+-- After the check, the rows that a call's order adds.
 module _ (rows : List ℕ) (all : Among checkOrder rows) where
   pub checked-by : {B : Type 0} (kind : ℕ) (image : List ℕ) (next : Contents → Outcome B) → ((c : Contents) → By rows (next c)) → By rows (contents kind image >>= next)
   checked-by kind image next h = by-bind rows (contents kind image) next (by-among checkOrder rows (contents kind image) all (contents-by kind image)) h

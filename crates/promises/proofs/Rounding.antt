@@ -1,5 +1,4 @@
--- To the nearest whole, halves upward.
--- Assumes nothing.
+-- Laws of rounding to the nearest whole, halves upward.
 use Rattle.promises.proofs.Names.{subst, List, [], _∷_, _<_, arith, ℤ, pos, _+ℤ_, _-ℤ_, _*ℤ_, _<ℤ_, Fraction, nearest, add-parts, sub-parts-ℤ, mul-parts, leZ-parts, ltZ-parts, parts-≤ℤ, parts-<ℤ, abs-parts, Low}
 use Rattle.promises.proofs.Names.{High, nearest-low, nearest-high, nearest-is, Pair, Correction, between, correctionAfter, correction, deviation, Rises, run-some, by-order, position, HalvesUp, NearestHalvesUp}
 use Rattle.promises.proofs.Names.{PositionHalvesUp, DeviationHalvesUp}

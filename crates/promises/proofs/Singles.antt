@@ -1,16 +1,15 @@
--- A Single in nV/V from its own bits.
--- Assumes nothing.
+-- Laws of a Single in nV/V from its own bits.
 use Rattle.promises.proofs.Names.{_≡_, refl, ap, _∙_, Bool, true, false, ℕ, zero, suc, _+_, _*_, _^_, _<_, mul-one, arith, ℤ, pos, negℤ, _*ℤ_, pow-pos, Float, nan, inf, fin, binary32, ofBits, above, below}
 use Rattle.promises.proofs.Names.{HasValue, down-pos, up, dn, Fraction, _over_, nearest, same, up-neg, dn-neg, mul-parts, nearest-rises-parts, billion, signed, nanovolts, size, bits-value, isNegative}
 use Rattle.promises.proofs.Names.{exponentField, digits, unitsOf, NanovoltsOfBits}
 
--- Equal fractions have one nearest.
+-- Equal fractions have the same nearest.
 same-nearest : (f g : Fraction) → 0 < f .den → 0 < g .den →
     up (f .num) * g .den + dn (g .num) * f .den ≡ up (g .num) * f .den + dn (f .num) * g .den → nearest f ≡ nearest g
 same-nearest f g hf hg e =
     same (nearest f) (nearest g) (omega (arith, nearest-rises-parts f g hf hg (omega arith), nearest-rises-parts g f hg hf (omega arith)))
 
--- ±a × 10^9 over c, whichever a / c stands for the value.
+-- ±a × 10^9 over c, for every a / c that is the value.
 signed-nearest : (s : Bool) (a b c d : ℕ) → 0 < c → 0 < d → a * d ≡ b * c →
     nearest (signed s a *ℤ pos billion over c) ≡ nearest (signed s b *ℤ pos billion over d)
 signed-nearest s a b c d hc hd e = same-nearest (signed s a *ℤ pos billion over c) (signed s b *ℤ pos billion over d) hc hd (go s)

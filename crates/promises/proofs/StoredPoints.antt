@@ -1,4 +1,5 @@
--- The points that an accepted build stores: each within half a step of the point lent, and rising as those do.
+-- Laws of the points that an accepted build stores: each within
+-- half a step of the lent point, and rising as those do.
 use Rattle.promises.proofs.Names.{_≡_, refl, sym, ap, subst, Bool, true, false, not, List, [], _∷_, map, Option, some, ℕ, suc, _*_, _≤_, _<_, mul-lt-mul-of-pos-left, arith, T, lit<, ℤ, pos, natAbs, _-ℤ_, ltZ}
 use Rattle.promises.proofs.Names.{_<ℤ_, ltZ-yes, add-parts, parts-<ℤ, nltZ-parts, good, outOfRange, Piece, Whole, Stepped, Row, topCode, outside, steppedValue, steppedCode, encode, Pair, Codes, Domain, D, R}
 use Rattle.promises.proofs.Names.{leastDeviation, kept, stepped-nearest, code-rises, follows-rises, figure, passed, neither, pairPieces, codes-planned, pairs-planned, Rises, Close, keptPair}
@@ -19,7 +20,7 @@ module _ (width : ℕ) (start : ℤ) (step : ℕ) (missing : Bool) where
       let c : good (steppedCode start step z) ≡ good code = g .1 in
       (neither (ltZ z start) (ltZ top z) (g .0) .0, cc)
 
-  -- What is kept is the value of the code that is stored.
+  -- The kept value is the value of the stored code.
   stored-value : (place : ℕ) (z : ℤ) (code : ℕ) → encode row place (Whole z) ≡ good code → figure (kept row (Whole z)) ≡ steppedValue start step code
   unfolding kept
   stored-value place z code e = ap (steppedValue start step) (stored place z code e .1)
@@ -65,7 +66,7 @@ stored-close domain before i (p ∷ pairs) ps e =
       stored-close domain (some (g .codes)) (suc i) pairs (g .rest) (g .others),
     )
 
--- The points lent rise strictly, and so do those that are read back.
+-- The lent points rise strictly, and so do those that are read back.
 pub record Risen (pairs : List Pair) : Type 0 where
   pub lent : Rises pairs
   pub kept : Rises (map keptPair pairs)

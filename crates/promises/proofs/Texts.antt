@@ -1,5 +1,4 @@
--- Text and code, and the calendar.
--- Assumes nothing.
+-- Laws of text and code, and of the calendar.
 use Rattle.promises.proofs.Names.{_≡_, refl, Bool, true, false, cond, ℕ, Date, leap, dateOf, daysOfYear, counted, real-date, text-back, code-back, TextAndCode, Day, Calendar, LeapYears}
 use Rattle.texts.proofs.Calendar.{Real}
 

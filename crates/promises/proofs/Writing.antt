@@ -1,4 +1,4 @@
--- What is promised of an image that is written row by row.
+-- Laws of an image that is written row by row.
 use Rattle.promises.proofs.Names.{_≡_, refl, sym, ap, _∙_, Bool, true, false, not, List, _⊎_, inl, inr, ℕ, zero, suc, _/_, _≤_, arith, length, ext-getD, Refusal, Outcome, good, refused, _>>_, _>>=_, refuse_if_}
 use Rattle.promises.proofs.Names.{wrongSum, blankChip, no-value, bind-good, then-refused, Sizes, Bytes, imageSizes, pageTest, isGood, blankFrom, sumsFrom, sums, parse, sheetOf, contents, streamIn, count, Summary}
 use Rattle.promises.proofs.Names.{check, differs, differingRows, Step, write, step, nextRow, after, Torn, Refuses, WantedOrRefused, Fits, there-done, step-whole, step-torn, step-bytes, step-fits, left-none}
@@ -41,7 +41,7 @@ module _ (kind : ℕ) (present wanted : List ℕ) (s : Step) (e : nextRow kind p
   next-is : next kind wanted present ≡ after (step (by .sizes) present wanted) present
   next-is = ap (λ (o : Outcome Step). carriedOut o present) e ∙ ap (λ (x : Step). after x present) (sym (by .is))
 
-  -- What is on the chip matters for the sizes by its length alone.
+  -- Only the length of what is on the chip matters for its sizes.
   again : (image : List ℕ) → length image ≡ length present → nextRow kind image wanted ≡ good (step (by .sizes) image wanted)
   again image same = calls kind image wanted (by .shown) (by .sizes) (by .accepted) (ap (imageSizes kind) same ∙ by .sized)
 
@@ -52,7 +52,7 @@ module _ (kind : ℕ) (present wanted : List ℕ) (s : Step) (e : nextRow kind p
 refused-next : (kind : ℕ) (present wanted : List ℕ) (r : Refusal) → nextRow kind present wanted ≡ refused r → next kind wanted present ≡ present
 refused-next kind present wanted r e = ap (λ (o : Outcome Step). carriedOut o present) e
 
--- What is not to change is not torn.
+-- A byte that does not change is not torn.
 torn-same : (before image : List ℕ) → Torn before before image → image ≡ before
 torn-same before image t = ext-getD 0 image before (t .long) (λ i h. t .stays i refl)
 
@@ -147,7 +147,7 @@ done-exactly kind wanted present s e =
 
 -- ---- 3. resumes
 
--- What a chip comes to hold is as long as what it held.
+-- What a chip can hold is as long as what it held.
 reached-long : (kind : ℕ) (wanted old : List ℕ) {image : List ℕ} → Reached kind wanted old image → length image ≡ length old
 reached-long kind wanted old start = refl
 reached-long kind wanted old (whole {present = p} c) = next-length (nextRow kind p wanted) refl ∙ reached-long kind wanted old c

@@ -1,4 +1,4 @@
--- Demand 2: written and read again.
+-- Proof of demand 2: written and read again.
 use Rattle.promises.proofs.Names.{_≡_, refl, sym, ap, ap₂, _∙_, subst, Bool, true, false, _&&_, cond, List, [], _∷_, _++_, map, ℕ, zero, suc, _+_, _-_, _^_, _≤_, _<_, lt-of-lt-of-le, arith, leb, ltb, length}
 use Rattle.promises.proofs.Names.{pow-mono, leb-true, ltb-false, good, _>>=_, tooLong, good-same, good-bind, passed, Sizes, imageSizes, streamBits, imageOf, Piece, pack, needed, Holds, pack-lt, holds-pack}
 use Rattle.promises.proofs.Names.{last-most, kept, Real, Found, Contents, sheetOf, contents, parses-fit, zeroIf, zero-needed, zero-pack, Formed, sheetPieces, sheet-needed, sheet-parses, fields-count, fields-rows}
@@ -6,7 +6,7 @@ use Rattle.promises.proofs.Names.{written-contents, Slot, Sheet, Table,
 use Rattle.promises.proofs.PlannedFields.{KeptFrom, valueAt, Slots, slots-all, slot-first, slots-others}
 use Rattle.promises.proofs.PlannedSheet.{plan-stands}
 
--- ---- the zero that ends a text stands where it has room
+-- ---- the zero that ends a text is inside the stream
 
 zero-inside : (n S : ℕ) (b : Bool) → n ≤ S → n + cond (b && leb (n + 7) S) 7 0 ≤ S
 zero-inside n S false h = omega arith
@@ -16,7 +16,7 @@ zero-inside n S true h = go (leb (n + 7) S) refl
     go true e = leb-true (n + 7) S e
     go false e = omega arith
 
--- ---- what was lent
+-- ---- the lent values
 
 pub real-at : (slots : List Slot) → AllReal slots → (i : ℕ) → Real (valueAt slots i)
 real-at [] h i = tt
@@ -50,7 +50,7 @@ built kind buffer sheet text table image e =
     let (t, e5) = passed (tooLong (needed pieces)) (ltb (streamBits z) (needed pieces)) _ image e4 in
     record { sizes = z; pieces = pieces; fitting = e1; plans = e3; inside = ltb-false (streamBits z) (needed pieces) t; made = cc }
 
--- ---- the image of a plan holds the sheet that it planned
+-- ---- the image of a plan has the planned contents
 
 image-contents : (kind bytes : ℕ) (z : Sizes) (pieces : List Piece) (t : Bool) (c : Contents) (f : Formed (streamBits z) c) → imageSizes kind bytes ≡ good z →
     sheetPieces f ≡ pieces ++ zeroIf t → needed (pieces ++ zeroIf t) ≤ streamBits z → contents kind (imageOf z (pack pieces)) ≡ good c
@@ -67,7 +67,7 @@ image-contents kind bytes z pieces t c f sizes same inside =
       inside = omega (arith, sheet-needed f, ap needed same, inside);
     })
 
--- What a check of a built image finds.
+-- The contents that a check of a built image finds.
 record ReadAgain (sheet : Sheet) (text : List ℕ) (table : Table) (z : Sizes) (pieces : List Piece) (kind : ℕ) (image : List ℕ) : Type 0 where
   found : Contents
   reads : contents kind image ≡ good found

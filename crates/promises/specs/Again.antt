@@ -1,4 +1,5 @@
--- Demand 2, for both templates, with points in either domain or a curve: written and read again; read and rebuilt; and the bits that a build needs.
+-- Demand 2, for both templates, with points in either domain or a curve:
+-- written and read again; read and rebuilt; and the bits that a build needs.
 use mathlib.Core.Path.{_≡_}
 use mathlib.Core.Bool.{_&&_, cond}
 use mathlib.Core.List.{List, [], _∷_, _++_, map}
@@ -11,20 +12,20 @@ use Rattle.memory.specs.declared.Sizes.{Sizes}
 use Rattle.memory.specs.Bits.{Bytes}
 use Rattle.memory.specs.Image.{imageSizes, streamBits, streamNumber}
 use Rattle.memory.specs.Pieces.{Piece, needed}
-use Rattle.fields.specs.declared.Value.{Value}
-use Rattle.fields.specs.declared.Value.the-variants.{Whole, Missing}
-use Rattle.fields.specs.declared.Row.{Row}
-use Rattle.fields.specs.declared.Level.{Level}
-use Rattle.fields.specs.declared.Template.the-variants.{Bridge, Resistance}
-use Rattle.fields.specs.declared.Pair.{Pair}
-use Rattle.fields.specs.declared.Segment.{Segment}
-use Rattle.fields.specs.declared.Term.{Term}
-use Rattle.fields.specs.declared.Curve.{Curve}
-use Rattle.fields.specs.declared.Domain.{Domain}
-use Rattle.fields.specs.Lines.{linesOf, rowsOf}
-use Rattle.fields.specs.Calibration.{calPoint, calDeviation, noPair}
-use Rattle.fields.specs.Curves.{segmentStart, noSegment, noTerm}
-use Rattle.fields.specs.Stored.{kept}
+use Rattle.codes.specs.declared.Value.{Value}
+use Rattle.codes.specs.declared.Value.the-variants.{Whole, Missing}
+use Rattle.codes.specs.declared.Row.{Row}
+use Rattle.templates.specs.declared.Level.{Level}
+use Rattle.templates.specs.declared.Template.the-variants.{Bridge, Resistance}
+use Rattle.templates.specs.declared.Pair.{Pair}
+use Rattle.templates.specs.declared.Segment.{Segment}
+use Rattle.templates.specs.declared.Term.{Term}
+use Rattle.templates.specs.declared.Curve.{Curve}
+use Rattle.templates.specs.declared.Domain.{Domain}
+use Rattle.templates.specs.Lines.{linesOf, rowsOf}
+use Rattle.templates.specs.Calibration.{calPoint, calDeviation, noPair}
+use Rattle.templates.specs.Curves.{segmentStart, noSegment, noTerm}
+use Rattle.codes.specs.Stored.{kept}
 use Rattle.layout.specs.Contents.{Calibration, bare, table as tableFound, curve as curveFound, Contents}
 use Rattle.layout.specs.Image.{contents, layoutOf, figure, pairIn, points, segments, terms}
 use Rattle.layout.specs.Places.{behindFields, tableBits, curveBits}
@@ -34,7 +35,7 @@ use Rattle.sheet.specs.declared.Summary.{Summary}
 use Rattle.sheet.specs.Check.{domainIn, check, readField, readPair, readCharacter, readSegment, readTerm}
 use Rattle.build.specs.declared.Slot.{Slot}
 use Rattle.build.specs.declared.Sheet.{Sheet}
-use Rattle.build.specs.Build.{slot, lent, templateIn, pairsLent, Table, listed, drawn, plan, buildWith}
+use Rattle.build.specs.Build.{slot, lent, templateIn, pairsLent, Table, listed, byCurve, plan, buildWith}
 use Rattle.promises.specs.Lent.{Lendable, LendableTable}
 
 abbrev pub values : Contents → List Value
@@ -42,7 +43,7 @@ values c = map (λ x. x .value) (c .fields)
 
 -- ---- written and read again
 
--- Each value at the step its row gives.
+-- Each value as its row keeps it.
 abbrev pub keptAll : List Row → List Slot → List Value
 keptAll [] slots = []
 keptAll (row ∷ rows) [] = []
@@ -51,7 +52,7 @@ keptAll (row ∷ rows) (s ∷ slots) = kept row (s .value) ∷ keptAll rows slot
 abbrev pub keptPair : Pair → Pair
 keptPair p = record { point = figure (kept calPoint (Whole (p .point))); deviation = figure (kept calDeviation (Whole (p .deviation))) }
 
--- The domain of points lent in one: an empty list has none.
+-- The domain of lent points: "an empty list has none".
 abbrev pub domainLent : Domain → List Pair → TableDomain
 domainLent domain [] = NoTable
 domainLent domain (p ∷ pairs) = Is domain
@@ -59,7 +60,7 @@ domainLent domain (p ∷ pairs) = Is domain
 abbrev pub keptSegment : Segment → Segment
 keptSegment s = record { start = figure (kept segmentStart (Whole (s .start))); terms = s .terms }
 
--- The segments that a curve lends, and the number of their terms.
+-- The segments of a lent curve, and the number of their terms.
 abbrev pub segmentsLent : Curve → List Segment
 segmentsLent curve = take (curve .count) (curve .segments)
 
@@ -70,24 +71,25 @@ termsIn (s ∷ segments) = s .terms + termsIn segments
 abbrev pub termsLent : Curve → List Term
 termsLent curve = take (termsIn (segmentsLent curve)) (curve .terms)
 
--- What is kept of what was lent behind the fields: of a list its points, in their domain; of a curve its segments, and its terms as they are.
+-- What is kept of the lent table or curve: the points of a list, in
+-- their domain; the segments of a curve, and its terms unchanged.
 abbrev pub keptPoints : Table → List Pair
 keptPoints (listed domain points) = map keptPair (pairsLent points)
-keptPoints (drawn curve) = []
+keptPoints (byCurve curve) = []
 
 abbrev pub keptDomain : Table → TableDomain
 keptDomain (listed domain points) = domainLent domain (pairsLent points)
-keptDomain (drawn curve) = NoTable
+keptDomain (byCurve curve) = NoTable
 
 abbrev pub keptSegments : Table → List Segment
 keptSegments (listed domain points) = []
-keptSegments (drawn curve) = map keptSegment (segmentsLent curve)
+keptSegments (byCurve curve) = map keptSegment (segmentsLent curve)
 
 abbrev pub keptTerms : Table → List Term
 keptTerms (listed domain points) = []
-keptTerms (drawn curve) = termsLent curve
+keptTerms (byCurve curve) = termsLent curve
 
--- The same sheet, each stepped or geometric figure at the step its rule gives.
+-- The contents are the sheet, each stepped or geometric figure as its rule keeps it.
 pub record SameSheet (sheet : Sheet) (text : List ℕ) (table : Table) (c : Contents) : Type 0 where
   pub sameTemplate : c .template ≡ templateIn sheet
   pub sameFields : values c ≡ keptAll (rowsOf (linesOf (c .template)) (layoutOf c .precision)) (sheet .fields)
@@ -104,7 +106,8 @@ WrittenAndReadAgain =
     buildWith kind buffer sheet text table ≡ good image →
     (c : Contents) × (contents kind image ≡ good c) × SameSheet sheet text table c
 
--- A check of it gives the bits needed; and 7 more where the end bit is 1 and 7 bits remain, since a zero character ends the text there.
+-- A check of it gives the bits needed; and 7 more if the end bit is 1 and 7 bits
+-- remain: a build "ends text with a zero character wherever 7 bits remain".
 abbrev pub ZeroEndsText : Type 0
 ZeroEndsText =
     (kind : ℕ) (buffer : List ℕ) (sheet : Sheet) (text : List ℕ) (table : Table) (image : List ℕ) (z : Sizes) (pieces : List Piece) (c : Contents) →
@@ -114,7 +117,8 @@ ZeroEndsText =
 
 -- ---- read and rebuilt
 
--- What an image reads, as a sheet. A template with fewer fields leaves the last slots missing; the level is not stored, and any is as good.
+-- What an image reads, as a sheet. A template with fewer fields leaves
+-- the last slots missing; the level is not stored, so any will do.
 abbrev pub sheetRead : Contents → Level → Sheet
 sheetRead c level = record {
   template = c .template;
@@ -123,7 +127,8 @@ sheetRead c level = record {
   level = level;
 }
 
--- Its points lent by turns, or its curve in a room for 20 segments and 30 terms. A sheet without points is handed any domain.
+-- The points of an image, lent by turns, or its curve in a room for
+-- 20 segments and 30 terms. A sheet without points gets any domain.
 abbrev pub turns : List Pair → List ℤ
 turns [] = []
 turns (p ∷ pairs) = p .point ∷ p .deviation ∷ turns pairs
@@ -138,12 +143,13 @@ curveRead c = record {
 abbrev pub tableOf : Contents → Domain → Calibration → Table
 tableOf c domain bare = listed domain []
 tableOf c domain (tableFound found pairs) = listed found (turns (map pairIn pairs))
-tableOf c domain (curveFound found) = drawn (curveRead c)
+tableOf c domain (curveFound found) = byCurve (curveRead c)
 
 abbrev pub tableRead : Contents → Domain → Table
 tableRead c domain = tableOf c domain (c .calibration)
 
--- An accepted image with zeros after its end, rebuilt from what it reads at any level, is the same bytes, in whatever buffer of its length.
+-- An accepted image with zeros after its end, rebuilt from what it
+-- reads at any level, is the same bytes, in any buffer of its length.
 abbrev pub RebuiltSameBytes : Type 0
 RebuiltSameBytes =
     (kind : ℕ) (image buffer : List ℕ) (level : Level) (z : Sizes) (c : Contents) (domain : Domain) → Bytes image → length buffer ≡ length image →
@@ -152,14 +158,15 @@ RebuiltSameBytes =
     streamNumber z image < 2 ^ c .bits →
     buildWith kind buffer (sheetRead c level) (c .text) (tableRead c domain) ≡ good image
 
--- The domain that was found, and any where there is none.
+-- The domain that the check gives, or any if it gives none.
 abbrev pub InDomain : TableDomain → Domain → Type 0
 InDomain NoTable domain = Unit {0}
 InDomain (Is found) domain = found ≡ domain
 
--- The same of whatever a caller hands in who read the image through the calls: the sheet has the template that the check gives and each field that
--- is read, text, points, segments and terms have each that is read, as many as the check gives, in the domain that it gives. Where it gives segments
--- they are a curve, else points.
+-- What a caller lends who read the image through the calls. The sheet has the
+-- template that the check gives and each field that is read. Text, points,
+-- segments and terms have each item that is read, as many as the check gives,
+-- in its domain. If it gives segments they are a curve, else points.
 pub record ReadOff (kind : ℕ) (image : List ℕ) (s : Summary) (sheet : Sheet) (text : List ℕ) : Type 0 where
   pub template : templateIn sheet ≡ s .template
   pub fields : (f : ℕ) (v : Value) → readField kind image f ≡ good v → lent sheet f ≡ v
@@ -181,7 +188,7 @@ pub record CurveReadOff (kind : ℕ) (image : List ℕ) (s : Summary) (curve : C
 
 abbrev pub TableReadOff : ℕ → List ℕ → Summary → Table → Type 0
 TableReadOff kind image s (listed domain points) = PointsReadOff kind image s domain points
-TableReadOff kind image s (drawn curve) = CurveReadOff kind image s curve
+TableReadOff kind image s (byCurve curve) = CurveReadOff kind image s curve
 
 abbrev pub RebuiltFromReads : Type 0
 RebuiltFromReads =
@@ -196,16 +203,18 @@ RebuiltFromReads =
 -- Block 40 if there are points, or block 41.
 abbrev pub behindBits : Table → ℕ
 behindBits (listed domain points) = tableBits (length (pairsLent points))
-behindBits (drawn curve) = curveBits (curve .count) (termsIn (segmentsLent curve))
+behindBits (byCurve curve) = curveBits (curve .count) (termsIn (segmentsLent curve))
 
--- The fields with the first block's selector and number, the block behind them, selector 3, end bit and text.
+-- The bits of the fields with the first block's selector and
+-- number, the block after them, selector 3, end bit and text.
 abbrev pub BitsNeeded : Type 0
 BitsNeeded =
     (sheet : Sheet) (text : List ℕ) (table : Table) (precision : ℕ) (pieces : List Piece) → LendableTable table →
     lent sheet 9 ≡ Whole (pos precision) → plan sheet text table ≡ good pieces →
     needed pieces ≡ behindFields (record { template = templateIn sheet; precision = precision }) + behindBits table + 3 + 7 * length text
 
--- Template 33 with its number takes 209, 225 or 251 bits for precision 0, 1, 2, behind Basic's 64 and a selector.
+-- "Template 33 with its number takes 209, 225 or 251 bits for
+-- precision 0, 1, 2", after Basic's 64 bits and a selector.
 abbrev pub bridgeBits : ℕ → ℕ
 bridgeBits zero = 209
 bridgeBits (suc zero) = 225

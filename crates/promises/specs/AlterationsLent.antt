@@ -1,4 +1,5 @@
--- Demand 3 on the calls: one-field changes and commits lent as slices. Of each, its kind, level, field, and value or codes are at its index.
+-- Demand 3 on the calls: one-field changes and commits lent as slices.
+-- The kind, level, field, and value or codes of each are at its index.
 use mathlib.Core.Path.{_≡_}
 use mathlib.Core.Bool.{cond}
 use mathlib.Core.List.{List, [], _∷_, _++_, map}
@@ -7,10 +8,12 @@ use lib.Dec.{eqb}
 use lib.IntN.{ℤ, pos}
 use lib.Ieee.{Float, nan}
 use lib.ListN.{length, getD}
-use Rattle.fields.specs.declared.Level.{Level}
-use Rattle.fields.specs.declared.Level.the-variants.{Owner, CalibrationRoom, Maker}
-use Rattle.fields.specs.declared.Value.{Value}
-use Rattle.fields.specs.declared.Value.the-variants.{Whole, Single, Missing}
+use Rattle.templates.specs.declared.Level.{Level}
+use Rattle.templates.specs.declared.Level.the-variants.{Owner, CalibrationRoom, Maker}
+use Rattle.codes.specs.declared.Value.{Value}
+use Rattle.codes.specs.declared.Value.the-variants.{Whole, Single, Missing}
+use Rattle.promises.specs.declared.lent.Target.{Target}
+use Rattle.promises.specs.declared.lent.Content.{Content}
 use Rattle.promises.specs.Alterations.{Change, Commit, Alteration, changes, commits}
 
 -- A level by its number: 0 owner, 1 calibration room, 2 maker, any other owner.
@@ -29,33 +32,42 @@ valueOfSort (suc (suc n)) whole single = Missing
 -- The value at an index: missing past the end of a slice.
 abbrev pub valueAt : List ℕ → List ℤ → List Float → ℕ → Value
 valueAt [] wholes singles i = Missing
-valueAt (sort ∷ sorts) [] singles i = Missing
-valueAt (sort ∷ sorts) (whole ∷ wholes) [] i = Missing
-valueAt (sort ∷ sorts) (whole ∷ wholes) (single ∷ singles) zero = valueOfSort sort whole single
-valueAt (sort ∷ sorts) (whole ∷ wholes) (single ∷ singles) (suc i) = valueAt sorts wholes singles i
+valueAt (sort ∷ tags) [] singles i = Missing
+valueAt (sort ∷ tags) (whole ∷ wholes) [] i = Missing
+valueAt (sort ∷ tags) (whole ∷ wholes) (single ∷ singles) zero = valueOfSort sort whole single
+valueAt (sort ∷ tags) (whole ∷ wholes) (single ∷ singles) (suc i) = valueAt tags wholes singles i
 
-module _ (kinds levels fields sorts : List ℕ) (wholes : List ℤ) (singles : List Float) (presents news : List ℕ) where
-  abbrev pub changeLent : ℕ → Change
-  changeLent i = record { kind = getD kinds i 0; level = levelLent (getD levels i 0); field = getD fields i 0; value = valueAt sorts wholes singles i }
+abbrev pub targetAt : List ℕ → List ℕ → List ℕ → ℕ → Target
+targetAt kinds levels fields i = record { kind = getD kinds i 0; level = levelLent (getD levels i 0); field = getD fields i 0 }
 
-  abbrev pub commitLent : ℕ → Commit
-  commitLent i =
-      record { kind = getD kinds i 0; level = levelLent (getD levels i 0); field = getD fields i 0; present = getD presents i 0; new = getD news i 0 }
+abbrev pub contentAt : List ℕ → List ℤ → List Float → List ℕ → List ℕ → ℕ → Content
+contentAt tags wholes singles presents news i =
+    record { sort = getD tags i 0; value = valueAt tags wholes singles i; present = getD presents i 0; new = getD news i 0 }
 
-  -- Sort 3 is a commit.
+abbrev pub changeOf : Target → Content → Change
+changeOf t c = record { kind = t .kind; level = t .level; field = t .field; value = c .value }
+
+abbrev pub commitOf : Target → Content → Commit
+commitOf t c = record { kind = t .kind; level = t .level; field = t .field; present = c .present; new = c .new }
+
+-- Sort 3 is a commit.
+abbrev pub alterationOf : Target → Content → Alteration
+alterationOf t c = cond (eqb (c .sort) 3) (commits (commitOf t c)) (changes (changeOf t c))
+
+module _ (kinds levels fields tags : List ℕ) (wholes : List ℤ) (singles : List Float) (presents news : List ℕ) where
   abbrev pub alterationLent : ℕ → Alteration
-  alterationLent i = cond (eqb (getD sorts i 0) 3) (commits (commitLent i)) (changes (changeLent i))
+  alterationLent i = alterationOf (targetAt kinds levels fields i) (contentAt tags wholes singles presents news i)
 
-  -- Those before an index, in order.
+  -- The alterations before an index, in order.
   abbrev pub alterationsBefore : ℕ → List Alteration
   alterationsBefore zero = []
   alterationsBefore (suc i) = alterationsBefore i ++ (alterationLent i ∷ [])
 
-  -- As many as there are fields.
+  -- As many alterations as there are fields.
   abbrev pub alterationsLent : List Alteration
   alterationsLent = alterationsBefore (length fields)
 
--- ---- every list can be lent so
+-- ---- every list can be lent as slices
 
 abbrev pub kindIn : Alteration → ℕ
 kindIn (changes ch) = ch .kind
@@ -109,7 +121,7 @@ abbrev pub newIn : Alteration → ℕ
 newIn (changes ch) = 0
 newIn (commits co) = co .new
 
--- Nothing is left out: every list of changes and commits is lent by some slices.
+-- Every list of changes and commits is lent by some slices.
 abbrev pub EveryListLent : Type 0
 EveryListLent =
     (list : List Alteration) →

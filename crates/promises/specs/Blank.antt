@@ -1,4 +1,5 @@
--- Document 02, Note 1: blank chips. An image whose pages are all blank, whatever its register holds, is named blank, and no other is.
+-- Document 02, Note 1: "An image whose pages are all blank,
+-- whatever its register holds, is named blank", and no other is.
 use mathlib.Core.Path.{_≡_}
 use mathlib.Core.List.{List}
 use Prim.Native.Nat.{ℕ, _≤_, _<_}
@@ -9,7 +10,7 @@ use Rattle.memory.specs.declared.Sizes.{Sizes}
 use Rattle.memory.specs.Image.{imageSizes, imageBytes}
 use Rattle.layout.specs.Image.{contents}
 
--- Every byte behind the register is hexadecimal FF.
+-- Every byte after the register is hexadecimal FF.
 abbrev pub AllBlank : Sizes → List ℕ → Type 0
 AllBlank z image = (i : ℕ) → z .register ≤ i → i < imageBytes z → getD image i 0 ≡ 0xFF
 

@@ -1,16 +1,16 @@
--- Demand 3 on the calls themselves: what a build and a reading answer with any number of changes between them, what the image holds then, and how far
--- the q returned lies from the certificate line.
+-- Demand 3 on the calls themselves: a build, any number of changes, and a reading. Their
+-- answers, the image then, and the distance of the returned q from the certificate line.
 use mathlib.Core.Path.{_≡_}
 use mathlib.Core.List.{List}
 use Prim.Native.Nat.{ℕ}
 use lib.IntN.{ℤ}
 use Rattle.refusal.specs.declared.Written.the-variants.{Done}
 use Rattle.refusal.specs.Written.{writtenSaid, afterwards}
-use Rattle.fields.specs.declared.Domain.{Domain}
-use Rattle.fields.specs.Calibration.{D, R}
+use Rattle.templates.specs.declared.Domain.{Domain}
+use Rattle.templates.specs.Calibration.{D, R}
 use Rattle.build.specs.declared.Sheet.{Sheet}
 use Rattle.build.specs.Build.{pairsLent, build}
-use Rattle.line.specs.Certificate.{Slopes, Within}
+use Rattle.correction.specs.Certificate.{Slopes, Within}
 use Rattle.reading.specs.declared.Dash.{Dash}
 use Rattle.reading.specs.declared.Reading.{Reading}
 use Rattle.reading.specs.declared.ReadingAnswer.the-variants.{Shows}
@@ -20,12 +20,14 @@ use Rattle.promises.specs.Alterations.{Alteration, altered}
 use Rattle.promises.specs.Certificate.{leastIn, greatestIn, lineFor, Straight}
 
 module _ (kind : ℕ) (buffer : List ℕ) (sheet : Sheet) (text : List ℕ) (domain : Domain) (points : List ℤ) where
-  -- The image behind the build.
+  -- The image after the build.
   abbrev pub made : List ℕ
   made = afterwards buffer (build kind buffer sheet text domain points)
 
-  -- Each call answers by its definition, accepted or refused; the image is as build and alterations leave it, and the reading is of that. If the build and
-  -- the reading were accepted, the q returned lies within the distance of the certificate line through the points lent in domain 0, for every K.
+  -- Each call answers by its definition, accepted or refused; the image is
+  -- what build and alterations leave, and the reading is of that image. If the
+  -- build and the reading were accepted, the returned q is within the distance
+  -- of the certificate line through the points lent in domain 0, for every K.
   pub record Answered (alterations : List Alteration) (readingKind : ℕ) (v : ℤ) (dash : Dash) (image : List ℕ) (r : Answers) : Type 0 where
     pub buildSaid : writtenSaid (r .built) made ≡ build kind buffer sheet text domain points
     pub bytes : image ≡ altered made alterations

@@ -1,4 +1,4 @@
--- Demand 3, the certificate distance: one claim from the points lent to the q returned.
+-- Demand 3, the certificate distance: "a single claim, from the points lent to the q returned".
 use mathlib.Core.Path.{_≡_}
 use mathlib.Core.List.{List, [], _∷_}
 use Prim.Native.Nat.{ℕ}
@@ -6,46 +6,50 @@ use lib.IntN.{ℤ, pos, natAbs, _-ℤ_, _*ℤ_}
 use lib.Signed.{_<ℤ_}
 use Rattle.integers.specs.Nearest.{Fraction}
 use Rattle.refusal.specs.Outcome.{Outcome, good, refused}
-use Rattle.fields.specs.declared.Value.{Value}
-use Rattle.fields.specs.declared.Domain.{Domain}
-use Rattle.fields.specs.declared.Domain.the-variants.{Electrical, Physical}
-use Rattle.fields.specs.Calibration.{D, R}
-use Rattle.fields.specs.Figure.{billion}
+use Rattle.codes.specs.declared.Value.{Value}
+use Rattle.templates.specs.declared.Domain.{Domain}
+use Rattle.templates.specs.declared.Domain.the-variants.{Electrical, Physical}
+use Rattle.templates.specs.Calibration.{D, R}
+use Rattle.codes.specs.Units.{billion}
 use Rattle.sheet.specs.Check.{readField}
 use Rattle.build.specs.declared.Sheet.{Sheet}
 use Rattle.build.specs.Build.{pairsLent, build}
 use Rattle.reading.specs.declared.Dash.{Dash}
 use Rattle.reading.specs.declared.Reading.{Reading}
-use Rattle.line.specs.Certificate.{Rises, Slopes, Within}
-use Rattle.line.specs.Line.{certificateLine}
+use Rattle.correction.specs.Certificate.{Rises, Slopes, Within}
+use Rattle.correction.specs.Line.{certificateLine}
 use Rattle.reading.specs.Reading.{electricalFigure, takeReading}
 use Rattle.promises.specs.Lent.{Lendable}
 use Rattle.promises.specs.Alterations.{Alteration, RealAlterations, altered}
 
--- An electrical value as it is read, in whole nV/V: a Single to the nearest.
+-- An electrical value as read, in whole nV/V: a Single to the nearest.
 abbrev pub whole : Outcome Value → ℤ
 whole (good v) = electricalFigure v
 whole (refused r) = pos 0
 
--- e and f as a reading reads them from an image.
+-- e and f "as that reading reads them from the image".
 abbrev pub leastIn : ℕ → List ℕ → ℤ
 leastIn kind image = whole (readField kind image 10)
 
 abbrev pub greatestIn : ℕ → List ℕ → ℤ
 greatestIn kind image = whole (readField kind image 11)
 
--- The exact certificate line through the points as lent, at x = (v − e) × 1,000,000,000 / (f − e).
+-- The exact certificate line through the points "as
+-- lent", at x = "(v − e) × 1,000,000,000 / (f − e)".
 abbrev pub lineFor : List ℤ → ℤ → ℤ → ℤ → Fraction
 lineFor points v e f = certificateLine (pairsLent points) ((v -ℤ e) *ℤ pos billion) (natAbs (f -ℤ e))
 
--- The distance is for domain 0, and for an empty list, which has none.
+-- "The distance in the third demand is for domain 0", and for an empty list, which has no domain.
 abbrev pub Straight : Domain → List ℤ → Type 0
 Straight domain [] = Unit {0}
 Straight Electrical (x ∷ points) = Unit {0}
 Straight Physical (x ∷ points) = ⊥
 
--- Whatever the points, fields, kind of chip, buffer and input: if the build is accepted and, after any list of one-field changes and commits,
--- accepted or refused, a reading of that image is accepted, on either dash, then q lies within the distance of the certificate line.
+-- For all points, fields, kinds of chip, buffers and inputs, on either dash: if
+-- - the build is accepted, and
+-- - a reading of that image is accepted, after any
+--   one-field changes and commits, accepted or refused,
+-- then q is within the distance of the certificate line.
 abbrev pub CertificateDistance : Type 0
 CertificateDistance =
     (kind : ℕ) (buffer : List ℕ) (sheet : Sheet) (text : List ℕ) (domain : Domain) (points : List ℤ) (built : List ℕ) →
@@ -57,7 +61,7 @@ CertificateDistance =
     Slopes K (pairsLent points) →
     Within D R K (r .fraction) (lineFor points v (leastIn readingKind image) (greatestIn readingKind image))
 
--- ---- what is above 0 in it
+-- ---- the factors are "all above 0 once build and reading are accepted"
 
 -- The points of an accepted build rise strictly as lent, so that every run b − a is above 0.
 abbrev pub LentPointsRise : Type 0
@@ -65,7 +69,7 @@ LentPointsRise =
     (kind : ℕ) (buffer : List ℕ) (sheet : Sheet) (text : List ℕ) (domain : Domain) (points : List ℤ) (built : List ℕ) →
     build kind buffer sheet text domain points ≡ good built → Rises (pairsLent points)
 
--- Of an accepted reading e is below f, so that f − e is above 0.
+-- In an accepted reading e is below f, so that f − e is above 0.
 abbrev pub EndsRise : Type 0
 EndsRise =
     (kind : ℕ) (image : List ℕ) (v : ℤ) (dash : Dash) (r : Reading) → takeReading kind image v dash ≡ good r → leastIn kind image <ℤ greatestIn kind image

@@ -1,5 +1,6 @@
--- Document 01, "Edges": the small proved set, which is the starred cases, one table and one statement over it. Beside it, under their own names:
--- an example that document 000 prints, and cases that show that demand 3's hypotheses can be met.
+-- Document 01, "Edges": the small proved set of starred cases, "one table,
+-- one statement over it". Beside it, under their own names: an example that
+-- document 000 prints, and cases that meet the hypotheses of demand 3.
 use mathlib.Core.Path.{_≡_}
 use mathlib.Core.Bool.{false}
 use mathlib.Core.List.{List, [], _∷_, _++_, map}
@@ -12,22 +13,22 @@ use Rattle.refusal.specs.Outcome.{good, refused, _>>=_}
 use Rattle.refusal.specs.Rows.{wrongBlock}
 use Rattle.memory.specs.Bits.{bytesOf}
 use Rattle.memory.specs.Pieces.{pack}
-use Rattle.fields.specs.declared.Value.{Value}
-use Rattle.fields.specs.declared.Value.the-variants.{Whole, Single, Missing}
-use Rattle.fields.specs.declared.Row.{Row}
-use Rattle.fields.specs.declared.Level.the-variants.{CalibrationRoom, Maker}
-use Rattle.fields.specs.declared.Domain.{Domain}
-use Rattle.fields.specs.declared.Domain.the-variants.{Electrical, Physical}
-use Rattle.fields.specs.declared.Curve.{Curve}
-use Rattle.fields.specs.declared.Template.the-variants.{Bridge, Resistance}
-use Rattle.fields.specs.Rules.{Progression, decode, encode, geometricValue}
-use Rattle.fields.specs.Rows.{bridgeEnd, excitation}
-use Rattle.fields.specs.Lines.{basic}
+use Rattle.codes.specs.declared.Value.{Value}
+use Rattle.codes.specs.declared.Value.the-variants.{Whole, Single, Missing}
+use Rattle.codes.specs.declared.Row.{Row}
+use Rattle.templates.specs.declared.Level.the-variants.{CalibrationRoom, Maker}
+use Rattle.templates.specs.declared.Domain.{Domain}
+use Rattle.templates.specs.declared.Domain.the-variants.{Electrical, Physical}
+use Rattle.templates.specs.declared.Curve.{Curve}
+use Rattle.templates.specs.declared.Template.the-variants.{Bridge, Resistance}
+use Rattle.codes.specs.Rules.{Progression, decode, encode, geometricValue}
+use Rattle.templates.specs.Rows.{bridgeEnd, excitation}
+use Rattle.templates.specs.Lines.{basic}
 use Rattle.texts.specs.Dates.{dateOf}
 use Rattle.layout.specs.Places.{firstSelector}
 use Rattle.build.specs.declared.Sheet.{Sheet}
 use Rattle.build.specs.Build.{slot, linePieces, pairsLent, build, buildCurve}
-use Rattle.line.specs.Line.{deviation}
+use Rattle.correction.specs.Line.{deviation}
 use Rattle.reading.specs.declared.Reading.{Reading}
 use Rattle.reading.specs.declared.Dash.the-variants.{Large, Small}
 use Rattle.reading.specs.Reading.{position, takeReading}
@@ -49,7 +50,7 @@ sheetWith precision least greatest = record {
 abbrev pub sheetAt : ℕ → ℤ → ℤ → Sheet
 sheetAt precision e f = sheetWith precision (Whole e) (Whole f)
 
--- One of template 32.
+-- A sheet of template 32.
 abbrev pub resistanceAt : ℕ → ℤ → ℤ → Sheet
 resistanceAt precision e f = record {
   template = Resistance;
@@ -66,9 +67,9 @@ resistanceAt precision e f = record {
 pub data Case : Type 0 where
   -- Fields 1 to 5 are these bytes.
   basicIs : List ℤ → List ℕ → Case
-  -- Under a row a figure reads back as another.
+  -- A figure, stored and read back by a row, becomes another.
   readsBack : Row → ℤ → ℤ → Case
-  -- Under a row a code means a value.
+  -- A code has a value by a row.
   means : Row → ℕ → Value → Case
   -- A code's value in a progression.
   scaled : Progression → ℕ → ℕ → Case
@@ -78,11 +79,12 @@ pub data Case : Type 0 where
   placed : ℤ → ℤ → ℤ → ℤ → Case
   -- Points by turns, a place and the deviation there.
   deviates : List ℤ → ℤ → ℤ → Case
-  -- A kind and its image's length, a sheet, a domain, points, alterations, v and q: built, altered and read.
+  -- A kind and its image's length, a sheet, a domain,
+  -- points, alterations, v and q: built, altered and read.
   reads : ℕ → ℕ → Sheet → Domain → List ℤ → List Alteration → ℤ → ℤ → Case
   -- A kind and its image's length, a sheet, a curve, v and a reading: built and read.
   draws : ℕ → ℕ → Sheet → Curve → ℤ → Reading → Case
-  -- A kind and its image's length, a sheet, v and a refusal: built, and its reading turned down.
+  -- A kind and its image's length, a sheet, v and a refusal: built, and its reading refused.
   unread : ℕ → ℕ → Sheet → ℤ → Refusal → Case
 
 abbrev pub Holds : Case → Type 0
@@ -118,8 +120,9 @@ starred =
     deviates (pos 0 ∷ pos 0 ∷ pos 400 ∷ pos 200 ∷ []) (pos 1) (pos 1) ∷
     []
 
--- Document 000's example of ConRelRes (7.4.5.3.4: the quality factor in 10^-9), which is no field of the sheet and no call's. Its examples of ConRes are
--- codes of stepped rows, and run in the program `printed`.
+-- Document 000's example of ConRelRes (7.4.5.3.4: the quality factor
+-- in 10^-9), which is a field of no sheet here. Its examples of
+-- ConRes are codes of stepped rows, and run in the program `printed`.
 abbrev pub printed : List Case
 printed = scaled (record { start = 300_000_000; tolerance = 3; parts = 100 }) 126 463_084_535_408 ∷ []
 
@@ -130,7 +133,8 @@ changedTo kind greatest = changes (record { kind = kind; level = CalibrationRoom
 abbrev pub twoChanges : ℕ → ℤ → List Alteration
 twoChanges kind f = changedTo kind (Whole f)
 
--- A commit of field 11 from 2,000,000 to 3,000,000 at precision 0, and another that still expects the former, which is refused.
+-- A commit of field 11 from 2,000,000 to 3,000,000 at precision 0,
+-- and a second that still expects the first code, which is refused.
 abbrev pub twoCommits : ℕ → List Alteration
 twoCommits kind =
     commits (record { kind = kind; level = CalibrationRoom; field = 11; present = 1_002; new = 1_003 }) ∷
@@ -141,7 +145,8 @@ twoCommits kind =
 abbrev pub steep : List ℤ
 steep = pos 7_650 ∷ pos 500 ∷ pos 22_950 ∷ negℤ (pos 152_500) ∷ []
 
--- −2^−10, 2^−10 and the Single nearest to 0.002, in V/V: −976,562.5, 976,562.5 and 2,000,000.09.. nV/V.
+-- −2^−10, 2^−10 and the Single nearest to 0.002, in
+-- V/V: −976,562.5, 976,562.5 and 2,000,000.09.. nV/V.
 abbrev pub below : Value
 below = Single (ofBits binary32 0xba80_0000)
 
@@ -155,8 +160,8 @@ other = Single (ofBits binary32 0x3b03_126f)
 abbrev pub halved : List ℤ
 halved = pos 0 ∷ pos 0 ∷ pos 306_000 ∷ negℤ (pos 153_000) ∷ []
 
--- Demand 3 and the crossing can be met: a build, changes or commits and an accepted reading for each kind, at each precision that it has room for,
--- and in domain 1.
+-- Demand 3 and the crossing can be met. A build, changes or commits and an accepted
+-- reading for each kind, at each precision that it has room for, and in domain 1.
 abbrev pub met : List Case
 met =
     reads 0 40 (sheetAt 0 (pos 0) (pos 2_000_000)) Electrical [] (twoChanges 0 (pos 3_000_000)) (pos 1_000_000) (pos 333_333_333) ∷
@@ -172,8 +177,8 @@ met =
     reads 1 128 (sheetAt 0 (pos 0) (pos 2_000_000)) Physical halved (twoChanges 1 (pos 3_000_000)) (pos 300) (pos 200_000) ∷
     []
 
--- Document 02, Note 11: a curve of two segments, whose second starts at 49.2 % of the span; 0.0625 × 50 − 2 is 1.125 there, so that half of the span shows
--- 51.125 % of 10: 5.1125, by f64.
+-- Document 02, Note 11: a curve of two segments, whose second starts at 49.2 % of the span;
+-- 0.0625 × 50 − 2 is 1.125 there, so that half of the span shows 51.125 % of 10: 5.1125, by f64.
 abbrev pub bent : Curve
 bent = record {
   count = 2;
@@ -189,7 +194,7 @@ abbrev pub curved : List Case
 curved =
     draws 1 128 (sheetAt 0 (pos 0) (pos 2_000_000)) bent (pos 1_000_000) (record { fraction = pos 500_000_000; figure = ofBits binary64 0x4014_7333_3333_3333 }) ∷ []
 
--- Document 02, Note 14: where points plus deviations fall, the needle drops back.
+-- Document 02, Note 14: if points plus deviations fall, the needle drops back.
 abbrev pub falling : List ℤ
 falling = pos 0 ∷ pos 100_000 ∷ pos 15_300 ∷ negℤ (pos 100_000) ∷ []
 
@@ -199,7 +204,8 @@ dropped =
     reads 1 128 (sheetAt 0 (pos 0) (pos 2_000_000)) Electrical falling [] (pos 31) (negℤ (pos 84_500)) ∷
     []
 
--- Document 02, Note 7: a sheet of template 32 is built, at each precision but the Singles', and no reading is taken from it.
+-- Document 02, Note 7: a sheet of template 32 is built, at each
+-- precision but the Singles', and no reading is taken from it.
 abbrev pub resisted : List Case
 resisted =
     unread 0 40 (resistanceAt 0 (pos 0) (pos 1_000)) (pos 500) (wrongBlock firstSelector) ∷
@@ -215,6 +221,6 @@ AllHold (c ∷ cases) = Holds c × AllHold cases
 abbrev pub Edges : Type 0
 Edges = AllHold starred
 
--- Document 000's example, demand 3 met, a curve, a needle that drops back, and readings that are turned down.
+-- Document 000's example, demand 3 met, a curve, a needle that drops back, and refused readings.
 abbrev pub Examples : Type 0
 Examples = AllHold (printed ++ (met ++ (curved ++ (dropped ++ resisted))))

@@ -1,4 +1,4 @@
--- One grammar: the pieces that a build writes one behind the other are those of the format that a check parses by.
+-- One grammar: the pieces that a build writes are those of the format that a check parses by.
 use mathlib.Core.Path.{_≡_}
 use mathlib.Core.List.{List, [], _∷_, map}
 use Prim.Native.Nat.{ℕ, _+_, _-_, _≤_}
@@ -10,7 +10,8 @@ use Rattle.build.specs.declared.Sheet.{Sheet}
 use Rattle.build.specs.Build.{Table, plan}
 use Rattle.promises.specs.Lent.{Lendable, LendableTable}
 
--- The pieces that a format takes from bit `at` of a stream of S bits on, where its fields have these codes in turn.
+-- The pieces that a format reads from bit `at` of a stream
+-- of S bits on, if its fields have these codes in turn.
 abbrev pub laid : {A : Type 0} → ℕ → Format A → ℕ → List ℕ → List Piece
 laid S (ends a) at codes = []
 laid S (stops r) at codes = []
@@ -18,7 +19,8 @@ laid S (takes w next) at [] = []
 laid S (takes w next) at (code ∷ codes) = piece w code ∷ laid S (next code) (at + w) codes
 laid S (looks next) at codes = laid S (next at (S - at)) at codes
 
--- Whatever is lent: the pieces of a plan that a stream has room for are those that the format of a sheet gives to their codes.
+-- Whatever is lent: if a stream has room for the pieces of a plan,
+-- they are those that the format of a sheet has for their codes.
 abbrev pub OneGrammar : Type 0
 OneGrammar =
     (S : ℕ) (sheet : Sheet) (text : List ℕ) (table : Table) (pieces : List Piece) → Lendable sheet → LendableTable table →

@@ -1,4 +1,5 @@
--- Document 01, "Image and stream": a stream has 39, 124 or 496 bytes, and an image whose sums are right is another view of its stream.
+-- Document 01, "Image and stream": a stream has "39, 124 or 496 bytes",
+-- and an image whose sums are right is determined by its stream.
 use mathlib.Core.Path.{_≡_}
 use mathlib.Core.List.{List}
 use Prim.Native.Nat.{ℕ, _^_, _<_}

@@ -1,14 +1,15 @@
--- What a caller can lend: a sheet record of 21 slots and a curve of 20 segments and 30 terms, whose Singles are f32.
+-- What a caller can lend: a sheet record of 21 slots and a
+-- curve of 20 segments and 30 terms, whose Singles are f32.
 use mathlib.Core.Path.{_≡_}
 use mathlib.Core.List.{List, [], _∷_}
 use lib.ListN.{length}
-use Rattle.fields.specs.declared.Value.the-variants.{Single}
-use Rattle.fields.specs.declared.Term.{Term}
-use Rattle.fields.specs.declared.Curve.{Curve}
-use Rattle.fields.specs.Stored.{Real}
+use Rattle.codes.specs.declared.Value.the-variants.{Single}
+use Rattle.templates.specs.declared.Term.{Term}
+use Rattle.templates.specs.declared.Curve.{Curve}
+use Rattle.codes.specs.Stored.{Real}
 use Rattle.build.specs.declared.Slot.{Slot}
 use Rattle.build.specs.declared.Sheet.{Sheet}
-use Rattle.build.specs.Build.{Table, listed, drawn}
+use Rattle.build.specs.Build.{Table, listed, byCurve}
 
 abbrev pub AllReal : List Slot → Type 0
 AllReal [] = Unit {0}
@@ -30,4 +31,4 @@ pub record LendableCurve (curve : Curve) : Type 0 where
 -- Any points list, or such a curve.
 abbrev pub LendableTable : Table → Type 0
 LendableTable (listed domain points) = Unit {0}
-LendableTable (drawn curve) = LendableCurve curve
+LendableTable (byCurve curve) = LendableCurve curve

@@ -8,14 +8,14 @@ use Rattle.refusal.specs.declared.Refusal.{Refusal}
 use Rattle.refusal.specs.Outcome.{Outcome, good, refused, _>>_, _>>=_, refuse_if_}
 use Rattle.refusal.specs.Written.{afterwards}
 use Rattle.refusal.specs.Rows.{changedAlone, levelTooLow}
-use Rattle.fields.specs.declared.Value.{Value}
-use Rattle.fields.specs.declared.Level.{Level}
-use Rattle.fields.specs.declared.Level.the-variants.{Owner, CalibrationRoom, Maker}
-use Rattle.fields.specs.declared.Template.{Template}
-use Rattle.fields.specs.declared.Template.the-variants.{Bridge, Resistance}
-use Rattle.fields.specs.Rules.{encode}
-use Rattle.fields.specs.Lines.{Line, linesOf, lineOf}
-use Rattle.fields.specs.Levels.{mayWrite, rank}
+use Rattle.codes.specs.declared.Value.{Value}
+use Rattle.templates.specs.declared.Level.{Level}
+use Rattle.templates.specs.declared.Level.the-variants.{Owner, CalibrationRoom, Maker}
+use Rattle.templates.specs.declared.Template.{Template}
+use Rattle.templates.specs.declared.Template.the-variants.{Bridge, Resistance}
+use Rattle.codes.specs.Rules.{encode}
+use Rattle.templates.specs.Lines.{Line, linesOf, lineOf}
+use Rattle.templates.specs.Levels.{mayWrite, rank}
 use Rattle.layout.specs.Contents.{Contents}
 use Rattle.layout.specs.Image.{contents, numbered}
 use Rattle.build.specs.declared.Sheet.{Sheet}
@@ -24,7 +24,7 @@ use Rattle.change.specs.Change.{rewritten, change, propose, commit}
 
 -- ---- the fields that a level writes
 
--- Of lines from field f on.
+-- The fields of lines from field f on that a level may write.
 abbrev pub writtenFrom : Level → ℕ → List Line → List ℕ
 writtenFrom level f [] = []
 writtenFrom level f (line ∷ lines) =
@@ -34,8 +34,8 @@ writtenFrom level f (line ∷ lines) =
 abbrev pub writtenBy : Level → Template → List ℕ
 writtenBy level template = writtenFrom level 1 (linesOf template)
 
--- An owner changes field 21; a calibration room also 7, 8, 10, 11, 18, 19 and 20; a maker every field that can be changed alone. Of template 32
--- by the marks of its lines (Note 7).
+-- "An owner changes field 21; a calibration room also 7, 8, 10, 11, 18, 19 and 20"; a maker every
+-- field that can be changed alone. For template 32 "Writer's levels follow the marks in Annex A".
 pub record FieldsOfLevels : Type 0 where
   pub owner : writtenBy Owner Bridge ≡ (21 ∷ [])
   pub calibrationRoom : writtenBy CalibrationRoom Bridge ≡ (7 ∷ 8 ∷ 10 ∷ 11 ∷ 18 ∷ 19 ∷ 20 ∷ 21 ∷ [])
@@ -46,7 +46,7 @@ pub record FieldsOfLevels : Type 0 where
 
 -- ---- the maker
 
--- A change before levels. Order: check, 8, 12, 9, 10.
+-- A change without the test of levels. Order: check, 8, 12, 9, 10.
 unfoldable pub changeAsBefore : ℕ → List ℕ → ℕ → Value → Outcome (List ℕ)
 changeAsBefore kind image f value = do
   c ← contents kind image
@@ -55,13 +55,14 @@ changeAsBefore kind image f value = do
   code ← encode (x .row) f value
   rewritten kind image x code
 
--- For the maker, the outcome of a change is the old one: number, place and bytes.
+-- "For the maker, the outcome of a change is the old one": number, place and bytes.
 abbrev pub MakerAsBefore : Type 0
 MakerAsBefore = (kind : ℕ) (image : List ℕ) (f : ℕ) (v : Value) → change kind image Maker f v ≡ changeAsBefore kind image f v
 
--- ---- the others
+-- ---- the other levels
 
--- What a level may not write is refused it with 20, whatever the value and the codes, and nothing is written.
+-- A field that a level may not write is refused with 20,
+-- whatever the value and the codes, and nothing is written.
 pub record RefusedTo (level : Level) (kind : ℕ) (image : List ℕ) (f : ℕ) : Type 0 where
   pub changed : (v : Value) → change kind image level f v ≡ refused (levelTooLow f)
   pub proposed : (v : Value) → propose kind image level f v ≡ refused (levelTooLow f)
@@ -74,7 +75,7 @@ LowerRefused =
     (level : Level) (kind : ℕ) (image : List ℕ) (c : Contents) (f : ℕ) → contents kind image ≡ good c → 1 ≤ f → f ≤ length (c .fields) →
     lineOf (c .template) f .sets ≡ false → mayWrite level (lineOf (c .template) f .mark) ≡ false → RefusedTo level kind image f
 
--- A field that could be changed alone, of an accepted image, and that the level does not hold.
+-- A field that can be changed alone, of an accepted image, but not by this level.
 pub record NotHeld (level : Level) (kind : ℕ) (image : List ℕ) (f : ℕ) : Type 0 where
   pub holds : Contents
   pub accepted : contents kind image ≡ good holds
@@ -83,7 +84,8 @@ pub record NotHeld (level : Level) (kind : ℕ) (image : List ℕ) (f : ℕ) : T
   pub alone : lineOf (holds .template) f .sets ≡ false
   pub held : mayWrite level (lineOf (holds .template) f .mark) ≡ false
 
--- 20 is returned in no other case: with `LowerRefused`, exactly where the level does not hold the field.
+-- 20 is returned in no other case: with `LowerRefused`,
+-- exactly if the level may not write the field.
 pub record TwentyOnlyThere (level : Level) (kind : ℕ) (image : List ℕ) (f : ℕ) (r : Refusal) : Type 0 where
   pub changed : (v : Value) → change kind image level f v ≡ refused r → NotHeld level kind image f
   pub proposed : (v : Value) → propose kind image level f v ≡ refused r → NotHeld level kind image f
@@ -92,7 +94,7 @@ pub record TwentyOnlyThere (level : Level) (kind : ℕ) (image : List ℕ) (f : 
 abbrev pub RefusedOnlyThere : Type 0
 RefusedOnlyThere = (level : Level) (kind : ℕ) (image : List ℕ) (f : ℕ) (r : Refusal) → r .number ≡ 20 → TwentyOnlyThere level kind image f r
 
--- What a level writes, every higher one writes too, to the same bytes.
+-- What a level may write, every higher one may write too, to the same bytes.
 pub record HigherMayToo (low high : Level) : Type 0 where
   pub changes : (kind : ℕ) (image after : List ℕ) (f : ℕ) (v : Value) → change kind image low f v ≡ good after → change kind image high f v ≡ good after
   pub commits : (kind : ℕ) (image after : List ℕ) (f present new : ℕ) → commit kind image low f present new ≡ good after → commit kind image high f present new ≡ good after
@@ -105,7 +107,7 @@ LevelsNest = (low high : Level) → rank low ≤ rank high → HigherMayToo low 
 abbrev pub atLevel : Level → Sheet → Sheet
 atLevel level sheet = record { template = sheet .template; fields = sheet .fields; «end_bit» = sheet .«end_bit»; level = level }
 
--- A build tests no level and stores none: at every level its outcome is the same.
+-- "a build tests none": at every level its outcome is the same.
 abbrev pub BuildAsksNoLevel : Type 0
 BuildAsksNoLevel =
     (level : Level) (kind : ℕ) (buffer : List ℕ) (sheet : Sheet) (text : List ℕ) (table : Table) →

@@ -14,7 +14,7 @@ pub mod Readings
 pub mod Certificate
 pub mod Beforehand
 pub mod Crossing
-pub mod Needle
+pub mod Monotone
 pub mod Figure
 pub mod Conformity
 pub mod Calls

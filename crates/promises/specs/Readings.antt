@@ -1,4 +1,4 @@
--- Document 02: what holds of readings.
+-- Document 02: statements about readings.
 use mathlib.Core.Path.{_≡_}
 use mathlib.Core.List.{List}
 use Prim.Native.Nat.{ℕ, _≤_}
@@ -11,11 +11,12 @@ use Rattle.reading.specs.declared.Dash.the-variants.{Large, Small}
 use Rattle.reading.specs.declared.Reading.{Reading}
 use Rattle.reading.specs.Reading.{takeReading}
 
--- Note 10: what the small dash shows for a sheet it takes is what the large one shows.
+-- Note 10: "What the small dash shows for a sheet it takes is what the large one shows."
 abbrev pub SmallShowsLarge : Type 0
 SmallShowsLarge = (kind : ℕ) (image : List ℕ) (v : ℤ) (r : Reading) → takeReading kind image v Small ≡ good r → takeReading kind image v Large ≡ good r
 
--- It takes every sheet of at most 32 points: its outcome is the large one's, shown or refused.
+-- The small dash takes every sheet of at most 32 points:
+-- its outcome is the large one's, shown or refused.
 abbrev pub SmallTakesFew : Type 0
 SmallTakesFew =
     (kind : ℕ) (image : List ℕ) (c : Contents) (v : ℤ) → contents kind image ≡ good c → length (points c) ≤ 32 →

@@ -1,4 +1,5 @@
--- Document 01, "Layout" and "Turning down": how far a check judges an image, and what is read of it.
+-- Document 01, "Layout" and "Turning down": how far a
+-- check judges an image, and what reads of it return.
 use mathlib.Core.Path.{_≡_}
 use mathlib.Core.List.{List}
 use Prim.Native.Nat.{ℕ, _%_, _^_}
@@ -13,8 +14,8 @@ use Rattle.sheet.specs.declared.Summary.{Summary}
 use Rattle.sheet.specs.Check.{check}
 use Rattle.sheet.specs.Reads.{ReadsEach, ReadsNone}
 
--- Bits after the end are not judged: an image of the same kind that passes the page test, and whose stream has the bits of an accepted one up to its
--- end, holds the same.
+-- "Bits after the end are not judged". An image of the same kind has the same contents
+-- if it passes the page test and its stream agrees with an accepted one up to its end.
 abbrev pub BitsBehindNotJudged : Type 0
 BitsBehindNotJudged =
     (kind : ℕ) (image other : List ℕ) (z : Sizes) (c : Contents) →
@@ -23,7 +24,7 @@ BitsBehindNotJudged =
     streamNumber z image % 2 ^ c .bits ≡ streamNumber z other % 2 ^ c .bits →
     contents kind other ≡ good c
 
--- Field, pair, character, segment or term read: check, 8.
+-- Field, pair, character, segment or term read: "check, 8".
 abbrev pub ReadByIndex : Type 0
 ReadByIndex =
     (kind : ℕ) (image : List ℕ) →

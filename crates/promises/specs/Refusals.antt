@@ -1,30 +1,15 @@
--- Document 01, "Turning down": "a number is returned only in its row's case". Every call refuses by a row that its order names, so that no call returns
--- 0 for a refusal, nor 15 (document 02, Note 8).
+-- Document 01, "Turning down": "A number is returned only in its
+-- row's case". Every call refuses by a row that its order names, so
+-- that no call returns 0 for a refusal, nor 15 (document 02, Note 8).
 use mathlib.Core.Path.{_≡_}
 use mathlib.Core.List.{List, [], _∷_}
 use Prim.Native.Nat.{ℕ}
 use lib.IntN.{ℤ}
-use Rattle.refusal.specs.Orders.{
-  occurs,
-  By,
-  checkOrder,
-  readOrder,
-  textOrder,
-  changeOrder,
-  commitOrder,
-  indexOrder,
-  fetchOrder,
-  readingOrder,
-  compareOrder,
-  buildOrder,
-  curveOrder,
-  distanceOrder,
-  orders,
-}
-use Rattle.fields.specs.declared.Value.{Value}
-use Rattle.fields.specs.declared.Level.{Level}
-use Rattle.fields.specs.declared.Domain.{Domain}
-use Rattle.fields.specs.declared.Curve.{Curve}
+use Rattle.refusal.specs.Orders.{occurs, By, checkOrder, readOrder, textOrder, changeOrder, commitOrder, indexOrder, fetchOrder, readingOrder, compareOrder, buildOrder, curveOrder, distanceOrder, orders}
+use Rattle.codes.specs.declared.Value.{Value}
+use Rattle.templates.specs.declared.Level.{Level}
+use Rattle.templates.specs.declared.Domain.{Domain}
+use Rattle.templates.specs.declared.Curve.{Curve}
 use Rattle.texts.specs.Text.{textOf, codeOf}
 use Rattle.sheet.specs.Check.{check, readField, readPair, readCharacter, readSegment, readTerm}
 use Rattle.index.specs.Index.{index, fetch}
@@ -36,7 +21,7 @@ use Rattle.reading.specs.declared.Dash.{Dash}
 use Rattle.reading.specs.Reading.{takeReading}
 use Rattle.recordings.specs.Recordings.{compare}
 
--- Of an image that is not altered.
+-- The calls that do not alter the image.
 pub record ReadsByOrder (kind : ℕ) (image : List ℕ) : Type 0 where
   pub checks : By checkOrder (check kind image)
   pub fields : (f : ℕ) → By readOrder (readField kind image f)
@@ -49,7 +34,7 @@ pub record ReadsByOrder (kind : ℕ) (image : List ℕ) : Type 0 where
   pub readings : (v : ℤ) (dash : Dash) → By readingOrder (takeReading kind image v dash)
   pub compares : (slow fast : List ℤ) → By compareOrder (compare kind image slow fast)
 
--- Of one that is.
+-- The calls that alter it.
 pub record WritesByOrder (kind : ℕ) (image : List ℕ) : Type 0 where
   pub changes : (level : Level) (f : ℕ) (v : Value) → By changeOrder (change kind image level f v)
   pub proposes : (level : Level) (f : ℕ) (v : Value) → By changeOrder (propose kind image level f v)
@@ -57,7 +42,7 @@ pub record WritesByOrder (kind : ℕ) (image : List ℕ) : Type 0 where
   pub builds : (sheet : Sheet) (text : List ℕ) (domain : Domain) (points : List ℤ) → By buildOrder (build kind image sheet text domain points)
   pub buildsCurves : (sheet : Sheet) (text : List ℕ) (curve : Curve) → By curveOrder (buildCurve kind image sheet text curve)
 
--- Whatever kind and bytes are lent.
+-- For any kind and bytes that are lent.
 pub record RefusedByOrder : Type 0 where
   pub reads : (kind : ℕ) (image : List ℕ) → ReadsByOrder kind image
   pub writes : (kind : ℕ) (image : List ℕ) → WritesByOrder kind image
@@ -70,7 +55,7 @@ abbrev pub InNone : ℕ → List (List ℕ) → Type 0
 InNone n [] = Unit {0}
 InNone n (rows ∷ others) = (occurs n rows ≡ 0) × InNone n others
 
--- No refusal has the number 0, by which an answer would be taken for an accepted one.
+-- No refusal has the number 0, which would mean accepted.
 abbrev pub NeverZero : Type 0
 NeverZero = InNone 0 orders
 

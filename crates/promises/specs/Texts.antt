@@ -1,4 +1,5 @@
--- Document 01, "Layout": text and code are each other's inverse, and dates are those of the Gregorian calendar from 1 January 1998 on.
+-- Document 01, "Layout": text and code are each other's inverse, and
+-- dates are those of the Gregorian calendar from 1 January 1998 on.
 use mathlib.Core.Path.{_≡_}
 use mathlib.Core.Bool.{true, false, cond}
 use mathlib.Core.List.{List}
@@ -26,15 +27,15 @@ pub record Day (d : Date) : Type 0 where
 abbrev pub daysBefore : Date → ℕ
 daysBefore d = daysBeforeYear (d .year) + (daysBeforeMonth (d .year) (d .month) + (d .day - 1))
 
--- Every code's date is a day of the calendar, the next code's is the day after it; every day of the calendar is the date of the days before it, and of
--- no other code.
+-- Every code's date is a day of the calendar, and the next code's is the day after it.
+-- Every day of the calendar is the date of the days before it, and of no other code.
 pub record Calendar : Type 0 where
   pub days : (code : ℕ) → Day (dateOf code)
   pub after : (code : ℕ) → dateOf (suc code) ≡ next (dateOf code)
   pub all : (d : Date) → Day d → dateOf (daysBefore d) ≡ d
   pub once : (code : ℕ) → daysBefore (dateOf code) ≡ code
 
--- A year has 365 days, a leap year 366; 2000 is a leap year, 2100 is none.
+-- A year has 365 days, a leap year 366; 2000 is a leap year, 2100 is not.
 pub record LeapYears : Type 0 where
   pub days : (year : ℕ) → daysOfYear year ≡ cond (leap year) 366 365
   pub fourth : leap 2024 ≡ true

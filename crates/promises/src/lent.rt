@@ -1,13 +1,28 @@
-// One-field changes and commits lent as slices: of each, its kind, level, field, and value or codes are at its index. Past the end
-// of a slice is 0, and the value is missing.
-use fields::Level;
-use fields::Value;
+// One-field changes and commits lent as slices: the kind, level, field, and value or
+// codes of each are at its index. Past the end of a slice is 0, and the value is missing.
+use codes::Value;
+use templates::Level;
 ghost use mathlib.Core.Path.{_≡_};
 ghost use Prim.Native.Nat.{_<_};
 ghost use lib.ListN.{length, getD};
-ghost use Rattle.fields.specs.Stored.{Real};
-ghost use Rattle.promises.specs.Alterations.{RealAlteration, RealAlterations, alteredBy, altered};
-ghost use Rattle.promises.specs.AlterationsLent.{levelLent, valueAt, alterationLent, alterationsLent};
+ghost use Rattle.codes.specs.Stored.{Real};
+ghost use Rattle.promises.specs.Alterations.{alteredBy};
+ghost use Rattle.promises.specs.AlterationsLent.{levelLent, valueAt, targetAt, contentAt, alterationOf};
+
+// What an alteration is made to, and by a writer of which level.
+pub struct Target {
+    pub kind: u8,
+    pub level: Level,
+    pub field: u64,
+}
+
+// What it writes: for sort 3, a commit, the new code in the place of the present one; for any other sort, a change, the value.
+pub struct Content {
+    pub sort: u8,
+    pub value: Value,
+    pub present: u64,
+    pub new: u64,
+}
 
 // The byte at an index, 0 past the end.
 fn byte_at(bytes: &[u8], i: usize) -> u8
@@ -40,11 +55,12 @@ fn level_of(number: u8) -> Level
     }
 }
 
-// The value at an index: sort 0 is a whole number, 1 a Single, any other missing; missing too past the end of a slice.
-fn value_at(sorts: &[u8], wholes: &[i64], singles: &[f32], i: usize) -> Value
-    ensures { λ r. ⌜ (r ≡ valueAt (now (sorts .entry)) (now (wholes .entry)) (now (singles .entry)) i) × Real r ⌝ }
+// The value at an index: sort 0 is a whole number, 1 a Single,
+// any other missing; missing too past the end of a slice.
+fn value_at(tags: &[u8], wholes: &[i64], singles: &[f32], i: usize) -> Value
+    ensures { λ r. ⌜ (r ≡ valueAt (now (tags .entry)) (now (wholes .entry)) (now (singles .entry)) i) × Real r ⌝ }
 {
-    if i >= sorts.len() {
+    if i >= tags.len() {
         return Value::Missing;
     }
     if i >= wholes.len() {
@@ -53,70 +69,55 @@ fn value_at(sorts: &[u8], wholes: &[i64], singles: &[f32], i: usize) -> Value
     if i >= singles.len() {
         return Value::Missing;
     }
-    match sorts[i] {
+    match tags[i] {
         0 => Value::Whole(wholes[i]),
         1 => Value::Single(singles[i]),
         _ => Value::Missing,
     }
 }
 
-// Makes the change or the commit at an index.
-fn alter_at(
-    image: &mut [u8],
-    kinds: &[u8],
-    levels: &[u8],
-    fields: &[u64],
-    sorts: &[u8],
+// The target of the alteration at an index.
+pub fn target_at(kinds: &[u8], levels: &[u8], fields: &[u64], i: usize) -> Target
+    requires { ⌜ i < length (now fields) ⌝ }
+    ensures { λ r. ⌜ r ≡ targetAt (now (kinds .entry)) (now (levels .entry)) (now (fields .entry)) i ⌝ }
+{
+    Target {
+        kind: byte_at(kinds, i),
+        level: level_of(byte_at(levels, i)),
+        field: fields[i],
+    }
+}
+
+// The content of the alteration at an index.
+pub fn content_at(
+    tags: &[u8],
     wholes: &[i64],
     singles: &[f32],
     presents: &[u64],
     news: &[u64],
     i: usize,
-)
-    requires { ⌜ i < length (now fields) ⌝ }
-    ensures { λ _. ⌜ (let a = alterationLent (now (kinds .entry)) (now (levels .entry)) (now (fields .entry)) (now (sorts .entry)) (now (wholes .entry)) (now (singles .entry)) (now (presents .entry)) (now (news .entry)) i in
-        (now (image .exit) ≡ alteredBy (now (image .entry)) a) × RealAlteration a) ⌝ }
+) -> Content
+    ensures { λ r. ⌜ (r ≡ contentAt (now (tags .entry)) (now (wholes .entry)) (now (singles .entry)) (now (presents .entry)) (now (news .entry)) i) × Real (r .value) ⌝ }
 {
-    let kind = byte_at(kinds, i);
-    let level = level_of(byte_at(levels, i));
-    if byte_at(sorts, i) == 3 {
-        let present = code_at(presents, i);
-        change::commit(kind, image, level, fields[i], present, code_at(news, i));
-        return;
+    Content {
+        sort: byte_at(tags, i),
+        value: value_at(tags, wholes, singles, i),
+        present: code_at(presents, i),
+        new: code_at(news, i),
     }
-    let value = value_at(sorts, wholes, singles, i);
-    change::change(kind, image, level, fields[i], value);
 }
 
-// Makes them all, in order.
-pub fn alter(
-    image: &mut [u8],
-    kinds: &[u8],
-    levels: &[u8],
-    fields: &[u64],
-    sorts: &[u8],
-    wholes: &[i64],
-    singles: &[f32],
-    presents: &[u64],
-    news: &[u64],
-)
-    ensures { λ _. ⌜ (let list = alterationsLent (now (kinds .entry)) (now (levels .entry)) (now (fields .entry)) (now (sorts .entry)) (now (wholes .entry)) (now (singles .entry)) (now (presents .entry)) (now (news .entry)) in
-        (now (image .exit) ≡ altered (now (image .entry)) list) × RealAlterations list) ⌝ }
+// Makes the change or the commit.
+pub fn alter(image: &mut [u8], target: Target, content: Content)
+    ensures { λ _. ⌜ now (image .exit) ≡ alteredBy (now (image .entry)) (alterationOf target content) ⌝ }
 {
-    let mut i = 0;
-    while i < fields.len() {
-        alter_at(
-            image,
-            kinds,
-            levels,
-            fields,
-            sorts,
-            wholes,
-            singles,
-            presents,
-            news,
-            i,
-        );
-        i += 1;
+    let kind = target.kind;
+    let level = target.level;
+    let field = target.field;
+    if content.sort == 3 {
+        change::commit(kind, image, level, field, content.present, content.new);
+        return;
     }
+    let value = content.value;
+    change::change(kind, image, level, field, value);
 }

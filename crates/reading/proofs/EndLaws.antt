@@ -1,4 +1,4 @@
--- The electrical ends: a value that is given, one that is turned down, and rows 13 and 21 in their order.
+-- Laws of the electrical ends: an accepted value, a refused one, and rows 13 and 21 in their order.
 use Rattle.reading.proofs.Names.{_≡_, refl, Bool, true, false, cond, none, some, ℕ, arith, ℤ, leZ, good, refused, noSpan, endOutside, Value, electricalFigure, isMissing, isOutside, endsOf}
 
 pub turned : (v : Value) → none ≡ cond (isOutside v) none (some (electricalFigure v)) → isOutside v ≡ true

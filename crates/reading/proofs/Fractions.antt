@@ -1,8 +1,9 @@
--- The fraction q, as calls give it: it goes by the pairs before a position, it is small, and with the figure it is the reading.
+-- Laws of the fraction q that calls return: it depends on the pairs
+-- before a position, it is small, and with the figure it is the reading.
 use Rattle.reading.proofs.Names.{_≡_, refl, List, [], _∷_, map, none, ℕ, _+_, _^_, _≤_, _<_, arith, ℤ, natAbs, _+ℤ_, length, getD, Float, w64, SFits, toZ, ofZ, toZ-ofZ, add-parts, abs-parts, Pair, Domain}
 use Rattle.reading.proofs.Names.{Electrical, Physical, noPair, physicalFigure, Calibration, bare, table, curve, Contents, pairIn, pairsIn, CalibrationAt, Before, correctionAfter, deviation, crossingAfter}
 use Rattle.reading.proofs.Names.{crossing, Table, near-abs, deviation-small, crossing-small, Pieced, first-piece, last-piece, next-piece, rounded, deviation-pieced, crossing-pieced, none-deviates, none-crosses}
-use Rattle.reading.proofs.Names.{NoTable, Is, Opened, domainIn, Opens, holding, Span, position, fraction, share, readingAt, figureIn, heldIn, betweenIn}
+use Rattle.reading.proofs.Names.{NoTable, Is, Opened, domainIn, Opens, holding, Span, position, fraction, physicalFraction, readingAt, figureIn, heldIn, betweenIn}
 use Rattle.reading.specs.Reading.{fractionBy}
 use Rattle.reading.proofs.Opening.{RisesIn, pairs-table, pairs-rise}
 
@@ -16,7 +17,7 @@ fraction-pieced : (domain : Domain) (p : ℤ) → Pieced (figureIn domain) p (he
 fraction-pieced Electrical p = deviation-pieced p
 fraction-pieced Physical p = crossing-pieced p
 
--- Without any it is p.
+-- Without pairs the fraction is p.
 pub none-shows : (domain : Domain) (p : ℤ) (pairs : List Pair) → length pairs ≡ 0 → p ≡ fractionBy domain pairs p
 none-shows Electrical p [] e = none-deviates p
 none-shows Physical p [] e = none-crosses p
@@ -34,7 +35,7 @@ module _ (domain : Domain) (p : ℤ) (pairs : List Pair) where
     pub next-shows : n < length pairs → (q : Pair) → q ≡ getD pairs n noPair → betweenIn domain p v q ≡ fractionBy domain pairs p
     next-shows = next-piece (figureIn domain) p _ _ _ _ (fraction-pieced domain p) pairs r i n e b v ev
 
--- ---- of a calibration
+-- ---- by a calibration
 
 pub table-shows : (k : Calibration) (domain : Domain) (p : ℤ) → domainIn k ≡ Is domain → fractionBy domain (map pairIn (pairsIn k)) p ≡ fraction k p
 table-shows bare domain p e = absurd (let z : _≡_ {A = ℕ} 0 1 = cc in omega arith)
@@ -46,7 +47,8 @@ no-table-shows bare p e = refl
 no-table-shows (table found pairs) p e = absurd (let z : _≡_ {A = ℕ} 0 1 = cc in omega arith)
 no-table-shows (curve segments) p e = refl
 
--- Where the table is not of the other domain, a calibration has one of the two.
+-- If a calibration's table is not of domain 1, the fraction
+-- is p plus the deviation; if not of domain 0, the crossing.
 pub by-deviation : (k : Calibration) (p : ℤ) → (domainIn k ≡ Is Physical → ⊥) → fraction k p ≡ p +ℤ deviation (map pairIn (pairsIn k)) p
 by-deviation bare p h = none-deviates p
 by-deviation (table Electrical pairs) p h = refl
@@ -59,7 +61,7 @@ by-crossing (table Electrical pairs) p h = absurd (h refl)
 by-crossing (table Physical pairs) p h = refl
 by-crossing (curve segments) p h = none-crosses p
 
--- ---- small
+-- ---- bounds
 
 sum-small : (p d : ℤ) → natAbs p ≤ 2 ^ 31 → natAbs d ≤ 2 ^ 32 → natAbs (p +ℤ d) ≤ 2 ^ 33
 sum-small p d hp hd = omega (arith, near-abs {b = 2 ^ 33} 1 (p +ℤ d) (omega (arith, add-parts p d, abs-parts p, abs-parts d)))
@@ -79,7 +81,7 @@ fraction-small {c = c} h p small = go _ (c .calibration) (holding h .formed .cal
 -- ---- the reading
 
 pub reading-made : (k : Calibration) (s : Span) (v : ℤ) {q : ℤ} {x y : Float} → SFits w64 q → q ≡ fraction k (position v (s .least) (s .greatest)) →
-    y ≡ share k (position v (s .least) (s .greatest)) → x ≡ physicalFigure (s .low) (s .high) y →
+    y ≡ physicalFraction k (position v (s .least) (s .greatest)) → x ≡ physicalFigure (s .low) (s .high) y →
     record { fraction = toZ w64 (ofZ w64 q); figure = x } ≡ readingAt k s v
 unfolding readingAt
 reading-made k s v f e hy hx = rw (hx, hy, toZ-ofZ f, e)

@@ -1,4 +1,4 @@
--- What an opened sheet holds: the sorts and sizes of the values that a reading is taken from.
+-- Laws of an opened sheet: the sorts and sizes of the values that a reading uses.
 use Rattle.reading.proofs.Names.{_≡_, refl, sym, ap, ap₂, _∙_, subst, Bool, true, false, not, _&&_, cond, true≢false, List, [], _∷_, map, Option, none, some, ℕ, zero, suc, _+_, _*_, _^_, _≤_, _<_, mul-le-mul-left}
 use Rattle.reading.proofs.Names.{arith, not-false, T, eqb, ltb, ℤ, pos, natAbs, _+ℤ_, binary32, ofBits, isNan, getD, _<ℤ_, add-parts, abs-parts, parts-≤ℤ, parts-<ℤ, good, outsideTable, notFinite, good-same}
 use Rattle.reading.proofs.Names.{passed, Value, Whole, Single, Missing, Stepped, Ieee, Row, Template, Bridge, Resistance, Codes, Pair, Domain, Electrical, Physical, allOnes, topCode, steppedValue, finite, meaning}
@@ -45,7 +45,7 @@ floated-real Missing h m = absurd (subst T m tt)
 -- ---- what a field holds, by its row
 
 module _ {row : Row} {at : ℕ} {x : Found} (h : FieldAt row at x) where
-  -- Missing, or what the rule says.
+  -- The value is missing, or the rule's.
   either : (P : Value → Type 0) → P Missing → (meaning (row .rule) (row .width) at (x .code) ≡ good (x .value) → P (x .value)) → P (x .value)
   unfolding decode
   either P missing means = go (row .missing && eqb (x .code) (allOnes (row .width))) (h .means)
@@ -110,7 +110,7 @@ calibration-table at bare h = record { rises = tt; figures = tt }
 calibration-table at (table domain pairs) h = pairs-table domain none (at + 18) pairs (h .stand)
 calibration-table at (curve segments) h = record { rises = tt; figures = tt }
 
--- In domain 1 their sums rise.
+-- In domain 1 the sums of pairs rise.
 sum-is : {domain : Domain} {before : Option Codes} {at : ℕ} {p : FoundPair} → PairAt domain before at p → sum (pairIn p) ≡ storedSum (codesIn p)
 sum-is h = ap₂ _+ℤ_ (point-is (h .point)) (deviation-is (h .deviation))
 
@@ -120,7 +120,7 @@ pairs-sums before at (p ∷ []) h = tt
 pairs-sums before at (p ∷ r ∷ pairs) h =
     (rw (sum-is (h .0), sum-is (h .1 .0)) (follows-climbs (codesIn p) _ (codesIn r) (h .1 .0 .follows)), pairs-sums (some (codesIn p)) (at + 37) (r ∷ pairs) (h .1))
 
--- What a position is held against rises.
+-- The figures that a position is compared with rise.
 abbrev pub RisesIn : Domain → List Pair → Type 0
 RisesIn domain = Neighbours (λ a b. figureIn domain a <ℤ figureIn domain b)
 
@@ -147,14 +147,14 @@ pub opened-table : {kind : ℕ} {image : List ℕ} {o : Opened} {c : Contents} �
 opened-table {c = c} h = calibration-table _ (c .calibration) (holding h .formed .calibrated)
 
 module _ {kind : ℕ} {image : List ℕ} {o : Opened} {c : Contents} (h : Opens kind image o c) where
-  -- Pair i.
+  -- The figures of pair i are small.
   pub opened-figures : {q : Pair} (i : ℕ) → q ≡ getD (points c) i noPair → i < o .summary .points → Figures q
   opened-figures i e l = rw e (figures-at (points c) (opened-table h .figures) i (omega (arith, points-are h)))
 
   pub opened-rises : (domain : Domain) → o .summary .domain ≡ Is domain → RisesIn domain (points c)
   opened-rises domain e = calibration-rises _ (c .calibration) domain (holding h .formed .calibrated) (sym (domain-is h) ∙ e)
 
--- Of template 33.
+-- A template that is not 32 is 33.
 pub bridge : (t : Template) → isResistance t ≡ false → t ≡ Bridge
 bridge Bridge e = refl
 bridge Resistance e = absurd (true≢false e)

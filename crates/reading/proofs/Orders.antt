@@ -1,4 +1,4 @@
--- A reading in the order of its rows: check, 4, 23, 13 and 21, 14, and what it shows.
+-- Laws of a reading in the order of its rows: check, 4, 23, 13 and 21, 14, and its result.
 use Rattle.reading.proofs.Names.{_≡_, sym, ap, _∙_, true, false, List, ℕ, ℤ, length, _<ℤ_, Refusal, good, refused, wrongBlock, outsideSpan, tooManyPoints, good-same, good-bind, passed, Contents, contents, points}
 use Rattle.reading.proofs.Names.{firstSelector, Dash, Reading, Span, isResistance, tooMany, least, greatest, spanOf, tooFar, position, fraction, readingAt, takeReading}
 use Rattle.reading.proofs.Spans.{spanned}
@@ -31,7 +31,7 @@ module _ (kind : ℕ) (image : List ℕ) (v : ℤ) (dash : Dash) where
         unfolding takeReading
         takes-shown t = rw (e, b, m, h, t)
 
--- What an accepted reading shows: the fraction at the input's position in a span that rises.
+-- An accepted reading: the fraction at the input's position in a span that rises.
 pub record Shown (kind : ℕ) (image : List ℕ) (v : ℤ) (r : Reading) : Type 0 where
   pub holds : Contents
   pub accepted : contents kind image ≡ good holds

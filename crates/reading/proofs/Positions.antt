@@ -1,4 +1,4 @@
--- Where an input lies in the span: row 14, and the position.
+-- Laws of the position of an input in the span, and of row 14.
 use Rattle.reading.proofs.Names.{_≡_, refl, ap, ap₂, Bool, true, false, _||_, ℕ, _+_, _*_, _^_, _≤_, _<_, mul-le-mul-right, arith, lt-ltb, le-ltb, ltb-true, ltb-false, ltb, ℤ, pos, negsuc, negℤ, natAbs, subℕ}
 use Rattle.reading.proofs.Names.{_-ℤ_, _*ℤ_, ltZ, _≤ℤ_, _<ℤ_, up, dn, _over_, nearest, sub-is, sub-parts-ℤ, up-neg, dn-neg, abs-parts, mul-parts, leZ-parts, ltZ-parts, nltZ-parts, lt-ltZ, le-ltZ, is-false}
 use Rattle.reading.proofs.Names.{neither, billion, less, above-parts, scaled, nearest-small, gap-parts, at-most, nearest-at-most, Offset, Span, tooFar, position, Ready, Lies}
@@ -14,7 +14,7 @@ inside-small (negsuc n) h = omega (arith, ltb-false 1_999_999_999 n (h .low))
 
 -- ---- row 14, test by test
 
--- A test of whole numbers is the test of natural numbers that differ as much.
+-- A test of whole numbers is the test of natural numbers with the same difference.
 ltZ-as : (x y : ℤ) (m n : ℕ) → up x + dn y + n ≡ up y + dn x + m → ltZ x y ≡ ltb m n
 ltZ-as x y m n e = go (ltb m n) refl
   where
@@ -22,7 +22,7 @@ ltZ-as x y m n e = go (ltb m n) refl
     go true h = lt-ltZ x y (omega (arith, ltb-true m n h))
     go false h = le-ltZ x y (omega (arith, ltb-false m n h))
 
--- What is multiplied.
+-- The factors are small enough that no product overflows.
 pub record Small (o : Offset) : Type 0 where
   pub above : o .above ≤ 2 ^ 33
   pub below : o .below ≤ 2 ^ 33

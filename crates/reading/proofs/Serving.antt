@@ -1,9 +1,10 @@
--- The segment of a curve that serves, found by going along its segments from place to place, and its terms where they stand.
+-- Laws of the segment of a curve that serves, found by
+-- a loop from segment to segment, and of its terms.
 use Rattle.reading.proofs.Names.{_≡_, refl, sym, ap, ap₂, _∙_, subst, List, [], _∷_, map, true, false, ℕ, suc, _+_, _-_, _*_, _≤_, _<_, arith, ℤ, length, getD, ltZ, le-leZ, lt-leZ, ltZ-parts, nltZ-parts, is-true}
 use Rattle.reading.proofs.Names.{is-false, Segment, Stream, FoundTerm, FoundSegment, segmentIn, termIn, TermStands, CurveStands, segmentAt, segmentEnd, term-is, curve-behind, first-is, serving, servingTerms}
 use Rattle.reading.proofs.Names.{termsFrom, ownTerms}
 
--- Terms that stand one behind the other.
+-- Terms in order.
 terms-are : (s : Stream) (at : ℕ) (terms : List FoundTerm) → ((i : ℕ) (none : FoundTerm) → i < length terms → TermStands s (at + 39 * i) (getD terms i none)) →
     termsFrom s at (length terms) ≡ map termIn terms
 terms-are s at [] h = refl
@@ -12,7 +13,7 @@ terms-are s at (t ∷ terms) h =
     (terms-are s (at + 39) terms (λ i none l. subst (λ (n : ℕ). TermStands s n (getD terms i none)) (omega arith) (h (suc i) none (omega arith))))
 
 module _ (p : ℤ) (s : Stream) (segments : List FoundSegment) where
-  -- The segment at a place serves as far as is known, and so many segments are left from it on.
+  -- The segment at a place serves among those passed, and this many segments are left from it on.
   pub record Walked (at terms left : ℕ) : Type 0 where
     pub own : FoundSegment
     pub after : List FoundSegment
@@ -47,7 +48,7 @@ module _ (p : ℤ) (s : Stream) (segments : List FoundSegment) where
     serves-own : serving p (w .own) (w .after) ≡ w .own → ownTerms s at terms ≡ servingTerms p segments
     serves-own e = own-are ∙ ap (λ (x : FoundSegment). map termIn (x .terms)) (sym e) ∙ sym (w .serves)
 
-    -- None is behind it.
+    -- No segment is after it.
     pub served-last : left ≤ 1 → ownTerms s at terms ≡ servingTerms p segments
     unfolding serving
     served-last l = go (w .after) refl
@@ -56,7 +57,7 @@ module _ (p : ℤ) (s : Stream) (segments : List FoundSegment) where
         go [] e = serves-own (ap (serving p (w .own)) e)
         go (x ∷ after) e = absurd (omega (arith, w .rest, ap length e))
 
-    -- The segment behind it.
+    -- The segment after it.
     record Next (x : Segment) : Type 0 where
       found : FoundSegment
       rest : List FoundSegment
@@ -78,14 +79,14 @@ module _ (p : ℤ) (s : Stream) (segments : List FoundSegment) where
               let c : CurveStands s (segmentEnd at terms) (found ∷ rest) = subst (CurveStands s (segmentEnd at terms)) f (subst (λ (n : ℕ). CurveStands s (segmentEnd at n) (w .after)) (sym (w .many)) (curve-behind (w .own) (w .after) (w .stand))) in
               record { found = found; rest = rest; is = f; stand = c; same = e ∙ first-is found rest c }
 
-      -- It starts behind p.
+      -- The next segment starts after p, so this one serves.
       pub served-here : ltZ p (x .start) ≡ true → ownTerms s at terms ≡ servingTerms p segments
       unfolding serving
       served-here b =
           let n = next-is in
           serves-own (rw (n .is) (rw (lt-leZ (segmentIn (n .found) .start) p (rw (n .same) at (ltZ-parts p (x .start) (is-true b))))))
 
-      -- It starts at or below p.
+      -- The next segment starts at or below p, so the loop goes on.
       pub walked-on : ltZ p (x .start) ≡ false → Walked (segmentEnd at terms) (x .terms) (left - 1)
       walked-on b =
           let n = next-is in

@@ -1,10 +1,10 @@
--- The span: rows 13 and 21 in their order, and what its ends are then.
+-- Laws of the span: rows 13 and 21 in their order, and what its ends are then.
 use Rattle.reading.proofs.Names.{_≡_, refl, sym, ap, _∙_, subst, Bool, true, false, ⊎-elim, List, [], _∷_, ℕ, arith, ℤ, Float, leZ, _<ℤ_, tagOf, OneOf, nleZ-parts, parts-<ℤ, is-false, Outcome, good, refused, _>>_}
 use Rattle.reading.proofs.Names.{_>>=_, refuse_if_, noSpan, endOutside, good-same, good-then, passed, the-type, Value, Whole, Single, Missing, Layout, Contents, field, Opened, Opens, layout-is, Ends, Span}
 use Rattle.reading.proofs.Names.{isResistance, electricalFigure, leastOf, greatestOf, float, isMissing, isOutside, refuseFirst, spanOf, endsOf, Ready}
 use Rattle.reading.proofs.Opening.{Floated, electrical-small, floated-real, opened-low, opened-high, opened-least, opened-greatest}
 
--- ---- a value that is not of its field's sort is missing
+-- ---- a value of another sort than its field's is missing
 
 no-float : (v w : Value) → v ≡ w → Floated w → OneOf (0 ∷ 2 ∷ []) (tagOf the-type v) → w ≡ Missing
 no-float v (Whole z) e h t = absurd h
@@ -19,7 +19,7 @@ resistance-is h = ap (λ (l : Layout). isResistance (l .template)) (sym (layout-
 abbrev spanBy : Float → Float → Ends → Span
 spanBy low high e = record { low = low; high = high; least = e .least; greatest = e .greatest }
 
--- Five tests one after the other, as `endsOf` has them, are two, two and one, as `spanOf` has them.
+-- Five tests in order, as `endsOf` has them, are two, two and one, as `spanOf` has them.
 abbrev oneByOne : Bool → Bool → Bool → Bool → Bool → Ends → Outcome Ends
 oneByOne a b p q t ends = do
   refuse noSpan 10 if a
@@ -44,7 +44,7 @@ grouped false false false true t ends low high = refl
 grouped false false false false true ends low high = refl
 grouped false false false false false ends low high = refl
 
--- Of template 33.
+-- For template 33.
 module _ {kind : ℕ} {image : List ℕ} {o : Opened} {c : Contents} (h : Opens kind image o c) (t₀ : isResistance (o .layout .template) ≡ false) where
   abbrev b : isResistance (c .template) ≡ false
   b = resistance-is h ∙ t₀

@@ -1,16 +1,17 @@
--- The terms of a curve that stands: their exponents rise from 0 to 5, so that the fraction is worked from them one after the other.
+-- Laws of the terms of an accepted curve: their exponents rise from
+-- 0 to 5, so that the fraction is computed from them in order.
 use Rattle.reading.proofs.Names.{_≡_, refl, sym, ap, ap₂, _∙_, Bool, true, false, cond, List, [], _∷_, map, ℕ, suc, _+_, _-_, _*_, _≤_, _<_, arith, ℤ, natAbs, length, leZ, Term, floatFraction, Stream}
 use Rattle.reading.proofs.Names.{FoundSegment, Calibration, bare, table, curve, Passed, behindSegment, nothingPassed, segmentsIn, segmentIn, termIn, SegmentsAt, Rises, terms-rise, CalibrationAt, termAt}
-use Rattle.reading.proofs.Names.{segmentEnd, Powers, fractionBy, noPowers, withTerm, taken, upToHighest, Rising, fraction-taken, fraction, serving, servingTerms, share, termsFrom, ownTerms}
+use Rattle.reading.proofs.Names.{segmentEnd, Powers, fractionBy, noPowers, withTerm, taken, upToHighest, Rising, fraction-taken, fraction, serving, servingTerms, physicalFraction, termsFrom, ownTerms}
 
 -- ---- exponents
 
--- As the crate below says it and as the float fraction asks for it.
+-- From the form of `layout` to the form that the float fraction requires.
 rising : (least : ℕ) (terms : List Term) → Rises least terms → Rising least terms
 rising least [] h = tt
 rising least (t ∷ terms) h = (h .0, (h .1, rising (suc (natAbs (t .exponent))) terms (h .2)))
 
--- ---- the terms of a segment, one after the other
+-- ---- the terms of a segment, in order
 
 pub all-left : (s : Stream) (at n : ℕ) (powers : Powers) → taken powers (ownTerms s (at + 39 * 0) (n - 0)) ≡ taken powers (ownTerms s at n)
 all-left s at n powers =
@@ -19,7 +20,7 @@ all-left s at n powers =
     ap₂ (λ (k m : ℕ). taken powers (ownTerms s k m)) place all
 
 module _ (s : Stream) (at n i : ℕ) (powers : Powers) where
-  -- The one behind i of them, and the others.
+  -- The term after i of them, and the others.
   pub one-taken : i < n → (t : Term) {k : ℕ} → t ≡ termAt s k → k ≡ segmentEnd at i →
       taken (withTerm powers t) (ownTerms s (at + 39 * (i + 1)) (n - (i + 1))) ≡ taken powers (ownTerms s (at + 39 * i) (n - i))
   one-taken l t {k} e f =
@@ -30,7 +31,7 @@ module _ (s : Stream) (at n i : ℕ) (powers : Powers) where
       ∙ ap (λ (m : ℕ). taken (withTerm powers (termAt s (at + 39 * i + 20))) (termsFrom s m (n - (i + 1)))) next
       ∙ ap (λ (m : ℕ). taken powers (ownTerms s (at + 39 * i) m)) (sym left)
 
-  -- Behind the last.
+  -- After the last term.
   pub none-left : n ≤ i → powers ≡ taken powers (ownTerms s (at + 39 * i) (n - i))
   none-left l = let none : n - i ≡ 0 = omega arith in ap (λ (m : ℕ). taken powers (ownTerms s (at + 39 * i) m)) (sym none)
 
@@ -53,15 +54,15 @@ serving-rises p s (next ∷ segments) h = go (leZ (segmentIn next .start) p) (se
     go true later = later
     go false later = h .0
 
--- ---- what the physical figure goes by
+-- ---- the fraction that the physical figure is computed from
 
-pub by-curve : (p : ℤ) (at : ℕ) (k : Calibration) → CalibrationAt at k → 0 < length (segmentsIn k) → fractionBy (upToHighest (taken noPowers (servingTerms p (segmentsIn k)))) p ≡ share k p
+pub by-curve : (p : ℤ) (at : ℕ) (k : Calibration) → CalibrationAt at k → 0 < length (segmentsIn k) → fractionBy (upToHighest (taken noPowers (servingTerms p (segmentsIn k)))) p ≡ physicalFraction k p
 by-curve p at bare h any = absurd (omega arith)
 by-curve p at (table domain pairs) h any = absurd (omega arith)
 by-curve p at (curve []) h any = absurd (omega arith)
 by-curve p at (curve (s ∷ segments)) h any = fraction-taken (servingTerms p (s ∷ segments)) p (serving-rises p s segments (segments-rise nothingPassed _ (s ∷ segments) (h .stand)))
 
-pub by-fraction : (p : ℤ) (at : ℕ) (k : Calibration) → CalibrationAt at k → length (segmentsIn k) ≡ 0 → floatFraction (fraction k p) ≡ share k p
+pub by-fraction : (p : ℤ) (at : ℕ) (k : Calibration) → CalibrationAt at k → length (segmentsIn k) ≡ 0 → floatFraction (fraction k p) ≡ physicalFraction k p
 by-fraction p at bare h e = refl
 by-fraction p at (table domain pairs) h e = refl
 by-fraction p at (curve segments) h e = absurd (omega (arith, h .some))

@@ -1,4 +1,5 @@
--- Only inner contracts need these: what the steps of a reading ask, so that nothing overflows, and what they answer.
+-- Only inner contracts need this: what the steps of a reading
+-- require, so that nothing overflows, and their answers.
 use mathlib.Core.Path.{_≡_}
 use mathlib.Core.Bool.{not}
 use mathlib.Core.List.{List, [], _∷_}
@@ -11,20 +12,20 @@ use Rattle.integers.specs.Parts.{up, dn}
 use Rattle.integers.specs.Nearest.{_over_, nearest}
 use Rattle.refusal.specs.Outcome.{Outcome, good, refused, _>>_, refuse_if_}
 use Rattle.refusal.specs.Rows.{noSpan, endOutside}
-use Rattle.fields.specs.declared.Value.{Value}
+use Rattle.codes.specs.declared.Value.{Value}
 use Rattle.reading.specs.declared.ends.Ends.{Ends}
 use Rattle.reading.specs.declared.ends.EndsAnswer.{EndsAnswer}
 use Rattle.reading.specs.declared.ends.EndsAnswer.the-variants.{Are, Refused as NoEnds}
-use Rattle.fields.specs.declared.Pair.{Pair}
-use Rattle.fields.specs.declared.Domain.{Domain}
-use Rattle.fields.specs.declared.Domain.the-variants.{Electrical, Physical}
-use Rattle.fields.specs.declared.Term.{Term}
+use Rattle.templates.specs.declared.Pair.{Pair}
+use Rattle.templates.specs.declared.Domain.{Domain}
+use Rattle.templates.specs.declared.Domain.the-variants.{Electrical, Physical}
+use Rattle.templates.specs.declared.Term.{Term}
 use Rattle.layout.specs.Format.{Stream}
 use Rattle.layout.specs.Places.{segmentHead, termBits}
 use Rattle.sheet.specs.Walk.{termAt}
-use Rattle.line.specs.Before.{pointOf}
-use Rattle.line.specs.Line.{between}
-use Rattle.line.specs.Crossing.{sum, crossingHeld, crossingBetween}
+use Rattle.correction.specs.Before.{pointOf}
+use Rattle.correction.specs.Line.{between}
+use Rattle.correction.specs.Crossing.{sum, crossingHeld, crossingBetween}
 use Rattle.reading.specs.declared.position.Offset.{Offset}
 use Rattle.reading.specs.declared.span.Span.{Span}
 use Rattle.reading.specs.declared.span.SpanAnswer.{SpanAnswer}
@@ -57,13 +58,14 @@ pub record Ready (s : Span) : Type 0 where
   pub low : T (not (isNan (s .low)))
   pub high : T (not (isNan (s .high)))
 
--- Where an input lies in it: v − e in natural numbers, above e less below e, and f − e.
+-- The position of an input in the span: v − e in natural numbers, above e less below e, and f − e.
 pub record Lies (v : ℤ) (s : Span) (o : Offset) : Type 0 where
   pub above : o .above ≡ up v + dn (s .least)
   pub below : o .below ≡ dn v + up (s .least)
   pub span : pos (o .span) ≡ s .greatest -ℤ s .least
 
--- The figure of a pair that a position is held against, and the fraction where a pair's deviation holds and between neighbours, in each domain.
+-- For each domain: the figure of a pair that a position is compared with, the
+-- fraction where a pair's deviation holds, and the fraction between neighbours.
 abbrev pub figureIn : Domain → Pair → ℤ
 figureIn Electrical = pointOf
 figureIn Physical = sum

@@ -1,4 +1,4 @@
-// Document 02, Note 10: the small round dash.
+// Document 02, Note 10: the small round dash "takes 32 points at most".
 use crate::Dash;
 ghost use mathlib.Core.Path.{_≡_};
 ghost use Rattle.reading.specs.Reading.{tooMany};

@@ -1,19 +1,21 @@
 // The electrical ends of the span, in nV/V.
-use fields::Rounded;
-use fields::Value;
+use codes::Rounded;
+use codes::Value;
 use refusal::Refusal;
 ghost use mathlib.Core.Path.{_≡_};
 ghost use mathlib.Core.Bool.{cond};
 ghost use mathlib.Core.Option.{none, some};
-ghost use Rattle.fields.specs.Answers.{roundedSaid};
+ghost use Rattle.codes.specs.Answers.{roundedSaid};
 ghost use Rattle.reading.specs.Reading.{electricalFigure, isMissing, isOutside};
 ghost use Rattle.reading.specs.Steps.{endsSaid, endsOf};
 
+// e and f, in nV/V.
 pub struct Ends {
     pub least: i64,
     pub greatest: i64,
 }
 
+// The electrical ends, or 13 or 21.
 pub enum EndsAnswer {
     Are(Ends),
     Refused(Refusal),
@@ -35,13 +37,13 @@ fn end_of(value: Value) -> Rounded
 {
     match value {
         Value::Whole(figure) => Rounded::To(figure),
-        Value::Single(x) => scales::nanovolts(x),
+        Value::Single(x) => codes::nanovolts(x),
         Value::Missing => Rounded::To(0),
     }
 }
 
-// The ends from the values of fields 10 and 11: 13 with the first that is missing, then 21 with the first that is a Single
-// outside −2 to 2 V/V, then 13 with 11 where the least is not below the greatest.
+// The ends from the values of fields 10 and 11. Else 13 with the first that is missing; 21 with the
+// first that is a Single outside −2 to 2 V/V; or 13 with 11 if the least is not below the greatest.
 pub fn ends_of(first: Value, last: Value) -> EndsAnswer
     ensures { λ r. ⌜ endsSaid r ≡ endsOf first last ⌝ }
 {

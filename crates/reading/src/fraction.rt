@@ -1,32 +1,33 @@
 // The fraction at a position, from the calibration points of an opened sheet.
-use fields::Domain;
-use fields::Pair;
 use sheet::Opened;
 use sheet::TableDomain;
 use sheet::pair_in;
+use templates::Domain;
+use templates::Pair;
 ghost use mathlib.Core.Path.{_≡_};
 ghost use Prim.Native.Nat.{ℕ, _≤_, _^_};
 ghost use lib.IntN.{natAbs};
 ghost use Rattle.layout.specs.Contents.{Contents};
 ghost use Rattle.layout.specs.Image.{points};
 ghost use Rattle.sheet.specs.Opened.{Opens, Held};
-ghost use Rattle.line.specs.Before.{Before};
-ghost use Rattle.line.specs.Ranges.{Figures, Between};
+ghost use Rattle.correction.specs.Before.{Before};
+ghost use Rattle.correction.specs.Ranges.{Figures, Between};
 ghost use Rattle.reading.specs.Reading.{fractionBy, fraction as fractionOf};
 ghost use Rattle.reading.specs.Steps.{figureIn, heldIn, betweenIn};
 
-// The figure of a pair that a position is held against: its point in domain 0, its sum in domain 1.
+// The figure of a pair that a position is compared
+// with: its point in domain 0, its sum in domain 1.
 fn figure_in(domain: Domain, pair: Pair) -> i64
     requires { ⌜ Figures pair ⌝ }
     ensures { λ r. ⌜ r ≡ figureIn domain pair ⌝ }
 {
     match domain {
         Domain::Electrical => pair.point,
-        Domain::Physical => line::sum(pair),
+        Domain::Physical => correction::sum(pair),
     }
 }
 
-// How many pairs lie before p. They rise, so it is searched by halves.
+// The number of pairs before p. They rise, so a binary search finds it.
 fn pairs_before(sheet: Opened, image: &[u8], domain: Domain, p: i64) -> u64
     requires { ⌜ Held sheet (now image) ⌝ }
     ensures { λ r. ⌜ (r ≤ sheet .summary .points) × ((kind : ℕ) (c : Contents) → Opens kind (now (image .entry)) sheet c → Before (figureIn domain) (points c) p r) ⌝ }
@@ -53,7 +54,7 @@ fn held_in(domain: Domain, p: i64, pair: Pair) -> i64
 {
     match domain {
         Domain::Electrical => p + pair.deviation,
-        Domain::Physical => line::crossing_held(p, pair),
+        Domain::Physical => correction::crossing_held(p, pair),
     }
 }
 
@@ -63,13 +64,13 @@ fn between_in(domain: Domain, p: i64, before: Pair, behind: Pair) -> i64
     ensures { λ r. ⌜ r ≡ betweenIn domain p before behind ⌝ }
 {
     match domain {
-        Domain::Electrical => p + line::between(p, before, behind),
-        Domain::Physical => line::crossing_between(p, before, behind),
+        Domain::Electrical => p + correction::between(p, before, behind),
+        Domain::Physical => correction::crossing_between(p, before, behind),
     }
 }
 
-// By the points of a table: p plus the deviation there in domain 0, the crossing in domain 1. The end deviation holds before
-// the first and after the last point.
+// The fraction by the points of a table: p plus the deviation there in domain 0, the
+// crossing in domain 1. The end deviation holds before the first and after the last point.
 fn fraction_in(sheet: Opened, image: &[u8], domain: Domain, p: i64) -> i64
     requires { ⌜ Held sheet (now image) × (sheet .summary .domain ≡ TableDomain.Is domain) × (natAbs p ≤ 2 ^ 31) ⌝ }
     ensures { λ r. ⌜ ((kind : ℕ) (c : Contents) → Opens kind (now (image .entry)) sheet c → r ≡ fractionBy domain (points c) p) ⌝ }
@@ -90,7 +91,7 @@ fn fraction_in(sheet: Opened, image: &[u8], domain: Domain, p: i64) -> i64
     between_in(domain, p, before, pair_in(sheet, image, next))
 }
 
-// The fraction at p: as the points of a table say, p itself without one.
+// The fraction at p: by the points of a table, or p itself without a table.
 pub fn fraction(sheet: Opened, image: &[u8], p: i64) -> i64
     requires { ⌜ Held sheet (now image) × (natAbs p ≤ 2 ^ 31) ⌝ }
     ensures { λ r. ⌜ ((kind : ℕ) (c : Contents) → Opens kind (now (image .entry)) sheet c → r ≡ fractionOf (c .calibration) p) ⌝ }

@@ -1,11 +1,11 @@
-// Where an input lies in the span.
+// The position of an input in the span.
 use crate::span::Span;
 ghost use mathlib.Core.Path.{_≡_};
 ghost use mathlib.Core.Bool.{false};
 ghost use Rattle.reading.specs.Reading.{position as positionOf, tooFar};
 ghost use Rattle.reading.specs.Steps.{Ready, Lies};
 
-// How far above e an input lies, how far below e, and f − e.
+// How far an input is above e, how far below e, and f − e.
 pub struct Offset {
     pub above: u64,
     pub below: u64,
@@ -19,11 +19,11 @@ fn offset_in(v: i64, span: Span) -> Offset
     Offset {
         above: integers::plus(v) + integers::minus(span.least),
         below: integers::minus(v) + integers::plus(span.least),
-        span: line::gap(span.greatest, span.least),
+        span: correction::gap(span.greatest, span.least),
     }
 }
 
-// Row 14: whether an input lies too far outside the span.
+// Row 14: whether an input is too far outside the span.
 pub fn is_too_far(v: i64, span: Span) -> bool
     requires { ⌜ Ready span ⌝ }
     ensures { λ r. ⌜ r ≡ tooFar v (span .least) (span .greatest) ⌝ }

@@ -1,7 +1,7 @@
 // The ends of the span.
 use crate::ends::EndsAnswer;
 use crate::ends::ends_of;
-use fields::Value;
+use codes::Value;
 use refusal::Refusal;
 use sheet::Opened;
 use sheet::unscaled_in;
@@ -13,7 +13,7 @@ ghost use Rattle.sheet.specs.Opened.{Opens, Held};
 ghost use Rattle.reading.specs.Reading.{isResistance, spanOf};
 ghost use Rattle.reading.specs.Steps.{spanSaid};
 
-// Fields 7, 8, 10 and 11, none of them missing.
+// The ends of the span, fields 7, 8, 10 and 11, none of them missing.
 pub struct Span {
     pub low: f32,
     pub high: f32,
@@ -21,13 +21,15 @@ pub struct Span {
     pub greatest: i64,
 }
 
+// The ends of the span, or 13 or 21.
 pub enum SpanAnswer {
     Is(Span),
     Refused(Refusal),
 }
 
-// The ends of the span of an opened sheet of template 33; or 13 with the first that is missing; or 21 with the first electrical
-// one outside −2 to 2 V/V; or 13 with 11 where the least is not below the greatest.
+// The ends of the span of an opened sheet of template 33. Else 13 with
+// the first that is missing; 21 with the first electrical one outside
+// −2 to 2 V/V; or 13 with 11 if the least is not below the greatest.
 pub fn span_in(sheet: Opened, image: &[u8]) -> SpanAnswer
     requires { ⌜ Held sheet (now image) × (isResistance (sheet .layout .template) ≡ false) ⌝ }
     ensures { λ r. ⌜ ((kind : ℕ) (c : Contents) → Opens kind (now (image .entry)) sheet c → spanSaid r ≡ spanOf c) ⌝ }

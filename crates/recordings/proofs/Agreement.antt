@@ -1,11 +1,12 @@
--- The answer of a comparison is agreement exactly where the recordings agree, and otherwise the first failing fast tick.
+-- Laws of the answer of a comparison: agreement exactly if the
+-- recordings agree, and otherwise the first failing fast tick.
 use Rattle.recordings.proofs.Names.{_≡_, refl, sym, ap, ap₂, _∙_, subst, Bool, true, false, cond, _&&_, true≢false, List, [], _∷_, ℕ, zero, suc, _+_, _*_, _/_, _%_, _<_, arith, eqb-true, eq-eqb, eqb, ℤ, length}
 use Rattle.recordings.proofs.Names.{getD, leZ, leZ-parts, le-leZ, is-true, Outcome, good, refused, good-same, both, Contents, contents, Reading, Large, takeReading, Refresh, refresh, refreshes, same, never}
 use Rattle.recordings.proofs.Names.{showsBy, shows, pairs, right, Compared, agree, tickFails, comparedFrom, unlike, compare, Shown, Agrees, Right, FirstFailing, AgreesExactly, FailsFirst, EmptyAgree}
-use Rattle.integers.proofs.PartLaws as parts
 use Rattle.recordings.proofs.Ticks.{refreshes-length, six-times, compare-like}
+use Rattle.integers.proofs.PartLaws as parts
 
--- ---- figures that are the same
+-- ---- equal figures
 
 same-is : (a b : ℤ) → same a b ≡ true → a ≡ b
 same-is a b e =
@@ -47,7 +48,7 @@ module _ (kind : ℕ) (image : List ℕ) where
         let g = f (k / 6) (omega (arith, eqb-true (k % 6) 0 e)) in
         rw (e, is-same (y .input) (x .input) (ap (λ (r : Refresh). r .input) g), is-same (y .shown) (x .shown) (ap (λ (r : Refresh). r .shown) g))
 
-    -- The same tick, counted otherwise.
+    -- A tick with another expression for its number.
     recount : (m n : ℕ) (x : Refresh) {t : Bool} → m ≡ n → right kind image slow m x ≡ t → right kind image slow n x ≡ t
     recount m n x {t} e r = subst (λ (k : ℕ). right kind image slow k x ≡ t) e r
 

@@ -1,4 +1,4 @@
--- The refreshes of a recording one after the other, and what a turn of the comparison comes to.
+-- Laws of the refreshes of a recording in order, and of one turn of the comparison.
 use Rattle.recordings.proofs.Names.{_≡_, refl, sym, ap, ap₂, _∙_, Bool, true, false, not, _||_, List, [], _∷_, ℕ, zero, suc, _+_, _*_, _/_, _%_, _≤_, _<_, add-one, arith, eqb-true, eqb-false, eq-eqb, ne-eqb}
 use Rattle.recordings.proofs.Names.{not-false, w64, SFits, toZ, ofZ, toZ-ofZ, eqb, ℤ, pos, length, drop, getD, length-drop, drop-cons, Refusal, good, refused, wrongTicks, neither, Contents, contents, Reading}
 use Rattle.recordings.proofs.Names.{Large, takeReading, Refresh, refresh, refreshes, same, never, shows, pairs, right, agree, tickFails, comparedFrom, unlike, compare, refreshAt}
@@ -19,7 +19,7 @@ refresh-at (v ∷ q ∷ l) (suc tick) h =
     let f : suc (suc (2 * tick + 1)) ≡ 2 * suc tick + 1 = omega arith in
     refresh-at l tick (omega arith) ∙ ap₂ (λ (a b : ℕ). refresh (getD (v ∷ q ∷ l) a (pos 0)) (getD (v ∷ q ∷ l) b (pos 0))) e f
 
--- ---- what is left of a recording
+-- ---- the rest of a recording
 
 abbrev pub refreshesFrom : List ℤ → ℕ → List Refresh
 refreshesFrom l tick = refreshes (drop (2 * tick) l)
@@ -42,12 +42,12 @@ module _ (l : List ℤ) (tick : ℕ) where
 
 -- ---- lengths
 
--- Two tests of equal numbers that say the same.
+-- Two equivalent tests of equal numbers.
 tests : (a b x y : ℕ) → (a ≡ b → x ≡ y) → (x ≡ y → a ≡ b) → (t : Bool) → eqb a b ≡ t → t ≡ eqb x y
 tests a b x y f g true e = sym (eq-eqb x y (f (eqb-true a b e)))
 tests a b x y f g false e = sym (ne-eqb x y (λ h. eqb-false a b e (g h)))
 
--- Ticks that are whole sixes, and how many sixes they are.
+-- Ticks that are a multiple of six, and the quotient.
 pub not-sixes : (ticks s : ℕ) → (ticks % 6 ≡ 0 → ⊥) → eqb ticks (6 * s) ≡ false
 not-sixes ticks s h = ne-eqb ticks (6 * s) (λ e. h (omega arith))
 
@@ -61,9 +61,9 @@ six-times slow fast e =
 
 -- ---- one tick
 
--- Two figures that are handed to a callee.
-pub seen : {a b : ℤ} → SFits w64 a → SFits w64 b → same (toZ w64 (ofZ w64 a)) (toZ w64 (ofZ w64 b)) ≡ same a b
-seen f g = ap₂ same (toZ-ofZ f) (toZ-ofZ g)
+-- Two figures that are passed to a callee.
+pub same-of-words : {a b : ℤ} → SFits w64 a → SFits w64 b → same (toZ w64 (ofZ w64 a)) (toZ w64 (ofZ w64 b)) ≡ same a b
+same-of-words f g = ap₂ same (toZ-ofZ f) (toZ-ofZ g)
 
 module _ (slow fast : List ℤ) (tick : ℕ) where
   pub unpaired : (tick % 6 ≡ 0 → ⊥) → true ≡ pairs (refreshes slow) tick (refreshAt fast tick)

@@ -1,4 +1,5 @@
--- Document 02, Note 13: ten against sixty. Two dashes record the same run: input and shown fraction q by turns for each refresh.
+-- Document 02, Note 13: ten against sixty. "Two dashes record the
+-- same run: input and shown fraction q by turns for each refresh".
 use mathlib.Core.Bool.{Bool, false, not, _&&_, _||_, cond}
 use mathlib.Core.List.{List, [], _∷_}
 use Prim.Native.Nat.{ℕ, suc, _*_, _/_, _%_}
@@ -23,7 +24,7 @@ pub record Refresh : Type 0 where
 abbrev pub refresh : ℤ → ℤ → Refresh
 refresh input shown = record { input = input; shown = shown }
 
--- Input and shown fraction by turns.
+-- "input and shown fraction q by turns"
 abbrev pub refreshes : List ℤ → List Refresh
 refreshes [] = []
 refreshes (v ∷ []) = []
@@ -33,11 +34,12 @@ refreshes (v ∷ q ∷ l) = refresh v q ∷ refreshes l
 abbrev pub same : ℤ → ℤ → Bool
 same a b = leZ a b && leZ b a
 
--- What is not there.
+-- The refresh in place of one that is not there.
 abbrev pub never : Refresh
 never = refresh (pos 0) (pos 0)
 
--- The fraction is the reading of its input from the lent image on the large dash; a refused reading shows none.
+-- The fraction is the reading of its input from the lent
+-- image on the large dash; a refused reading shows none.
 abbrev pub showsBy : ℤ → Outcome Reading → Bool
 showsBy q (good r) = same (r .fraction) q
 showsBy q (refused r) = false
@@ -45,31 +47,33 @@ showsBy q (refused r) = false
 abbrev pub shows : ℕ → List ℕ → Refresh → Bool
 shows kind image x = showsBy (x .shown) (takeReading kind image (x .input) Large)
 
--- Fast tick 6t pairs with slow tick t, both from 0: inputs and fractions are equal. The others are unpaired.
+-- "Tick t of the slow list pairs with tick 6t of the fast one, both from
+-- 0": inputs and fractions are equal. The other fast ticks are unpaired.
 abbrev pub pairs : List Refresh → ℕ → Refresh → Bool
 pairs slow tick x =
     let y = getD slow (tick / 6) never in
     not (eqb (tick % 6) 0) || (same (y .input) (x .input) && same (y .shown) (x .shown))
 
--- A fast tick is as it should be.
+-- A fast tick is right: as its slow tick, if it pairs
+-- with one, and its fraction the reading of its input.
 unfoldable pub right : ℕ → List ℕ → List Refresh → ℕ → Refresh → Bool
 right kind image slow tick x = pairs slow tick x && shows kind image x
 
--- Agreement, or the first failing fast tick.
+-- "agreement, or the first failing fast tick"
 pub data Compared : Type 0 where
   agree : Compared
   tickFails : ℕ → Compared
 
--- From a fast tick on.
+-- The comparison from a fast tick on.
 unfoldable pub comparedFrom : ℕ → List ℕ → List Refresh → ℕ → List Refresh → Compared
 comparedFrom kind image slow tick [] = agree
 comparedFrom kind image slow tick (x ∷ fast) = cond (right kind image slow tick x) (comparedFrom kind image slow (suc tick) fast) (tickFails tick)
 
--- Row 26: a list has an odd length, or the fast ticks aren't six times the slow ones.
+-- Row 26: "a list has an odd length or the fast ticks aren't six times the slow ones".
 abbrev pub unlike : ℕ → ℕ → Bool
 unlike slow fast = eqb (slow % 2) 1 || eqb (fast % 2) 1 || not (eqb (fast / 2) (6 * (slow / 2)))
 
--- Order: check, 26, with the fast list's whole ticks for its place.
+-- Order: check, 26, with "the fast list's whole ticks" as its place.
 unfoldable pub compare : ℕ → List ℕ → List ℤ → List ℤ → Outcome Compared
 compare kind image slow fast = do
   c ← contents kind image

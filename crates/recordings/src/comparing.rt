@@ -14,7 +14,7 @@ ghost use Rattle.sheet.specs.Opened.{Opens, Held};
 ghost use Rattle.recordings.specs.Recordings.{refreshes, same, shows, pairs, right, comparedFrom, unlike, compare as compareOf, comparedSaid};
 ghost use Rattle.recordings.specs.Ticks.{refreshAt};
 
-// How many fast ticks a slow one lasts.
+// The number of fast ticks to a slow one.
 const FAST_TICKS: usize = 6;
 
 // Whether a list has an odd length, or the fast ticks are not six times the slow ones.
@@ -44,7 +44,7 @@ fn is_same(a: i64, b: i64) -> bool
     false
 }
 
-// Whether a fast refresh is that of the slow tick it pairs with, if it pairs with one.
+// Whether a fast refresh equals the slow tick that it pairs with, if there is one.
 fn is_paired(slow: &[i64], fast: &[i64], tick: usize) -> bool
     requires { ⌜ (tick / 6 < length (now slow) / 2) × (tick < length (now fast) / 2) ⌝ }
     ensures { λ r. ⌜ r ≡ pairs (refreshes (now (slow .entry))) tick (refreshAt (now (fast .entry)) tick) ⌝ }
@@ -74,7 +74,8 @@ fn is_shown(sheet: Opened, image: &[u8], fast: &[i64], tick: usize) -> bool
     }
 }
 
-// Whether a fast tick is as it should be.
+// Whether a fast tick is right: as its slow tick, if it
+// pairs with one, and its fraction the reading of its input.
 fn is_right(sheet: Opened, image: &[u8], slow: &[i64], fast: &[i64], tick: usize) -> bool
     requires { ⌜ Held sheet (now image) × (tick / 6 < length (now slow) / 2) × (tick < length (now fast) / 2) ⌝ }
     ensures { λ r. ⌜ ((kind : ℕ) (c : Contents) → Opens kind (now (image .entry)) sheet c →
@@ -86,7 +87,7 @@ fn is_right(sheet: Opened, image: &[u8], slow: &[i64], fast: &[i64], tick: usize
     false
 }
 
-// The fast ticks one after the other, each with the slow one that it pairs with.
+// Compares the fast ticks in order, each with the slow one that it pairs with.
 fn compare_ticks(sheet: Opened, image: &[u8], slow: &[i64], fast: &[i64]) -> ComparedAnswer
     requires { ⌜ Held sheet (now image) × (unlike (length (now slow)) (length (now fast)) ≡ false) ⌝ }
     ensures { λ r. ⌜ ((kind : ℕ) (c : Contents) → Opens kind (now (image .entry)) sheet c →
@@ -103,7 +104,7 @@ fn compare_ticks(sheet: Opened, image: &[u8], slow: &[i64], fast: &[i64]) -> Com
     ComparedAnswer::Agree
 }
 
-// Two recordings against an opened sheet: 26 where they are not of one run.
+// Two recordings against an opened sheet: 26 if their lengths do not belong to one run.
 fn compare_in(sheet: Opened, image: &[u8], slow: &[i64], fast: &[i64]) -> ComparedAnswer
     requires { ⌜ Held sheet (now image) ⌝ }
     ensures { λ r. ⌜ ((kind : ℕ) (c : Contents) → Opens kind (now (image .entry)) sheet c → comparedSaid r ≡ compareOf kind (now (image .entry)) (now (slow .entry)) (now (fast .entry))) ⌝ }
@@ -114,9 +115,10 @@ fn compare_in(sheet: Opened, image: &[u8], slow: &[i64], fast: &[i64]) -> Compar
     compare_ticks(sheet, image, slow, fast)
 }
 
-// A recording at ten a second against one at sixty: they agree if paired inputs and fractions are equal, and every fraction in
-// both is the reading of its input from the image on the large dash; else the first fast tick that fails. Else the check's
-// refusal; 26 where a list has an odd length or the fast ticks are not six times the slow ones.
+// Compares a recording at ten a second with one at sixty: agreement, or the first fast tick
+// that fails. They agree if paired inputs and fractions are equal, and every fraction in both
+// is the reading of its input from the image on the large dash. Refused with the check's
+// refusal, or 26 if a list has an odd length or the fast ticks are not six times the slow ones.
 pub fn compare(kind: u8, image: &[u8], slow: &[i64], fast: &[i64]) -> ComparedAnswer
     ensures { λ r. ⌜ comparedSaid r ≡ compareOf kind (now (image .entry)) (now (slow .entry)) (now (fast .entry)) ⌝ }
 {

@@ -1,6 +1,7 @@
-// Document 02, Note 13: ten against sixty. Two dashes record the same run, one at ten refreshes a second and one at sixty; `compare`
-// holds the recordings against each other and against the image. The image is checked once, whatever the lists' length, and a
-// tick costs one reading of the opened sheet. It asks nothing of its caller.
+// Document 02, Note 13: ten against sixty. Two dashes record the same run, one
+// at ten refreshes a second and one at sixty; `compare` tests the recordings
+// against each other and against the image. It checks the image once, and each
+// tick costs one reading of the opened sheet. It has no `requires`.
 mod comparing; // comparing.rt: tick by tick
 
 pub use comparing::compare;

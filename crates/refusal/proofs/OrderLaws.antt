@@ -1,7 +1,7 @@
--- The rows of a call from those of its steps.
+-- Laws of the rows that a call can refuse by, from the rows of its steps.
 use Rattle.refusal.proofs.Names.{_≡_, refl, sym, subst, Bool, true, false, cond, List, [], _∷_, ℕ, _<_, arith, eqb, eqb-true, Refusal, Outcome, good, refused, _>>=_, _>>_, refuse_if_, occurs, By}
 
--- Each of some rows is one of others.
+-- Each of some rows is among others.
 abbrev pub Among : List ℕ → List ℕ → Type 0
 Among [] others = Unit {0}
 Among (n ∷ rows) others = (0 < occurs n others) × Among rows others
@@ -39,6 +39,6 @@ module _ (rows : List ℕ) where
   by-cond true o p h k = h
   by-cond false o p h k = k
 
-  -- The number of a refusal is one of them.
+  -- The number of a refusal is one of the rows.
   pub by-number : {A : Type 0} (o : Outcome A) (r : Refusal) → o ≡ refused r → By rows o → 0 < occurs (r .number) rows
   by-number o r e h = subst (By rows) e h

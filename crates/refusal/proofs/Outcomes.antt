@@ -1,4 +1,5 @@
--- Outcomes: what a good one says of the tests and the calls on its way, and what the steps of one come to.
+-- Laws of outcomes: a good outcome shows that its tests
+-- passed and its calls succeeded, and those give the outcome.
 use Rattle.refusal.proofs.Names.{_≡_, refl, sym, ap, _∙_, subst, Bool, true, false, not, cond, _||_, true≢false, _&&_, _∷_, ℕ, _<_, arith, Refusal, Outcome, good, refused, _>>=_, _>>_, refuse_if_, occurs, By}
 use Rattle.refusal.proofs.Names.{streamRows}
 
@@ -9,13 +10,13 @@ good-same e = cc
 pub no-value : {A X : Type 0} {r : Refusal} {a : A} → refused r ≡ good a → X
 no-value e = absurd (let z : _≡_ {A = ℕ} 0 1 = cc in omega arith)
 
--- What an answer says, its case known.
-pub told : {X O : Type 0} (said : X → O) {x y : X} {o : O} → x ≡ y → said x ≡ o → said y ≡ o
-told said h e = sym (ap said h) ∙ e
+-- Replaces an answer by the case that it is known to be.
+pub said-of : {X O : Type 0} (said : X → O) {x y : X} {o : O} → x ≡ y → said x ≡ o → said y ≡ o
+said-of said h e = sym (ap said h) ∙ e
 
 -- ---- from an outcome to its steps
 
--- A call, and one whose value is not used.
+-- If a sequence of calls is good, its first call is good.
 pub good-bind : {A B : Type 0} (m : Outcome A) (k : A → Outcome B) (b : B) → (m >>= k) ≡ good b → (a : A) × (m ≡ good a) × (k a ≡ good b)
 good-bind (good a) k b e = (a, refl, e)
 good-bind (refused r) k b e = no-value e
@@ -24,7 +25,7 @@ pub good-then : {B : Type 0} (m : Outcome (Unit {0})) (next : Outcome B) (b : B)
 good-then (good u) next b e = (refl, e)
 good-then (refused r) next b e = no-value e
 
--- The test of a row that was passed.
+-- If a test and what follows it are good, the test passed.
 pub passed : {B : Type 0} (r : Refusal) (t : Bool) (next : Outcome B) (b : B) → (refuse r if t >> next) ≡ good b → (t ≡ false) × (next ≡ good b)
 passed r true next b e = no-value e
 passed r false next b e = (refl, e)
@@ -33,12 +34,12 @@ pub not-refused : (r : Refusal) (t : Bool) → (refuse r if t) ≡ good tt → t
 not-refused r true e = no-value e
 not-refused r false e = refl
 
--- Neither of two tests that an or joins.
+-- If an `or` is false, both its sides are.
 pub neither : (s t : Bool) → (s || t) ≡ false → (s ≡ false) × (t ≡ false)
 neither true t e = absurd (true≢false e)
 neither false t e = (refl, e)
 
--- Both of two tests that an and joins.
+-- If an `and` is true, both its sides are.
 pub both : (s t : Bool) → (s && t) ≡ true → (s ≡ true) × (t ≡ true)
 both true t e = (refl, e)
 both false t e = absurd (true≢false (sym e))
@@ -46,7 +47,7 @@ both false t e = absurd (true≢false (sym e))
 -- ---- from the steps to the outcome
 
 module _ {A B : Type 0} {o : Outcome A} where
-  -- A call that gives a value, and one that is refused.
+  -- A sequence whose first call is known to be good, or refused.
   pub bind-good : {a : A} (f : A → Outcome B) → o ≡ good a → (o >>= f) ≡ f a
   bind-good f e = ap (λ m. m >>= f) e
 
@@ -59,12 +60,12 @@ module _ {A B : Type 0} {o : Outcome A} where
   pub then-refused : {r : Refusal} (next : Outcome B) → o ≡ refused r → (o >> next) ≡ refused r
   then-refused next e = ap (λ m. m >> next) e
 
--- A test that refuses, as a choice.
+-- A test followed by a value, written as a choice.
 pub chosen : {A : Type 0} (a : A) (r : Refusal) (t : Bool) → ((refuse r if not t) >> good a) ≡ cond t (good a) (refused r)
 chosen a r true = refl
 chosen a r false = refl
 
--- A call within a call, and calls whose next steps are the same.
+-- Sequences regroup, and equal next steps give equal outcomes.
 pub bind-assoc : {A B C : Type 0} (o : Outcome A) (f : A → Outcome B) (g : B → Outcome C) → (o >>= f >>= g) ≡ (o >>= λ a. f a >>= g)
 bind-assoc (good a) f g = refl
 bind-assoc (refused r) f g = refl
@@ -73,11 +74,11 @@ pub bind-same : {A B : Type 0} (o : Outcome A) {f g : A → Outcome B} → ((a :
 bind-same (good a) h = h a
 bind-same (refused r) h = refl
 
--- The rows of a page's sum and of the stream: neither 1 nor 17 nor one that a call adds.
+-- The rows of the page sums and of the stream: not 1, not 17, and none that a call adds.
 abbrev pub Elsewhere : ℕ → Type 0
 Elsewhere n = 0 < occurs n (2 ∷ streamRows)
 
--- Refused, if at all, by one of them.
+-- Accepted, or refused by a row of the page sums or of the stream.
 abbrev pub Other : {A : Type 0} → Outcome A → Type 0
 Other o = By (2 ∷ streamRows) o
 

@@ -1,21 +1,23 @@
--- Document 01, "Turning down", "Order", as document 02's notes extend it: the rows by which each call can refuse, in its order.
+-- Document 01, "Turning down", "Order", as document 02's notes
+-- extend it: the rows that each call can refuse by, in its order.
 use mathlib.Core.Bool.{cond}
 use mathlib.Core.List.{List, [], _∷_, _++_}
 use Prim.Native.Nat.{ℕ, suc, _<_}
 use lib.Dec.{eqb}
 use Rattle.refusal.specs.Outcome.{Outcome, good, refused}
 
--- How often a number is in a list.
+-- How often a number occurs in a list.
 abbrev pub occurs : ℕ → List ℕ → ℕ
 occurs n [] = 0
 occurs n (m ∷ rows) = cond (eqb n m) (suc (occurs n rows)) (occurs n rows)
 
--- Refused, if at all, by one of these rows.
+-- Accepted, or refused by one of these rows.
 abbrev pub By : {A : Type 0} → List ℕ → Outcome A → Type 0
 By rows (good a) = Unit {0}
 By rows (refused r) = 0 < occurs (r .number) rows
 
--- The stream from its start; at a pair 3 and 5 of the point, 3 and 5 of its deviation, then 7, then 22; of a curve 24 and 25.
+-- The stream from its start: at a pair 3 and 5 of the point, 3
+-- and 5 of its deviation, then 7, then 22; in a curve 24 and 25.
 abbrev pub streamRows : List ℕ
 streamRows = 3 ∷ 4 ∷ 5 ∷ 6 ∷ 7 ∷ 22 ∷ 24 ∷ 25 ∷ []
 
@@ -59,7 +61,7 @@ compareOrder = checkOrder ++ (26 ∷ [])
 abbrev pub buildOrder : List ℕ
 buildOrder = 1 ∷ 16 ∷ 9 ∷ 10 ∷ 7 ∷ 22 ∷ 11 ∷ []
 
--- With a curve: 1, fields each 9 then 10, then 24, 10 and 25 in stream order; last 11.
+-- Build with a curve: 1, fields each 9 then 10, then 24, 10 and 25 in stream order; last 11.
 abbrev pub curveOrder : List ℕ
 curveOrder = 1 ∷ 9 ∷ 10 ∷ 24 ∷ 25 ∷ 11 ∷ []
 

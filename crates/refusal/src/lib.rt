@@ -1,5 +1,5 @@
-// Document 01, "Turning down": the number that a refused call returns, and its place; and what a call that writes answers.
-// Every function is proved, nothing is assumed, and none asks anything of its caller.
+// Document 01, "Turning down": the number and place that a refused call
+// returns, and the answer of a call that writes. No function has a `requires`.
 
 mod rows;
 
@@ -29,19 +29,20 @@ pub use rows::wrong_sort;
 pub use rows::wrong_sum;
 pub use rows::wrong_ticks;
 
-// A refusal gives only these two.
+// Why and where a call is refused. `number` is 1 to 26; `place` is document 01's term: a
+// bit of the stream, a page, a field, an index or a size, as the row of the number says.
 pub struct Refusal {
     pub number: u8,
     pub place: u64,
 }
 
-// What a call that writes answers: its bytes are written, or nothing is.
+// The answer of a call that writes: it wrote its bytes, or it wrote nothing.
 pub enum Written {
     Done,
     Refused(Refusal),
 }
 
-// The numbers of the rows; `specs/Rows.antt` has each row with its place.
+// The numbers of the rows. `specs/Rows.antt` has each row with its place.
 pub const WRONG_IMAGE: u8 = 1;
 
 pub const WRONG_SUM: u8 = 2;

@@ -1,32 +1,7 @@
-// The refusal of each row: its number, and the place that the caller gives.
+// The refusal of each row: the row's number, with the place that the caller passes.
 ghost use mathlib.Core.Path.{_≡_};
-ghost use Rattle.refusal.specs.Rows.{
-  wrongImage,
-  wrongSum,
-  pastEnd,
-  wrongBlock,
-  outsideTable,
-  notFinite,
-  notRising,
-  noSuch,
-  wrongSort,
-  outOfRange,
-  tooLong,
-  changedAlone,
-  noSpan,
-  outsideSpan,
-  wrongList,
-  blankChip,
-  shortIndex,
-  otherCode,
-  levelTooLow,
-  endOutside,
-  sumsNotRising,
-  tooManyPoints,
-  wrongCurve,
-  tooManyTerms,
-  wrongTicks,
-};
+ghost use Rattle.refusal.specs.Rows.{wrongImage, wrongSum, pastEnd, wrongBlock, outsideTable, notFinite, notRising, noSuch, wrongSort, outOfRange, tooLong, changedAlone, noSpan, outsideSpan, wrongList, blankChip};
+ghost use Rattle.refusal.specs.Rows.{shortIndex, otherCode, levelTooLow, endOutside, sumsNotRising, tooManyPoints, wrongCurve, tooManyTerms, wrongTicks};
 use crate::Refusal;
 
 pub fn wrong_image() -> Refusal
@@ -119,7 +94,7 @@ pub fn out_of_range(place: u64) -> Refusal
     }
 }
 
-// The bits needed, and 65,535 where they are more.
+// The place is the number of bits needed, at most 65,535.
 pub fn too_long(needed: u64) -> Refusal
     ensures { λ r. ⌜ r ≡ tooLong needed ⌝ }
 {

@@ -1,10 +1,10 @@
--- The walk over what stands behind the fields: one block and the last selector.
-use Rattle.sheet.proofs.Names.{_≡_, refl, sym, ap, ap₂, _∙_, Bool, not, cond, ℕ, eqb, eq-eqb, ne-eqb, Refusal, good, refused, wrongBlock, told, Cursor, Format, ends, stops, _>>=_, _>>_, bits, refuse_if_, Stream}
-use Rattle.sheet.proofs.Names.{parse, Calibration, bare, selectorOf, tableOf, curveOf, blockOf, blockAt, calibrationOf, parsed, parse-next, parse-refused, NotThere, MarkStep, Behind, NoMark, Counts, BlockStep}
-use Rattle.sheet.proofs.Names.{FoundBlock, NoBlock, keeping, countsOf, markOf, onlyBlock, behind, markSaid, blockSaid}
+-- Laws of the check of the part after the fields: one block and the last selector.
+use Rattle.sheet.proofs.Names.{_≡_, refl, sym, ap, ap₂, _∙_, Bool, not, cond, ℕ, eqb, eq-eqb, ne-eqb, Refusal, good, refused, wrongBlock, said-of, Cursor, Format, ends, stops, _>>=_, _>>_, bits, reject_if_}
+use Rattle.sheet.proofs.Names.{Stream, parse, Calibration, bare, selectorOf, tableOf, curveOf, blockOf, blockAt, calibrationOf, parsed, parse-next, parse-refused, NotThere, MarkStep, Behind, NoMark, Counts}
+use Rattle.sheet.proofs.Names.{BlockStep, FoundBlock, NoBlock, keeping, countsOf, markOf, onlyBlock, behind, markSaid, blockSaid}
 use Rattle.sheet.proofs.Steps.{keep-next, keep-refused, keep-made}
 
--- ---- the block behind its selector
+-- ---- the block after its selector
 
 module _ (s : Stream) (at here : ℕ) where
   abbrev chosen : Bool → Bool → Format Calibration
@@ -29,34 +29,34 @@ module _ (s : Stream) (at here : ℕ) where
     pub numbers-none : (number ≡ 40 → ⊥) → (number ≡ 41 → ⊥) → refused (wrongBlock at) ≡ keeping countsOf (parse s (blockAt at) here)
     numbers-none h k = at-number _ _ (ne-eqb number 40 h) (ne-eqb number 41 k)
 
--- ---- the block and the selector behind it
+-- ---- the block and the selector after it
 
 abbrev selected : Calibration → Format Calibration
 selected c = selectorOf 3 >> ends c
 
 module _ (s : Stream) (at here : ℕ) (x : BlockStep) (e : blockSaid x ≡ keeping countsOf (parse s (blockAt at) here)) where
   pub block-halts : {r : Refusal} → x ≡ NoBlock r → refused r ≡ keeping countsOf (parse s (onlyBlock at) here)
-  block-halts h = sym (ap (keeping countsOf) (keep-refused countsOf s (blockAt at) selected here (told blockSaid h e)))
+  block-halts h = sym (ap (keeping countsOf) (keep-refused countsOf s (blockAt at) selected here (said-of blockSaid h e)))
 
   module _ {count : Counts} {next : Cursor} (h : x ≡ FoundBlock count next) (y : MarkStep) (f : markSaid y ≡ parse s (markOf 2 3 (next .at)) (next .at)) where
     at-selector : keeping (λ u. count) (markSaid y) ≡ keeping countsOf (parse s (onlyBlock at) here)
     unfolding selectorOf
     at-selector =
-        let (c, q, p) = keep-next countsOf s (blockAt at) selected here (told blockSaid h e) in
+        let (c, q, p) = keep-next countsOf s (blockAt at) selected here (said-of blockSaid h e) in
         ap₂ (λ (m : Counts) o. keeping (λ u. m) o) (sym q) f
         ∙ sym (ap (keeping countsOf) p ∙ keep-made countsOf (λ u. c) s (selectorOf 3) (next .at))
 
     pub last-halts : {r : Refusal} → y ≡ NoMark r → refused r ≡ keeping countsOf (parse s (onlyBlock at) here)
-    last-halts g = told (λ w. keeping (λ u. count) (markSaid w)) g at-selector
+    last-halts g = said-of (λ w. keeping (λ u. count) (markSaid w)) g at-selector
 
     pub last-stands : {end : Cursor} → y ≡ Behind end → behind count end ≡ keeping countsOf (parse s (onlyBlock at) here)
-    last-stands g = told (λ w. keeping (λ u. count) (markSaid w)) g at-selector
+    last-stands g = said-of (λ w. keeping (λ u. count) (markSaid w)) g at-selector
 
 -- ---- one block, or none
 
 module _ (s : Stream) (at : ℕ) where
   abbrev alone : Bool → Format Calibration
-  alone last = refuse wrongBlock at if not last >> ends bare
+  alone last = reject wrongBlock at if not last >> ends bare
 
   abbrev picked : Bool → ℕ → Format Calibration
   picked first selector = cond first (onlyBlock at) (alone (eqb selector 3))

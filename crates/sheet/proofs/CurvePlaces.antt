@@ -1,13 +1,13 @@
--- Where the segments and terms of a curve stand, as its own counts tell.
+-- Laws of the places of a curve's segments and terms, from its own counts.
 use Rattle.sheet.proofs.Names.{_≡_, refl, sym, ap, ap₂, _∙_, Bool, cond, List, [], _∷_, _++_, ℕ, zero, suc, _+_, _-_, _*_, _/_, _^_, _≤_, _<_, arith, decLt, ltb, ℤ, pos, natAbs, length, getD, length-append}
 use Rattle.sheet.proofs.Names.{le-ltb, lt-ltb, ltb-false, Outcome, good, refused, pastEnd, Value, Term, mostTerms, bits, Stream, Parsed, parse, FoundTerm, FoundSegment, Calibration, bare, table, curve, Passed}
 use Rattle.sheet.proofs.Names.{behindSegment, nothingPassed, segmentsIn, segmentIn, allTerms, termIn, figure, float, parsed, SegmentsAt, CalibrationAt, get-front, get-back, stands-parse, TermStands, SegmentStands}
 use Rattle.sheet.proofs.Names.{CurveStands, valueIn, numberIn, segmentAt, termAt, segmentEnd, behindSegments, termPlace}
 use Rattle.sheet.proofs.Steps.{bits-lt}
 
--- ---- how many they are
+-- ---- the counts
 
--- So many terms stand before segments: all of them are 30 at most.
+-- With this many terms before some segments, all terms are at most 30.
 terms-few : (before : Passed) (at : ℕ) (segments : List FoundSegment) → before .terms ≤ 30 → SegmentsAt before at segments → before .terms + length (allTerms segments) ≤ 30
 terms-few before at [] l h = omega arith
 terms-few before at (x ∷ segments) l h =
@@ -19,7 +19,7 @@ curve-few at bare h = (omega arith, omega arith)
 curve-few at (table domain pairs) h = (omega arith, omega arith)
 curve-few at (curve segments) h = (h .most, omega (arith, terms-few nothingPassed (at + 19) segments (omega arith) (h .stand)))
 
--- ---- a segment and a term where they stand
+-- ---- a segment and a term at their places
 
 module _ {s : Stream} {x : FoundSegment} (h : SegmentStands s x) where
   terms-read : parse s (bits 7) (x .start .at + 13) ≡ good (parsed (x .count .code) (x .start .at + 13 + 7))
@@ -37,7 +37,7 @@ term-is {s} {at} {t} h = ap₂ made (ap valueIn (stands-parse (h .exponent))) (a
     made : Value → Value → Term
     made x c = record { exponent = pos (natAbs (figure x) / 10); coefficient = float c }
 
--- As many terms as 7 bits tell.
+-- The number of terms fits 7 bits.
 pub terms-lt : (s : Stream) (at : ℕ) → segmentAt s at .terms < 2 ^ 7
 terms-lt s at = go (parse s (bits 7) (at + 13)) refl
   where
@@ -45,9 +45,9 @@ terms-lt s at = go (parse s (bits 7) (at + 13)) refl
     go (good x) e = bits-lt s (at + 13) 7 e
     go (refused r) e = omega arith
 
--- ---- one after the other
+-- ---- segments in order
 
--- Behind the first segment stand the others.
+-- After the first segment come the others.
 pub curve-behind : {s : Stream} {at : ℕ} (x : FoundSegment) (segments : List FoundSegment) → CurveStands s at (x ∷ segments) → CurveStands s (segmentEnd at (length (x .terms))) segments
 curve-behind {s} {at} x segments h = record {
   stand = λ i none l. h .stand (suc i) none (omega arith);
@@ -55,14 +55,14 @@ curve-behind {s} {at} x segments h = record {
   next = λ i none l. h .next (suc i) none (omega arith);
 }
 
--- The first of them, which tells where the next stands.
+-- The first segment, which gives the place of the next.
 pub first-is : {s : Stream} {at : ℕ} (x : FoundSegment) (segments : List FoundSegment) → CurveStands s at (x ∷ segments) → segmentAt s at ≡ segmentIn x
 first-is {s} x segments h = ap (segmentAt s) (sym (h .first x (omega arith))) ∙ segment-is (h .stand 0 x (omega arith))
 
 first-terms : {s : Stream} {at : ℕ} (x : FoundSegment) (segments : List FoundSegment) → CurveStands s at (x ∷ segments) → segmentAt s at .terms ≡ length (x .terms)
 first-terms x segments h = ap (λ y. y .terms) (first-is x segments h)
 
--- Segment i.
+-- Segment i is at its computed place.
 pub segment-place : {s : Stream} (at : ℕ) (segments : List FoundSegment) → CurveStands s at segments → (i : ℕ) (none : FoundSegment) → i < length segments →
     behindSegments s at i ≡ getD segments i none .start .at
 segment-place at [] h i none l = absurd (omega arith)
@@ -71,7 +71,7 @@ segment-place {s} at (x ∷ segments) h (suc i) none l =
     ap (λ (n : ℕ). behindSegments s (segmentEnd at n) i) (first-terms x segments h)
     ∙ segment-place (segmentEnd at (length (x .terms))) segments (curve-behind x segments h) i none (omega arith)
 
--- Term i over all segments.
+-- Term i, counted over all segments, is at its computed place.
 pub term-place : {s : Stream} (at : ℕ) (segments : List FoundSegment) → CurveStands s at segments → (i : ℕ) (none : FoundTerm) → i < length (allTerms segments) →
     termAt s (termPlace s at (length segments) i) ≡ termIn (getD (allTerms segments) i none)
 term-place at [] h i none l = absurd (omega arith)
@@ -95,9 +95,9 @@ term-place {s} at (x ∷ segments) h i none l =
         ∙ others (omega (arith, length-append (x .terms) (allTerms segments)))
         ∙ ap termIn (sym (get-back none (x .terms) (allTerms segments) i far))
 
--- ---- a walk from segment to segment
+-- ---- the loop over segments
 
--- It takes 4,973 bits a segment at most.
+-- Each segment takes at most 4,973 bits.
 module _ (s : Stream) (at : ℕ) where
   pub passed-one : (n own : ℕ) → own ≡ segmentAt s at .terms → 0 < n → behindSegments s at n ≡ behindSegments s (segmentEnd at own) (n - 1)
   passed-one n own e h =

@@ -1,59 +1,59 @@
--- The walk over block 41.
+-- Laws of the check of block 41.
 use Rattle.sheet.proofs.Names.{_≡_, refl, sym, ap, ap₂, _∙_, Bool, true, false, not, cond, List, _∷_, _++_, Option, none, some, ℕ, zero, suc, _+_, _-_, _*_, _/_, _%_, _^_, _≤_, _<_, arith, ltb-false, ltb, length}
-use Rattle.sheet.proofs.Names.{length-append, high, low, fieldAt, field-lt, field-add, Refusal, Outcome, good, refused, wrongCurve, tooManyTerms, good-same, no-value, told, Cursor, Row, Earlier, Sound}
-use Rattle.sheet.proofs.Names.{curveDomain, segmentCount, segmentStart, termCount, exponent, coefficient, isSegmentCount, isTermCount, mostTerms, startFollows}
-use Rattle.sheet.proofs.Names.{segment-count-sound, start-sound, term-count-sound, exponent-sound, CurveField, SegmentCount, Start, TermCount, Exponent, curveRow, Format, ends, _>>=_, _>>_, refuse_if_, repeated}
-use Rattle.sheet.proofs.Names.{Stream, Parsed, parse, Found, FoundSegment, curve, Passed, fieldOf, ruledOf, termOf, behindTerm, termsOf, segmentOf, behindSegment, nothingPassed, segmentsOf}
-use Rattle.sheet.proofs.Names.{curveOf, allTerms, termBits, parsed, parse-split, NotThere, CodeStep, Code, NoCode, EarlierStep, SegmentStep, BeforeSegment, NoSegment, keeping, Coded, coded, countsOf, TermCodes}
-use Rattle.sheet.proofs.Names.{termsBehind, countBehind, passedBy, behind, codeSaid, earlierStepSaid, segmentStepSaid, takenBy, rises, withCoefficient, term, segment, withTerms, withCount, drawn}
-use Rattle.refusal.specs.Outcome as outcome
+use Rattle.sheet.proofs.Names.{length-append, high, low, fieldAt, field-lt, field-add, Refusal, Outcome, good, refused, wrongCurve, tooManyTerms, good-same, no-value, said-of, Cursor, Row, Earlier, Sound}
+use Rattle.sheet.proofs.Names.{curveDomain, segmentCount, segmentStart, termCount, exponent, coefficient, isSegmentCount, isTermCount, mostTerms, startFollows, segment-count-sound, start-sound, term-count-sound}
+use Rattle.sheet.proofs.Names.{exponent-sound, CurveField, SegmentCount, Start, TermCount, Exponent, curveRow, Format, ends, _>>=_, _>>_, reject_if_, repeated, Stream, Parsed, parse, Found, FoundSegment, curve}
+use Rattle.sheet.proofs.Names.{Passed, fieldOf, ruledOf, termOf, behindTerm, termsOf, segmentOf, behindSegment, nothingPassed, segmentsOf, curveOf, allTerms, termBits, parsed, parse-split, NotThere, CodeStep}
+use Rattle.sheet.proofs.Names.{Code, NoCode, EarlierStep, SegmentStep, BeforeSegment, NoSegment, keeping, Coded, coded, countsOf, TermCodes, termsBehind, countBehind, passedBy, behind, codeSaid, earlierStepSaid}
+use Rattle.sheet.proofs.Names.{segmentStepSaid, takenBy, rises, withCoefficient, term, segment, withTerms, withCount, drawn}
 use Rattle.layout.proofs.Curves.{counted}
 use Rattle.sheet.proofs.Steps.{field-inside, kept, keep-next, keep-refused, keep-made, keep-bind, keep-twice, keep-through}
+use Rattle.refusal.specs.Outcome as outcome
 
--- The rows of the fields that a rule takes.
+-- The rows of the fields that have to obey a rule are sound.
 pub curve-sound : (field : CurveField) → Sound (curveRow field)
 curve-sound SegmentCount = segment-count-sound
 curve-sound Start = start-sound
 curve-sound TermCount = term-count-sound
 curve-sound Exponent = exponent-sound
 
--- ---- a field that a rule takes
+-- ---- a field that has to obey a rule
 
 module _ (s : Stream) (row : Row) (rule : ℕ → Bool) (at : ℕ) (x : CodeStep) (e : codeSaid at x ≡ keeping coded (parse s (fieldOf row) at)) where
   pub ruled-halts : {r : Refusal} → x ≡ NoCode r → refused r ≡ keeping coded (parse s (ruledOf row rule) at)
   unfolding ruledOf
-  ruled-halts h = sym (ap (keeping coded) (keep-refused coded s (fieldOf row) (takenBy rule) at (told (codeSaid at) h e)))
+  ruled-halts h = sym (ap (keeping coded) (keep-refused coded s (fieldOf row) (takenBy rule) at (said-of (codeSaid at) h e)))
 
   pub ruled-steps : {code : ℕ} {next : Cursor} {takes : Bool} → x ≡ Code code next → takes ≡ rule code →
       cond takes (behind (record { at = at; code = code }) next) (refused (wrongCurve at)) ≡ keeping coded (parse s (ruledOf row rule) at)
   unfolding ruledOf
   ruled-steps {code} {next} {takes} h t =
-      let (y, q, p) = keep-next coded s (fieldOf row) (takenBy rule) at (told (codeSaid at) h e) in
+      let (y, q, p) = keep-next coded s (fieldOf row) (takenBy rule) at (said-of (codeSaid at) h e) in
       ap (λ (b : Bool). cond b (behind (record { at = at; code = code }) next) (refused (wrongCurve at))) t
       ∙ ap (λ (c : Coded). cond (rule (c .code)) (behind c next) (refused (wrongCurve (c .at)))) (sym q)
       ∙ go y (rule (y .code)) ∙ sym (ap (keeping coded) p)
     where
       go : (y : Found) (b : Bool) →
-          cond b (behind (coded y) next) (refused (wrongCurve (y .at))) ≡ keeping coded (parse s (refuse wrongCurve (y .at) if not b >> ends y) (next .at))
+          cond b (behind (coded y) next) (refused (wrongCurve (y .at))) ≡ keeping coded (parse s (reject wrongCurve (y .at) if not b >> ends y) (next .at))
       go y true = refl
       go y false = refl
 
--- A code that was taken is one that the rule takes.
+-- A code that was accepted obeys the rule.
 pub ruled-taken : (s : Stream) (row : Row) (rule : ℕ → Bool) (at : ℕ) {x : CodeStep} {code : ℕ} {next : Cursor} → codeSaid at x ≡ keeping coded (parse s (ruledOf row rule) at) →
     x ≡ Code code next → rule code ≡ true
 unfolding ruledOf
 ruled-taken s row rule at {x} {code} {next} e h =
-    let (y, q, p) = kept coded (parse s (ruledOf row rule) at) (told (codeSaid at) h e) in
+    let (y, q, p) = kept coded (parse s (ruledOf row rule) at) (said-of (codeSaid at) h e) in
     let (z, i, f, g) = parse-split s (fieldOf row) (takenBy rule) at p in
     sym (go y z i (rule (z .code)) refl g ∙ ap (λ (c : Coded). rule (c .code)) q)
   where
-    go : (y z : Found) (i : ℕ) (b : Bool) → rule (z .code) ≡ b → good (parsed y (next .at)) ≡ parse s (refuse wrongCurve (z .at) if not b >> ends z) i → true ≡ rule (y .code)
+    go : (y z : Found) (i : ℕ) (b : Bool) → rule (z .code) ≡ b → good (parsed y (next .at)) ≡ parse s (reject wrongCurve (z .at) if not b >> ends z) i → true ≡ rule (y .code)
     go y z i true f g = sym (ap (λ u. rule (u .found .code)) (good-same g) ∙ f)
     go y z i false f g = no-value (sym g)
 
--- ---- formats one after the other
+-- ---- repeated formats
 
--- What stands before the next, where so many are left.
+-- The state before the next item, with this many left.
 abbrev pub passedLeft : {A B : Type 0} → Stream → (B → Format A) → (B → A → B) → B → ℕ → ℕ → Outcome (Parsed B)
 passedLeft s one behind before left at = keeping (passedBy behind before) (parse s (repeated one behind left before) at)
 
@@ -86,25 +86,25 @@ module _ {A B : Type 0} (s : Stream) (one : B → Format A) (behind : B → A �
 module _ (s : Stream) (before : Option ℕ) (at : ℕ) (x : CodeStep) (e : codeSaid at x ≡ keeping coded (parse s (ruledOf exponent (rises before)) at)) where
   pub exponent-halts : {r : Refusal} → x ≡ NoCode r → refused r ≡ keeping (behindTerm before) (parse s (termOf before) at)
   unfolding termOf
-  exponent-halts h = sym (ap (keeping (behindTerm before)) (keep-refused coded s (ruledOf exponent (rises before)) withCoefficient at (told (codeSaid at) h e)))
+  exponent-halts h = sym (ap (keeping (behindTerm before)) (keep-refused coded s (ruledOf exponent (rises before)) withCoefficient at (said-of (codeSaid at) h e)))
 
   module _ {code : ℕ} {middle : Cursor} (h : x ≡ Code code middle) (y : CodeStep) (f : codeSaid (middle .at) y ≡ keeping coded (parse s (fieldOf coefficient) (middle .at))) where
     at-coefficient : (p : Found) × (coded p ≡ record { at = at; code = code }) × (parse s (termOf before) at ≡ parse s (withCoefficient p) (middle .at))
     unfolding termOf
-    at-coefficient = keep-next coded s (ruledOf exponent (rises before)) withCoefficient at (told (codeSaid at) h e)
+    at-coefficient = keep-next coded s (ruledOf exponent (rises before)) withCoefficient at (said-of (codeSaid at) h e)
 
     pub coefficient-halts : {r : Refusal} → y ≡ NoCode r → refused r ≡ keeping (behindTerm before) (parse s (termOf before) at)
     coefficient-halts g =
         let (p, q, w) = at-coefficient in
-        sym (ap (keeping (behindTerm before)) (w ∙ keep-refused coded s (fieldOf coefficient) (λ c. ends (term p c)) (middle .at) (told (codeSaid (middle .at)) g f)))
+        sym (ap (keeping (behindTerm before)) (w ∙ keep-refused coded s (fieldOf coefficient) (λ c. ends (term p c)) (middle .at) (said-of (codeSaid (middle .at)) g f)))
 
     pub term-stands : {code′ : ℕ} {next : Cursor} → y ≡ Code code′ next → behind (some code) next ≡ keeping (behindTerm before) (parse s (termOf before) at)
     term-stands {code′} {next} g =
         let (p, q, w) = at-coefficient in
-        let (c, q′, w′) = keep-next coded s (fieldOf coefficient) (λ c. ends (term p c)) (middle .at) (told (codeSaid (middle .at)) g f) in
+        let (c, q′, w′) = keep-next coded s (fieldOf coefficient) (λ c. ends (term p c)) (middle .at) (said-of (codeSaid (middle .at)) g f) in
         ap (λ (u : Coded). behind (some (u .code)) next) (sym q) ∙ sym (ap (keeping (behindTerm before)) (w ∙ w′))
 
--- Its codes taken as one field.
+-- The codes of a term, read as one field.
 pub term-at-once : (s : Stream) (before : Option ℕ) (at : ℕ) {both : ℕ} → both ≡ fieldAt (s .number) at termBits → at + termBits ≤ s .bits → TermCodes before at both →
     good (parsed (some (both % 2 ^ 7)) (at + termBits)) ≡ keeping (behindTerm before) (parse s (termOf before) at)
 term-at-once s before at {both} e inside h =
@@ -140,7 +140,7 @@ term-at-once s before at {both} e inside h =
 
 -- ---- a segment
 
--- Its terms, where they make a total; and a total that is too great.
+-- The terms of a segment, which make a total; and a total that is too great.
 module _ (s : Stream) (start total n at : ℕ) {many : Bool} (m : many ≡ ltb mostTerms total) where
   abbrev limited : Bool → Outcome (Parsed Passed)
   limited b =
@@ -152,11 +152,11 @@ module _ (s : Stream) (start total n at : ℕ) {many : Bool} (m : many ≡ ltb m
   pub terms-passed : many ≡ false → {v w : EarlierStep} → v ≡ w → earlierStepSaid v ≡ keeping (passedBy behindTerm none) (parse s (termsOf n) at) →
       keeping (λ last. record { start = some start; terms = total }) (earlierStepSaid w) ≡ termsBehind s start total n at
   terms-passed t h e =
-      ap (keeping (λ last. record { start = some start; terms = total })) (told earlierStepSaid h e)
+      ap (keeping (λ last. record { start = some start; terms = total })) (said-of earlierStepSaid h e)
       ∙ keep-twice (λ last. record { start = some start; terms = total }) (passedBy behindTerm none) (parse s (termsOf n) at)
       ∙ ap limited (sym t ∙ m)
 
--- From its start on.
+-- A segment from its start on.
 module _ (s : Stream) (before : Passed) where
   abbrev final : Parsed FoundSegment → Outcome (Parsed Passed)
   final x = good (parsed (behindSegment before (x .found)) (x .next))
@@ -169,7 +169,7 @@ module _ (s : Stream) (before : Passed) where
       rest = termsOf (count .code) >>= λ terms. ends (segment start count terms)
 
       go : (b : Bool) →
-          outcome._>>=_ (parse s (refuse tooManyTerms (before .terms + count .code) if b >> rest) at) final
+          outcome._>>=_ (parse s (reject tooManyTerms (before .terms + count .code) if b >> rest) at) final
           ≡ outcome._>>_ (outcome.refuse_if_ (tooManyTerms (before .terms + count .code)) b)
           (keeping (λ terms. record { start = some (start .code); terms = before .terms + count .code }) (parse s (termsOf (count .code)) at))
       go true = refl
@@ -188,7 +188,7 @@ module _ (s : Stream) (before : Passed) where
 
 -- ---- the curve
 
--- n of a format are n.
+-- n of a format give n items.
 repeated-length : {A B : Type 0} (s : Stream) (one : B → Format A) (behind : B → A → B) (n : ℕ) (before : B) (at : ℕ) {xs : List A} {m : ℕ} →
     good (parsed xs m) ≡ parse s (repeated one behind n before) at → length xs ≡ n
 unfolding repeated
@@ -198,7 +198,7 @@ repeated-length s one behind (suc n) before at e =
     let (rest, j, k, l) = parse-split s (repeated one behind n (behind before x)) (λ rest. ends (x ∷ rest)) i g in
     ap (λ y. length (y .found)) (good-same l) ∙ ap suc (repeated-length s one behind n (behind before x) i k)
 
--- A segment has so many terms as it says, and not too many.
+-- A segment has as many terms as its count says, and not too many.
 pub record Limits (before : Passed) (x : FoundSegment) : Type 0 where
   pub counted : length (x .terms) ≡ x .count .code
   pub few : before .terms + x .count .code ≤ mostTerms
@@ -211,7 +211,7 @@ segment-limits s before at {x} {m} e =
     go start count j (ltb mostTerms (before .terms + count .code)) refl l
   where
     go : (start count : Found) (j : ℕ) (many : Bool) → ltb mostTerms (before .terms + count .code) ≡ many →
-        good (parsed x m) ≡ parse s (refuse tooManyTerms (before .terms + count .code) if many >> (termsOf (count .code) >>= λ terms. ends (record { start = start; count = count; terms = terms }))) j →
+        good (parsed x m) ≡ parse s (reject tooManyTerms (before .terms + count .code) if many >> (termsOf (count .code) >>= λ terms. ends (record { start = start; count = count; terms = terms }))) j →
         Limits before x
     go start count j true t l = no-value (sym l)
     go start count j false t l =
@@ -226,10 +226,10 @@ segment-limits s before at {x} {m} e =
 pub total-few : (s : Stream) (before : Passed) (at : ℕ) {v : SegmentStep} {start : Earlier} {total : ℕ} {end : Cursor} →
     segmentStepSaid v ≡ keeping (behindSegment before) (parse s (segmentOf before) at) → v ≡ BeforeSegment start total end → total ≤ mostTerms
 total-few s before at {v} {start} {total} {end} e h =
-    let (x, q, p) = kept (behindSegment before) (parse s (segmentOf before) at) (told segmentStepSaid h e) in
+    let (x, q, p) = kept (behindSegment before) (parse s (segmentOf before) at) (said-of segmentStepSaid h e) in
     omega (arith, ap (λ (b : Passed). b .terms) q, segment-limits s before at p .few)
 
--- So the terms that were passed are those of the segments.
+-- The terms so far are those of the segments so far.
 segments-total : (s : Stream) (n : ℕ) (before : Passed) (at : ℕ) {xs : List FoundSegment} {m : ℕ} → good (parsed xs m) ≡ parse s (repeated segmentOf behindSegment n before) at →
     passedBy behindSegment before xs .terms ≡ before .terms + length (allTerms xs)
 unfolding repeated
@@ -246,33 +246,33 @@ segments-total s (suc n) before at e =
 module _ (s : Stream) (at : ℕ) (x : CodeStep) (e : codeSaid at x ≡ keeping coded (parse s (fieldOf curveDomain) at)) where
   pub domain-halts : {r : Refusal} → x ≡ NoCode r → refused r ≡ keeping countsOf (parse s curveOf at)
   unfolding curveOf
-  domain-halts h = sym (ap (keeping countsOf) (keep-refused coded s (fieldOf curveDomain) counted at (told (codeSaid at) h e)))
+  domain-halts h = sym (ap (keeping countsOf) (keep-refused coded s (fieldOf curveDomain) counted at (said-of (codeSaid at) h e)))
 
   module _ {code : ℕ} {second : Cursor} (h : x ≡ Code code second) (y : CodeStep)
       (f : codeSaid (second .at) y ≡ keeping coded (parse s (ruledOf segmentCount isSegmentCount) (second .at))) where
     at-count : parse s curveOf at ≡ parse s (ruledOf segmentCount isSegmentCount >>= drawn) (second .at)
     unfolding curveOf
-    at-count = let (d, q, p) = keep-next coded s (fieldOf curveDomain) counted at (told (codeSaid at) h e) in p
+    at-count = let (d, q, p) = keep-next coded s (fieldOf curveDomain) counted at (said-of (codeSaid at) h e) in p
 
     pub count-halts : {r : Refusal} → y ≡ NoCode r → refused r ≡ keeping countsOf (parse s curveOf at)
-    count-halts g = sym (ap (keeping countsOf) (at-count ∙ keep-refused coded s (ruledOf segmentCount isSegmentCount) drawn (second .at) (told (codeSaid (second .at)) g f)))
+    count-halts g = sym (ap (keeping countsOf) (at-count ∙ keep-refused coded s (ruledOf segmentCount isSegmentCount) drawn (second .at) (said-of (codeSaid (second .at)) g f)))
 
     module _ {n : ℕ} {third : Cursor} (g : y ≡ Code n third) (v : SegmentStep)
         (k : segmentStepSaid v ≡ keeping (passedBy behindSegment nothingPassed) (parse s (segmentsOf n) (third .at))) where
       at-segments : parse s curveOf at ≡ parse s (segmentsOf n >>= λ segments. ends (curve segments)) (third .at)
       at-segments =
-          let (c, q, p) = keep-next coded s (ruledOf segmentCount isSegmentCount) drawn (second .at) (told (codeSaid (second .at)) g f) in
+          let (c, q, p) = keep-next coded s (ruledOf segmentCount isSegmentCount) drawn (second .at) (said-of (codeSaid (second .at)) g f) in
           at-count ∙ p ∙ ap (λ (u : Coded). parse s (segmentsOf (u .code) >>= λ segments. ends (curve segments)) (third .at)) q
 
       pub segments-halt : {r : Refusal} → v ≡ NoSegment r → refused r ≡ keeping countsOf (parse s curveOf at)
       segments-halt j =
-          sym (ap (keeping countsOf) (at-segments ∙ keep-refused (passedBy behindSegment nothingPassed) s (segmentsOf n) (λ segments. ends (curve segments)) (third .at) (told segmentStepSaid j k)))
+          sym (ap (keeping countsOf) (at-segments ∙ keep-refused (passedBy behindSegment nothingPassed) s (segmentsOf n) (λ segments. ends (curve segments)) (third .at) (said-of segmentStepSaid j k)))
 
       pub curve-stands : {last : Earlier} {terms : ℕ} {end : Cursor} → v ≡ BeforeSegment last terms end →
           behind (record { domain = NotThere; points = 0; segments = n; terms = terms }) end ≡ keeping countsOf (parse s curveOf at)
       unfolding segmentsOf
       curve-stands {last} {terms} {end} j =
-          let (xs, q, p) = kept (passedBy behindSegment nothingPassed) (parse s (segmentsOf n) (third .at)) (told segmentStepSaid j k) in
+          let (xs, q, p) = kept (passedBy behindSegment nothingPassed) (parse s (segmentsOf n) (third .at)) (said-of segmentStepSaid j k) in
           let some : length xs ≡ n = repeated-length s segmentOf behindSegment n nothingPassed (third .at) p in
           let all : length (allTerms xs) ≡ terms = omega (arith, segments-total s n nothingPassed (third .at) p, ap (λ (b : Passed). b .terms) q) in
           ap₂ (λ (a b : ℕ). behind (record { domain = NotThere; points = 0; segments = a; terms = b }) end) (sym some) (sym all)

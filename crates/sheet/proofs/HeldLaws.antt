@@ -1,14 +1,14 @@
--- What an opened sheet holds stands in its image where the check found it.
+-- Laws of the values of an opened sheet: each is in the image where the check found it.
 use Rattle.sheet.proofs.Names.{_≡_, refl, sym, ap, ap₂, _∙_, subst, Bool, cond, List, [], _∷_, map, ℕ, zero, suc, _+_, _*_, _/_, _%_, _^_, _≤_, _<_, arith, length, getD, length-map, List·getD-map, ℤ, pos, le-ltb}
-use Rattle.sheet.proofs.Names.{good, refused, pastEnd, fieldAt, Whole, field-lt, field-add, sizes-whole, sizes-chip, Layout, Template, Bridge, Stepped, steppedValue, always, bridgeEnd, Line, lastField, lineOf}
-use Rattle.sheet.proofs.Names.{rowOf, D, R, leastDeviation, noPair, noSegment, noTerm, stepped-whole, span-lines, Unscaled, bits, Stream, parse, Found, Contents, FoundPair, FoundTerm, FoundSegment, fieldOf}
-use Rattle.sheet.proofs.Names.{streamIn, nothing, field, layoutOf, pairsIn, pairIn, segmentsIn, segmentIn, allTerms, termIn, figure, points, segments, terms, fieldPlace, behindFields, tableStart, pairBits}
-use Rattle.sheet.proofs.Names.{tableBits, pairPlace, curveBits, behindBlock, characterPlace, parsed, Holding, accepted-at, field-stands, stands-parse, PairStands, pair-here, character-here, pairFrom, CurveStands}
-use Rattle.sheet.proofs.Names.{curve-here, Opened, domainIn, Opens, valueIn, segmentAt, termAt, behindSegments, termPlace, end-few, table-least, noFound}
-use Rattle.layout.proofs.Standing.{Stands}
+use Rattle.sheet.proofs.Names.{good, refused, pastEnd, fieldAt, WholeImage, field-lt, field-add, sizes-whole, sizes-chip, Layout, Template, Bridge, Stepped, steppedValue, always, bridgeEnd, Line, lastField}
+use Rattle.sheet.proofs.Names.{lineOf, rowOf, D, R, leastDeviation, noPair, noSegment, noTerm, stepped-whole, span-lines, Unscaled, bits, Stream, parse, Found, Contents, FoundPair, FoundTerm, FoundSegment}
+use Rattle.sheet.proofs.Names.{fieldOf, streamIn, nothing, field, layoutOf, pairsIn, pairIn, segmentsIn, segmentIn, allTerms, termIn, figure, points, segments, terms, fieldPlace, behindFields, tableStart}
+use Rattle.sheet.proofs.Names.{pairBits, tableBits, pairPlace, curveBits, behindBlock, characterPlace, parsed, Holding, accepted-at, field-stands, stands-parse, PairStands, pair-here, character-here, pairFrom}
+use Rattle.sheet.proofs.Names.{CurveStands, curve-here, Opened, domainIn, Opens, valueIn, segmentAt, termAt, behindSegments, termPlace, end-few, table-least, noFound}
+use Rattle.layout.proofs.Standing.{Valid}
 use Rattle.sheet.proofs.CurvePlaces.{curve-few, segment-is, segment-place, term-place}
 
--- An element of what is made of a list.
+-- An element of a mapped list.
 getD-mapped : {A B : Type 0} (f : A → B) (xs : List A) (i : ℕ) (none : A) (other : B) → i < length xs → getD (map f xs) i other ≡ f (getD xs i none)
 getD-mapped f [] i none other l = absurd (omega arith)
 getD-mapped f (x ∷ xs) zero none other l = refl
@@ -29,13 +29,13 @@ span-unscaled layout e =
     let ends = end-unscaled (layout .precision) in
     (line-unscaled layout 7 e (span-lines .0) tt, line-unscaled layout 8 e (span-lines .1) tt, line-unscaled layout 10 e (span-lines .3) ends, line-unscaled layout 11 e (span-lines .4) ends)
 
--- The figure of a stepped field that stands.
-stepped-figure : {s : Stream} {w : ℕ} {start : ℤ} {step at : ℕ} {x : Found} → Stands s (always w (Stepped start step)) at x →
+-- The figure of a valid stepped field.
+stepped-figure : {s : Stream} {w : ℕ} {start : ℤ} {step at : ℕ} {x : Found} → Valid s (always w (Stepped start step)) at x →
     steppedValue start step (fieldAt (s .number) at w) ≡ figure (x .value)
 stepped-figure {s} {w} {start} {step} {at} {x} h =
     ap (steppedValue start step) (h .code) ∙ sym (ap figure (stepped-whole w start step at (x .code) (x .value) (h .field .means)))
 
--- A pair that stands, as one field.
+-- A valid pair, read as one field.
 pair-from : {s : Stream} {at : ℕ} {p : FoundPair} → PairStands s at p → pairIn (pairFrom at (fieldAt (s .number) at pairBits)) ≡ pairIn p
 pair-from {s} {at} {p} h =
     let N : ℕ = s .number in
@@ -72,7 +72,7 @@ module _ {kind : ℕ} {image : List ℕ} {o : Opened} {c : Contents} (h : Opens 
   pub characters-are : o .summary .characters ≡ length (c .text)
   characters-are = ap (λ u. u .summary .characters) (h .is)
 
-  pub held-whole : Whole (o .sizes) image
+  pub held-whole : WholeImage (o .sizes) image
   held-whole = sizes-whole kind image (o .sizes) (h .sized)
 
   pub holding : Holding s c
@@ -149,7 +149,7 @@ module _ {kind : ℕ} {image : List ℕ} {o : Opened} {c : Contents} (h : Opens 
   segments-few =
       omega (arith, segments-are, length-map (segmentsIn (c .calibration)) segmentIn, curve-few (holding .formed .behind) (c .calibration) (holding .formed .calibrated) .0)
 
-  -- The first segment stands at the curve's place.
+  -- The first segment is at the curve's place.
   pub held-curve : CurveStands s (o .behind .at + 19) (segmentsIn (c .calibration))
   held-curve = subst (λ (n : ℕ). CurveStands s (n + 19) (segmentsIn (c .calibration))) (sym (ap (λ u. u .behind .at) (h .is))) (curve-here holding)
 

@@ -1,13 +1,13 @@
--- What an opened sheet says of its image.
+-- Laws of opened sheets and their images.
 use Rattle.sheet.proofs.Names.{_≡_, refl, sym, ap, _∙_, subst, List, _⊎_, inl, inr, Bool, true, false, not, ℕ, zero, suc, _≤_, _<_, arith, eqb, leb, length, le-leb, lt-leb, leb-true, leb-false, Refusal, Outcome}
-use Rattle.sheet.proofs.Names.{good, refused, wrongImage, wrongSum, blankChip, noSuch, good-same, no-value, told, good-bind, bind-assoc, Sizes, SizesAnswer, Are, NoSizes, Sums, Right, Wrong, Blank, sizesOf}
-use Rattle.sheet.proofs.Names.{imageBytes, streamBits, imageSizes, sums, Whole, sizesSaid, sumsSaid, sizes-whole, parse, Contents, sheetOf, streamIn, contents, Item, Opened, OpenedAnswer, Sheet, NoSheet, summary}
-use Rattle.sheet.proofs.Names.{openedAs, opened, counted, openedAt, openedSaid, Opens, Held, Roomy, walked}
+use Rattle.sheet.proofs.Names.{good, refused, wrongImage, wrongSum, blankChip, noSuch, good-same, no-value, said-of, good-bind, bind-assoc, Sizes, SizesAnswer, Are, NoSizes, Sums, Right, Wrong, Blank, sizesOf}
+use Rattle.sheet.proofs.Names.{imageBytes, streamBits, imageSizes, sums, WholeImage, sizesSaid, sumsSaid, sizes-whole, parse, Contents, sheetOf, streamIn, contents, Item, Opened, OpenedAnswer, Sheet, NoSheet}
+use Rattle.sheet.proofs.Names.{summary, openedAs, opened, counted, openedAt, openedSaid, Opens, Held, Roomy, walked}
 use Rattle.refusal.specs.Outcome.{_>>=_, _>>_, refuse_if_}
 use Rattle.refusal.proofs.Outcomes.{passed}
 use Rattle.sheet.proofs.Steps.{carried}
 
--- ---- an opening, step by step
+-- ---- opening, step by step
 
 -- The stream of each kind has 312 bits or more.
 bits-least : (kind : ℕ) (z : Sizes) → sizesOf kind ≡ good z → 312 ≤ streamBits z
@@ -19,30 +19,30 @@ bits-least (suc (suc (suc k))) z e = no-value e
 module _ (kind : ℕ) (image : List ℕ) (x : SizesAnswer) (e : sizesSaid x ≡ imageSizes kind (length image)) where
   pub sizes-refused : {r : Refusal} → x ≡ NoSizes r → refused r ≡ opened kind image
   unfolding opened
-  sizes-refused h = rw (← told sizesSaid h e)
+  sizes-refused h = rw (← said-of sizesSaid h e)
 
   module _ {z : Sizes} (h : x ≡ Are z) where
-    pub sized : Whole z image
-    sized = sizes-whole kind image z (sym (told sizesSaid h e))
+    pub sized : WholeImage z image
+    sized = sizes-whole kind image z (sym (said-of sizesSaid h e))
 
     pub roomy : Roomy z image
     unfolding imageSizes
     roomy =
-        let (y, s, t) = good-bind (sizesOf kind) _ z (sym (told sizesSaid h e)) in
+        let (y, s, t) = good-bind (sizesOf kind) _ z (sym (said-of sizesSaid h e)) in
         let (right, same) = passed wrongImage (not (eqb (length image) (imageBytes y))) (good y) z t in
         record { whole = sized; room = bits-least kind z (s ∙ same) }
 
     pub sums-wrong : {y : Sums} {page : ℕ} → sumsSaid y ≡ sums z image → y ≡ Wrong page → refused (wrongSum page) ≡ opened kind image
     unfolding opened contents
-    sums-wrong f g = rw (← told sizesSaid h e, ← told sumsSaid g f)
+    sums-wrong f g = rw (← said-of sizesSaid h e, ← said-of sumsSaid g f)
 
     pub sums-blank : {y : Sums} → sumsSaid y ≡ sums z image → y ≡ Blank → refused blankChip ≡ opened kind image
     unfolding opened contents
-    sums-blank f g = rw (← told sizesSaid h e, ← told sumsSaid g f)
+    sums-blank f g = rw (← said-of sizesSaid h e, ← said-of sumsSaid g f)
 
     pub sums-right : {y : Sums} → sumsSaid y ≡ sums z image → y ≡ Right → walked z image ≡ opened kind image
     unfolding opened contents
-    sums-right f g = rw (← told sizesSaid h e, ← told sumsSaid g f) (sym (bind-assoc (parse (streamIn z image) sheetOf 0) (λ x. good (x .found)) (λ c. good (openedAs z c))))
+    sums-right f g = rw (← said-of sizesSaid h e, ← said-of sumsSaid g f) (sym (bind-assoc (parse (streamIn z image) sheetOf 0) (λ x. good (x .found)) (λ c. good (openedAs z c))))
 
 -- ---- an opened sheet
 
@@ -54,7 +54,7 @@ module _ (kind : ℕ) (image : List ℕ) (x : OpenedAnswer) (e : openedSaid x �
   pub opens : {o : Opened} → x ≡ Sheet o → (c : Contents) × Opens kind image o c
   unfolding opened
   opens {o} h =
-      let (z, sized, f) = good-bind (imageSizes kind (length image)) _ o (sym (told openedSaid h e)) in
+      let (z, sized, f) = good-bind (imageSizes kind (length image)) _ o (sym (said-of openedSaid h e)) in
       let (c, accepted, g) = good-bind (contents kind image) _ o f in
       let i : openedAs z c ≡ o = good-same g in
       (c, record { sized = sized ∙ ap (λ u. good (u .sizes)) i; accepted = accepted; is = sym i ∙ ap (λ u. openedAs (u .sizes) c) i })
@@ -64,7 +64,7 @@ module _ (kind : ℕ) (image : List ℕ) (x : OpenedAnswer) (e : openedSaid x �
 
   pub not-opened : {r : Refusal} → x ≡ NoSheet r → contents kind image ≡ refused r
   unfolding opened
-  not-opened {r} h = go (imageSizes kind (length image)) refl (contents kind image) refl (told openedSaid h e)
+  not-opened {r} h = go (imageSizes kind (length image)) refl (contents kind image) refl (said-of openedSaid h e)
     where
       go : (p : Outcome Sizes) → imageSizes kind (length image) ≡ p → (q : Outcome Contents) → contents kind image ≡ q →
           refused r ≡ (p >>= λ z. q >>= λ c. good (openedAs z c)) → contents kind image ≡ refused r
@@ -88,11 +88,11 @@ module _ (kind : ℕ) (image : List ℕ) (item : Item) (i : ℕ) where
     pub an-item : {o : Opened} → x ≡ Sheet o → i < counted item (o .summary) → good o ≡ openedAt kind image item i
     an-item {o} h l = sym (ap (numbered o) (lt-leb (counted item (o .summary)) i l)) ∙ carried openedSaid _ h e
 
-  -- Of an accepted image that has it, or the refusal of the image, or 8.
+  -- For an accepted image that has the item; or the refusal of the image, or 8.
   module _ (x : OpenedAnswer) (e : openedSaid x ≡ openedAt kind image item i) where
     pub item-opens : {o : Opened} → x ≡ Sheet o → (c : Contents) × Opens kind image o c × (i < counted item (o .summary))
     item-opens {o} h =
-        let (p, f, g) = good-bind (opened kind image) _ o (sym (told openedSaid h e)) in
+        let (p, f, g) = good-bind (opened kind image) _ o (sym (said-of openedSaid h e)) in
         let (t, k) = passed (noSuch i) (leb (counted item (p .summary)) i) (good p) o g in
         let q : p ≡ o = good-same k in
         let (c, w) = opens kind image (Sheet o) (ap good (sym q) ∙ sym f) refl in
@@ -104,7 +104,7 @@ module _ (kind : ℕ) (image : List ℕ) (item : Item) (i : ℕ) where
     pub item-none : {r : Refusal} → x ≡ NoSheet r →
         (contents kind image ≡ refused r) ⊎ ((c : Contents) × (contents kind image ≡ good c) × (counted item (summary c) ≤ i) × (r ≡ noSuch i))
     unfolding opened
-    item-none {r} h = go (imageSizes kind (length image)) refl (contents kind image) refl (told openedSaid h e)
+    item-none {r} h = go (imageSizes kind (length image)) refl (contents kind image) refl (said-of openedSaid h e)
       where
         past : (o : Opened) (t : Bool) → leb (counted item (o .summary)) i ≡ t → refused r ≡ numbered o t → (counted item (o .summary) ≤ i) × (r ≡ noSuch i)
         past o true s f = (leb-true (counted item (o .summary)) i s, cc)

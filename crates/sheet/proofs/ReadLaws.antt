@@ -1,4 +1,4 @@
--- What is read of an accepted image, and what is refused.
+-- Laws of the reads of an accepted image, and of their refusals.
 use Rattle.sheet.proofs.Names.{_≡_, List, _⊎_, ⊎-elim, ℕ, _≤_, _<_, arith, length, getD, eq-eqb, ne-eqb, lt-ltb, le-ltb, le-leb, lt-leb, Refusal, good, refused, noSuch, noPair, noSegment, noTerm, lastField}
 use Rattle.sheet.proofs.Names.{Contents, contents, field, points, fields-count, contents-accepted, summary, check, indexed, readField, readPair, readCharacter, readSegment, readTerm, ReadsEach, ReadsNone}
 use Rattle.layout.specs.Image.{segments as segmentsOf, terms as termsOf}
@@ -39,7 +39,7 @@ module _ (kind : ℕ) (image : List ℕ) (c : Contents) (e : contents kind image
     noTerms = λ i h. rw e (indexed-none (termsOf c) noTerm i h);
   }
 
--- Of a refused one nothing is.
+-- Nothing is read of a refused image.
 pub refused-checked : (kind : ℕ) (image : List ℕ) (r : Refusal) → contents kind image ≡ refused r → check kind image ≡ refused r
 unfolding check
 refused-checked kind image r e = rw e

@@ -1,13 +1,13 @@
--- The walk over a whole sheet.
-use Rattle.sheet.proofs.Names.{_≡_, sym, ap, _∙_, Bool, List, _++_, map, ℕ, arith, length, length-map, Outcome, good, bind-assoc, bind-same, Sizes, Cursor, Layout, Template, basic, templateLines, linesOf}
-use Rattle.sheet.proofs.Names.{ends, _>>=_, place, Stream, Parsed, parse, Found, Calibration, Contents, fieldsOf, firstBlock, calibrationOf, endingOf, sheetOf, streamIn, lastChoice, pairIn, pairsIn}
-use Rattle.sheet.proofs.Names.{segmentIn, segmentsIn, termIn, allTerms, behindFields, parsed, parse-bind, parsed-by, laid-pieces, laid-length, last-append, basic-last, Opened, Counts, EndStep, Ended, domainIn}
-use Rattle.sheet.proofs.Names.{openedAs, keeping, choiceOn, countsOf, endCount, basicChoice, layoutAt, openedOf, walked, endingOpened, calibrationOpened, ownOpened, blockOpened, endSaid, made, afterCalibration}
-use Rattle.sheet.proofs.Names.{afterOwn, afterBlock, afterBasics}
-use Rattle.refusal.specs.Outcome as outcome
+-- Laws of the check of a whole sheet.
+use Rattle.sheet.proofs.Names.{_≡_, sym, ap, _∙_, Bool, List, _++_, map, ℕ, arith, length, length-map, Outcome, good, bind-assoc, bind-same, Sizes, Cursor, Layout, Template, basic, templateLines, linesOf, ends}
+use Rattle.sheet.proofs.Names.{_>>=_, place, Stream, Parsed, parse, Found, Calibration, Contents, fieldsOf, firstBlock, calibrationOf, endingOf, sheetOf, streamIn, lastChoice, pairIn, pairsIn, segmentIn}
+use Rattle.sheet.proofs.Names.{segmentsIn, termIn, allTerms, behindFields, parsed, parse-bind, parsed-by, laid-pieces, laid-length, last-append, basic-last, Opened, Counts, EndStep, Ended, domainIn, openedAs}
+use Rattle.sheet.proofs.Names.{keeping, choiceOn, countsOf, endCount, basicChoice, layoutAt, openedOf, walked, endingOpened, calibrationOpened, ownOpened, blockOpened, endSaid, made, afterCalibration, afterOwn}
+use Rattle.sheet.proofs.Names.{afterBlock, afterBasics}
 use Rattle.sheet.proofs.Steps.{keep-through, carried}
+use Rattle.refusal.specs.Outcome as outcome
 
--- What is counted of a calibration, as a check gives it.
+-- The counts of a calibration, as a check returns them.
 abbrev countsIn : Calibration → Counts
 countsIn c = record {
   domain = domainIn c;
@@ -24,7 +24,7 @@ counts-are c = λ j. record {
   terms = length-map (allTerms (segmentsIn c)) termIn j;
 }
 
--- The latest choice of a sheet is that behind its template's own fields.
+-- The latest choice of a sheet is the one after its template's own fields.
 choice-is : (s : Stream) (t : Template) (bs os : List Found) (n : ℕ) → good (parsed bs n) ≡ parse s (fieldsOf basic 0) 0 →
     lastChoice (linesOf t) (bs ++ os) 0 ≡ lastChoice (templateLines t) os 0
 unfolding linesOf
@@ -33,7 +33,7 @@ choice-is s t bs os n e =
     last-append basic (templateLines t) bs os 0 (laid-length basic 0 0 bs (laid-pieces (s .bits) basic 0 0 (w .pieces) bs (w .parses) .1))
     ∙ ap (lastChoice (templateLines t) os) (basic-last bs 0)
 
--- What is opened of the formats behind each part.
+-- Opening by the format after each part.
 module _ (z : Sizes) (s : Stream) where
   abbrev final : Parsed Contents → Outcome Opened
   final x = good (openedAs z (x .found))
@@ -66,7 +66,7 @@ module _ (z : Sizes) (s : Stream) where
       ∙ bind-assoc (parse s firstBlock at) (λ x. parse s (afterBlock bs (x .found)) (x .next)) final
       ∙ bind-same (parse s firstBlock at) (λ x. from-own bs n e (x .found) (x .next))
 
--- So what is opened of a whole sheet.
+-- Opening a whole sheet.
 pub walked-by : (z : Sizes) (image : List ℕ) →
     let s = streamIn z image in outcome._>>=_ (basicChoice s) (λ b. blockOpened z s (b .next)) ≡ walked z image
 unfolding sheetOf
@@ -75,7 +75,7 @@ walked-by z image =
     sym (keep-through (choiceOn basic 0) s (fieldsOf basic 0) afterBasics 0 (λ x. good (openedAs z (x .found))) (λ b. blockOpened z s (b .next))
     (λ x h. from-block z s (x .found) (x .next) h (x .next)))
 
--- And its last part, where the place behind the fields is handed on.
+-- Opening the last part, with the place after the fields passed on.
 pub sheet-opens : (z : Sizes) (s : Stream) (layout : Layout) (behind : ℕ) (counts : Counts) (at : ℕ) (x : EndStep) → endSaid x ≡ keeping endCount (parse s endingOf at) → behind ≡ behindFields layout →
     {endBit : Bool} {characters : ℕ} {end : Cursor} → x ≡ Ended endBit characters end →
     good (openedOf z layout behind counts (record { endBit = endBit; characters = characters }) (end .at)) ≡ endingOpened z s layout counts at

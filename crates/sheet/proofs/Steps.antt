@@ -1,11 +1,11 @@
--- A step of the walk: from what a callee says of it to what the format says behind it.
+-- Laws of one step of the check: from a callee's answer to the format that follows.
 use Rattle.sheet.proofs.Names.{_≡_, refl, sym, ap, _∙_, subst, Bool, true, false, cond, List, [], _∷_, ℕ, _+_, _-_, _^_, _≤_, _<_, arith, ltb, length, le-ltb, ltb-false, Refusal, Outcome, good, refused, pastEnd}
-use Rattle.sheet.proofs.Names.{good-same, no-value, told, Sizes, Cursor, Taken, Field, NotTaken, fieldAt, streamBits, streamNumber, Step, takenSaid, takenAt, field-lt, Value, Missing, Row, Decoded, Means}
+use Rattle.sheet.proofs.Names.{good-same, no-value, said-of, Sizes, Cursor, Taken, Field, NotTaken, fieldAt, streamBits, streamNumber, Step, takenSaid, takenAt, field-lt, Value, Missing, Row, Decoded, Means}
 use Rattle.sheet.proofs.Names.{NoValue, decodedSaid, decode, judge, Format, ends, _>>=_, bits, given, Stream, Parsed, parse, Found, fieldOf, streamIn, parsed, parse-bind, parse-next, parse-refused, found}
 use Rattle.sheet.proofs.Names.{CodeStep, Code, keeping, Coded, coded, valueIn, behind, codeSaid, judgedAt}
 use Rattle.refusal.specs.Outcome as outcome
 
--- ---- what is kept of what was found
+-- ---- the part of a parse that is kept
 
 module _ {A B : Type 0} (part : A → B) where
   pub kept : (o : Outcome (Parsed A)) {b : B} {n : ℕ} → good (parsed b n) ≡ keeping part o → (a : A) × (part a ≡ b) × (good (parsed a n) ≡ o)
@@ -18,7 +18,7 @@ module _ {A B : Type 0} (part : A → B) where
   lost (good x) e = no-value e
   lost (refused q) {r} e = let f : r ≡ q = cc in ap refused f
 
-  -- And what stands behind it.
+  -- A kept part, and the format that follows.
   module _ {C : Type 0} (s : Stream) (m : Format A) (k : A → Format C) (at : ℕ) where
     pub keep-next : {b : B} {n : ℕ} → good (parsed b n) ≡ keeping part (parse s m at) →
         (a : A) × (part a ≡ b) × (parse s (m >>= k) at ≡ parse s (k a) n)
@@ -27,7 +27,7 @@ module _ {A B : Type 0} (part : A → B) where
     pub keep-refused : {r : Refusal} → refused r ≡ keeping part (parse s m at) → parse s (m >>= k) at ≡ refused r
     keep-refused e = parse-refused s m k at (lost (parse s m at) e)
 
--- What is kept of what is made of it.
+-- The kept part of a value made from a parse.
 pub keep-made : {A B C : Type 0} (part : B → C) (make : A → B) (s : Stream) (m : Format A) (at : ℕ) →
     keeping part (parse s (m >>= λ a. ends (make a)) at) ≡ keeping (λ a. part (make a)) (parse s m at)
 keep-made {A} part make s m at = ap (keeping part) (parse-bind s m (λ a. ends (make a)) at) ∙ go (parse s m at)
@@ -36,7 +36,7 @@ keep-made {A} part make s m at = ap (keeping part) (parse-bind s m (λ a. ends (
     go (good x) = refl
     go (refused r) = refl
 
--- As a step behind what was found.
+-- Keeping a part, written as a next step.
 pub keep-bind : {A B : Type 0} (part : A → B) (o : Outcome (Parsed A)) → keeping part o ≡ outcome._>>=_ o (λ x. good (parsed (part (x .found)) (x .next)))
 keep-bind part (good x) = refl
 keep-bind part (refused r) = refl
@@ -46,7 +46,7 @@ pub keep-twice : {A B C : Type 0} (other : B → C) (part : A → B) (o : Outcom
 keep-twice other part (good x) = refl
 keep-twice other part (refused r) = refl
 
--- What a format and those behind it come to, from what is kept of it.
+-- A format and those after it, from the part of it that is kept.
 pub keep-through : {A B C D : Type 0} (part : A → B) (s : Stream) (m : Format A) (k : A → Format C) (at : ℕ) (final : Parsed C → Outcome D) (rest : Parsed B → Outcome D) →
     ((x : Parsed A) → good x ≡ parse s m at → outcome._>>=_ (parse s (k (x .found)) (x .next)) final ≡ rest (parsed (part (x .found)) (x .next))) →
     outcome._>>=_ (parse s (m >>= k) at) final ≡ outcome._>>=_ (keeping part (parse s m at)) rest
@@ -57,11 +57,11 @@ keep-through {A} part s m k at final rest h = ap (λ o. outcome._>>=_ o final) (
     go (good x) g = g x refl
     go (refused r) g = refl
 
--- What an answer says and what follows from it, its case known.
+-- An answer and what follows from it, if its case is known.
 pub carried : {X A B : Type 0} (said : X → Outcome A) (k : A → Outcome B) {x y : X} {o : Outcome A} → x ≡ y → said x ≡ o → outcome._>>=_ (said y) k ≡ outcome._>>=_ o k
-carried said k h e = ap (λ o. outcome._>>=_ o k) (told said h e)
+carried said k h e = ap (λ o. outcome._>>=_ o k) (said-of said h e)
 
--- Of n things how many there are, where so many are left: those before are passed.
+-- The count of n items, with this many left: those before are passed.
 abbrev pub countLeft : {A : Type 0} → Stream → (ℕ → Format (List A)) → ℕ → ℕ → ℕ → Outcome (Parsed ℕ)
 countLeft s many n left at = keeping (λ l. n - left + length l) (parse s (many left) at)
 
@@ -81,7 +81,7 @@ module _ {A : Type 0} (s : Stream) (many : ℕ → Format (List A)) (n : ℕ) wh
       let z : left ≡ 0 = omega arith in
       ap (λ (k : ℕ). countLeft s many n k at) z ∙ ap (λ m. keeping (λ l. n - 0 + length l) (parse s m at)) e ∙ ap (λ (k : ℕ). good (parsed k at)) (omega arith)
 
--- ---- bits taken by the cursor
+-- ---- bits read by the cursor
 
 abbrev bitsSaid : Taken → Outcome (Parsed ℕ)
 bitsSaid (Field code cursor) = behind code cursor
@@ -109,10 +109,10 @@ module _ (z : Sizes) (image : List ℕ) (at w : ℕ) (t : Taken) (e : takenSaid 
       go false = refl
 
   pub got : {code : ℕ} {next : Cursor} → t ≡ Field code next → behind code next ≡ parse (streamIn z image) (bits w) at
-  got h = told bitsSaid h took
+  got h = said-of bitsSaid h took
 
   pub past : {r : Refusal} → t ≡ NotTaken r → refused r ≡ parse (streamIn z image) (bits w) at
-  past h = told bitsSaid h took
+  past h = said-of bitsSaid h took
 
 pub bits-lt : (s : Stream) (at w : ℕ) {code n : ℕ} → good (parsed code n) ≡ parse s (bits w) at → code < 2 ^ w
 bits-lt s at w {code} {n} e = go (ltb (s .bits) (at + w)) e
@@ -121,7 +121,7 @@ bits-lt s at w {code} {n} e = go (ltb (s .bits) (at + w)) e
     go true f = no-value (sym f)
     go false f = subst (λ (x : Parsed ℕ). x .found < 2 ^ w) (sym (good-same f)) (field-lt (s .number) at w)
 
--- Bits that were taken lie in the stream.
+-- Bits that were read are inside the stream.
 pub bits-here : (s : Stream) (at w : ℕ) {code n : ℕ} → good (parsed code n) ≡ parse s (bits w) at → (code ≡ fieldAt (s .number) at w) × (n ≡ at + w) × (at + w ≤ s .bits)
 bits-here s at w {code} {n} e = go (ltb (s .bits) (at + w)) refl e
   where
@@ -132,7 +132,7 @@ bits-here s at w {code} {n} e = go (ltb (s .bits) (at + w)) refl e
 
 -- ---- the field of a row
 
--- A code that lies in the stream and may stand.
+-- A valid code inside the stream.
 pub field-inside : (s : Stream) (row : Row) (at : ℕ) {code : ℕ} → code ≡ fieldAt (s .number) at (row .width) → at + row .width ≤ s .bits → judge row at code ≡ good tt →
     good (parsed (record { at = at; code = code }) (at + row .width)) ≡ keeping coded (parse s (fieldOf row) at)
 unfolding fieldOf
@@ -167,20 +167,20 @@ module _ (z : Sizes) (image : List ℕ) (at : ℕ) (row : Row) (t : Taken) (e : 
     unfolding fieldOf
     field-taken = sym (parse-next s (bits (row .width)) (λ code. valued code (decode row at code)) at (got z image at (row .width) t e h))
 
-    -- Its value, as its row decodes it.
+    -- The field's value, as its row decodes it.
     module _ (d : Decoded) (f : decodedSaid d ≡ decode row at code) where
       pub value-means : {v : Value} → d ≡ Means v → v ≡ valueIn (parse s (fieldOf row) at)
-      value-means g = ap (λ o. valueIn (parse s (valued code o) (next .at))) (told decodedSaid g f) ∙ ap valueIn field-taken
+      value-means g = ap (λ o. valueIn (parse s (valued code o) (next .at))) (said-of decodedSaid g f) ∙ ap valueIn field-taken
 
       pub value-refused : {r : Refusal} → d ≡ NoValue r → Missing ≡ valueIn (parse s (fieldOf row) at)
-      value-refused g = ap (λ o. valueIn (parse s (valued code o) (next .at))) (told decodedSaid g f) ∙ ap valueIn field-taken
+      value-refused g = ap (λ o. valueIn (parse s (valued code o) (next .at))) (said-of decodedSaid g f) ∙ ap valueIn field-taken
 
--- A code that stands fits its row's bits.
+-- A valid code fits its row's bits.
 pub code-lies : (s : Stream) (row : Row) (at : ℕ) {x : CodeStep} {code : ℕ} {next : Cursor} → codeSaid at x ≡ keeping coded (parse s (fieldOf row) at) → x ≡ Code code next →
     code < 2 ^ row .width
 unfolding fieldOf
 code-lies s row at {x} {code} {next} e h =
-    let (y, q, p) = kept coded (parse s (fieldOf row) at) (told (codeSaid at) h e) in
+    let (y, q, p) = kept coded (parse s (fieldOf row) at) (said-of (codeSaid at) h e) in
     subst (λ (c : Coded). c .code < 2 ^ row .width) q (go (ltb (s .bits) (at + row .width)) (decode row at here) p)
   where
     here : ℕ
@@ -192,7 +192,7 @@ code-lies s row at {x} {code} {next} e h =
     go false (good v) f = subst (λ (z : Parsed Found). z .found .code < 2 ^ row .width) (sym (good-same f)) (field-lt (s .number) at (row .width))
     go false (refused r) f = no-value (sym f)
 
--- Its code, as its row judges it.
+-- The field's code, as its row judges it.
 pub code-judged : (z : Sizes) (image : List ℕ) (at : ℕ) {row known : Row} (t : Taken) (x : CodeStep) → row ≡ known →
     takenSaid t ≡ takenAt z image at (row .width) → codeSaid at x ≡ judgedAt row at t → codeSaid at x ≡ keeping coded (parse (streamIn z image) (fieldOf known) at)
 code-judged z image at {row} {known} t x er e f =

@@ -1,9 +1,9 @@
--- The walk over the ending: the end bit and the text.
-use Rattle.sheet.proofs.Names.{_≡_, sym, ap, _∙_, Bool, cond, List, [], _∷_, ℕ, suc, _+_, _-_, _/_, _≤_, _<_, arith, eqb, length, eq-eqb, ne-eqb, Refusal, good, refused, told, Cursor, Format, ends, _>>=_, bits}
+-- Laws of the check of the ending: the end bit and the text.
+use Rattle.sheet.proofs.Names.{_≡_, sym, ap, _∙_, Bool, cond, List, [], _∷_, ℕ, suc, _+_, _-_, _/_, _≤_, _<_, arith, eqb, length, eq-eqb, ne-eqb, Refusal, good, refused, said-of, Cursor, Format, ends, _>>=_, bits}
 use Rattle.sheet.proofs.Names.{remaining, Stream, parse, Ending, charactersOf, endingOf, parsed, parse-next, parse-refused, CountStep, Counted, NoCount, keeping, EndCount, endCount, behind, countSaid}
 use Rattle.sheet.proofs.Steps.{keep-made, keep-twice, countLeft, count-more}
 
--- ---- characters one after the other
+-- ---- characters in order
 
 module _ (s : Stream) (n left at : ℕ) (more : 0 < left) (most : left ≤ n) where
   abbrev rest : Bool → ℕ → Format (List ℕ)
@@ -56,7 +56,7 @@ module _ (s : Stream) (at : ℕ) where
         ∙ keep-made endCount (ended bit) s (charactersOf most) n)
 
     pub text-halts : {r : Refusal} → x ≡ NoCount r → refused r ≡ keeping endCount (parse s endingOf at)
-    text-halts h = told (λ y. keeping counted (countSaid y)) h at-text
+    text-halts h = said-of (λ y. keeping counted (countSaid y)) h at-text
 
     pub text-counts : {m : ℕ} {end : Cursor} → x ≡ Counted m end → behind (counted m) end ≡ keeping endCount (parse s endingOf at)
-    text-counts h = told (λ y. keeping counted (countSaid y)) h at-text
+    text-counts h = said-of (λ y. keeping counted (countSaid y)) h at-text

@@ -1,17 +1,18 @@
--- Document 01, and document 02, Notes 7 and 11: check an image; read a field, a pair, a character, a segment, a term. Each starts from what the image holds (layout, `contents`), and a read then looks up
--- one thing by its number.
+-- Document 01, and document 02, Notes 7 and 11: check an image; read a field,
+-- a pair, a character, a segment, a term. Each starts from the image's
+-- contents (`layout`), and a read then selects one item by its number.
 use mathlib.Core.List.{List}
 use Prim.Native.Nat.{ℕ}
 use lib.Dec.{leb}
 use lib.ListN.{length, getD}
 use Rattle.refusal.specs.Outcome.{Outcome, good, refused, _>>_, _>>=_, refuse_if_}
 use Rattle.refusal.specs.Rows.{noSuch}
-use Rattle.fields.specs.declared.Value.{Value}
-use Rattle.fields.specs.declared.Pair.{Pair}
-use Rattle.fields.specs.declared.Segment.{Segment}
-use Rattle.fields.specs.declared.Term.{Term}
-use Rattle.fields.specs.Calibration.{noPair}
-use Rattle.fields.specs.Curves.{noSegment, noTerm}
+use Rattle.codes.specs.declared.Value.{Value}
+use Rattle.templates.specs.declared.Pair.{Pair}
+use Rattle.templates.specs.declared.Segment.{Segment}
+use Rattle.templates.specs.declared.Term.{Term}
+use Rattle.templates.specs.Calibration.{noPair}
+use Rattle.templates.specs.Curves.{noSegment, noTerm}
 use Rattle.layout.specs.Contents.{Calibration, bare, table, curve, Contents}
 use Rattle.layout.specs.Image.{contents, numbered, points, segments, terms}
 use Rattle.sheet.specs.declared.TableDomain.{TableDomain}
@@ -30,14 +31,15 @@ use Rattle.sheet.specs.declared.SegmentAnswer.the-variants.{Holds as Hol
 use Rattle.sheet.specs.declared.TermAnswer.{TermAnswer}
 use Rattle.sheet.specs.declared.TermAnswer.the-variants.{Holds as HoldsTerm, Refused as NoTerm}
 
--- A table has a domain; without one there is none, and a curve has none.
+-- Note 9: "the check also gives the domain"; "an empty list has none", and so has a curve.
 abbrev pub domainIn : Calibration → TableDomain
 domainIn bare = NoTable
 domainIn (table domain pairs) = Is domain
 domainIn (curve segments) = NoTable
 
--- An accepted check gives the bits up to the end, n, the end bit, the number of characters, the first template, the domain, and the numbers of segments
--- and of terms.
+-- "An accepted check gives the bits up to the end (a zero that ends the text
+-- counted), n (0 without block 40), the end bit and the number of characters". The
+-- notes add the first template, the domain, and the numbers of segments and of terms.
 abbrev pub summary : Contents → Summary
 summary c = record {
   bits = c .bits;

@@ -1,4 +1,4 @@
--- Only inner contracts need these: an accepted sheet opened once, and what holds of it.
+-- Only inner contracts need this: an accepted sheet opened once, and what holds of it.
 use mathlib.Core.Path.{_≡_}
 use mathlib.Core.List.{List}
 use Prim.Native.Nat.{ℕ}
@@ -19,7 +19,8 @@ use Rattle.sheet.specs.declared.opening.OpenedAnswer.{OpenedAnswer}
 use Rattle.sheet.specs.declared.opening.OpenedAnswer.the-variants.{Sheet, Refused}
 use Rattle.sheet.specs.Check.{summary}
 
--- The sizes of an accepted image, what its rows go by, the place behind its fields, and what a check gives.
+-- The sizes of an accepted image, what its rows depend on,
+-- the place after its fields, and the check's summary.
 abbrev pub openedAs : Sizes → Contents → Opened
 openedAs z c = record { sizes = z; layout = layoutOf c; behind = record { at = behindFields (layoutOf c) }; summary = summary c }
 
@@ -49,13 +50,13 @@ openedAt kind image item i = do
 
 -- ---- what holds of it
 
--- An image of a kind that was accepted, and was opened as o.
+-- An image of a kind that was accepted and opened as o.
 pub record Opens (kind : ℕ) (image : List ℕ) (o : Opened) (c : Contents) : Type 0 where
   pub sized : imageSizes kind (length image) ≡ good (o .sizes)
   pub accepted : contents kind image ≡ good c
   pub is : o ≡ openedAs (o .sizes) c
 
--- The same, whatever its kind is and whatever it holds.
+-- An accepted image that was opened as o, for any kind and contents.
 pub record Held (o : Opened) (image : List ℕ) : Type 0 where
   pub kind : ℕ
   pub holds : Contents

@@ -1,6 +1,7 @@
-// Behind the fields: one block, of a calibration table or of a curve, and selector 3; or selector 3 alone.
+// After the fields: one block, of a calibration table
+// or of a curve, and selector 3; or selector 3 alone.
 ghost use mathlib.Core.Path.{_≡_};
-ghost use Rattle.memory.specs.Answers.{Whole};
+ghost use Rattle.memory.specs.Answers.{WholeImage};
 ghost use Rattle.layout.specs.Format.{parse};
 ghost use Rattle.layout.specs.Contents.{blockAt, calibrationOf};
 ghost use Rattle.layout.specs.Image.{streamIn};
@@ -15,8 +16,8 @@ use refusal::Refusal;
 use stream::Cursor;
 use stream::Taken;
 
-// What a check keeps of a calibration: the domain and the number of the points of a table, the numbers of segments and of
-// terms of a curve.
+// What a check keeps of a calibration: the domain and the number of
+// points of a table, the numbers of segments and terms of a curve.
 pub struct Counts {
     pub domain: TableDomain,
     pub points: u64,
@@ -24,23 +25,24 @@ pub struct Counts {
     pub terms: u64,
 }
 
+// The counts of a calibration and the cursor after it, or the refusal.
 pub enum BlockStep {
     Found(Counts, Cursor),
     Refused(Refusal),
 }
 
-// A block behind its selector, which stands at bit `at`: the template's number, and what it names.
+// The rest of a block whose selector is at bit `at`: the template's number, and the table or curve.
 fn take_block(sizes: Sizes, image: &[u8], cursor: Cursor, at: u64) -> BlockStep
-    requires { ⌜ Whole sizes (now image) ⌝ }
+    requires { ⌜ WholeImage sizes (now image) ⌝ }
     ensures { λ r. ⌜ blockSaid r ≡ keeping countsOf (parse (streamIn sizes (now (image .entry))) (blockAt at) (cursor .at)) ⌝ }
 {
     match cursor.take(sizes, image, layout::NUMBER_BITS) {
         Taken::Refused(r) => BlockStep::Refused(r),
         Taken::Field(number, next) => {
-            if number == fields::TABLE_TEMPLATE {
+            if number == templates::TABLE_TEMPLATE {
                 return table::take_table(sizes, image, next);
             }
-            if number == fields::CURVE_TEMPLATE {
+            if number == templates::CURVE_TEMPLATE {
                 return curve_block::take_curve(sizes, image, next);
             }
             BlockStep::Refused(refusal::wrong_block(at))
@@ -48,9 +50,9 @@ fn take_block(sizes: Sizes, image: &[u8], cursor: Cursor, at: u64) -> BlockStep
     }
 }
 
-// The same, and the selector behind it, which has to be 3.
+// The rest of a block whose selector is at bit `at`, and the selector after it, which has to be 3.
 fn take_only_block(sizes: Sizes, image: &[u8], cursor: Cursor, at: u64) -> BlockStep
-    requires { ⌜ Whole sizes (now image) ⌝ }
+    requires { ⌜ WholeImage sizes (now image) ⌝ }
     ensures { λ r. ⌜ blockSaid r ≡ keeping countsOf (parse (streamIn sizes (now (image .entry))) (onlyBlock at) (cursor .at)) ⌝ }
 {
     match take_block(sizes, image, cursor, at) {
@@ -69,9 +71,9 @@ fn take_only_block(sizes: Sizes, image: &[u8], cursor: Cursor, at: u64) -> Block
     }
 }
 
-// One block and selector 3, or selector 3 alone: what there is of either.
+// One block and selector 3, or selector 3 alone: the counts of the calibration.
 pub fn take_calibration(sizes: Sizes, image: &[u8], cursor: Cursor) -> BlockStep
-    requires { ⌜ Whole sizes (now image) ⌝ }
+    requires { ⌜ WholeImage sizes (now image) ⌝ }
     ensures { λ r. ⌜ blockSaid r ≡ keeping countsOf (parse (streamIn sizes (now (image .entry))) calibrationOf (cursor .at)) ⌝ }
 {
     let at = cursor.at as u64;

@@ -1,19 +1,6 @@
 // The calls of a dash: check an image; read a field, a pair, a character, a segment, a term.
 ghost use mathlib.Core.Path.{_≡_};
-ghost use Rattle.sheet.specs.Check.{
-  check as checkOf,
-  readField,
-  readPair,
-  readCharacter,
-  readSegment,
-  readTerm,
-  checkSaid,
-  fieldSaid,
-  pairSaid,
-  characterSaid,
-  segmentSaid,
-  termSaid,
-};
+ghost use Rattle.sheet.specs.Check.{check as checkOf, readField, readPair, readCharacter, readSegment, readTerm, checkSaid, fieldSaid, pairSaid, characterSaid, segmentSaid, termSaid};
 use crate::CharacterAnswer;
 use crate::Checked;
 use crate::FieldAnswer;
@@ -27,8 +14,8 @@ use crate::opening::open;
 use crate::opening::open_at;
 use crate::segments;
 
-// What an accepted image holds, in figures; or 1, 17, 2 by page, or the first of 3 to 7, 22, 24 and 25 from the stream's
-// start.
+// A summary of an accepted image; or 1, 17, 2 by page, or the
+// first of 3 to 7, 22, 24 and 25 from the stream's start.
 pub fn check(kind: u8, image: &[u8]) -> Checked
     ensures { λ r. ⌜ checkSaid r ≡ checkOf kind (now (image .entry)) ⌝ }
 {
@@ -41,7 +28,8 @@ pub fn check(kind: u8, image: &[u8]) -> Checked
     }
 }
 
-// The value of a field, counted from 1; or the check's refusal, or 8 where the sheet's template has no such field.
+// The value of a field, counted from 1; or the check's
+// refusal, or 8 if the sheet's template has no such field.
 pub fn read_field(kind: u8, image: &[u8], field: u64) -> FieldAnswer
     ensures { λ r. ⌜ fieldSaid r ≡ readField kind (now (image .entry)) field ⌝ }
 {
@@ -53,7 +41,7 @@ pub fn read_field(kind: u8, image: &[u8], field: u64) -> FieldAnswer
             if field < 1 {
                 return FieldAnswer::Refused(refusal::no_such(field));
             }
-            if fields::last_field(template) < field {
+            if templates::last_field(template) < field {
                 return FieldAnswer::Refused(refusal::no_such(field));
             }
             FieldAnswer::Holds(held::value_in(sheet, image, field))
@@ -61,7 +49,8 @@ pub fn read_field(kind: u8, image: &[u8], field: u64) -> FieldAnswer
     }
 }
 
-// A calibration point and its deviation, counted from 0; or the check's refusal, or 8 where there are not so many.
+// A calibration point and its deviation, counted from 0; or
+// the check's refusal, or 8 if the index is past the last.
 pub fn read_pair(kind: u8, image: &[u8], index: u64) -> PairAnswer
     ensures { λ r. ⌜ pairSaid r ≡ readPair kind (now (image .entry)) index ⌝ }
 {
@@ -71,7 +60,8 @@ pub fn read_pair(kind: u8, image: &[u8], index: u64) -> PairAnswer
     }
 }
 
-// A character of the closing text, counted from 0; or the check's refusal, or 8 where there are not so many.
+// A character of the closing text, counted from 0; or the
+// check's refusal, or 8 if the index is past the last.
 pub fn read_character(kind: u8, image: &[u8], index: u64) -> CharacterAnswer
     ensures { λ r. ⌜ characterSaid r ≡ readCharacter kind (now (image .entry)) index ⌝ }
 {
@@ -85,7 +75,8 @@ pub fn read_character(kind: u8, image: &[u8], index: u64) -> CharacterAnswer
     }
 }
 
-// A segment of the curve, counted from 0; or the check's refusal, or 8 where there are not so many.
+// A segment of the curve, counted from 0; or the
+// check's refusal, or 8 if the index is past the last.
 pub fn read_segment(kind: u8, image: &[u8], index: u64) -> SegmentAnswer
     ensures { λ r. ⌜ segmentSaid r ≡ readSegment kind (now (image .entry)) index ⌝ }
 {
@@ -99,7 +90,8 @@ pub fn read_segment(kind: u8, image: &[u8], index: u64) -> SegmentAnswer
     }
 }
 
-// A term, counted from 0 over the whole curve; or the check's refusal, or 8 where there are not so many.
+// A term, counted from 0 over the whole curve; or the
+// check's refusal, or 8 if the index is past the last.
 pub fn read_term(kind: u8, image: &[u8], index: u64) -> TermAnswer
     ensures { λ r. ⌜ termSaid r ≡ readTerm kind (now (image .entry)) index ⌝ }
 {

@@ -1,44 +1,30 @@
-// Document 02, Note 11: block 41, a curve. The walk over its segments and their terms.
+// Document 02, Note 11: block 41, a curve. Checks its segments and their terms.
 ghost use mathlib.Core.Path.{_≡_};
 ghost use mathlib.Core.Bool.{true, cond};
 ghost use mathlib.Core.Option.{none};
 ghost use Prim.Native.Nat.{_^_, _≤_, _<_};
 ghost use Rattle.refusal.specs.Outcome.{refused};
 ghost use Rattle.refusal.specs.Rows.{wrongCurve};
-ghost use Rattle.memory.specs.Answers.{Whole};
-ghost use Rattle.fields.specs.Answers.{earlierSaid};
-ghost use Rattle.fields.specs.Curves.{mostTerms};
-ghost use Rattle.coding.specs.CurveRules.{curveRow, curveRule};
+ghost use Rattle.memory.specs.Answers.{WholeImage};
+ghost use Rattle.templates.specs.Answers.{earlierSaid};
+ghost use Rattle.templates.specs.Curves.{mostTerms};
+ghost use Rattle.templates.specs.CurveRules.{curveRow, curveRule};
 ghost use Rattle.layout.specs.Format.{parse};
 ghost use Rattle.layout.specs.Contents.{ruledOf, termOf, behindTerm, termsOf, segmentOf, behindSegment, nothingPassed, segmentsOf, curveOf};
 ghost use Rattle.layout.specs.Image.{streamIn};
-ghost use Rattle.sheet.specs.Walk.{
-  keeping,
-  coded,
-  countsOf,
-  TermCodes,
-  termsBehind,
-  countBehind,
-  passedBy,
-  passed,
-  behind,
-  codeSaid,
-  earlierStepSaid,
-  segmentStepSaid,
-  blockSaid,
-};
+ghost use Rattle.sheet.specs.Walk.{keeping, coded, countsOf, TermCodes, termsBehind, countBehind, passedBy, passed, behind, codeSaid, earlierStepSaid, segmentStepSaid, blockSaid};
 use crate::TableDomain;
 use crate::block::BlockStep;
 use crate::block::Counts;
 use crate::walk;
 use crate::walk::CodeStep;
-use coding::CurveField;
-use fields::Earlier;
-use fields::Judged;
+use codes::Judged;
 use memory::Sizes;
 use refusal::Refusal;
 use stream::Cursor;
 use stream::Taken;
+use templates::CurveField;
+use templates::Earlier;
 
 // The exponent of the last term.
 pub enum EarlierStep {
@@ -52,7 +38,7 @@ pub enum SegmentStep {
     Refused(Refusal),
 }
 
-// A code that a rule takes, or 24 at its field's bit.
+// A code that passed a rule, or 24 at its field's bit.
 fn ruled(takes: bool, at: u64, code: u64, next: Cursor) -> CodeStep
     ensures { λ r. ⌜ codeSaid at r ≡ cond takes (behind (record { at = at; code = code }) next) (refused (wrongCurve at)) ⌝ }
 {
@@ -62,7 +48,7 @@ fn ruled(takes: bool, at: u64, code: u64, next: Cursor) -> CodeStep
     CodeStep::Refused(refusal::wrong_curve(at))
 }
 
-// A field of a curve that a rule holds for: 3 and 5, then 24.
+// A field of a curve that has to obey a rule: 3 and 5, then 24.
 fn take_ruled(
     sizes: Sizes,
     image: &[u8],
@@ -70,13 +56,13 @@ fn take_ruled(
     field: CurveField,
     before: Earlier,
 ) -> CodeStep
-    requires { ⌜ Whole sizes (now image) ⌝ }
+    requires { ⌜ WholeImage sizes (now image) ⌝ }
     ensures { λ r. ⌜ codeSaid (cursor .at) r ≡ keeping coded (parse (streamIn sizes (now (image .entry))) (ruledOf (curveRow field) (curveRule field before)) (cursor .at)) ⌝ }
 {
-    match walk::take_code(sizes, image, cursor, coding::curve_row(field)) {
+    match walk::take_code(sizes, image, cursor, templates::curve_row(field)) {
         CodeStep::Refused(r) => CodeStep::Refused(r),
         CodeStep::Code(code, next) => ruled(
-            coding::obeys(field, before, code),
+            templates::obeys(field, before, code),
             cursor.at as u64,
             code,
             next,
@@ -84,9 +70,10 @@ fn take_ruled(
     }
 }
 
-// A term behind the one before it in its segment, field by field: its exponent, then 3, 5 and 6 of its coefficient.
+// A term after the one before it in its segment, field by
+// field: its exponent, then 3, 5 and 6 of its coefficient.
 fn take_term_apart(sizes: Sizes, image: &[u8], cursor: Cursor, before: Earlier) -> EarlierStep
-    requires { ⌜ Whole sizes (now image) ⌝ }
+    requires { ⌜ WholeImage sizes (now image) ⌝ }
     ensures { λ r. ⌜ earlierStepSaid r ≡ keeping (behindTerm (earlierSaid before)) (parse (streamIn sizes (now (image .entry))) (termOf (earlierSaid before)) (cursor .at)) ⌝ }
 {
     match take_ruled(sizes, image, cursor, CurveField::Exponent, before) {
@@ -95,7 +82,7 @@ fn take_term_apart(sizes: Sizes, image: &[u8], cursor: Cursor, before: Earlier) 
             sizes,
             image,
             middle,
-            coding::term_coefficient(),
+            templates::term_coefficient(),
         ) {
             CodeStep::Refused(r) => EarlierStep::Refused(r),
             CodeStep::Code(_, next) => EarlierStep::Behind(Earlier::Code(code), next),
@@ -103,29 +90,29 @@ fn take_term_apart(sizes: Sizes, image: &[u8], cursor: Cursor, before: Earlier) 
     }
 }
 
-// Whether the codes of a term, which begins at bit `at`, both stand: the exponent's 7 bits are the lowest.
+// Whether both codes of a term at bit `at` are valid: the exponent's 7 bits are the lowest.
 fn is_term(before: Earlier, at: u64, both: u64) -> bool
     requires { ⌜ at < 2 ^ 40 ⌝ }
     ensures { λ r. ⌜ (r ≡ true → TermCodes (earlierSaid before) at both) ⌝ }
 {
     let code = both & 0x7f;
-    if let Judged::Refused(_) = coding::judge(coding::term_exponent(), at, code) {
+    if let Judged::Refused(_) = codes::judge(templates::term_exponent(), at, code) {
         return false;
     }
-    if let Judged::Refused(_) = coding::judge(
-        coding::term_coefficient(),
-        at + fields::EXPONENT_BITS,
-        both >> fields::EXPONENT_BITS,
+    if let Judged::Refused(_) = codes::judge(
+        templates::term_coefficient(),
+        at + templates::EXPONENT_BITS,
+        both >> templates::EXPONENT_BITS,
     ) {
         return false;
     }
-    coding::exponent_follows(before, code)
+    templates::exponent_follows(before, code)
 }
 
-// The same, taken as one field where it stands. Nearly every term does; the fields one by one give the refusal of one that does
-// not.
+// A term after the one before it in its segment. Fast path: reads both codes
+// as one field; if one is not valid, `take_term_apart` finds the refusal.
 fn take_term(sizes: Sizes, image: &[u8], cursor: Cursor, before: Earlier) -> EarlierStep
-    requires { ⌜ Whole sizes (now image) ⌝ }
+    requires { ⌜ WholeImage sizes (now image) ⌝ }
     ensures { λ r. ⌜ earlierStepSaid r ≡ keeping (behindTerm (earlierSaid before)) (parse (streamIn sizes (now (image .entry))) (termOf (earlierSaid before)) (cursor .at)) ⌝ }
 {
     match cursor.take(sizes, image, layout::TERM_BITS) {
@@ -139,9 +126,9 @@ fn take_term(sizes: Sizes, image: &[u8], cursor: Cursor, before: Earlier) -> Ear
     }
 }
 
-// So many terms, one after the other.
+// Reads `count` terms of a segment, in order.
 fn take_terms(sizes: Sizes, image: &[u8], start: Cursor, count: u64) -> EarlierStep
-    requires { ⌜ Whole sizes (now image) ⌝ }
+    requires { ⌜ WholeImage sizes (now image) ⌝ }
     ensures { λ r. ⌜ earlierStepSaid r ≡ keeping (passedBy behindTerm none) (parse (streamIn sizes (now (image .entry))) (termsOf count) (start .at)) ⌝ }
 {
     let mut cursor = start;
@@ -162,7 +149,8 @@ fn take_terms(sizes: Sizes, image: &[u8], start: Cursor, count: u64) -> EarlierS
     EarlierStep::Behind(before, cursor)
 }
 
-// The terms of a segment, 25 where they take the total past 30; then the segment's start and the total.
+// The terms of a segment, or 25 if they take the total
+// past 30; then the segment's start and the total.
 fn take_own_terms(
     sizes: Sizes,
     image: &[u8],
@@ -171,10 +159,10 @@ fn take_own_terms(
     total: u64,
     count: u64,
 ) -> SegmentStep
-    requires { ⌜ Whole sizes (now image) ⌝ }
+    requires { ⌜ WholeImage sizes (now image) ⌝ }
     ensures { λ r. ⌜ segmentStepSaid r ≡ termsBehind (streamIn sizes (now (image .entry))) start total count (cursor .at) ⌝ }
 {
-    if coding::too_many(total) {
+    if templates::too_many(total) {
         return SegmentStep::Refused(refusal::too_many_terms(total));
     }
     match take_terms(sizes, image, cursor, count) {
@@ -183,9 +171,9 @@ fn take_own_terms(
     }
 }
 
-// The number of a segment's terms behind its start, and the terms.
+// The number of a segment's terms, after its start, and the terms.
 fn take_counted(sizes: Sizes, image: &[u8], cursor: Cursor, start: u64, terms: u64) -> SegmentStep
-    requires { ⌜ Whole sizes (now image) × (terms ≤ mostTerms) ⌝ }
+    requires { ⌜ WholeImage sizes (now image) × (terms ≤ mostTerms) ⌝ }
     ensures { λ r. ⌜ segmentStepSaid r ≡ countBehind (streamIn sizes (now (image .entry))) start terms (cursor .at) ⌝ }
 {
     match take_ruled(
@@ -202,7 +190,7 @@ fn take_counted(sizes: Sizes, image: &[u8], cursor: Cursor, start: u64, terms: u
     }
 }
 
-// A segment behind so many terms: its start, the number of its terms, and the terms.
+// A segment after this many terms: its start, the number of its terms, and the terms.
 fn take_segment(
     sizes: Sizes,
     image: &[u8],
@@ -210,7 +198,7 @@ fn take_segment(
     before: Earlier,
     terms: u64,
 ) -> SegmentStep
-    requires { ⌜ Whole sizes (now image) × (terms ≤ mostTerms) ⌝ }
+    requires { ⌜ WholeImage sizes (now image) × (terms ≤ mostTerms) ⌝ }
     ensures { λ r. let stand = passed before terms in
         ⌜ segmentStepSaid r ≡ keeping (behindSegment stand) (parse (streamIn sizes (now (image .entry))) (segmentOf stand) (cursor .at)) ⌝ }
 {
@@ -220,9 +208,9 @@ fn take_segment(
     }
 }
 
-// So many segments, one after the other.
+// Reads `count` segments, in order.
 fn take_segments(sizes: Sizes, image: &[u8], start: Cursor, count: u64) -> SegmentStep
-    requires { ⌜ Whole sizes (now image) ⌝ }
+    requires { ⌜ WholeImage sizes (now image) ⌝ }
     ensures { λ r. ⌜ segmentStepSaid r ≡ keeping (passedBy behindSegment nothingPassed) (parse (streamIn sizes (now (image .entry))) (segmentsOf count) (start .at)) ⌝ }
 {
     let mut cursor = start;
@@ -245,12 +233,12 @@ fn take_segments(sizes: Sizes, image: &[u8], start: Cursor, count: u64) -> Segme
     SegmentStep::Behind(before, terms, cursor)
 }
 
-// The curve behind its template number: domain, number of segments and segments.
+// The curve after its template number: domain, number of segments and segments.
 pub fn take_curve(sizes: Sizes, image: &[u8], cursor: Cursor) -> BlockStep
-    requires { ⌜ Whole sizes (now image) ⌝ }
+    requires { ⌜ WholeImage sizes (now image) ⌝ }
     ensures { λ r. ⌜ blockSaid r ≡ keeping countsOf (parse (streamIn sizes (now (image .entry))) curveOf (cursor .at)) ⌝ }
 {
-    match walk::take_code(sizes, image, cursor, coding::curve_domain()) {
+    match walk::take_code(sizes, image, cursor, templates::curve_domain()) {
         CodeStep::Refused(r) => BlockStep::Refused(r),
         CodeStep::Code(_, second) => match take_ruled(
             sizes,

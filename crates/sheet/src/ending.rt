@@ -1,10 +1,10 @@
-// The end bit, and the text behind it.
+// The end bit, and the text after it.
 ghost use mathlib.Core.Path.{_≡_};
 ghost use mathlib.Core.Bool.{cond};
 ghost use Prim.Native.Nat.{_-_, _/_, _^_, _<_};
 ghost use lib.Dec.{eqb};
 ghost use lib.ListN.{length};
-ghost use Rattle.memory.specs.Answers.{Whole};
+ghost use Rattle.memory.specs.Answers.{WholeImage};
 ghost use Rattle.memory.specs.Image.{imageBytes, streamBits};
 ghost use Rattle.layout.specs.Format.{parse};
 ghost use Rattle.layout.specs.Contents.{charactersOf, endingOf};
@@ -16,15 +16,16 @@ use refusal::Refusal;
 use stream::Cursor;
 use stream::Taken;
 
-// The end bit, the number of characters, and the cursor behind the last, or behind the zero that ends them.
+// The end bit, the number of characters, and the cursor
+// after the last one or after the zero that ends them.
 pub enum EndStep {
     Ended(bool, u64, Cursor),
     Refused(Refusal),
 }
 
-// At most so many characters, up to a zero character: how many they are.
+// The number of characters up to a zero character, at most `most`.
 fn take_text(sizes: Sizes, image: &[u8], start: Cursor, most: u64) -> CountStep
-    requires { ⌜ Whole sizes (now image) ⌝ }
+    requires { ⌜ WholeImage sizes (now image) ⌝ }
     ensures { λ r. ⌜ countSaid r ≡ keeping length (parse (streamIn sizes (now (image .entry))) (charactersOf most) (start .at)) ⌝ }
 {
     let mut cursor = start;
@@ -46,7 +47,7 @@ fn take_text(sizes: Sizes, image: &[u8], start: Cursor, most: u64) -> CountStep
     CountStep::Counted(most, cursor)
 }
 
-// The characters that there is room for behind an end bit: none where it is 0.
+// The characters that fit after an end bit; none if it is 0.
 fn most_characters(sizes: Sizes, cursor: Cursor, bit: u64) -> u64
     requires { ⌜ imageBytes sizes < 2 ^ 32 ⌝ }
     ensures { λ r. ⌜ r ≡ cond (eqb bit 1) ((streamBits sizes - cursor .at) / 7) 0 ⌝ }
@@ -62,9 +63,9 @@ fn most_characters(sizes: Sizes, cursor: Cursor, bit: u64) -> u64
     ((bits - at) / layout::CHARACTER_BITS) as u64
 }
 
-// The end bit, 3 where it would pass the end; and the text.
+// The end bit, or 3 if it would pass the end; and the text.
 pub fn take_ending(sizes: Sizes, image: &[u8], cursor: Cursor) -> EndStep
-    requires { ⌜ Whole sizes (now image) ⌝ }
+    requires { ⌜ WholeImage sizes (now image) ⌝ }
     ensures { λ r. ⌜ endSaid r ≡ keeping endCount (parse (streamIn sizes (now (image .entry))) endingOf (cursor .at)) ⌝ }
 {
     match cursor.take(sizes, image, layout::END_BITS) {

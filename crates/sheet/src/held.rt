@@ -1,56 +1,57 @@
-// What an opened sheet holds, straight from its image. The check has read each field, pair and character, so none is
-// refused here.
+// The values of an opened sheet, read from its image. The check accepted
+// each field, pair and character, so that none is refused here.
 ghost use mathlib.Core.Path.{_≡_};
 ghost use Prim.Native.Nat.{ℕ, _≤_, _<_};
 ghost use lib.ListN.{getD};
-ghost use Rattle.memory.specs.Answers.{Whole};
-ghost use Rattle.fields.specs.Lines.{lastField, rowOf};
-ghost use Rattle.fields.specs.Stored.{Sound};
-ghost use Rattle.fields.specs.Calibration.{noPair};
-ghost use Rattle.coding.specs.Unscaled.{Unscaled};
+ghost use Rattle.memory.specs.Answers.{WholeImage};
+ghost use Rattle.templates.specs.Lines.{lastField, rowOf};
+ghost use Rattle.codes.specs.Stored.{Sound};
+ghost use Rattle.templates.specs.Calibration.{noPair};
+ghost use Rattle.codes.specs.Unscaled.{Unscaled};
 ghost use Rattle.layout.specs.Format.{parse};
 ghost use Rattle.layout.specs.Contents.{Contents, fieldOf};
 ghost use Rattle.layout.specs.Image.{streamIn, field as fieldIn, figure as figureOf, points};
 ghost use Rattle.sheet.specs.Opened.{Opens, Held};
 ghost use Rattle.sheet.specs.Walk.{valueIn};
 use crate::Opened;
-use fields::Decoded;
-use fields::Pair;
-use fields::Row;
-use fields::Value;
+use codes::Decoded;
+use codes::Row;
+use codes::Value;
 use memory::Sizes;
 use stream::Cursor;
 use stream::Taken;
+use templates::Pair;
 
-// The value of the field of a row at a cursor: missing where none stands.
+// The value of the field of a row at a cursor; missing if the stream has none there.
 pub fn value_at(sizes: Sizes, image: &[u8], cursor: Cursor, row: Row) -> Value
-    requires { ⌜ Whole sizes (now image) × Sound row ⌝ }
+    requires { ⌜ WholeImage sizes (now image) × Sound row ⌝ }
     ensures { λ r. ⌜ r ≡ valueIn (parse (streamIn sizes (now (image .entry))) (fieldOf row) (cursor .at)) ⌝ }
 {
     match cursor.take(sizes, image, row.width as usize) {
         Taken::Refused(_) => Value::Missing,
-        Taken::Field(code, _) => match coding::decode(row, cursor.at as u64, code) {
+        Taken::Field(code, _) => match codes::decode(row, cursor.at as u64, code) {
             Decoded::Refused(_) => Value::Missing,
             Decoded::Means(value) => value,
         },
     }
 }
 
-// The same of a row whose rule is not geometric.
+// The value of the field of a row at a cursor, if the row's
+// rule is not geometric; missing if the stream has none there.
 pub fn unscaled_at(sizes: Sizes, image: &[u8], cursor: Cursor, row: Row) -> Value
-    requires { ⌜ Whole sizes (now image) × Sound row × Unscaled (row .rule) ⌝ }
+    requires { ⌜ WholeImage sizes (now image) × Sound row × Unscaled (row .rule) ⌝ }
     ensures { λ r. ⌜ r ≡ valueIn (parse (streamIn sizes (now (image .entry))) (fieldOf row) (cursor .at)) ⌝ }
 {
     match cursor.take(sizes, image, row.width as usize) {
         Taken::Refused(_) => Value::Missing,
-        Taken::Field(code, _) => match coding::decode_unscaled(row, cursor.at as u64, code) {
+        Taken::Field(code, _) => match codes::decode_unscaled(row, cursor.at as u64, code) {
             Decoded::Refused(_) => Value::Missing,
             Decoded::Means(value) => value,
         },
     }
 }
 
-// The figure of a point, a deviation, a start or an exponent, which is always a whole number.
+// The whole number of a value: a point, a deviation, a start or an exponent always is one.
 pub fn figure(value: Value) -> i64
     ensures { λ r. ⌜ r ≡ figureOf value ⌝ }
 {
@@ -71,7 +72,7 @@ pub fn value_in(sheet: Opened, image: &[u8], field: u64) -> Value
     let cursor = Cursor {
         at: layout::locate(layout, field),
     };
-    value_at(sizes, image, cursor, fields::row_of(layout, field))
+    value_at(sizes, image, cursor, templates::row_of(layout, field))
 }
 
 // The value of a field whose rule is not geometric.
@@ -85,10 +86,10 @@ pub fn unscaled_in(sheet: Opened, image: &[u8], field: u64) -> Value
     let cursor = Cursor {
         at: layout::locate(layout, field),
     };
-    unscaled_at(sizes, image, cursor, fields::row_of(layout, field))
+    unscaled_at(sizes, image, cursor, templates::row_of(layout, field))
 }
 
-// A pair, counted from 0: one field, its point's 16 bits lowest.
+// A pair, counted from 0: one field, the point's 16 bits lowest.
 pub fn pair_in(sheet: Opened, image: &[u8], index: u64) -> Pair
     requires { ⌜ Held sheet (now image) × (index < sheet .summary .points) ⌝ }
     ensures { λ r. ⌜ ((kind : ℕ) (c : Contents) → Opens kind (now (image .entry)) sheet c → r ≡ getD (points c) index noPair) ⌝ }
@@ -102,7 +103,7 @@ pub fn pair_in(sheet: Opened, image: &[u8], index: u64) -> Pair
             point: 0,
             deviation: 0,
         },
-        Taken::Field(code, _) => coding::pair_of(code),
+        Taken::Field(code, _) => templates::pair_of(code),
     }
 }
 

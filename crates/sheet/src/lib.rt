@@ -1,11 +1,11 @@
-// Document 01, "Layout" and "Turning down", and document 02, Notes 7 and 11: check an image, and read a field, a calibration
-// point with its deviation, a character of the closing text, or a segment or a term of a curve. No call of a dash asks
-// anything of its caller: any kind, any slice, any number.
-mod block; // block.rt: the block behind the fields
+// Document 01, "Layout" and "Turning down", and document 02, Notes 7 and 11:
+// check an image, and read a field, a pair, a character, a segment or a term.
+// No call of a dash has a `requires`: it takes any kind, any slice, any number.
+mod block; // block.rt: the block after the fields
 mod calls; // calls.rt: the calls of a dash
 mod curve_block; // curve_block.rt: the curve
 mod ending; // ending.rt: the end bit and the text
-mod held; // held.rt: what an opened sheet holds
+mod held; // held.rt: the values of an opened sheet
 mod opening; // opening.rt: the whole check, once
 mod segments; // segments.rt: the segments and terms of a curve
 mod table; // table.rt: the calibration table
@@ -17,12 +17,7 @@ pub use calls::read_field;
 pub use calls::read_pair;
 pub use calls::read_segment;
 pub use calls::read_term;
-use fields::Domain;
-pub use fields::Pair;
-pub use fields::Segment;
-use fields::Template;
-pub use fields::Term;
-use fields::Value;
+use codes::Value;
 pub use held::character_in;
 pub use held::pair_in;
 pub use held::unscaled_in;
@@ -37,6 +32,11 @@ pub use segments::segment_end;
 pub use segments::segment_in;
 pub use segments::term_at;
 pub use segments::term_in;
+use templates::Domain;
+pub use templates::Pair;
+pub use templates::Segment;
+use templates::Template;
+pub use templates::Term;
 
 // The domain of a calibration table, if there is one.
 pub enum TableDomain {
@@ -44,9 +44,9 @@ pub enum TableDomain {
     Is(Domain),
 }
 
-// What an accepted check gives: the bits up to the end (a zero that ends the text counted), the calibration points, the
-// end bit, the characters of the text, the first block's template, the domain of the points, and the segments and terms of a
-// curve.
+// What an accepted check returns: the bits up to the end ("a zero that ends the
+// text counted"), and the numbers of points and characters with the end bit. Then
+// the first block's template, the domain, and the numbers of segments and terms.
 pub struct Summary {
     pub bits: u64,
     pub points: u64,
@@ -58,11 +58,13 @@ pub struct Summary {
     pub terms: u64,
 }
 
+// The answer of a check.
 pub enum Checked {
     Accepted(Summary),
     Refused(Refusal),
 }
 
+// The answers of the reads.
 pub enum FieldAnswer {
     Holds(Value),
     Refused(Refusal),

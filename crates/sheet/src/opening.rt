@@ -1,7 +1,7 @@
 // The whole check, once.
 ghost use mathlib.Core.Path.{_≡_};
 ghost use Rattle.sheet.specs.Opened.{opened, counted, openedAt, openedSaid};
-ghost use Rattle.memory.specs.Answers.{Whole};
+ghost use Rattle.memory.specs.Answers.{WholeImage};
 ghost use Rattle.layout.specs.Image.{streamIn};
 ghost use Rattle.layout.specs.Places.{firstSelector, behindFields};
 ghost use Rattle.sheet.specs.Walk.{Roomy, ownStart, endingOpened, calibrationOpened, ownOpened, blockOpened, walked};
@@ -14,16 +14,17 @@ use crate::ending::EndStep;
 use crate::walk;
 use crate::walk::ChoiceStep;
 use crate::walk::TemplateStep;
-use fields::Judged;
-use fields::Layout;
-use fields::Template;
+use codes::Judged;
 use memory::Sizes;
 use memory::SizesAnswer;
 use memory::Sums;
 use refusal::Refusal;
 use stream::Cursor;
+use templates::Layout;
+use templates::Template;
 
-// An accepted sheet: the sizes of its image, what its rows go by, the cursor behind its fields, and what a check gives.
+// An accepted sheet: the sizes of its image, what its rows depend
+// on, the cursor after its fields, and the check's summary.
 pub struct Opened {
     pub sizes: Sizes,
     pub layout: Layout,
@@ -31,12 +32,13 @@ pub struct Opened {
     pub summary: Summary,
 }
 
+// An opened sheet, or the check's refusal.
 pub enum OpenedAnswer {
     Sheet(Opened),
     Refused(Refusal),
 }
 
-// What is read by its index.
+// What a read finds by its index.
 pub enum Item {
     Pair,
     Character,
@@ -44,7 +46,7 @@ pub enum Item {
     Term,
 }
 
-// The ending behind a calibration that was counted, of a sheet whose fields end at a cursor.
+// Opens the ending after a counted calibration, of a sheet whose fields end at a cursor.
 fn open_ending(
     sizes: Sizes,
     image: &[u8],
@@ -53,7 +55,7 @@ fn open_ending(
     counts: Counts,
     cursor: Cursor,
 ) -> OpenedAnswer
-    requires { ⌜ Whole sizes (now image) × (behind .at ≡ behindFields layout) ⌝ }
+    requires { ⌜ WholeImage sizes (now image) × (behind .at ≡ behindFields layout) ⌝ }
     ensures { λ r. ⌜ openedSaid r ≡ endingOpened sizes (streamIn sizes (now (image .entry))) layout counts (cursor .at) ⌝ }
 {
     match ending::take_ending(sizes, image, cursor) {
@@ -81,9 +83,9 @@ fn open_ending(
     }
 }
 
-// The block behind the fields of a layout, if there is one, and the ending.
+// Opens the block after the fields of a layout, if there is one, and the ending.
 fn open_calibration(sizes: Sizes, image: &[u8], layout: Layout, cursor: Cursor) -> OpenedAnswer
-    requires { ⌜ Whole sizes (now image) × (cursor .at ≡ behindFields layout) ⌝ }
+    requires { ⌜ WholeImage sizes (now image) × (cursor .at ≡ behindFields layout) ⌝ }
     ensures { λ r. ⌜ openedSaid r ≡ calibrationOpened sizes (streamIn sizes (now (image .entry))) layout (cursor .at) ⌝ }
 {
     match block::take_calibration(sizes, image, cursor) {
@@ -94,7 +96,7 @@ fn open_calibration(sizes: Sizes, image: &[u8], layout: Layout, cursor: Cursor) 
     }
 }
 
-// A template's own fields, and what stands behind them.
+// Opens a template's own fields, and what follows them.
 fn open_own(sizes: Sizes, image: &[u8], template: Template) -> OpenedAnswer
     requires { ⌜ Roomy sizes (now image) ⌝ }
     ensures { λ r. ⌜ openedSaid r ≡ ownOpened sizes (streamIn sizes (now (image .entry))) template ownStart ⌝ }
@@ -111,7 +113,7 @@ fn open_own(sizes: Sizes, image: &[u8], template: Template) -> OpenedAnswer
     }
 }
 
-// The first block, and what stands behind it.
+// Opens the first block, and what follows it.
 fn open_block(sizes: Sizes, image: &[u8]) -> OpenedAnswer
     requires { ⌜ Roomy sizes (now image) ⌝ }
     ensures { λ r. ⌜ openedSaid r ≡ blockOpened sizes (streamIn sizes (now (image .entry))) firstSelector ⌝ }
@@ -122,18 +124,18 @@ fn open_block(sizes: Sizes, image: &[u8]) -> OpenedAnswer
     }
 }
 
-// The stream from its start.
+// Opens the stream from its start.
 fn walk_sheet(sizes: Sizes, image: &[u8]) -> OpenedAnswer
     requires { ⌜ Roomy sizes (now image) ⌝ }
     ensures { λ r. ⌜ openedSaid r ≡ walked sizes (now (image .entry)) ⌝ }
 {
     match walk::judge_basic(sizes, image) {
         Judged::Refused(r) => OpenedAnswer::Refused(r),
-        Judged::Stands => open_block(sizes, image),
+        Judged::Valid => open_block(sizes, image),
     }
 }
 
-// 1, 17, 2 by page, then the stream from its start: what every read needs, or the check's refusal.
+// 1, 17, 2 by page, then the stream from its start: the opened sheet, or the check's refusal.
 pub fn open(kind: u8, image: &[u8]) -> OpenedAnswer
     ensures { λ r. ⌜ openedSaid r ≡ opened kind (now (image .entry)) ⌝ }
 {
@@ -147,7 +149,7 @@ pub fn open(kind: u8, image: &[u8]) -> OpenedAnswer
     }
 }
 
-// How many of them there are.
+// How many items of this sort the sheet has.
 fn count_of(item: Item, summary: Summary) -> u64
     ensures { λ r. ⌜ r ≡ counted item summary ⌝ }
 {
@@ -159,7 +161,8 @@ fn count_of(item: Item, summary: Summary) -> u64
     }
 }
 
-// The sheet that one of them is to be read of; or the check's refusal, or 8 where there are not so many.
+// The opened sheet, to read the item of an index; or the
+// check's refusal, or 8 if the index is past the last.
 pub fn open_at(kind: u8, image: &[u8], item: Item, index: u64) -> OpenedAnswer
     ensures { λ r. ⌜ openedSaid r ≡ openedAt kind (now (image .entry)) item index ⌝ }
 {

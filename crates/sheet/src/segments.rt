@@ -1,10 +1,10 @@
-// The segments and terms of the curve of an opened sheet, straight from its image. The check has read each, so none is refused
-// here; where none stands, zeros are given.
+// The segments and terms of an opened sheet's curve, read from its image. The
+// check accepted each, so that none is refused here; if there is none, all is 0.
 ghost use mathlib.Core.Path.{_≡_};
 ghost use Prim.Native.Nat.{ℕ, _+_, _^_, _<_};
 ghost use lib.ListN.{getD};
-ghost use Rattle.memory.specs.Answers.{Whole};
-ghost use Rattle.fields.specs.Curves.{noSegment, noTerm};
+ghost use Rattle.memory.specs.Answers.{WholeImage};
+ghost use Rattle.templates.specs.Curves.{noSegment, noTerm};
 ghost use Rattle.layout.specs.Format.{bits, parse};
 ghost use Rattle.layout.specs.Contents.{Contents};
 ghost use Rattle.layout.specs.Image.{streamIn, float as floatOf, segments as segmentsOf, terms as termsOf};
@@ -13,28 +13,29 @@ ghost use Rattle.sheet.specs.Opened.{Opens, Held};
 ghost use Rattle.sheet.specs.Walk.{numberIn, segmentAt, termAt, segmentEnd, behindSegments, termPlace};
 use crate::Opened;
 use crate::held;
-use fields::Segment;
-use fields::Term;
-use fields::Value;
+use codes::Value;
 use memory::Sizes;
 use stream::Cursor;
 use stream::Taken;
+use templates::Segment;
+use templates::Term;
 
 // The number of terms of the segment at a cursor.
 fn terms_at(sizes: Sizes, image: &[u8], cursor: Cursor) -> u64
-    requires { ⌜ Whole sizes (now image) × (cursor .at < 2 ^ 40) ⌝ }
+    requires { ⌜ WholeImage sizes (now image) × (cursor .at < 2 ^ 40) ⌝ }
     ensures { λ r. ⌜ (r ≡ numberIn (parse (streamIn sizes (now (image .entry))) (bits 7) (cursor .at + 13))) × (r < 128) ⌝ }
 {
-    let start = cursor.over(fields::START_BITS as usize);
+    let start = cursor.over(templates::START_BITS as usize);
     match start
         .next
-        .take(sizes, image, fields::TERM_COUNT_BITS as usize) {
+        .take(sizes, image, templates::TERM_COUNT_BITS as usize) {
         Taken::Refused(_) => 0,
         Taken::Field(count, _) => count,
     }
 }
 
-// The cursor behind so many terms of the segment at a cursor: at the term behind them, or at the next segment.
+// The cursor after this many terms of the segment at
+// a cursor: at its next term, or at the next segment.
 pub fn segment_end(cursor: Cursor, terms: u64) -> Cursor
     requires { ⌜ (cursor .at < 2 ^ 40) × (terms < 2 ^ 32) ⌝ }
     ensures { λ r. ⌜ r .at ≡ segmentEnd (cursor .at) terms ⌝ }
@@ -45,10 +46,10 @@ pub fn segment_end(cursor: Cursor, terms: u64) -> Cursor
 
 // The segment at a cursor.
 pub fn segment_at(sizes: Sizes, image: &[u8], cursor: Cursor) -> Segment
-    requires { ⌜ Whole sizes (now image) × (cursor .at < 2 ^ 40) ⌝ }
+    requires { ⌜ WholeImage sizes (now image) × (cursor .at < 2 ^ 40) ⌝ }
     ensures { λ r. ⌜ r ≡ segmentAt (streamIn sizes (now (image .entry))) (cursor .at) ⌝ }
 {
-    let start = held::unscaled_at(sizes, image, cursor, coding::segment_start());
+    let start = held::unscaled_at(sizes, image, cursor, templates::segment_start());
     Segment {
         start: held::figure(start),
         terms: terms_at(sizes, image, cursor),
@@ -68,21 +69,21 @@ fn float(value: Value) -> f32
 
 // The term at a cursor.
 pub fn term_at(sizes: Sizes, image: &[u8], cursor: Cursor) -> Term
-    requires { ⌜ Whole sizes (now image) × (cursor .at < 2 ^ 40) ⌝ }
+    requires { ⌜ WholeImage sizes (now image) × (cursor .at < 2 ^ 40) ⌝ }
     ensures { λ r. ⌜ r ≡ termAt (streamIn sizes (now (image .entry))) (cursor .at) ⌝ }
 {
-    let tenths = held::unscaled_at(sizes, image, cursor, coding::term_exponent());
-    let exponent = cursor.over(fields::EXPONENT_BITS as usize);
-    let coefficient = held::unscaled_at(sizes, image, exponent.next, coding::term_coefficient());
+    let tenths = held::unscaled_at(sizes, image, cursor, templates::term_exponent());
+    let exponent = cursor.over(templates::EXPONENT_BITS as usize);
+    let coefficient = held::unscaled_at(sizes, image, exponent.next, templates::term_coefficient());
     Term {
-        exponent: coding::exponent_of(held::figure(tenths)),
+        exponent: templates::exponent_of(held::figure(tenths)),
         coefficient: float(coefficient),
     }
 }
 
-// The cursor behind so many segments from a cursor on.
+// The cursor after this many segments from a cursor on.
 fn pass_segments(sizes: Sizes, image: &[u8], first: Cursor, count: u64) -> Cursor
-    requires { ⌜ Whole sizes (now image) × (first .at < 2 ^ 32) × (count < 2 ^ 16) ⌝ }
+    requires { ⌜ WholeImage sizes (now image) × (first .at < 2 ^ 32) × (count < 2 ^ 16) ⌝ }
     ensures { λ r. ⌜ (r .at ≡ behindSegments (streamIn sizes (now (image .entry))) (first .at) count) × (r .at < 2 ^ 40) ⌝ }
 {
     let mut cursor = first;
@@ -94,9 +95,9 @@ fn pass_segments(sizes: Sizes, image: &[u8], first: Cursor, count: u64) -> Curso
     cursor
 }
 
-// The cursor at a term, counted from 0 over so many segments from a cursor on.
+// The cursor at a term, counted from 0 over this many segments from a cursor on.
 fn find_term(sizes: Sizes, image: &[u8], first: Cursor, segments: u64, index: u64) -> Cursor
-    requires { ⌜ Whole sizes (now image) × (first .at < 2 ^ 32) × (segments < 2 ^ 16) ⌝ }
+    requires { ⌜ WholeImage sizes (now image) × (first .at < 2 ^ 32) × (segments < 2 ^ 16) ⌝ }
     ensures { λ r. ⌜ (r .at ≡ termPlace (streamIn sizes (now (image .entry))) (first .at) segments index) × (r .at < 2 ^ 40) ⌝ }
 {
     let mut cursor = first;

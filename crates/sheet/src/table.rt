@@ -5,8 +5,8 @@ ghost use mathlib.Core.Option.{none};
 ghost use Prim.Native.Nat.{_+_, _*_, _≤_};
 ghost use lib.ListN.{length};
 ghost use Rattle.memory.specs.Image.{streamBits};
-ghost use Rattle.memory.specs.Answers.{Whole};
-ghost use Rattle.fields.specs.Answers.{previousSaid};
+ghost use Rattle.memory.specs.Answers.{WholeImage};
+ghost use Rattle.templates.specs.Answers.{previousSaid};
 ghost use Rattle.layout.specs.Format.{parse};
 ghost use Rattle.layout.specs.Contents.{codesIn, pairOf, pairsOf, tableOf};
 ghost use Rattle.layout.specs.Image.{streamIn};
@@ -17,13 +17,13 @@ use crate::block::BlockStep;
 use crate::block::Counts;
 use crate::walk;
 use crate::walk::CodeStep;
-use fields::Codes;
-use fields::Domain;
-use fields::Judged;
-use fields::Previous;
+use codes::Judged;
 use memory::Sizes;
 use refusal::Refusal;
 use stream::Cursor;
+use templates::Codes;
+use templates::Domain;
+use templates::Previous;
 
 // The codes of a pair.
 pub enum CodesStep {
@@ -31,13 +31,14 @@ pub enum CodesStep {
     Refused(Refusal),
 }
 
-// How many there are: pairs, or characters.
+// The number of pairs, or of characters.
 pub enum CountStep {
     Counted(u64, Cursor),
     Refused(Refusal),
 }
 
-// A pair behind the one before it: 3 and 5 of the point, 3 and 5 of its deviation, then 7, and 22 in domain 1.
+// A pair after the one before it: 3 and 5 of the point,
+// 3 and 5 of its deviation, then 7, and 22 in domain 1.
 fn take_codes(
     sizes: Sizes,
     image: &[u8],
@@ -45,16 +46,16 @@ fn take_codes(
     domain: Domain,
     before: Previous,
 ) -> CodesStep
-    requires { ⌜ Whole sizes (now image) ⌝ }
+    requires { ⌜ WholeImage sizes (now image) ⌝ }
     ensures { λ r. ⌜ codesSaid r ≡ keeping codesIn (parse (streamIn sizes (now (image .entry))) (pairOf domain (previousSaid before)) (cursor .at)) ⌝ }
 {
-    match walk::take_code(sizes, image, cursor, coding::cal_point()) {
+    match walk::take_code(sizes, image, cursor, templates::cal_point()) {
         CodeStep::Refused(r) => CodesStep::Refused(r),
         CodeStep::Code(point, middle) => match walk::take_code(
             sizes,
             image,
             middle,
-            coding::cal_deviation(),
+            templates::cal_deviation(),
         ) {
             CodeStep::Refused(r) => CodesStep::Refused(r),
             CodeStep::Code(deviation, next) => {
@@ -62,19 +63,20 @@ fn take_codes(
                     point: point as u16,
                     deviation: deviation as u32,
                 };
-                match coding::follows(domain, before, cursor.at as u64, codes) {
+                match templates::follows(domain, before, cursor.at as u64, codes) {
                     Judged::Refused(r) => CodesStep::Refused(r),
-                    Judged::Stands => CodesStep::Stand(codes, next),
+                    Judged::Valid => CodesStep::Stand(codes, next),
                 }
             }
         },
     }
 }
 
-// Whether so many pairs, which lie within the stream, all stand and rise. A pair is taken as one field, its point's 16 bits
-// lowest; all ones mean nothing. Of the pair before it the least point and the least sum that may follow are kept.
+// Whether this many pairs inside the stream are all valid and rise. A pair
+// is read as one field, the point's 16 bits lowest; all ones is not a
+// value. `least` and `floor` are the least point and sum that may follow.
 fn all_rise(sizes: Sizes, image: &[u8], start: Cursor, domain: Domain, count: u64) -> bool
-    requires { ⌜ Whole sizes (now image) × (start .at + pairBits * count ≤ streamBits sizes) ⌝ }
+    requires { ⌜ WholeImage sizes (now image) × (start .at + pairBits * count ≤ streamBits sizes) ⌝ }
     ensures { λ r. ⌜ (r ≡ true → behind count (record { at = start .at + pairBits * count }) ≡ keeping length (parse (streamIn sizes (now (image .entry))) (pairsOf domain count none) (start .at))) ⌝ }
 {
     let mut cursor = start;
@@ -85,7 +87,7 @@ fn all_rise(sizes: Sizes, image: &[u8], start: Cursor, domain: Domain, count: u6
         let read = cursor.read(sizes, image, layout::PAIR_BITS);
         let both = read.code;
         let point = both & 0xffff;
-        let deviation = both >> fields::POINT_BITS;
+        let deviation = both >> templates::POINT_BITS;
         if point < least {
             return false;
         }
@@ -96,7 +98,7 @@ fn all_rise(sizes: Sizes, image: &[u8], start: Cursor, domain: Domain, count: u6
             return false;
         }
         if let Domain::Physical = domain {
-            let sum = coding::sum_above(Codes {
+            let sum = templates::sum_above(Codes {
                 point: point as u16,
                 deviation: deviation as u32,
             });
@@ -112,9 +114,9 @@ fn all_rise(sizes: Sizes, image: &[u8], start: Cursor, domain: Domain, count: u6
     true
 }
 
-// So many pairs, one after the other.
+// Reads `count` pairs, one by one.
 fn take_each(sizes: Sizes, image: &[u8], start: Cursor, domain: Domain, count: u64) -> CountStep
-    requires { ⌜ Whole sizes (now image) ⌝ }
+    requires { ⌜ WholeImage sizes (now image) ⌝ }
     ensures { λ r. ⌜ countSaid r ≡ keeping length (parse (streamIn sizes (now (image .entry))) (pairsOf domain count none) (start .at)) ⌝ }
 {
     let mut cursor = start;
@@ -135,10 +137,10 @@ fn take_each(sizes: Sizes, image: &[u8], start: Cursor, domain: Domain, count: u
     CountStep::Counted(count, cursor)
 }
 
-// The same. Nearly every table rises, and whether one does is asked three times as fast as it is walked; the walk gives the
-// refusal of one that does not.
+// Reads `count` pairs. Fast path: most tables rise, and `all_rise`
+// is three times as fast; `take_each` finds the refusal of the rest.
 fn take_pairs(sizes: Sizes, image: &[u8], start: Cursor, domain: Domain, count: u64) -> CountStep
-    requires { ⌜ Whole sizes (now image) ⌝ }
+    requires { ⌜ WholeImage sizes (now image) ⌝ }
     ensures { λ r. ⌜ countSaid r ≡ keeping length (parse (streamIn sizes (now (image .entry))) (pairsOf domain count none) (start .at)) ⌝ }
 {
     let at = start.at;
@@ -155,9 +157,9 @@ fn take_pairs(sizes: Sizes, image: &[u8], start: Cursor, domain: Domain, count: 
     take_each(sizes, image, start, domain, count)
 }
 
-// The table that they are, in its domain.
+// The counts of a table of this many pairs, in its domain.
 fn take_listed(sizes: Sizes, image: &[u8], start: Cursor, domain: Domain, count: u64) -> BlockStep
-    requires { ⌜ Whole sizes (now image) ⌝ }
+    requires { ⌜ WholeImage sizes (now image) ⌝ }
     ensures { λ r. ⌜ blockSaid r ≡ keeping countsOf (parse (streamIn sizes (now (image .entry))) (tableFrom domain count) (start .at)) ⌝ }
 {
     match take_pairs(sizes, image, start, domain, count) {
@@ -174,22 +176,22 @@ fn take_listed(sizes: Sizes, image: &[u8], start: Cursor, domain: Domain, count:
     }
 }
 
-// Block 40 behind its template number: domain, count and pairs.
+// Block 40 after its template number: domain, count and pairs.
 pub fn take_table(sizes: Sizes, image: &[u8], cursor: Cursor) -> BlockStep
-    requires { ⌜ Whole sizes (now image) ⌝ }
+    requires { ⌜ WholeImage sizes (now image) ⌝ }
     ensures { λ r. ⌜ blockSaid r ≡ keeping countsOf (parse (streamIn sizes (now (image .entry))) tableOf (cursor .at)) ⌝ }
 {
-    match walk::take_code(sizes, image, cursor, coding::cal_domain()) {
+    match walk::take_code(sizes, image, cursor, templates::cal_domain()) {
         CodeStep::Refused(r) => BlockStep::Refused(r),
         CodeStep::Code(code, count) => match walk::take_code(
             sizes,
             image,
             count,
-            coding::point_count(),
+            templates::point_count(),
         ) {
             CodeStep::Refused(r) => BlockStep::Refused(r),
             CodeStep::Code(n, pairs) => {
-                take_listed(sizes, image, pairs, coding::domain_of(code), n)
+                take_listed(sizes, image, pairs, templates::domain_of(code), n)
             }
         },
     }

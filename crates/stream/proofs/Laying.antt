@@ -1,4 +1,5 @@
--- Bytes of a word into an image: eight side by side, and a field of the stream.
+-- Laws of writing the bytes of a word into an image:
+-- eight adjacent bytes, and a field of the stream.
 use Rattle.stream.proofs.Names.{_≡_, refl, sym, ap, ap₂, _∙_, List, ℕ, zero, suc, _+_, _-_, _*_, _/_, _%_, _^_, _≤_, _<_, mod-lt, mod-one, mod-eq-of-lt, div-eq-of-lt, lt-of-lt-of-le, zero-mul, add-one, arith}
 use Rattle.stream.proofs.Names.{length, getD, set, length-set, getD-set-other, lit<, bitOr, bitAnd, or-shifted-r, pow-pos, pow-mono, mod-pow-add, split, shr-lt, shl-exact, Sizes, Bytes, number, bytesOf, fieldAt}
 use Rattle.stream.proofs.Names.{putAt, imageBytes, streamBytes, streamBits, pageAt, streamOf, streamNumber, withStream, putIn, streamIndex, field-lt, low-lt, put-same, put-after, put-put, put-in, put-lt}
@@ -12,7 +13,7 @@ use Rattle.stream.proofs.Runs.{Side, side-stream, index-at, run-field, 
 put-none : (N n word : ℕ) → putAt N n 0 (word % 2 ^ 0) ≡ N
 put-none N n word = ap (λ (x : ℕ). putAt N n 0 x) (mod-one word ∙ sym (mod-one (N / 2 ^ n))) ∙ put-same N n 0
 
--- One more byte above those laid.
+-- One more byte above those written.
 number-turn : (l : List ℕ) → Bytes l → (N f k word : ℕ) → f + k < length l → number l ≡ putAt N (8 * f) (8 * k) (word % 2 ^ (8 * k))
     → number (set l (f + k) (word / 2 ^ (8 * k) % 256)) ≡ putAt N (8 * f) (8 * (k + 1)) (word % 2 ^ (8 * (k + 1)))
 number-turn l hb N f k word hi e =
@@ -24,7 +25,7 @@ number-turn l hb N f k word hi e =
     ∙ ap (λ (x : ℕ). putAt N (8 * f) x (word % 2 ^ x)) (omega arith)
 
 module _ (image : List ℕ) (f word : ℕ) where
-  -- The k low bytes of the word stand in the image from byte f on.
+  -- The k low bytes of the word are in the image from byte f on.
   pub record Lies (k : ℕ) (l : List ℕ) : Type 0 where
     pub long : length l ≡ length image
     pub bytes : Bytes l
@@ -52,7 +53,7 @@ module _ (image : List ℕ) (f word : ℕ) where
       sym (bytes-number l (p .bytes))
       ∙ ap₂ bytesOf (p .long) (p .stands ∙ ap (putAt (number image) (8 * f) 64) (mod-eq-of-lt h))
 
-  -- All eight.
+  -- All eight bytes are written.
   pub laid-word : (b0 b1 b2 b3 b4 b5 b6 b7 : ℕ) → Bytes image → f + 8 ≤ length image → word < 2 ^ 64
       → b0 ≡ word % 256 → b1 ≡ word / 2 ^ 8 % 256 → b2 ≡ word / 2 ^ 16 % 256 → b3 ≡ word / 2 ^ 24 % 256
       → b4 ≡ word / 2 ^ 32 % 256 → b5 ≡ word / 2 ^ 40 % 256 → b6 ≡ word / 2 ^ 48 % 256 → b7 ≡ word / 2 ^ 56 % 256
@@ -69,7 +70,7 @@ module _ (image : List ℕ) (f word : ℕ) where
       let l8 = lay-turn 7 b7 _ (eight-in f 7 _ h (lit< tt)) e7 l7 in
       laid-eight hw l8
 
--- A field of the eight replaced.
+-- A field of the eight bytes is replaced.
 pub eight-put : (image l : List ℕ) (f bit width code word new : ℕ) → 8 * f ≤ bit → bit + width ≤ 8 * f + 64 → code < 2 ^ width
     → word ≡ fieldAt (number image) (8 * f) 64 → new ≡ putAt word (bit - 8 * f) width code → l ≡ bytesOf (length image) (putAt (number image) (8 * f) 64 new)
     → l ≡ bytesOf (length image) (putAt (number image) bit width code)
@@ -79,7 +80,7 @@ eight-put image l f bit width code word new from to hc ew en el =
     (ap (putAt (number image) (8 * f) 64) (en ∙ ap (λ (x : ℕ). putAt x low width code) ew) ∙ put-in (number image) (8 * f) 64 low width code hc (omega arith)
     ∙ ap (λ (x : ℕ). putAt (number image) x width code) (omega arith))
 
--- A code put where nothing stands.
+-- A code put above all bits that are set is added to the number.
 pub put-free : (N at w code : ℕ) → N < 2 ^ at → putAt N at w code ≡ code * 2 ^ at + N
 put-free N at w code h =
     let below : N < 2 ^ (w + at) = lt-of-lt-of-le h (pow-mono {i = at} {j = w + at} (omega arith)) in
@@ -91,7 +92,7 @@ put-free N at w code h =
 scatter-none : (z : Sizes) (image : List ℕ) → Bytes image → (n word : ℕ) → Put z image n 0 (word % 2 ^ 0) image
 scatter-none z image hb n word = record { long = refl; bytes = hb; stream = sym (put-none (streamNumber z image) n word); checks = λ q. refl }
 
--- One more byte of the stream above those laid.
+-- One more byte of the stream above those written.
 scatter-turn : (z : Sizes) (image l : List ℕ) (f k word : ℕ) → length image ≡ imageBytes z → f + k < streamBytes z
     → Put z image (8 * f) (8 * k) (word % 2 ^ (8 * k)) l
     → Put z image (8 * f) (8 * (k + 1)) (word % 2 ^ (8 * (k + 1))) (set l (streamIndex z (f + k)) (word / 2 ^ (8 * k) % 256))
@@ -127,7 +128,7 @@ module _ (z : Sizes) (image : List ℕ) (whole : length image ≡ imageBytes z) 
     laid-stands (suc n) h =
         rw (← add-one n) (lay-turn image from word n (word / 2 ^ (8 * n) % 256) (laid from image word n) (omega arith) refl (laid-stands n (omega arith)))
 
-  -- Bits that stand side by side: put into the image, they are put into its stream.
+  -- Adjacent bits: putting them into the image puts them into its stream.
   pub run-put : (c n w code : ℕ) (after : List ℕ) → Side z c n w → code < 2 ^ w → after ≡ bytesOf (length image) (putAt (number image) (n + 8 * c) w code)
       → after ≡ putIn z image n w code
   run-put c n w code after s hc e =
@@ -150,7 +151,7 @@ module _ (z : Sizes) (image : List ℕ) (whole : length image ≡ imageBytes z) 
       (ap (putAt N (8 * f) (8 * m)) (ew ∙ ap (λ (x : ℕ). putAt x (n % 8) w code) (sym (run-field z image whole hb f (f + c) m (omega (arith, side-stream s)) at)))
       ∙ put-in N (8 * f) (8 * m) (n % 8) w code hc (omega arith) ∙ ap (λ (x : ℕ). putAt N x w code) (omega arith))
 
-  -- Two fields side by side in the stream are one.
+  -- Two adjacent fields of the stream are one field.
   pub put-two : (n s v c d : ℕ) → n + s + v ≤ streamBits z → c < 2 ^ s → d < 2 ^ v → putIn z (putIn z image n s c) (n + s) v d ≡ putIn z image n (v + s) (d * 2 ^ s + c)
   put-two n s v c d h hc hd =
       let l : List ℕ = putIn z image n s c in
@@ -168,7 +169,7 @@ module _ (z : Sizes) (image : List ℕ) (whole : length image ≡ imageBytes z) 
       })
 
 module _ (z : Sizes) (image : List ℕ) (whole : length image ≡ imageBytes z) (hb : Bytes image) where
-  -- A field put in two parts, with a check byte between them.
+  -- A field is put in two parts, with a check byte between them.
   two-parts : (c n s v code : ℕ) (a b : List ℕ) → Side z c n s → Side z (c + 1) (n + s) v → code < 2 ^ (v + s)
       → a ≡ bytesOf (length image) (putAt (number image) (n + 8 * c) s (code % 2 ^ s))
       → b ≡ bytesOf (length a) (putAt (number a) (n + s + 8 * (c + 1)) v (code / 2 ^ s))
@@ -200,7 +201,8 @@ module _ (z : Sizes) (image : List ℕ) (whole : length image ≡ imageBytes z) 
       (eb ∙ ap (λ (k : ℕ). bytesOf (length a) (putAt (number a) k v (code / 2 ^ s))) (omega arith))
       ∙ ap (λ (x : ℕ). putIn z image at x code) e
 
-  -- A field put where nothing stands, in the bytes from its first on: that is all of them that is kept.
+  -- A field is put above all bits that are set, in the
+  -- bytes from its first on: no other byte has to be kept.
   module _ (c at width code first : ℕ) (most : width ≤ 49) (hc : code < 2 ^ width) (below : streamNumber z image < 2 ^ at)
       (here : Side z c (8 * (at / 8)) 8) (ef : first ≡ getD image (at / 8 + c) 0) where
     abbrev N : ℕ
@@ -237,7 +239,7 @@ module _ (z : Sizes) (image : List ℕ) (whole : length image ≡ imageBytes z) 
     word-lt w h =
         rw (word-is w (omega arith)) (put-lt (fieldAt N (8 * i) w) (at % 8) width code hc w (field-lt N (8 * i) w) (omega arith))
 
-    -- Before the next check byte, and with it among the bytes.
+    -- The bytes are before the next check byte, or contain it.
     pub append-near : (after : List ℕ) → Side z c (8 * i) 64 → after ≡ bytesOf (length image) (putAt (number image) (8 * (i + c)) 64 word)
         → after ≡ putIn z image at width code
     append-near after s e =

@@ -1,10 +1,10 @@
--- A field put, and the check bytes of its pages made right.
+-- Laws of a field put with the check bytes of its pages made right.
 use Rattle.stream.proofs.Names.{_≡_, sym, ap, ap₂, _∙_, _⊎_, inl, inr, List, ℕ, zero, suc, _+_, _-_, _*_, _^_, _≤_, _<_, arith, decLt, ℕ-discrete, length, take, drop, getD, length-drop, length-take-le, Sizes}
 use Rattle.stream.proofs.Names.{Bytes, number, fieldAt, putAt, imageBytes, streamBytes, streamBits, pageAt, pageOf, pageSum, SumsRight, streamOf, streamNumber, imageOf, sealed, putIn, InStream, put-after}
 use Rattle.stream.proofs.Names.{put-before, bytes-take, bytes-drop, number-part, number-ext, stream-length, stream-bytes, put-whole, put-bytes, put-stream, put-checks, streamPart, sum-same, image-is, seal-length}
 use Rattle.stream.proofs.Names.{seal-bytes, seal-number, seal-sum, seal-other, seal-others}
 
--- A part of two streams with the same field there is the same.
+-- Two streams with the same field have the same bytes there.
 same-part : (l k : List ℕ) (S i n : ℕ) → length l ≡ S → length k ≡ S → Bytes l → Bytes k → i + n ≤ S
     → fieldAt (number l) (8 * i) (8 * n) ≡ fieldAt (number k) (8 * i) (8 * n) → take n (drop i l) ≡ take n (drop i k)
 same-part l k S i n el ek hl hk h e =
@@ -28,7 +28,7 @@ module _ (z : Sizes) (image : List ℕ) (whole : length image ≡ imageBytes z) 
       same-part (streamOf z l) (streamOf z image) (streamBytes z) i n (stream-length z l (put-whole z image at w code whole)) (stream-length z image whole)
       (stream-bytes z l (put-whole z image at w code whole) (put-bytes z image at w code whole hb)) (stream-bytes z image whole hb) h (kept-field (8 * i) (8 * n) a)
 
-  -- A page that the field does not touch has its part of the stream as it was.
+  -- A page that the field does not touch keeps its part of the stream.
   kept-part : (q : ℕ) → q < z .pages → (q ≡ pageOf z at → ⊥) → (q ≡ pageOf z (at + w - 1) → ⊥)
       → streamPart z (streamOf z (putIn z image at w code)) q ≡ streamPart z (streamOf z image) q
   kept-part zero h n m = kept-bytes 0 (z .register + 31) (omega arith) (inr (omega arith))
@@ -76,7 +76,8 @@ module _ (z : Sizes) (image : List ℕ) (whole : length image ≡ imageBytes z) 
           ∙ seal-others z put put-long (pageOf z at) first-page q h d
           ∙ put-sum q h d e ∙ right q h
 
-      -- A field put, and the pages of its first and its last bit sealed: the image of the changed stream.
+      -- A field put, and the pages of its first and its last
+      -- bit sealed, is the image of the changed stream.
       pub mended : sealed z (sealed z (putIn z image at w code) (pageOf z at)) (pageOf z (at + w - 1)) ≡ imageOf z (putAt (streamNumber z image) at w code)
       mended =
           image-is z (putAt (streamNumber z image) at w code) last (seal-length z first first-long (pageOf z (at + w - 1)) last-page)
@@ -90,7 +91,7 @@ module _ (z : Sizes) (image : List ℕ) (whole : length image ≡ imageBytes z) 
       first-sum same q h (no d) =
           seal-others z put put-long (pageOf z at) first-page q h d ∙ put-sum q h d (λ e. d (e ∙ sym same)) ∙ right q h
 
-      -- Once is enough where both bits have one page.
+      -- One seal is enough if both bits are in one page.
       pub mended-once : pageOf z at ≡ pageOf z (at + w - 1) → sealed z (putIn z image at w code) (pageOf z at) ≡ imageOf z (putAt (streamNumber z image) at w code)
       mended-once same =
           image-is z (putAt (streamNumber z image) at w code) first first-long
@@ -98,7 +99,7 @@ module _ (z : Sizes) (image : List ℕ) (whole : length image ≡ imageBytes z) 
           (λ q h. first-sum same q h (ℕ-discrete q (pageOf z at)))
           (seal-number z put put-long (pageOf z at) first-page ∙ put-stream z image at w code whole hb inside hc)
 
-      -- The check byte of any other page is as it was.
+      -- The check byte of any other page is unchanged.
       pub mended-check : (q : ℕ) → (q ≡ pageOf z at → ⊥) → (q ≡ pageOf z (at + w - 1) → ⊥)
           → getD (imageOf z (putAt (streamNumber z image) at w code)) (pageAt z q) 0 ≡ getD image (pageAt z q) 0
       mended-check q n m =
@@ -107,7 +108,7 @@ module _ (z : Sizes) (image : List ℕ) (whole : length image ≡ imageBytes z) 
           ∙ seal-other z put put-long (pageOf z at) first-page (pageAt z q) (λ e. n (omega arith))
           ∙ put-checks z image at w code whole q
 
--- A field put and its pages sealed, one call after the other.
+-- A field put and its pages sealed, in successive calls.
 module _ (z : Sizes) (image : List ℕ) {a b : List ℕ} (at w code : ℕ) {p q : ℕ} (bytes : Bytes image) (here : InStream z image at w) (fits : code < 2 ^ w)
     (paged : 1 ≤ z .pages) (right : SumsRight z image) (first : p ≡ pageOf z at) (last : q ≡ pageOf z (at + w - 1))
     (ea : a ≡ putIn z image at w code) (eb : b ≡ sealed z a p) where

@@ -1,12 +1,13 @@
--- Where bits of the stream stand in an image, and its bytes as words of eight.
+-- Laws of the offset of stream bits in an image, and of its bytes as words of eight.
 use Rattle.stream.proofs.Names.{_≡_, sym, ap, ap₂, _∙_, List, ℕ, zero, suc, _+_, _-_, _*_, _/_, _%_, _^_, _≤_, _<_, mod-one, mod-lt, mod-eq-of-lt, lt-of-le-of-lt, arith, decLt, w64, Fits, length, getD, lit<}
 use Rattle.stream.proofs.Names.{bitOr, bitAnd, or-shifted-r, pow-pos, high, low, mod-pow-add, shr-shr, shr-lt, shr-le, shl-exact, Sizes, Bytes, number, fieldAt, imageBytes, streamBytes, streamBits, streamOf}
-use Rattle.stream.proofs.Names.{streamNumber, Whole, streamIndex, InStream, field-lt, field-add, field-field, number-lt, number-at, index-register, index-page, index-lt, stream-length, stream-at, stream-bytes}
+use Rattle.stream.proofs.Names.{streamNumber, WholeImage, streamIndex, InStream, field-lt, field-add, field-field, number-lt, number-at, index-register, index-page, index-lt, stream-length, stream-at}
+use Rattle.stream.proofs.Names.{stream-bytes}
 use Rattle.stream.proofs.Words.{low-bits}
 
 -- ---- eight bytes as one word
 
--- Each of eight bytes within an image, and its index within a usize.
+-- Each of eight bytes is inside the image, and its index fits a usize.
 pub eight-in : (f k n : ℕ) → f + 8 ≤ n → k < 8 → f + k < n
 eight-in f k n h l = omega arith
 
@@ -28,7 +29,7 @@ module _ (bytes : List ℕ) (hb : Bytes bytes) (f : ℕ) where
       ∙ sym (field-add N (8 * f) 8 (8 * k))
       ∙ ap (λ (x : ℕ). fieldAt N (8 * f) x) (omega arith)
 
-  -- All eight.
+  -- All eight bytes joined.
   pub joined : (b0 b1 b2 b3 b4 b5 b6 b7 : ℕ) → f + 8 ≤ length bytes
       → b0 ≡ getD bytes f 0 → b1 ≡ getD bytes (f + 1) 0 → b2 ≡ getD bytes (f + 2) 0 → b3 ≡ getD bytes (f + 3) 0
       → b4 ≡ getD bytes (f + 4) 0 → b5 ≡ getD bytes (f + 5) 0 → b6 ≡ getD bytes (f + 6) 0 → b7 ≡ getD bytes (f + 7) 0
@@ -44,7 +45,7 @@ module _ (bytes : List ℕ) (hb : Bytes bytes) (f : ℕ) where
       let w6 = join-turn 6 _ _ (eight-in f 6 _ h (lit< tt)) (lit< tt) w5 e6 in
       join-turn 7 _ _ (eight-in f 7 _ h (lit< tt)) (lit< tt) w6 e7
 
-  -- The last eight, and those of them from byte f on.
+  -- The last eight bytes of the image, and those of them from byte f on.
   pub window-end : (last word : ℕ) → length bytes ≡ last + 8 → last ≤ f → word ≡ fieldAt (number bytes) (8 * last) 64 → word / 2 ^ (8 * (f - last)) ≡ fieldAt (number bytes) (8 * f) 64
   window-end last word e h ew =
       let N : ℕ = number bytes in
@@ -55,9 +56,9 @@ module _ (bytes : List ℕ) (hb : Bytes bytes) (f : ℕ) where
       ap (λ (x : ℕ). x / 2 ^ (8 * (f - last))) (ew ∙ mod-eq-of-lt lt) ∙ to
       ∙ sym (mod-eq-of-lt (rw (← to) (lt-of-le-of-lt (shr-le (N / 2 ^ (8 * last)) (8 * (f - last))) lt)))
 
--- ---- where the stream stands
+-- ---- the offset of the stream's bytes
 
--- Behind c check bytes, and before the next.
+-- The offset of a byte that has c check bytes before it.
 pub index-at : (z : Sizes) (c i : ℕ) → i < z .register + 31 * c → z .register + 31 * c ≤ i + 31 → streamIndex z i ≡ i + c
 index-at z c i h l = go (decLt i (z .register))
   where
@@ -65,7 +66,7 @@ index-at z c i h l = go (decLt i (z .register))
     go (yes s) = omega (arith, index-register z i s)
     go (no s) = omega (arith, index-page z i (omega arith))
 
--- So stand the w bits of the stream from bit n on.
+-- The w bits of the stream from bit n on are adjacent in the image, with c check bytes before them.
 pub record Side (z : Sizes) (c n w : ℕ) : Type 0 where
   pub inside : n + 8 * c + w ≤ 8 * imageBytes z
   pub behind : 8 * z .register + 248 * c ≤ n + 248
@@ -74,11 +75,12 @@ pub record Side (z : Sizes) (c n w : ℕ) : Type 0 where
 pub side-stream : {z : Sizes} {c n w : ℕ} → Side z c n w → n + w ≤ streamBits z
 side-stream s = omega arith
 
-pub side-image : {z : Sizes} {image : List ℕ} {c n w : ℕ} (l bit : ℕ) → Whole z image → Side z c n w → l ≡ length image → bit ≡ n + 8 * c
+pub side-image : {z : Sizes} {image : List ℕ} {c n w : ℕ} (l bit : ℕ) → WholeImage z image → Side z c n w → l ≡ length image → bit ≡ n + 8 * c
     → (8 ≤ l) × (l < 2 ^ 32) × (bit + w ≤ 8 * l)
 side-image l bit p s e b = (omega arith, omega arith, omega arith)
 
--- A field whose first byte stands behind c check bytes: before the next, or in two parts.
+-- A field whose first byte has c check bytes before
+-- it: all before the next check byte, or in two parts.
 module _ {z : Sizes} {image : List ℕ} {at width : ℕ} (c : ℕ) (p : InStream z image at width) (h : (at / 8 < z .register + 31 * c) × (z .register + 31 * c ≤ at / 8 + 31)) where
   pub side : at + width ≤ 8 * z .register + 248 * c → Side z c at width
   side l = record { inside = omega arith; behind = omega arith; before = l }
@@ -89,7 +91,8 @@ module _ {z : Sizes} {image : List ℕ} {at width : ℕ} (c : ℕ) (p : InStream
   pub side-rest : 8 * z .register + 248 * c < at + width → Side z (c + 1) (8 * z .register + 248 * c) (width - (8 * z .register + 248 * c - at))
   side-rest l = record { inside = omega arith; behind = omega arith; before = omega arith }
 
-  -- Bytes from its first on: eight before the next check byte, or those before it, and of eight in the image those behind it.
+  -- Bytes from the field's first on: eight before the next check byte;
+  -- or those before it and, of eight in the image, those after it.
   pub side-eight : at / 8 + 8 ≤ z .register + 31 * c → Side z c (8 * (at / 8)) 64
   side-eight l = record { inside = omega arith; behind = omega arith; before = omega arith }
 
@@ -103,7 +106,7 @@ module _ {z : Sizes} {image : List ℕ} {at width : ℕ} (c : ℕ) (p : InStream
   side-over l m = record { inside = omega arith; behind = omega arith; before = omega arith }
 
 module _ (z : Sizes) (image : List ℕ) (whole : length image ≡ imageBytes z) (hb : Bytes image) where
-  -- Bytes that stand side by side are a field of the stream and of the image.
+  -- Adjacent bytes are a field of the stream and of the image.
   pub run-field : (f at n : ℕ) → f + n ≤ streamBytes z → ((k : ℕ) → k < n → streamIndex z (f + k) ≡ at + k)
       → fieldAt (streamNumber z image) (8 * f) (8 * n) ≡ fieldAt (number image) (8 * at) (8 * n)
   run-field f at zero h e = mod-one _ ∙ sym (mod-one _)
@@ -125,7 +128,7 @@ module _ (z : Sizes) (image : List ℕ) (whole : length image ≡ imageBytes z) 
       ∙ sym (field-add M (8 * at) 8 (8 * n))
       ∙ ap (fieldAt M (8 * at)) (sym w)
 
-  -- They are a field of the image.
+  -- Adjacent bits of the stream are a field of the image.
   pub run-bits : (c n w : ℕ) → Side z c n w → fieldAt (streamNumber z image) n w ≡ fieldAt (number image) (n + 8 * c) w
   run-bits c n w s =
       let f : ℕ = n / 8 in
@@ -138,7 +141,7 @@ module _ (z : Sizes) (image : List ℕ) (whole : length image ≡ imageBytes z) 
       ∙ field-field M (8 * (f + c)) (8 * m) (n % 8) w (omega arith)
       ∙ ap (λ (x : ℕ). fieldAt M x w) (omega arith)
 
-  -- ---- a field out of a word
+  -- ---- reading a field from a word
 
   module _ (c at width word : ℕ) (most : width ≤ 49) (ew : word ≡ fieldAt (number image) (8 * (at / 8 + c)) 64) where
     -- A part of the word, from its bit for `at` on.
@@ -159,7 +162,7 @@ module _ (z : Sizes) (image : List ℕ) (whole : length image ≡ imageBytes z) 
     pub take-near : Side z c at width → bitAnd (word / 2 ^ (at % 8)) (1 * 2 ^ width % 2 ^ 64 - 1) ≡ fieldAt (streamNumber z image) at width
     take-near s = low-bits (word / 2 ^ (at % 8)) width (omega arith) ∙ first width most s
 
-    -- With a check byte before bit `edge` of the stream, left out of the word.
+    -- A field with a check byte before bit `edge` of the stream, which is removed from the word.
     pub take-far : (edge near : ℕ) → at < edge → edge < at + width → Side z c at (edge - at) → Side z (c + 1) edge (width - (edge - at))
         → near ≡ word / 2 ^ (at % 8) / 2 ^ (8 + (edge - at)) * 2 ^ (edge - at) + word / 2 ^ (at % 8) % 2 ^ (edge - at)
         → bitAnd near (1 * 2 ^ width % 2 ^ 64 - 1) ≡ fieldAt (streamNumber z image) at width

@@ -1,15 +1,15 @@
--- Every page sealed, one after the other.
-use Rattle.stream.proofs.Names.{_≡_, refl, ap, _∙_, List, ℕ, _+_, _≤_, _<_, ℕ-discrete, arith, length, Sizes, Bytes, imageBytes, pageSum, streamNumber, imageOf, sealed, Whole, image-is, seal-length, seal-bytes}
-use Rattle.stream.proofs.Names.{seal-number, seal-sum, seal-others}
+-- Laws of sealing every page in turn.
+use Rattle.stream.proofs.Names.{_≡_, refl, ap, _∙_, List, ℕ, _+_, _≤_, _<_, ℕ-discrete, arith, length, Sizes, Bytes, imageBytes, pageSum, streamNumber, imageOf, sealed, WholeImage, image-is, seal-length}
+use Rattle.stream.proofs.Names.{seal-bytes, seal-number, seal-sum, seal-others}
 
--- The first n pages of `before` sealed.
+-- The first n pages of `before` are sealed.
 pub record Sealed (z : Sizes) (before : List ℕ) (n : ℕ) (image : List ℕ) : Type 0 where
   pub whole : length image ≡ imageBytes z
   pub bytes : Bytes image
   pub stream : streamNumber z image ≡ streamNumber z before
   pub sums : (q : ℕ) → q < n → pageSum z image q ≡ 0
 
-pub sealed-none : {z : Sizes} {image : List ℕ} → Whole z image → Bytes image → Sealed z image 0 image
+pub sealed-none : {z : Sizes} {image : List ℕ} → WholeImage z image → Bytes image → Sealed z image 0 image
 sealed-none w b = record { whole = w .long; bytes = b; stream = refl; sums = λ q h. absurd (omega arith) }
 
 pub sealed-more : (z : Sizes) {before image : List ℕ} (n : ℕ) → n < z .pages → Sealed z before n image → Sealed z before (n + 1) (sealed z image n)

@@ -1,4 +1,4 @@
--- A field taken at a place of the stream, within it or past its end.
+-- Laws of reading a field at a place, inside the stream or past its end.
 use Rattle.stream.proofs.Names.{_≡_, List, ℕ, _+_, _≤_, _<_, lt-ltb, le-ltb, good, refused, pastEnd, Sizes, fieldAt, streamBits, streamNumber, takenAt}
 
 module _ (z : Sizes) (image : List ℕ) (at w : ℕ) where

@@ -1,4 +1,4 @@
--- The code's shifts and masks.
+-- Laws of the code's shifts and masks.
 use Rattle.stream.proofs.Names.{_≡_, sym, ap, ap₂, _∙_, ℕ, _+_, _-_, _*_, _/_, _%_, _^_, _≤_, _<_, mod-lt, le-refl, one-mul, lt-trans, lt-of-le-of-lt, lt-of-lt-of-le, div-mul-le-self, mul-assoc, add-comm, arith}
 use Rattle.stream.proofs.Names.{lit<, bitOr, bitAnd, or-shifted-r, or-zero-r, or-block, and-mask, and-high, and-block, pow-pos, pow-mono, pow-add, split, mod-mod-pow, ones-lt, ones-split, shr-shr, shr-lt, shr-le}
 use Rattle.stream.proofs.Names.{shr-mod, shl-lt, shl-exact, putAt, low-lt}
@@ -32,7 +32,7 @@ high-bits word bits hw h =
     rw (← e) (omega (arith, one-shl bits h, pow-pos bits)) in
     ap (bitAnd word) mask ∙ and-high word j bits ∙ ap (λ (x : ℕ). x * 2 ^ bits) (shr-mod j bits (rw (← e) hw))
 
--- A word with the 8 bits behind its first `bits` left out.
+-- A word with the 8 bits after its first `bits` removed.
 pub left-out : (word bits : ℕ) → word < 2 ^ 64 → bits < 64
     → bitOr (bitAnd word (1 * 2 ^ bits % 2 ^ 64 - 1)) (bitAnd (word / 2 ^ 8) (0xffff_ffff_ffff_ffff - (1 * 2 ^ bits % 2 ^ 64 - 1)))
     ≡ word / 2 ^ (8 + bits) * 2 ^ bits + word % 2 ^ bits
@@ -41,7 +41,7 @@ left-out word bits hw h =
     (high-bits (word / 2 ^ 8) bits (lt-of-le-of-lt (shr-le word 8) hw) h ∙ ap (λ (x : ℕ). x * 2 ^ bits) (shr-shr word 8 bits))
     ∙ or-shifted-r (word / 2 ^ (8 + bits)) bits (word % 2 ^ bits) (mod-lt word (pow-pos bits))
 
--- And with a byte put in there.
+-- A word with a byte inserted after its first `bits`.
 pub put-between : (word bits check : ℕ) → word < 2 ^ 56 → bits ≤ 56 → check < 2 ^ 8
     → bitOr (bitOr (bitAnd word (1 * 2 ^ bits % 2 ^ 64 - 1)) (check * 2 ^ bits % 2 ^ 64)) (bitAnd word (0xffff_ffff_ffff_ffff - (1 * 2 ^ bits % 2 ^ 64 - 1)) * 2 ^ 8 % 2 ^ 64)
     ≡ word / 2 ^ bits * 2 ^ (8 + bits) + (check * 2 ^ bits + word % 2 ^ bits)
@@ -55,7 +55,7 @@ put-between word bits check hw h hc =
     ∙ mul-assoc hi (2 ^ bits) (2 ^ 8) ∙ ap (λ (x : ℕ). hi * x) (sym (pow-add 2 bits 8) ∙ ap (λ (x : ℕ). 2 ^ x) (add-comm bits 8)))
     ∙ or-shifted-r hi (8 + bits) (check * 2 ^ bits + word % 2 ^ bits) (low-lt word bits 8 check hc)
 
--- A word with the field of `width` bits at bit `low` cleared, and a code put in there.
+-- A word with the field of `width` bits at bit `low` cleared, and a code put there.
 module _ (word low width code : ℕ) (hn : word < 2 ^ 64) (hw : width < 64) (h : width + low ≤ 64) (hc : code < 2 ^ width) where
   abbrev mask : ℕ
   mask = (1 * 2 ^ width % 2 ^ 64 - 1) * 2 ^ low % 2 ^ 64

@@ -1,4 +1,4 @@
-// Fields of 1 to 49 bits at any bit of the stream, straight in the image.
+// Reads and writes fields of 1 to 49 bits at any bit of the stream, directly in the image.
 ghost use mathlib.Core.Path.{_≡_};
 ghost use Prim.Native.Nat.{_+_, _-_, _*_, _/_, _%_, _^_, _≤_, _<_};
 ghost use lib.ListN.{length};
@@ -29,7 +29,8 @@ fn eight(image: &[u8], from: usize) -> u64
         | (wide(image[from + 7]) << 56)
 }
 
-// The same, with zeros behind the image's end: where fewer than 8 bytes are left, the last 8 shifted.
+// The 8 bytes of the image from byte `from` on, as one number, with zeros
+// after the image's end: if fewer than 8 bytes are left, the last 8 shifted.
 fn window(image: &[u8], from: usize) -> u64
     requires { ⌜ (8 ≤ length (now image)) × (from < length (now image)) ⌝ }
     ensures { λ r. ⌜ r ≡ fieldAt (number (now (image .entry))) (8 * from) 64 ⌝ }
@@ -41,7 +42,8 @@ fn window(image: &[u8], from: usize) -> u64
     eight(image, last) >> (8 * (from - last))
 }
 
-// How many check bytes stand before byte `i` of the stream: a division by 31, as a product with (2^35 - 1) / 31.
+// The number of check bytes before byte `i` of the stream:
+// a division by 31, as a product with (2^35 - 1) / 31.
 fn checks_before(sizes: Sizes, i: usize) -> usize
     requires { ⌜ (sizes .register ≤ 8) × (i < 2 ^ 32 - 32) ⌝ }
     ensures { λ r. ⌜ (i < sizes .register + 31 * r) × (sizes .register + 31 * r ≤ i + 31) ⌝ }
@@ -49,7 +51,7 @@ fn checks_before(sizes: Sizes, i: usize) -> usize
     ((i + 32 - sizes.register) * 0x4210_8421) >> 35
 }
 
-// A number with the 8 bits behind its first `bits` left out.
+// A number with the 8 bits after its first `bits` removed.
 fn over_check(word: u64, bits: usize) -> u64
     requires { ⌜ bits < 64 ⌝ }
     ensures { λ r. ⌜ r ≡ word / 2 ^ (8 + bits) * 2 ^ bits + word % 2 ^ bits ⌝ }
@@ -58,7 +60,7 @@ fn over_check(word: u64, bits: usize) -> u64
     (word & near) | ((word >> 8) & !near)
 }
 
-// The field of `width` bits at bit `at` of the stream.
+// The code of the field of `width` bits at bit `at` of the stream.
 pub fn take(sizes: Sizes, image: &[u8], at: usize, width: usize) -> u64
     requires { ⌜ InStream sizes (now image) at width ⌝ }
     ensures { λ r. ⌜ r ≡ fieldAt (streamNumber sizes (now (image .entry))) at width ⌝ }
@@ -67,7 +69,7 @@ pub fn take(sizes: Sizes, image: &[u8], at: usize, width: usize) -> u64
     let checks = checks_before(sizes, i);
     let from = i + checks;
     let word = window(image, from) >> (at % 8);
-    // The bit of the stream that stands behind the next check byte.
+    // The stream bit right after the next check byte.
     let edge = 8 * sizes.register + 248 * checks;
     let mask = (1u64 << width) - 1;
     if at + width <= edge {
@@ -98,7 +100,7 @@ fn lay_eight(image: &mut [u8], from: usize, word: u64)
     image[from + 7] = byte(word >> 56);
 }
 
-// A number with a check byte put in behind its first `bits` bits.
+// A number with a check byte inserted after its first `bits` bits.
 fn with_check(word: u64, bits: usize, check: u64) -> u64
     requires { ⌜ (word < 2 ^ 56) × (bits ≤ 56) × (check < 2 ^ 8) ⌝ }
     ensures { λ r. ⌜ r ≡ word / 2 ^ bits * 2 ^ (8 + bits) + (check * 2 ^ bits + word % 2 ^ bits) ⌝ }
@@ -116,7 +118,8 @@ fn replaced(word: u64, low: usize, width: usize, code: u64) -> u64
     (word & !mask) | (code << low)
 }
 
-// Writes a code into the field of `width` bits at bit `bit` of the image, in the 8 bytes from byte `from` on.
+// Writes a code into the field of `width` bits at bit
+// `bit` of the image, in the 8 bytes from byte `from` on.
 fn put_eight(image: &mut [u8], from: usize, bit: usize, width: usize, code: u64)
     requires { ⌜ (from + 8 ≤ length (now image)) × (length (now image) < 2 ^ 32) × (8 * from ≤ bit) × (bit + width ≤ 8 * from + 64) ⌝ }
     requires { ⌜ (1 ≤ width) × (width ≤ 49) × (code < 2 ^ width) ⌝ }
@@ -126,7 +129,8 @@ fn put_eight(image: &mut [u8], from: usize, bit: usize, width: usize, code: u64)
     lay_eight(image, from, replaced(word, bit - 8 * from, width, code));
 }
 
-// The same in 8 bytes that hold it: in the last where fewer are left.
+// Writes a code into the field of `width` bits at bit `bit` of the
+// image, in 8 bytes that contain it: the last 8 if fewer are left.
 fn put_bits(image: &mut [u8], bit: usize, width: usize, code: u64)
     requires { ⌜ (8 ≤ length (now image)) × (length (now image) < 2 ^ 32) × (bit + width ≤ 8 * length (now image)) ⌝ }
     requires { ⌜ (1 ≤ width) × (width ≤ 49) × (code < 2 ^ width) ⌝ }
@@ -141,8 +145,8 @@ fn put_bits(image: &mut [u8], bit: usize, width: usize, code: u64)
     put_eight(image, last, bit, width, code);
 }
 
-// Writes a code into the field of `width` bits at bit `at` of the stream. Its neighbours keep their state, and so does
-// every check byte.
+// Writes a code into the field of `width` bits at bit `at` of the
+// stream. All other bits keep their state, and so does every check byte.
 pub fn put(sizes: Sizes, image: &mut [u8], at: usize, width: usize, code: u64)
     requires { ⌜ InStream sizes (now image) at width × (code < 2 ^ width) ⌝ }
     ensures { λ _. ⌜ now (image .exit) ≡ putIn sizes (now (image .entry)) at width code ⌝ }
@@ -153,13 +157,14 @@ pub fn put(sizes: Sizes, image: &mut [u8], at: usize, width: usize, code: u64)
         put_bits(image, at + 8 * checks, width, code);
         return;
     }
-    // What goes before the check byte, and what goes behind it.
+    // The bits before the check byte; the rest goes after it.
     let near = edge - at;
     put_bits(image, at + 8 * checks, near, code & ((1u64 << near) - 1));
     put_bits(image, edge + 8 * checks + 8, width - near, code >> near);
 }
 
-// The same where every bit of the stream from `at` on is 0.
+// Writes a code into the field of `width` bits at bit `at` of the stream.
+// Requires that every stream bit from `at` on is 0, and is faster for it.
 pub fn append(sizes: Sizes, image: &mut [u8], at: usize, width: usize, code: u64)
     requires { ⌜ InStream sizes (now image) at width × (code < 2 ^ width) ⌝ }
     requires { ⌜ streamNumber sizes (now image) < 2 ^ at ⌝ }
@@ -169,7 +174,7 @@ pub fn append(sizes: Sizes, image: &mut [u8], at: usize, width: usize, code: u64
     let checks = checks_before(sizes, i);
     let from = i + checks;
     let word = wide(image[from]) | (code << (at % 8));
-    // The byte of the stream that stands behind the next check byte.
+    // The stream byte right after the next check byte.
     let edge = sizes.register + 31 * checks;
     if i + 8 <= edge {
         lay_eight(image, from, word);

@@ -1,15 +1,16 @@
-// A place in the stream, carried by value and handed back moved on.
+// Document 01: "A place in the stream is carried by value and handed back moved on."
 ghost use mathlib.Core.Path.{_≡_};
 ghost use Prim.Native.Nat.{_+_, _^_, _≤_, _<_};
 ghost use Rattle.memory.specs.Bits.{fieldAt};
 ghost use Rattle.memory.specs.Image.{streamNumber};
 ghost use Rattle.memory.specs.Laid.{putIn};
-ghost use Rattle.memory.specs.Answers.{Whole};
+ghost use Rattle.memory.specs.Answers.{WholeImage};
 ghost use Rattle.stream.specs.Answers.{InStream, passedOver, takenSaid, takenAt};
 use crate::bitfields;
 use memory::Sizes;
 use refusal::Refusal;
 
+// A position in the stream: the number of its bit.
 pub struct Cursor {
     pub at: usize,
 }
@@ -19,27 +20,28 @@ pub struct Field {
     pub at: usize,
 }
 
-// A field, and the cursor behind it.
+// A field, and the cursor after it.
 pub struct Passed {
     pub field: Field,
     pub next: Cursor,
 }
 
-// The code of a field, and the cursor behind it.
+// The code of a field, and the cursor after it.
 pub struct Read {
     pub code: u64,
     pub next: Cursor,
 }
 
+// A field that may pass the stream's end.
 pub enum Taken {
-    // The field's code, and the cursor behind it.
+    // The field's code, and the cursor after it.
     Field(u64, Cursor),
     // 3: the field would pass the stream's end.
     Refused(Refusal),
 }
 
 impl Field {
-    // The code of the field, which has `width` bits and lies in the stream.
+    // The code of the field, which has `width` bits and is inside the stream.
     pub fn code(self, sizes: Sizes, image: &[u8], width: usize) -> u64
         requires { ⌜ InStream sizes (now image) (self .at) width ⌝ }
         ensures { λ r. ⌜ r ≡ fieldAt (streamNumber sizes (now (image .entry))) (self .at) width ⌝ }
@@ -49,14 +51,14 @@ impl Field {
 }
 
 impl Cursor {
-    // The stream's first bit.
+    // A cursor at the stream's first bit.
     pub fn start() -> Self
         ensures { λ r. ⌜ r .at ≡ 0 ⌝ }
     {
         Cursor { at: 0 }
     }
 
-    // The field of `width` bits at the cursor, and the cursor behind it.
+    // The field of `width` bits at the cursor, and the cursor after it.
     pub fn over(self, width: usize) -> Passed
         requires { ⌜ self .at + width < 2 ^ 64 ⌝ }
         ensures { λ r. ⌜ r ≡ passedOver self width ⌝ }
@@ -69,7 +71,8 @@ impl Cursor {
         }
     }
 
-    // The code of the field of `width` bits at the cursor, which lies in the stream, and the cursor behind it.
+    // The code of the field of `width` bits at the cursor,
+    // which is inside the stream, and the cursor after it.
     pub fn read(self, sizes: Sizes, image: &[u8], width: usize) -> Read
         requires { ⌜ InStream sizes (now image) (self .at) width ⌝ }
         ensures { λ r. ⌜ (r .code ≡ fieldAt (streamNumber sizes (now (image .entry))) (self .at) width) × (r .next .at ≡ self .at + width) ⌝ }
@@ -82,13 +85,14 @@ impl Cursor {
         }
     }
 
-    // The same, or 3 where the field would pass the end.
+    // The code of the field of `width` bits at the cursor, and the
+    // cursor after it; or 3 if the field would pass the stream's end.
     pub fn take(self, sizes: Sizes, image: &[u8], width: usize) -> Taken
-        requires { ⌜ Whole sizes (now image) × (1 ≤ width) × (width ≤ 49) ⌝ }
+        requires { ⌜ WholeImage sizes (now image) × (1 ≤ width) × (width ≤ 49) ⌝ }
         ensures { λ r. ⌜ takenSaid r ≡ takenAt sizes (now (image .entry)) (self .at) width ⌝ }
     {
         let at = self.at;
-        // `stream_bits`, from the image's length: three instructions a field fewer.
+        // `stream_bits`, from the image's length: three instructions fewer per field.
         let bits = 8 * (image.len() - sizes.pages);
         if bits < at {
             return Taken::Refused(refusal::past_end(at as u64));
@@ -101,8 +105,8 @@ impl Cursor {
         Taken::Field(read.code, next)
     }
 
-    // Writes a code into the field of `width` bits at the cursor, where every bit of the stream from there on is 0, and hands back
-    // the cursor behind it.
+    // Writes a code into the field of `width` bits at the cursor, and returns the
+    // cursor after it. Requires that every stream bit from the cursor on is 0.
     pub fn append(self, sizes: Sizes, image: &mut [u8], width: usize, code: u64) -> Self
         requires { ⌜ InStream sizes (now image) (self .at) width × (code < 2 ^ width) ⌝ }
         requires { ⌜ streamNumber sizes (now image) < 2 ^ self .at ⌝ }

@@ -1,6 +1,6 @@
-// Document 01, "Image and stream": fields taken out of the stream of an image and put into it, one after the other by a
-// cursor, and an image cleared, rewritten and sealed. Every function is proved, and nothing is assumed. A dash calls none of
-// them; what they require, the layers above test first.
+// Document 01, "Image and stream": fields of the stream, read and written one after
+// another by a cursor; and an image cleared, rewritten and sealed. Stream is document 01's
+// term. A dash calls none of these functions; the crates above test what they require.
 
 mod bitfields;
 mod cursor;

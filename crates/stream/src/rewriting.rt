@@ -1,15 +1,16 @@
-// An image written: cleared, one field with the check bytes of its pages, and every check byte.
+// Writes an image: clears it, rewrites one field with the
+// check bytes of its pages, or writes every check byte.
 ghost use mathlib.Core.Path.{_≡_};
 ghost use Prim.Native.Nat.{_^_, _<_, _≤_};
 ghost use lib.ListN.{length, replicate};
 ghost use Rattle.memory.specs.Bits.{putAt};
 ghost use Rattle.memory.specs.Image.{SumsRight, streamNumber, imageOf, pageOf};
-ghost use Rattle.memory.specs.Answers.{Whole};
+ghost use Rattle.memory.specs.Answers.{WholeImage};
 ghost use Rattle.stream.specs.Answers.{InStream};
 use crate::bitfields;
 use memory::Sizes;
 
-// Every byte 0.
+// Sets every byte to 0.
 pub fn clear(image: &mut [u8])
     ensures { λ _. ⌜ now (image .exit) ≡ replicate (length (now (image .entry))) 0 ⌝ }
 {
@@ -32,8 +33,8 @@ fn page_of(sizes: Sizes, bit: usize) -> usize
     (byte - register) / 31
 }
 
-// Rewrites the field of `width` bits at bit `at` of an image whose sums are right, and the check bytes of its pages: no
-// other bit.
+// Rewrites the field of `width` bits at bit `at` of an image whose
+// sums are right, and the check bytes of its pages: "no other bit".
 pub fn rewrite(sizes: Sizes, image: &mut [u8], at: usize, width: usize, code: u64)
     requires { ⌜ InStream sizes (now image) at width × (code < 2 ^ width) ⌝ }
     requires { ⌜ (1 ≤ sizes .pages) × SumsRight sizes (now image) ⌝ }
@@ -48,9 +49,9 @@ pub fn rewrite(sizes: Sizes, image: &mut [u8], at: usize, width: usize, code: u6
     }
 }
 
-// Writes every check byte. The stream stays as it is.
+// Writes every check byte. The stream is unchanged.
 pub fn seal_pages(sizes: Sizes, image: &mut [u8])
-    requires { ⌜ Whole sizes (now image) ⌝ }
+    requires { ⌜ WholeImage sizes (now image) ⌝ }
     ensures { λ _. ⌜ now (image .exit) ≡ imageOf sizes (streamNumber sizes (now (image .entry))) ⌝ }
 {
     let pages = sizes.pages;

@@ -1,10 +1,9 @@
 -- Laws of letter codes: the 32 letters differ, and so do the texts of different codes.
--- Assumes nothing.
 use Rattle.texts.proofs.Names.{_≡_, refl, sym, ap, subst, Bool, true, false, not, _||_, List, ℕ, zero, suc, _+_, _*_, _/_, _%_, _^_, _-_, _<_, _≤_, pow-suc, one-le-pow, arith, T, eqb, eqb→eq, lit<, length, getD}
 use Rattle.texts.proofs.Names.{drop, eq-eqb, letters, lettersText, OnlyCode}
 use Rattle.texts.proofs.Below.{below, at}
 
--- where two numbers have one letter, they are one number
+-- If two numbers have one letter, they are one number.
 differs : ℕ → ℕ → Bool
 differs i j = not (eqb (getD letters i 0) (getD letters j 0)) || eqb i j
 
@@ -19,7 +18,7 @@ distinct i j hi hj e =
     (by-test (eqb (getD letters i 0) (getD letters j 0)) (eqb i j) (eq-eqb _ _ e)
     (at (differs i) 32 (at (λ k. below (differs k) 32) 32 tt i hi) j hj))
 
--- r is the code of a character that is a letter
+-- r is the code of a character that is a letter.
 abbrev pub LetterCode : ℕ → ℕ → Type 0
 LetterCode character r = OnlyCode (λ code. getD letters code 0) character 31 r
 

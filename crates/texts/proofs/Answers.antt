@@ -1,13 +1,12 @@
--- What a text's answer says of it.
--- Assumes nothing.
+-- Laws of the answer that has a code's text.
 use Rattle.texts.proofs.Names.{_≡_, refl, sym, ap, subst, _∙_, Bool, cond, List, ℕ, _≤_, _-_, arith, length, take, replicate, length-append, take-append-seam, Outcome, good, refused, outOfRange, Refusal, chosen}
 use Rattle.texts.proofs.Names.{Text, Length, Refused, textOf, textSaid, same, codeIfShown}
 
--- a refusal, and zeros
+-- A refusal has zeros.
 pub no-text : {t : Text} {x r : Refusal} {o : Outcome (List ℕ)} → t ≡ textSaid (refused x) → x ≡ r → o ≡ refused r → t ≡ textSaid o
 no-text e f g = e ∙ ap textSaid (ap refused f ∙ sym g)
 
--- a text of n characters, at the front of the ten
+-- A text of n characters, at the front of the ten.
 pub record Front (o : Outcome (List ℕ)) (n : ℕ) (characters : List ℕ) : Type 0 where
   pub text : List ℕ
   pub is : o ≡ good text
@@ -33,12 +32,12 @@ pub said-refused : (o : Outcome (List ℕ)) (x : Refusal) → textSaid o .answer
 said-refused (good t) x e = let z : _≡_ {A = ℕ} 0 1 = cc in absurd (omega arith)
 said-refused (refused r) x e = let z : r ≡ x = cc in ap refused z
 
--- a code whose text is refused is refused
+-- A code whose text is refused is refused.
 pub not-shown : (field code : ℕ) (text : List ℕ) (r : Text) (x : Refusal) → r ≡ textSaid (textOf field code) → r .answer ≡ Refused x → codeIfShown field code text ≡ refused x
 unfolding codeIfShown
 not-shown field code text r x e a = rw (said-refused (textOf field code) x (ap (λ (t : Text). t .answer) (sym e) ∙ a))
 
--- a code whose text is compared
+-- A code whose text is compared with the given one.
 pub compared : (field code n : ℕ) (text : List ℕ) (r : Text) (b : Bool) → r ≡ textSaid (textOf field code) → r .answer ≡ Length n → same (take n (r .characters)) text ≡ b
     → codeIfShown field code text ≡ cond b (good code) (refused (outOfRange field))
 unfolding codeIfShown

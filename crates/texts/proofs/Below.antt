@@ -1,5 +1,4 @@
--- A rule at each number below n, by one test that antt computes.
--- Assumes nothing.
+-- A law of each number below n, from one test that antt computes.
 use Rattle.texts.proofs.Names.{sym, subst, ⊎-elim, Bool, true, false, _&&_, ℕ, zero, suc, _<_, eq-or-lt-of-le, le-of-suc-le-suc, not-suc-le-zero, T}
 
 abbrev pub below : (ℕ → Bool) → ℕ → Bool

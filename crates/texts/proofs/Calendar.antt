@@ -1,5 +1,4 @@
 -- Laws of the calendar: a real date is the date of the days before it, counted by years and months.
--- Assumes nothing.
 use Rattle.texts.proofs.Names.{_≡_, refl, ap, subst, _∙_, Bool, true, false, ℕ, zero, suc, _+_, _-_, _<_, _≤_, suc-le-suc, arith, T, leb, ltb, leb→le, ltb-true, ltb-false, Date, monthLength, next, dateOf}
 use Rattle.texts.proofs.Names.{daysOfYears, daysBeforeYear, daysBeforeMonth}
 use Rattle.texts.proofs.Rising.{risen, one-place}
@@ -22,7 +21,7 @@ count d = daysBeforeYear (d .year) + (daysBeforeMonth (d .year) (d .month) + (d 
 
 -- ---- day by day
 
--- The day after a real date is one, and has one day more before it.
+-- The day after a real date is a real date, and has one more day before it.
 next-day : (d : Date) → Real d → (a b : Bool) → ltb (d .day) (monthLength (d .year) (d .month)) ≡ a → ltb (d .month) 12 ≡ b → Real (next d) × (count (next d) ≡ suc (count d))
 unfolding next
 next-day d real true b ea eb =
@@ -90,7 +89,7 @@ real-date d real = one-date (dateOf (count d)) d (counted (count d) .0) real (co
 
 -- ---- dates of document 01
 
--- A date that is written out.
+-- A date given by its year, month and day.
 named : (year month day : ℕ) → T (leb 1998 year) → T (leb 1 month) → T (leb month 12) → T (leb 1 day) → T (leb day (monthLength year month))
     → dateOf (count (dated year month day)) ≡ dated year month day
 named year month day since low high first-day last-day =

@@ -1,5 +1,4 @@
--- The digits of a date read back.
--- Assumes nothing.
+-- Laws of a date's digits: they read back.
 use Rattle.texts.proofs.Names.{_≡_, refl, sym, ap, _∙_, List, ℕ, _+_, _-_, _*_, _/_, _%_, _<_, _≤_, div-div-eq-div-mul, arith, length, getD, dateOf, dateText}
 use Rattle.texts.proofs.Calendar.{count, counted}
 use Rattle.texts.proofs.Finding.{ranged}
@@ -16,7 +15,7 @@ four-digits n h =
 two-digits : (n : ℕ) → n < 100 → 10 * (48 + n / 10 % 10 - 48) + (48 + n / 1 % 10 - 48) ≡ n
 two-digits n h = omega arith
 
--- The number that two characters say.
+-- The number that two characters spell.
 abbrev pub number : List ℕ → ℕ → ℕ
 number text at = 10 * (getD text at 0 - 48) + (getD text (at + 1) 0 - 48)
 

@@ -1,15 +1,14 @@
--- What the search for a date, and for its code, meets on the way.
--- Assumes nothing.
+-- Laws of the search for a date and for its code.
 use Rattle.texts.proofs.Names.{_≡_, subst, ℕ, _+_, _-_, _<_, _≤_, le-of-suc-le-suc, add-one, arith, by-contra, Date, monthLength, dateOf, daysOfYear, daysBeforeYear, daysBeforeMonth}
 use Rattle.texts.proofs.Rising.{risen}
 use Rattle.texts.proofs.Months.{month-range, month-suc, months-rise, year-suc, year-range, years-range}
 use Rattle.texts.proofs.Calendar.{dated, Real, count, counted, real-date}
 
--- A year that few days are before is near.
+-- A year with few days before it is before 2178.
 pub year-near : (year : ℕ) → daysBeforeYear year < 65_536 → year < 2178
 year-near year h = omega (arith, years-range (year - 1998))
 
--- A turn of the search for a month.
+-- One step of the search for a month.
 pub month-turn : (year month day before : ℕ) → 1 ≤ month → month ≤ 12 → before ≡ daysBeforeMonth year month → day < before
     → (1 ≤ month - 1) × (month - 1 ≤ 12) × (day < daysBeforeMonth year (month - 1 + 1))
 month-turn year month day before low high e past =
@@ -17,11 +16,11 @@ month-turn year month day before low high e past =
     let later : 2 ≤ month = by-contra 2 month (λ l. omega (arith, e, risen (daysBeforeMonth year) (months-rise year) month 1 (le-of-suc-le-suc l))) in
     (omega arith, omega arith, rw s (omega arith))
 
--- What a year's first day leaves of a code is within the year.
+-- The rest of a code after the year's first day is within the year.
 pub rest-of-year : (code year before : ℕ) → 1998 ≤ year → before ≡ daysBeforeYear year → before ≤ code → code < daysBeforeYear (year + 1) → code - before < daysOfYear year
 rest-of-year code year before since e from until = omega (arith, year-suc year since, rw add-one at until)
 
--- A date that is found by year and month.
+-- A date found by year and month is the code's.
 pub found : (code year month years months : ℕ) → years ≡ daysBeforeYear year → months ≡ daysBeforeMonth year month → 1998 ≤ year → years ≤ code → 1 ≤ month → month ≤ 12
     → daysBeforeMonth year month ≤ code - years → code - years < daysBeforeMonth year (month + 1)
     → dateOf code ≡ record { year = year; month = month; day = code - years - months + 1 }
@@ -32,7 +31,7 @@ found code year month years months ey em since from low high first-day last-day 
     let real : Real d = record { since = since; month-least = low; month-most = high; day-least = omega arith; day-most = omega arith } in
     subst (λ (n : ℕ). dateOf n ≡ d) e (real-date d real)
 
--- What the date of a code is like.
+-- The ranges of a code's date.
 pub record Ranged (year month day code : ℕ) : Type 0 where
   pub since : 1998 ≤ year
   pub until : year ≤ 2177
@@ -58,7 +57,7 @@ pub ranged : (code year month day : ℕ) → code ≤ 65_535 → dateOf code ≡
 ranged code year month day le e =
     subst (λ (d : Date). Ranged (d .year) (d .month) (d .day) code) e (ranged-date (dateOf code) code le (counted code .0) (counted code .1))
 
--- No sum of days comes near the end of 64 bits.
+-- No sum of days is near 2^64.
 pub few : (year month : ℕ) → year ≤ 2177 → month ≤ 12 → daysBeforeYear year + daysBeforeMonth year month < 70_000
 few year month until high =
     omega (arith, years-range (year - 1998), risen (daysBeforeMonth year) (months-rise year) month 13 (omega arith), year-range year)

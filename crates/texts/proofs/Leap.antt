@@ -1,5 +1,4 @@
--- The days before a year, by 365 a year and a count of leap years, for any year.
--- Assumes nothing.
+-- Laws of the days before a year: 365 a year and a count of leap years, for any year.
 use Rattle.texts.proofs.Names.{_≡_, refl, Bool, true, false, not, _&&_, _||_, cond, ℕ, zero, suc, _+_, _-_, _*_, _/_, _%_, _<_, _≤_, mod-lt, suc-mul, div-add-mod', le-div-iff-mul-le, div-lt-iff-lt-mul, arith, eqb}
 use Rattle.texts.proofs.Names.{lit<, eqb-true, eqb-false, daysOfYears, daysBeforeYear}
 use Rattle.texts.proofs.Months.{year-days}
@@ -25,7 +24,7 @@ multiples m p h false e =
 
 -- ---- leap years
 
--- A year has a day more than 365 where the count of leap years grows.
+-- A year has more than 365 days exactly if the count of leap years grows.
 leap-day : (year : ℕ) (a b c : Bool) → eqb (year % 4) 0 ≡ a → eqb (year % 100) 0 ≡ b → eqb (year % 400) 0 ≡ c
     → 365 + cond (a && (not b || c)) 1 0 + cond b 1 0 ≡ 365 + (cond a 1 0 + cond c 1 0)
 leap-day year true true true ea eb ec = refl

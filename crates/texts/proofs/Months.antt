@@ -1,13 +1,12 @@
 -- Laws of months and years, for any year.
--- Assumes nothing.
 use Rattle.texts.proofs.Names.{_≡_, refl, sym, ap, subst, _∙_, Bool, true, false, _&&_, cond, List, [], _∷_, foldr, ℕ, zero, suc, _+_, _-_, _*_, _≤_, zero-le, suc-le-suc, arith, T, leb, leb→le, getD, take, leap}
 use Rattle.texts.proofs.Names.{monthLengths, monthLength, daysOfYear, daysOfYears, daysBeforeYear, daysBeforeMonth}
 use Rattle.texts.proofs.Below.{below, at, first, second}
 use Rattle.texts.proofs.Rising.{risen}
 
--- ---- two sorts of year
+-- ---- leap years and others
 
--- A leap year, and another.
+-- One leap year, and one other year.
 abbrev pub model : Bool → ℕ
 model true = 2000
 model false = 1999

@@ -1,5 +1,5 @@
--- What rises passes a number once: one law for the days before a year and for the days before a month.
--- Assumes nothing.
+-- A law of rising sequences: they pass a number once.
+-- It serves the days before a year and before a month.
 use Rattle.texts.proofs.Names.{_≡_, sym, subst, ⊎-elim, ℕ, zero, suc, _<_, _≤_, le-refl, le-trans, eq-or-lt-of-le, le-of-suc-le-suc, arith, by-contra}
 
 module _ (f : ℕ → ℕ) (rises : (k : ℕ) → f k ≤ f (suc k)) where

@@ -1,5 +1,4 @@
--- Lists that are the same, byte by byte.
--- Assumes nothing.
+-- Laws of equal lists, byte by byte.
 use Rattle.texts.proofs.Names.{_≡_, refl, sym, subst, Bool, true, false, List, [], _∷_, ℕ, _+_, _≤_, _<_, add-one, T, eqb, eqb→eq, length, getD, drop, drop-of-length-le, drop-cons, eq-eqb, ne-eqb, same}
 use Rattle.texts.proofs.Below.{first, second}
 
@@ -20,7 +19,7 @@ not-same a b differ = by (same a b) refl
     by true e = absurd (differ (same-eq a b (subst T (sym e) tt)))
     by false e = e
 
--- a turn of a comparison, and its stop at bytes that differ
+-- One step of a comparison, and its end at bytes that differ.
 pub same-on : (a b : List ℕ) (i : ℕ) → i < length a → i < length b → getD a i 0 ≡ getD b i 0 → same (drop i a) (drop i b) ≡ same (drop (i + 1) a) (drop (i + 1) b)
 same-on a b i ha hb e = rw (add-one, drop-cons a i 0 ha, drop-cons b i 0 hb, eq-eqb _ _ e)
 

@@ -1,5 +1,4 @@
--- Text and codes turned into each other and back.
--- Assumes nothing.
+-- Laws of text and codes: each is turned into the other and back.
 use Rattle.texts.proofs.Names.{_≡_, refl, sym, ap, subst, _∙_, _⊎_, inl, inr, ⊎-elim, Bool, true, false, not, _&&_, _||_, cond, or-true, List, ℕ, _<_, _≤_, arith, eqb, ltb, leb, length, pos, leb-false, eq-eqb}
 use Rattle.texts.proofs.Names.{ne-eqb, eqb-true, eqb-false, ltb-false, lt-ltb, le-ltb, Outcome, good, refused, _>>_, _>>=_, refuse_if_, noSuch, wrongSort, outOfRange, Refusal, no-value, neither, Whole, Plain}
 use Rattle.texts.proofs.Names.{allOnes, encode, lettersText, dateText, texted, textOf, same, whoseText, codeOf, OnlyCode, codeIfShown}
@@ -10,7 +9,8 @@ use Rattle.texts.proofs.Whose.{whose-one, whose-text}
 
 -- ---- a field whose codes are plain numbers
 
--- Its width, least and greatest code, whether all ones is missing, and the length and the texts of its codes, no two alike.
+-- The width, the least and greatest code, whether all ones is
+-- missing, and the length and texts of the codes, all different.
 pub record Plainly (field : ℕ) : Type 0 where
   pub width : ℕ
   pub least : ℕ
@@ -70,14 +70,14 @@ module _ {field : ℕ} (p : Plainly field) where
   settled t code false false b eo ea eb =
       absurd (omega (arith, p .fits, leb-false code (allOnes (p .width)) ea, ltb-false (p .greatest) code (neither (ltb code (p .least)) (ltb (p .greatest) code) eo .1)))
 
-  -- the code of a text is the only one that it can be, if that one has this text
+  -- The code of a text is the only one that can have it, if that one does.
   pub code-shown : (t : List ℕ) (code : ℕ) → length t ≡ p .long → OnlyCode (p .text) t (allOnes (p .width)) code → codeOf field t ≡ codeIfShown field code t
   unfolding codeIfShown
   code-shown t code e only =
       rw (code-is t e, text-is code, whose-one (p .text) t (outOfRange field) (allOnes (p .width)) code only _ _ refl refl)
       (settled t code (outside-of code) (leb code (allOnes (p .width))) (same (p .text code) t) refl refl refl)
 
-  -- a text that there is: the code is in range, and it is that code's
+  -- If a code has a text, it is in range, and the text is its own.
   text-held : (code : ℕ) (t : List ℕ) → textOf field code ≡ good t → (code ≤ allOnes (p .width)) × (p .text code ≡ t)
   text-held code t e = by (outside-of code) refl (sym (text-is code) ∙ e)
     where

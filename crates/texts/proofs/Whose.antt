@@ -1,5 +1,4 @@
--- The code whose text it is, where only one can have it.
--- Assumes nothing.
+-- Laws of the code of a text, if only one can have it.
 use Rattle.texts.proofs.Names.{_≡_, refl, sym, ap, subst, _∙_, ⊎-elim, Bool, true, false, _&&_, cond, List, ℕ, zero, suc, _≤_, zero-le, le-refl, le-of-suc-le-suc, eq-or-lt-of-le, arith, T, leb, leb-true}
 use Rattle.texts.proofs.Names.{leb-false, Outcome, good, refused, Refusal, no-value, same, whoseText, OnlyCode}
 use Rattle.texts.proofs.Same.{same-refl, same-eq, not-same}
@@ -33,7 +32,7 @@ module _ (f : ℕ → List ℕ) (text : List ℕ) where
   whose-text r zero code e = this-or-next 0 code (refused r) _ refl e no-value
   whose-text r (suc n) code e = this-or-next (suc n) code (whoseText f text (refused r) n) _ refl e (whose-text r n code)
 
-  -- the one code that can have the text has it, or none has
+  -- The one code that can have the text has it, or none has.
   pub whose-one : (r : Refusal) (n code : ℕ) → OnlyCode f text n code → (a b : Bool) → leb code n ≡ a → same (f code) text ≡ b → whoseText f text (refused r) n ≡ cond (a && b) (good code) (refused r)
   whose-one r n code only true true ea eb = whose-good (refused r) n code (leb-true code n ea) (same-eq (f code) text (subst T (sym eb) tt)) only
   whose-one r n code only true false ea eb =

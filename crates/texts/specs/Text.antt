@@ -1,4 +1,5 @@
--- Document 01, "Layout" and "Turning down": text and codes turned into each other by value. Order: 8, 9, 10.
+-- Document 01, "Layout" and "Turning down": "Text and codes
+-- are turned by value into each other." Order: 8, 9, 10.
 use mathlib.Core.Bool.{Bool, true, false, not, _&&_, cond}
 use mathlib.Core.List.{List, [], _∷_, _++_}
 use Prim.Native.Nat.{ℕ, zero, suc, _-_}
@@ -7,10 +8,10 @@ use lib.ListN.{length, replicate}
 use lib.IntN.{pos}
 use Rattle.refusal.specs.Outcome.{Outcome, good, refused, _>>_, _>>=_, refuse_if_}
 use Rattle.refusal.specs.Rows.{noSuch, wrongSort, outOfRange}
-use Rattle.fields.specs.declared.Value.the-variants.{Whole}
-use Rattle.fields.specs.declared.Row.{Row}
-use Rattle.fields.specs.Rules.{allOnes, encode}
-use Rattle.fields.specs.Rows.{versionLetter, calDate, calInitials}
+use Rattle.codes.specs.declared.Value.the-variants.{Whole}
+use Rattle.codes.specs.declared.Row.{Row}
+use Rattle.codes.specs.Rules.{allOnes, encode}
+use Rattle.templates.specs.Rows.{versionLetter, calDate, calInitials}
 use Rattle.texts.specs.declared.Text.{Text}
 use Rattle.texts.specs.declared.TextAnswer.the-variants.{Length, Refused}
 use Rattle.texts.specs.declared.CodeAnswer.{CodeAnswer}
@@ -24,7 +25,7 @@ pub record Texted : Type 0 where
   pub length : ℕ
   pub textOf : ℕ → List ℕ
 
--- One character for field 3, ten for 18, three for 19; no other field has a text.
+-- "one character for field 3, three for 19", ten for 18; no other field has a text.
 abbrev pub texted : ℕ → Outcome Texted
 texted field =
     cond (eqb field 3) (good (record { row = versionLetter; length = 1; textOf = lettersText 1 }))
@@ -60,7 +61,7 @@ codeOf field text = do
 
 -- ---- the answers
 
--- The characters with zeros behind them, and how many they are; or document 01's number and place, and zeros.
+-- The characters, then zeros, and their number; or document 01's number and place, and zeros.
 abbrev pub textSaid : Outcome (List ℕ) → Text
 textSaid (good text) = record { answer = Length (length text); characters = text ++ replicate (10 - length text) 0 }
 textSaid (refused r) = record { answer = Refused r; characters = replicate 10 0 }

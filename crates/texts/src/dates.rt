@@ -1,5 +1,5 @@
-// Date codes as dates and text, and back. The way back tests no character: it gives the only code that can have the text, and
-// the caller compares that code's text with it.
+// Date codes to dates and text, and back. The way back tests no character: it returns
+// the only code that can have the text, and the caller compares that code's text.
 ghost use mathlib.Core.Path.{_≡_};
 ghost use Prim.Native.Nat.{ℕ, _+_, _-_, _*_, _%_, _<_, _≤_};
 ghost use lib.ListN.{length, getD};
@@ -13,7 +13,7 @@ struct Date {
     day: u64,
 }
 
-// Whether a year is a leap year: every fourth, of the hundredth ones only the four hundredth.
+// Whether a year is a leap year: divisible by 4, but not by 100 unless by 400.
 fn leap(year: u64) -> bool
     ensures { λ r. ⌜ r ≡ leapYear year ⌝ }
 {
@@ -26,7 +26,8 @@ fn leap(year: u64) -> bool
     year % 400 == 0
 }
 
-// The days from 1 January 1998 to that of a year: 365 a year, and one for each leap year since. Up to 1997 there are 484.
+// The days from 1 January 1998 to 1 January of a year: 365 a year,
+// and one for each leap year. Up to 1997 there are 484 leap years.
 fn days_before_year(year: u64) -> u64
     requires { ⌜ (1998 ≤ year) × (year < 10_000) ⌝ }
     ensures { λ r. ⌜ r ≡ daysBeforeYear year ⌝ }
@@ -38,7 +39,7 @@ fn days_before_year(year: u64) -> u64
 // The days of a year that is no leap year before each month, January first.
 const DAYS_BEFORE: [u16; 12] = [0, 31, 59, 90, 120, 151, 181, 212, 243, 273, 304, 334];
 
-// The days of a leap year, or of another, before a month: from March on a leap year has one more.
+// The days before a month: from March on a leap year has one more.
 fn days_before_month(month: u64, long: bool) -> u64
     requires { ⌜ (1 ≤ month) × (month ≤ 12) ⌝ }
     ensures { λ r. ⌜ ((year : ℕ) → leapYear year ≡ long → r ≡ daysBeforeMonth year month) ⌝ }
@@ -65,7 +66,8 @@ fn year_of(code: u64) -> u64
     year
 }
 
-// The month of a day of a year, the days counted from 0: the last one whose first day is not after it.
+// The month of a day of the year, days counted from
+// 0: the last month whose first day is not after it.
 fn month_of(year: u64, day: u64) -> u64
     requires { ⌜ day < daysOfYear year ⌝ }
     ensures { λ r. ⌜ (1 ≤ r) × (r ≤ 12) × (daysBeforeMonth year r ≤ day) × (day < daysBeforeMonth year (r + 1)) ⌝ }
@@ -120,7 +122,7 @@ pub fn text_of(code: u64) -> [u8; 10]
     ]
 }
 
-// What a character is above the digit 0, and 0 below it.
+// How far a character is above the digit 0; 0 if it is below.
 fn figure(character: u8) -> u64
     ensures { λ r. ⌜ r ≡ character - 48 ⌝ }
 {
@@ -130,7 +132,7 @@ fn figure(character: u8) -> u64
     (character - 48) as u64
 }
 
-// The number that two digits say.
+// The number that two digits spell.
 fn two_digits(text: &[u8], at: usize) -> u64
     requires { ⌜ at + 1 < length (now text) ⌝ }
     ensures { λ r. ⌜ r ≡ 10 * (getD (now (text .entry)) at 0 - 48) + (getD (now (text .entry)) (at + 1) 0 - 48) ⌝ }
@@ -138,11 +140,11 @@ fn two_digits(text: &[u8], at: usize) -> u64
     10 * figure(text[at]) + figure(text[at + 1])
 }
 
-// All ones, which no date is stored as.
+// All ones, the code of no date.
 const NO_DATE: u64 = 65_535;
 
-// The only code that can have this date; `NO_DATE` for a year, month or day that no code has. A 30 February counts on into
-// March: that code has another date.
+// The only code that can have this date; `NO_DATE` for a year, month or day that
+// no code has. 30 February counts on into March: that code has another date.
 fn day_code(year: u64, month: u64, day: u64) -> u64
     ensures { λ r. ⌜ OnlyCode dateOf (record { year = year; month = month; day = day }) 65_535 r ⌝ }
 {

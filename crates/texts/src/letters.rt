@@ -1,5 +1,5 @@
-// Letter codes as text and back. The way back gives the only code that can have the text, and the caller compares that code's
-// text with it.
+// Letter codes to text and back. The way back returns the only code
+// that can have the text, and the caller compares that code's text.
 ghost use mathlib.Core.Path.{_≡_};
 ghost use mathlib.Core.List.{_++_};
 ghost use Prim.Native.Nat.{_%_, _<_};
@@ -65,7 +65,7 @@ fn letter_code(character: u8) -> u64
     0
 }
 
-// The text of one letter, with zeros behind it.
+// The text of one letter, then zeros.
 pub fn one_text(code: u64) -> [u8; 10]
     ensures { λ r. ⌜ r ≡ lettersText 1 code ++ replicate 9 0 ⌝ }
 {
@@ -73,7 +73,7 @@ pub fn one_text(code: u64) -> [u8; 10]
     [a, 0, 0, 0, 0, 0, 0, 0, 0, 0]
 }
 
-// The text of three letters, first lowest, with zeros behind them.
+// The text of three letters, first lowest, then zeros.
 pub fn three_text(code: u64) -> [u8; 10]
     ensures { λ r. ⌜ r ≡ lettersText 3 code ++ replicate 7 0 ⌝ }
 {

@@ -1,5 +1,4 @@
-// Document 01, "Layout": letters and dates as text and back, by value. Every function is proved, nothing is assumed, and
-// neither call asks anything of its caller.
+// Document 01, "Layout": letters and dates to text and back, by value. No call has a `requires`.
 ghost use mathlib.Core.Path.{_≡_};
 ghost use Rattle.refusal.specs.Outcome.{refused};
 ghost use Rattle.texts.specs.Text.{textOf, textSaid, same, codeOf, codeSaid};
@@ -10,13 +9,13 @@ mod letters; // letters.rt: letters and their text
 
 use refusal::Refusal;
 
-// The text of a code: how many characters it has, or the refusal.
+// The length of a code's text, or the refusal.
 pub enum TextAnswer {
     Length(u64),
     Refused(Refusal),
 }
 
-// An enum holds no array: the characters stand beside the answer, with zeros behind them.
+// The answer, and the characters beside it, since an enum holds no array. Zeros follow the text.
 pub struct Text {
     pub answer: TextAnswer,
     pub characters: [u8; 10],
@@ -28,8 +27,8 @@ pub enum CodeAnswer {
     Refused(Refusal),
 }
 
-// The text of a code that the field can hold and that does not mean missing: one letter for field 3, a date for 18, three
-// letters for 19. Else 8, for another field, or 10, with the field as place.
+// The text of a code that the field can hold and that does not mean missing: one letter for field
+// 3, a date for 18, three letters for 19. Else 8 for another field, or 10, with the field as place.
 pub fn text_of(field: u64, code: u64) -> Text
     ensures { λ r. ⌜ r ≡ textSaid (textOf field code) ⌝ }
 {
@@ -69,8 +68,8 @@ pub fn text_of(field: u64, code: u64) -> Text
     no_text(refusal::no_such(field))
 }
 
-// The code whose text this is, if the field can hold it. Else 8, for another field than 3, 18 and 19, then 9, for a text of
-// another length than the field's, or 10, with the field as place.
+// The code whose text this is, if the field can hold it. Else 8 for a field other than 3, 18
+// and 19; then 9 for a text of another length than the field's; or 10. The place is the field.
 pub fn code_of(field: u64, text: &[u8]) -> CodeAnswer
     ensures { λ r. ⌜ codeSaid r ≡ codeOf field (now (text .entry)) ⌝ }
 {
@@ -95,7 +94,8 @@ pub fn code_of(field: u64, text: &[u8]) -> CodeAnswer
     CodeAnswer::Refused(refusal::no_such(field))
 }
 
-// A code, if this is its text. Else 10, with the field as place: so is turned down whatever is no text of a code.
+// A code, if this is its text; else 10 with the field
+// as place. This refuses every text that no code has.
 fn code_if_shown(field: u64, code: u64, text: &[u8]) -> CodeAnswer
     ensures { λ r. ⌜ codeSaid r ≡ codeIfShown field code (now (text .entry)) ⌝ }
 {
@@ -131,7 +131,7 @@ pub fn equal(a: &[u8], b: &[u8]) -> bool
     true
 }
 
-// A refusal, and zeros.
+// The answer for a refusal: no characters, ten zeros.
 fn no_text(r: Refusal) -> Text
     ensures { λ t. ⌜ t ≡ textSaid (refused r) ⌝ }
 {

@@ -1,4 +1,4 @@
--- What an answered call says of its images.
+-- Laws of an accepted call and its images.
 use Rattle.writing.proofs.Names.{_≡_, sym, _∙_, not, List, ℕ, zero, suc, _%_, _≤_, arith, eqb, length, Refusal, good, refused, wrongImage, good-same, no-value, good-bind, passed, bind-good, bind-refused, Sizes}
 use Rattle.writing.proofs.Names.{sizesOf, imageBytes, imageSizes, SumsRight, sizes-chip, sums-right, Contents, contents, contents-accepted, Summary, check, summary, Step, step, nextRow, Fits}
 
@@ -27,7 +27,7 @@ kind-pages kind bytes z e some = go kind (kind-sizes kind bytes z e) some
     go (suc (suc zero)) d h = rw (← good-same d) (omega arith)
     go (suc (suc (suc k))) d h = no-value d
 
--- What an accepted check and the sizes of what the chip holds come to.
+-- What follows from an accepted check and the sizes of the chip's image.
 pub record Asked (z : Sizes) (present wanted : List ℕ) : Type 0 where
   pub fits : Fits z present wanted
   pub right : SumsRight z wanted
@@ -55,7 +55,7 @@ module _ (kind : ℕ) (present wanted : List ℕ) (s : Summary) (z : Sizes) (acc
         right = sums-right z wanted (rw one at (a .summed));
       }
 
--- An answered call: what it went by.
+-- An accepted call: its sizes and its step.
 pub record Called (kind : ℕ) (present wanted : List ℕ) (x : Step) : Type 0 where
   pub sizes : Sizes
   pub shown : Summary

@@ -1,4 +1,4 @@
--- What the code does, in the terms of the definitions.
+-- Laws of the code: it computes what the definitions say.
 use Rattle.writing.proofs.Names.{_≡_, refl, sym, ap, _∙_, Bool, true, false, not, _&&_, cond, true≢false, List, [], _∷_, _++_, ℕ, zero, suc, _+_, _-_, _*_, _/_, _%_, _≤_, _<_, arith, add-one, ℕ-discrete, eqb, ltb}
 use Rattle.writing.proofs.Names.{length, take, drop, getD, set, length-drop, length-take-le, getD-take, getD-drop, ext-getD, take-all, take-set-lt, drop-set-add, eq-eqb, ne-eqb, Sizes, imageBytes, total, pageSum}
 use Rattle.writing.proofs.Names.{total-append, count, last, row, rows, checkRow, coveredRows, written, same, differing, lastRow, lastOther, raised, done, writeRow, addsUp, raiseBy, sumAhead, onePage, unsealed}
@@ -32,7 +32,7 @@ pub row-bytes : (l : List ℕ) (r : ℕ) → 8 * r + 8 ≤ length l →
     ≡ row r l
 row-bytes l r h = eight l (8 * r) h
 
--- ---- whether a row is the same
+-- ---- comparing a row
 
 module _ (p w : List ℕ) (end i : ℕ) (h : i < end) where
   same-left : end - i ≡ suc (end - (i + 1))
@@ -63,7 +63,7 @@ count-le test (suc n) = go (test n) (count-le test n)
 pub tally-more : (p w : List ℕ) (check i : ℕ) (t : Tally) (b : Bool) → t ≡ tallyTo p w check i → b ≡ same p w 8 (8 * i) → tallied t i check (not b) ≡ tallyTo p w check (i + 1)
 tally-more p w check i t b e f = rw (e, f, add-one i)
 
--- The same where every byte is looked at: alike so far, and the rest.
+-- A row of which every byte is compared: equal so far, and the rest.
 module _ (p w : List ℕ) (end i : ℕ) (a b : Bool) {x : Bool} (so-far : (a && same p w (end - i) i) ≡ x) where
   pub alike-stop : i < end → (getD p i 0 ≡ getD w i 0 → ⊥) → b ≡ false → (b && same p w (end - (i + 1)) (i + 1)) ≡ x
   alike-stop h n e = rw e (sym (and-false a) ∙ ap (λ s. a && s) (sym (same-stop p w end i h n)) ∙ so-far)
@@ -135,7 +135,7 @@ last-here test n i h e f = let (some, is) = go n h f in rw (ne-eqb (count test n
         at (yes d) ih = rw (d, e) (λ x. omega arith, refl)
         at (no d) ih = let (some, is) = ih (omega arith) (λ k l m. f k l (omega arith)) in rw (f n (omega arith) (omega arith)) (λ x. some (omega arith), is)
 
--- What holds from r on and at r - 1 holds from r - 1 on.
+-- A property from r on that also holds at r - 1 holds from r - 1 on.
 pub behind-more : (P : ℕ → Type 0) (r n : ℕ) → 0 < r → ((k : ℕ) → r ≤ k → k < n → P k) → P (r - 1) → (k : ℕ) → r - 1 ≤ k → k < n → P k
 behind-more P r n some behind here k h l = go (ℕ-discrete (r - 1) k)
   where
@@ -171,7 +171,7 @@ sum-row p w r e h = omega (arith, parts w, parts p, ap total (whole-row p p r re
 reduced : (m n : ℕ) → (m + n % 256) % 256 ≡ (m + n) % 256
 reduced m n = omega arith
 
--- What is left without one part, with another for it; modulo 256.
+-- A sum with one part replaced by another, modulo 256.
 exchanged : (rest part whole other new : ℕ) → (rest + part) % 256 ≡ whole % 256 → new + part ≡ whole + other → (rest + other) % 256 ≡ new % 256
 exchanged rest part whole other new e f = omega arith
 
@@ -184,7 +184,7 @@ sum-exchanged own less a b s whole part other new e f g h i j =
 pub part-row : (l : List ℕ) (r : ℕ) → total (take (8 * r + 8 - 8 * r) (drop (8 * r) l)) ≡ total (row r l)
 part-row l r = let e : 8 * r + 8 - 8 * r ≡ 8 = omega arith in ap (λ (n : ℕ). total (take n (drop (8 * r) l))) e
 
--- One page is all of the image.
+-- In an image of one page, its check byte covers all.
 pub all-covered : (z : Sizes) (l : List ℕ) → length l ≡ imageBytes z → 1 ≤ z .pages → z .pages < 2 → pageSum z l 0 ≡ total l % 256
 all-covered z l e one two = ap (λ (x : List ℕ). total x % 256) (take-all (z .register + 32) l (omega arith))
 

@@ -1,4 +1,4 @@
--- The numbers below n that a test holds of.
+-- Laws of the numbers below n for which a test holds.
 use Rattle.writing.proofs.Names.{_≡_, refl, sym, ap, _∙_, Bool, true, false, not, _&&_, cond, true≢false, _⊎_, inl, inr, ℕ, zero, suc, _+_, _≤_, _<_, arith, ℕ-discrete, decLt, eqb, eq-eqb, ne-eqb, count, last}
 
 abbrev pub None : (ℕ → Bool) → ℕ → Type 0
@@ -9,7 +9,7 @@ pub record Last (test : ℕ → Bool) (n i : ℕ) : Type 0 where
   pub holds : test i ≡ true
   pub behind : (k : ℕ) → i < k → k < n → test k ≡ false
 
--- What holds below n and at n holds below n + 1.
+-- A property below n that also holds at n holds below n + 1.
 more : (P : ℕ → Type 0) (n k : ℕ) → P n → (k < n → P k) → k < suc n → P k
 more P n k here before h = go (ℕ-discrete n k)
   where
@@ -34,7 +34,7 @@ last-is test n h = go (last-or test n)
     go (inl o) = o
     go (inr o) = absurd (h o)
 
--- Where none is from k on, the last is below.
+-- If the test holds for no number from k on, the last is below k.
 pub last-below : (test : ℕ → Bool) (n k : ℕ) → 0 < k → ((i : ℕ) → k ≤ i → i < n → test i ≡ false) → last test n < k
 last-below test zero k h f = h
 last-below test (suc n) k h f = go (test n) refl (last-below test n k h (λ i l m. f i l (omega arith))) (decLt n k)
@@ -48,13 +48,13 @@ pub last-same : (s t : ℕ → Bool) (n : ℕ) → ((k : ℕ) → s k ≡ t k) �
 last-same s t zero f = refl
 last-same s t (suc n) f = rw (f n, last-same s t n f)
 
--- ---- how many
+-- ---- the count
 
 pub count-same : (s t : ℕ → Bool) (n : ℕ) → ((k : ℕ) → k < n → s k ≡ t k) → count s n ≡ count t n
 count-same s t zero f = refl
 count-same s t (suc n) f = rw (f n (omega arith), count-same s t n (λ k h. f k (omega arith)))
 
--- Tests that are the same but at r.
+-- Tests that agree except at r.
 pub count-change : (s t : ℕ → Bool) (r n : ℕ) → ((k : ℕ) → (k ≡ r → ⊥) → s k ≡ t k) → r < n → count s n + cond (t r) 1 0 ≡ count t n + cond (s r) 1 0
 count-change s t r zero f h = absurd (omega arith)
 count-change s t r (suc n) f h = go (ℕ-discrete n r) (count-change s t r n f)
@@ -63,7 +63,7 @@ count-change s t r (suc n) f h = go (ℕ-discrete n r) (count-change s t r n f)
     go (yes e) ih = rw (e, count-same s t r (λ k l. f k (λ x. omega arith))) (omega arith)
     go (no e) ih = rw (f n e) (omega (arith, ih (omega arith)))
 
--- By one at most; and where it goes, by one.
+-- The counts differ by at most one, and by exactly one if only t holds at r.
 pub count-near : (s t : ℕ → Bool) (r n : ℕ) → ((k : ℕ) → (k ≡ r → ⊥) → s k ≡ t k) → r < n → count s n ≤ count t n + 1
 count-near s t r n f h = omega (arith, count-change s t r n f h, bit (s r))
   where
@@ -91,7 +91,7 @@ count-none test (suc n) e k h = go (test n) refl (λ z. count-none test n z k)
         let z : 0 + count test n ≡ 0 = sym (ap (λ b. cond b 1 0 + count test n) d) ∙ e in
         more (λ i. test i ≡ false) n k d (ih (omega arith)) h
 
--- All but one of the numbers that a test holds of.
+-- The test without one number.
 but : (ℕ → Bool) → ℕ → ℕ → Bool
 but test i k = test k && not (eqb k i)
 

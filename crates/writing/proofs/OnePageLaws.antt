@@ -1,4 +1,4 @@
--- A step of one page: what the chip holds after it, and how many are left.
+-- Laws of a step with one page: what the chip holds after it, and how many steps are left.
 use Rattle.writing.proofs.Names.{_≡_, refl, sym, ap, _∙_, Bool, true, false, not, _&&_, cond, true≢false, List, _⊎_, inl, inr, ℕ, _+_, _-_, _*_, _/_, _%_, _≤_, _<_, arith, ℕ-discrete, eqb, ltb, length, getD}
 use Rattle.writing.proofs.Names.{ext-getD, ltb-true, eqb-true, eqb-false, eq-eqb, ne-eqb, not-true, le-ltb, both, neither, Sizes, Bytes, pageSum, count, row, rows, checkRow, written, differs, differing, lastRow}
 use Rattle.writing.proofs.Names.{lastOther, raised, Step, done, write, writeRow, addsUp, raiseBy, sumAhead, onePage, after, Changes, Fits}
@@ -48,7 +48,7 @@ raise-some s t = go (addsUp s t 1) (addsUp s t 2)
 
 -- ---- a step
 
--- The rows that differ, but for the check byte's.
+-- The rows that differ, other than the check byte's.
 pub others : Sizes → List ℕ → List ℕ → ℕ → Bool
 others z p w r = differs p w r && not (eqb r (checkRow z))
 
@@ -176,7 +176,7 @@ module _ (z : Sizes) (p w : List ℕ) (fits : Fits z p w) where
     unfolding sumAhead
     moved-wrong e n = adds-not s t 0 e .1 (omega arith)
 
-    -- With the check byte raised, the image ahead is the same with it raised.
+    -- Raising the check byte raises the sum ahead as much.
     invalid-ahead : (d : ℕ) → sumAhead z (invalid d) w ≡ (t + d) % 256
     unfolding sumAhead
     invalid-ahead d =
@@ -215,7 +215,7 @@ module _ (z : Sizes) (p w : List ℕ) (fits : Fits z p w) where
         not-adds (pageSum z (invalid (raiseBy s t)) 0) (sumAhead z (invalid (raiseBy s t)) w) 0
         (λ x. a (omega (arith, x, invalid-sum (raiseBy s t)))) (λ x. b (omega (arith, x, invalid-ahead (raiseBy s t))))
 
-  -- ---- what a step comes to
+  -- ---- the result of a step
 
   pub one-page-safe : (after (onePage z p w) p ≡ w) ⊎ (pageSum z (after (onePage z p w) p) 0 ≡ 0 → ⊥)
   one-page-safe =

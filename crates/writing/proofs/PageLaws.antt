@@ -1,4 +1,4 @@
--- A byte raised, the sums of pages 0 and 1, and the rows of images that fit.
+-- Laws of a raised byte, of the sums of pages 0 and 1, and of the rows of images that fit.
 use Rattle.writing.proofs.Names.{_≡_, refl, sym, ap, _∙_, List, ℕ, _+_, _-_, _*_, _/_, _%_, _≤_, _<_, arith, ℕ-discrete, decLt, length, take, drop, getD, set, length-set, length-drop, List·getD-eq-default}
 use Rattle.writing.proofs.Names.{length-take-le, ext-getD, getD-take, getD-drop, getD-set-same, getD-set-other, Outcome, good, refused, Sizes, Bytes, imageBytes, pageAt, total, pageSum, sums, sums-right, row}
 use Rattle.writing.proofs.Names.{rows, checkRow, written, differs, differing, raised, Refuses, Fits}
@@ -7,7 +7,7 @@ use Rattle.writing.proofs.RowLaws.{over-length, over-in, over-out, alik
 
 -- ---- one byte
 
--- The images are the same, but at a place.
+-- The images are equal except at one offset.
 abbrev pub But : ℕ → List ℕ → List ℕ → Type 0
 But at l m = (i : ℕ) → (i ≡ at → ⊥) → getD l i 0 ≡ getD m i 0
 
@@ -22,7 +22,7 @@ but-total l m at e h f = omega (arith, total-set l at (getD m at 0) h, ap total 
         go i k (yes d) = rw d (getD-set-same l at (getD m at 0) 0 h)
         go i k (no d) = getD-set-other l at i (getD m at 0) 0 d ∙ f i k d
 
--- Of a part's bytes one is told by its sum and the others.
+-- One byte of a part is determined by the sum and the other bytes.
 module _ (l m : List ℕ) (e : length l ≡ length m) (a n at : ℕ) (room : a + n ≤ length l) (low : a ≤ at) (high : at < a + n) (f : But at l m) where
   part-at : (k : List ℕ) (i : ℕ) → i < n → getD (take n (drop a k)) i 0 ≡ getD k (a + i) 0
   part-at k i h = getD-take n (drop a k) i 0 h ∙ getD-drop a k i 0
@@ -51,7 +51,7 @@ module _ (z : Sizes) (l m : List ℕ) (e : length l ≡ length m) (room : z .reg
   pub second-told : But (pageAt z 1) l m → pageSum z l 1 ≡ 0 → pageSum z m 1 ≡ 0 → getD l (pageAt z 1) 0 % 256 ≡ getD m (pageAt z 1) 0 % 256
   second-told f = one-told l m e (pageAt z 1) 32 (pageAt z 1) (omega arith) (omega arith) (omega arith) f
 
-  -- Page 1's sum is told by its bytes.
+  -- Page 1's sum depends only on its bytes.
   pub second-same : ((i : ℕ) → pageAt z 1 ≤ i → i < pageAt z 1 + 32 → getD l i 0 ≡ getD m i 0) → pageSum z l 1 ≡ pageSum z m 1
   second-same f =
       ap (λ (x : List ℕ). total x % 256)
@@ -122,7 +122,7 @@ raised-sum z l room d =
     below : (i : ℕ) → i < length (part (raised l (z .register) d)) → i < z .register + 32
     below i h = omega (arith, long (raised l (z .register) d) (raised-length l (z .register) d))
 
--- Images that are the same but at a place, and there.
+-- Images that are equal except at one offset, and there too, are equal.
 pub but-same : (l m : List ℕ) (at : ℕ) → length l ≡ length m → But at l m → getD l at 0 ≡ getD m at 0 → l ≡ m
 but-same l m at e f d = ext-getD 0 l m e (λ i h. go i (ℕ-discrete i at))
   where
@@ -139,7 +139,7 @@ written-bytes r t l e h bt bl i = go (ℕ-discrete (i / 8) r)
     go (yes d) = omega (arith, over-in r t l e h i d, bt i)
     go (no d) = omega (arith, over-out r t l e h i d, bl i)
 
--- Where a row is all that differs, writing it is all.
+-- If only one row differs, writing it makes the images equal.
 pub whole-row : (p t : List ℕ) (q : ℕ) → length t ≡ length p → 8 * q + 8 ≤ length p → ((i : ℕ) → i < length p → (i / 8 ≡ q → ⊥) → getD t i 0 ≡ getD p i 0)
     → written q (row q t) p ≡ t
 whole-row p t q e h f = ext-getD 0 _ t (over-length q t p e h ∙ sym e) (λ i l. go i (omega (arith, over-length q t p e h)) (ℕ-discrete (i / 8) q))
@@ -174,6 +174,6 @@ module _ (z : Sizes) (p w : List ℕ) (fits : Fits z p w) where
   pub not-yet : (differing z p w ≡ 0 → ⊥) → p ≡ w → ⊥
   not-yet n e = n (rw e (same-none z w))
 
-  -- With its length alone an image fits.
+  -- An image of the same length fits too.
   pub refit : (x : List ℕ) → length x ≡ length p → Fits z x w
   refit x e = record { held = e ∙ fits .held; asked = fits .asked; paged = fits .paged; few = fits .few; most = fits .most; whole = fits .whole }

@@ -1,4 +1,4 @@
--- Rows: the bytes of an image with a row written, and which rows differ.
+-- Laws of rows: the bytes of an image after a row is written, and which rows differ.
 use Rattle.writing.proofs.Names.{_≡_, refl, sym, ap, _∙_, true, false, not, List, [], _∷_, _++_, ℕ, zero, suc, _+_, _-_, _*_, _/_, _%_, _≤_, _<_, arith, ℕ-discrete, decLt, eqb, length, take, drop, getD, set}
 use Rattle.writing.proofs.Names.{length-append, length-drop, length-take, length-take-le, getD-take, getD-drop, ext-getD, eqb-true, eq-eqb, not-false, both, Sizes, total, pageSum, getD-front, getD-past, row}
 use Rattle.writing.proofs.Names.{written, same, differs}
@@ -29,7 +29,7 @@ module _ (r : ℕ) (t l : List ℕ) (alike : length t ≡ length l) (h : 8 * r +
   past : (i : ℕ) → 8 * r ≤ i → getD over i 0 ≡ getD (row r t ++ drop (8 * r + 8) l) (i - 8 * r) 0
   past i h = getD-past (take (8 * r) l) (row r t ++ drop (8 * r + 8) l) (8 * r) i front-length h
 
-  -- A byte of the row, and any other.
+  -- A byte of the row, and a byte of any other row.
   pub over-in : (i : ℕ) → i / 8 ≡ r → getD (written r (row r t) l) i 0 ≡ getD t i 0
   over-in i e =
       let b : i - 8 * r < 8 = omega arith in
@@ -48,7 +48,7 @@ module _ (r : ℕ) (t l : List ℕ) (alike : length t ≡ length l) (h : 8 * r +
           past i (omega arith) ∙ getD-past (row r t) (drop (8 * r + 8) l) 8 (i - 8 * r) row-length m
           ∙ getD-drop (8 * r + 8) l (i - 8 * r - 8) 0 ∙ ap (λ (j : ℕ). getD l j 0) f
 
--- A byte of two rows that are the same.
+-- A byte of two equal rows.
 pub row-byte : (p w : List ℕ) (r : ℕ) → row r p ≡ row r w → (i : ℕ) → i / 8 ≡ r → getD p i 0 ≡ getD w i 0
 row-byte p w r e i d = sym (one p) ∙ ap (λ (l : List ℕ). getD l (i - 8 * r) 0) e ∙ one w
   where
@@ -85,7 +85,7 @@ module _ (p w : List ℕ) where
   pub differs-not : (r : ℕ) → ((i : ℕ) → i / 8 ≡ r → getD p i 0 ≡ getD w i 0) → differs p w r ≡ false
   differs-not r f = rw (true-same 8 (8 * r) (λ k h l. f k (omega arith)))
 
--- Whether a row differs is told by its bytes.
+-- Whether a row differs depends only on its bytes.
 same-same : (p q w : List ℕ) (n i : ℕ) → ((k : ℕ) → i ≤ k → k < i + n → getD p k 0 ≡ getD q k 0) → same p w n i ≡ same q w n i
 unfolding same
 same-same p q w zero i f = refl
@@ -94,7 +94,7 @@ same-same p q w (suc n) i f = rw (f i (omega arith) (omega arith), same-same p q
 pub differs-same : (p q w : List ℕ) (r : ℕ) → ((i : ℕ) → i / 8 ≡ r → getD p i 0 ≡ getD q i 0) → differs p w r ≡ differs q w r
 differs-same p q w r f = ap not (same-same p q w 8 (8 * r) (λ k h l. f k (omega arith)))
 
--- So is whether it differs from another.
+-- Whether it differs from another image depends only on that image's bytes.
 pub same-to : (p u w : List ℕ) (n i : ℕ) → ((k : ℕ) → i ≤ k → k < i + n → getD u k 0 ≡ getD w k 0) → same p u n i ≡ same p w n i
 unfolding same
 same-to p u w zero i f = refl
@@ -105,7 +105,7 @@ differs-to p u w r f = ap not (same-to p u w 8 (8 * r) (λ k h l. f k (omega ari
 
 -- ---- page 0's sum
 
--- It is told by the bytes that the check byte covers.
+-- Page 0's sum depends only on the bytes that its check byte covers.
 pub first-same : (z : Sizes) (l m : List ℕ) → length l ≡ length m → ((i : ℕ) → i < z .register + 32 → getD l i 0 ≡ getD m i 0) → pageSum z l 0 ≡ pageSum z m 0
 first-same z l m e f =
     ap (λ (x : List ℕ). total x % 256)

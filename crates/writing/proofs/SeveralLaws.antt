@@ -1,15 +1,17 @@
--- A severalPages step: what the chip holds after it, torn or whole, and how many are left.
+-- Laws of a step with several pages: what the chip holds
+-- after it, torn or whole, and how many steps are left.
 use Rattle.writing.proofs.Names.{_≡_, refl, sym, ap, _∙_, Bool, true, false, not, _&&_, cond, true≢false, List, _⊎_, inl, inr, ℕ, _+_, _-_, _*_, _/_, _%_, _≤_, _<_, arith, ℕ-discrete, eqb, ltb, length, getD}
 use Rattle.writing.proofs.Names.{ext-getD, ltb-true, ltb-false, lt-ltb, eqb-true, eqb-false, eq-eqb, ne-eqb, both, Sizes, Bytes, imageBytes, pageAt, pageSum, SumsRight, row, rows, checkRow, written, differs}
 use Rattle.writing.proofs.Names.{differing, coveredRows, raised, Step, done, write, writeRow, lastRow, unsealed, invalidateFirst, severalPages, after, Changes, Torn, Refuses, WantedOrRefused, Fits}
 use Rattle.writing.proofs.NumberLaws.{Last, last-is, last-below, count-near, count-less, count-false}
 use Rattle.writing.proofs.RowLaws.{row-length, over-length, over-in, over-out, row-byte, alike, differs-not, differs-same, differs-to, first-same}
-use Rattle.writing.proofs.PageLaws.{But, first-told, second-told, second-same, refused-by, raised-length, raised-other, raised-differs, raised-sum, raised-bytes, written-bytes, but-same, whole-row, same-none, alike-length, row-below, row-room, check-below, none-differs, not-yet}
+use Rattle.writing.proofs.PageLaws.{But, first-told, second-told, second-same, refused-by, raised-length, raised-other, raised-differs, raised-sum, raised-bytes, written-bytes, but-same, whole-row, same-none}
+use Rattle.writing.proofs.PageLaws.{alike-length, row-below, row-room, check-below, none-differs, not-yet}
 
 -- ---- a row, torn
 
 module _ (r : ℕ) (t p x : List ℕ) (e : length t ≡ length p) (h : 8 * r + 8 ≤ length p) (torn : Torn p (written r (row r t) p) x) where
-  -- A byte of another row stays, and one that is there already.
+  -- A byte of another row keeps its value, and so does one that is already right.
   torn-out : (i : ℕ) → (i / 8 ≡ r → ⊥) → getD x i 0 ≡ getD p i 0
   torn-out i n = torn .stays i (over-out r t p e h i n)
 
@@ -20,7 +22,7 @@ module _ (r : ℕ) (t p x : List ℕ) (e : length t ≡ length p) (h : 8 * r + 8
       go (yes k) = torn .stays i (over-in r t p e h i k ∙ d)
       go (no k) = torn-out i k
 
--- Where the row is another only at a place, so is the image.
+-- If the row differs only at one offset, so does the image.
 one-torn : (r at : ℕ) (t p x : List ℕ) → length t ≡ length p → 8 * r + 8 ≤ length p → But at t p → Torn p (written r (row r t) p) x → But at x p
 one-torn r at t p x e h f torn i n = torn-same r t p x e h torn i (f i n)
 
@@ -47,7 +49,7 @@ module _ (z : Sizes) (w : List ℕ) where
 pub severalLeft : Sizes → List ℕ → List ℕ → ℕ
 severalLeft z w p = cond (eqb (differing z p w) 0) 0 (1 + differing z p (unsealed z w) + cond (invalidateFirst z p (unsealed z w)) 2 0)
 
--- Where page 0 does not add up, it need not be invalid.
+-- If page 0 does not add up, it need not be made invalid first.
 wrong-ready : (z : Sizes) (p t : List ℕ) → (pageSum z p 0 ≡ 0 → ⊥) → invalidateFirst z p t ≡ false
 unfolding invalidateFirst
 wrong-ready z p t n = rw (ne-eqb (pageSum z p 0) 0 n) (go (not (ltb (lastRow z p t) (coveredRows z))))
@@ -68,7 +70,7 @@ module _ (z : Sizes) (p w : List ℕ) (fits : Fits z p w) (two : 2 ≤ z .pages)
   pub target-fits : Fits z p (unsealed z w)
   target-fits = record { held = fits .held; asked = unsealed-length z w ∙ fits .asked; paged = fits .paged; few = fits .few; most = fits .most; whole = fits .whole }
 
-  -- By its cases.
+  -- A step, by its cases.
   pub by-cases : (P : Step → Type 0) → (p ≡ w → P done) → ((p ≡ w → ⊥) → p ≡ unsealed z w → P (writeRow w (coveredRows z)))
       → ((p ≡ w → ⊥) → (p ≡ unsealed z w → ⊥) → invalidateFirst z p (unsealed z w) ≡ true → P (writeRow (raised p (z .register) 1) (checkRow z)))
       → ((p ≡ w → ⊥) → (p ≡ unsealed z w → ⊥) → invalidateFirst z p (unsealed z w) ≡ false → P (writeRow (unsealed z w) (lastRow z p (unsealed z w)))) → P (severalPages z p w)
@@ -97,7 +99,7 @@ module _ (z : Sizes) (p w : List ℕ) (fits : Fits z p w) (two : 2 ≤ z .pages)
   unfolding invalidateFirst
   invalidate-sum e = eqb-true (pageSum z p 0) 0 (both (not (ltb (lastRow z p (unsealed z w)) (coveredRows z))) (eqb (pageSum z p 0) 0) e .1)
 
-  -- The row that is next.
+  -- The next row.
   module _ (n : p ≡ unsealed z w → ⊥) where
     abbrev r : ℕ
     r = lastRow z p (unsealed z w)
@@ -109,11 +111,11 @@ module _ (z : Sizes) (p w : List ℕ) (fits : Fits z p w) (two : 2 ≤ z .pages)
     r-room : 8 * r + 8 ≤ length p
     r-room = row-room z p w fits r (next-row .below)
 
-    -- What is behind it is there.
+    -- What is after the row is already right.
     behind : (i : ℕ) → i < imageBytes z → r < i / 8 → getD p i 0 ≡ getD (unsealed z w) i 0
     behind i l h = alike p (unsealed z w) (i / 8) (next-row .behind (i / 8) h (row-below z p w fits i l)) i refl
 
-    -- Where page 0 need not be invalid, the row is of page 0, or page 0 does not add up.
+    -- If page 0 need not be made invalid, the row is in page 0, or page 0 does not add up.
     pub ready : invalidateFirst z p (unsealed z w) ≡ false → (r < coveredRows z) ⊎ ((coveredRows z ≤ r) × (pageSum z p 0 ≡ 0 → ⊥))
     unfolding invalidateFirst
     ready e = go (ltb r (coveredRows z)) refl (eqb (pageSum z p 0) 0) refl
@@ -123,7 +125,7 @@ module _ (z : Sizes) (p w : List ℕ) (fits : Fits z p w) (two : 2 ≤ z .pages)
         go false d false f = inr (ltb-false r (coveredRows z) d, eqb-false (pageSum z p 0) 0 f)
         go false d true f = absurd (true≢false (sym (rw (d, f)) ∙ e))
 
-    -- In an image with the other rows as they are, page 0 is as it was, or all behind it as it is to be.
+    -- In an image with the other rows unchanged, page 0 is unchanged, or all after it is as wanted.
     module _ (x : List ℕ) (long : length x ≡ length p) (out : (i : ℕ) → (i / 8 ≡ r → ⊥) → getD x i 0 ≡ getD p i 0) where
       pub kept : coveredRows z ≤ r → pageSum z x 0 ≡ pageSum z p 0
       kept h = first-same z x p long (λ i l. out i (λ e. omega (arith, fits .whole)))
@@ -179,7 +181,7 @@ module _ (z : Sizes) (p w : List ℕ) (fits : Fits z p w) (two : 2 ≤ z .pages)
             (refused-by z x 0 (omega arith)
             (λ t. d (omega (arith, first-told z x p (torn .long) (omega (arith, room, torn .long)) but t s, torn .bytes (z .register), bp (z .register))))))
 
-    -- Whatever a torn row leaves is what was there, the image, or refused.
+    -- A torn row leaves what was there, the wanted image, or a refused one.
     pub several-safe : Torn p (after (severalPages z p w) p) x → (x ≡ p) ⊎ ((x ≡ w) ⊎ Refuses z x)
     several-safe =
         by-cases (λ s. Torn p (after s p) x → (x ≡ p) ⊎ ((x ≡ w) ⊎ Refuses z x)) (λ e torn. inl (ext-getD 0 x p (torn .long) (λ i h. torn .stays i refl)))
@@ -188,7 +190,7 @@ module _ (z : Sizes) (p w : List ℕ) (fits : Fits z p w) (two : 2 ≤ z .pages)
   pub several-room : (differing z p (unsealed z w) ≡ 0 → ⊥) → 8 * lastRow z p (unsealed z w) + 8 ≤ length p
   several-room n = r-room (not-yet z p (unsealed z w) target-fits n)
 
-  -- ---- what a whole row leaves
+  -- ---- the result of a whole row
 
   last-done : p ≡ unsealed z w → written (coveredRows z) (row (coveredRows z) w) p ≡ w
   last-done e =
@@ -217,7 +219,7 @@ module _ (z : Sizes) (p w : List ℕ) (fits : Fits z p w) (two : 2 ≤ z .pages)
       (λ n m e. written-bytes (checkRow z) invalid p (raised-length p (z .register) 1) check-room (raised-bytes p (z .register) 1 bp) bp)
       (λ n m e. written-bytes (r m) (unsealed z w) p target-length (r-room m) (raised-bytes w (pageAt z 1) 1 bw) bp)
 
-  -- ---- how many rows differ
+  -- ---- the number of rows that differ
 
   invalid-rows : differing z invalid (unsealed z w) ≤ differing z p (unsealed z w) + 1
   invalid-rows =
@@ -348,7 +350,7 @@ module _ (z : Sizes) (p w : List ℕ) (fits : Fits z p w) (two : 2 ≤ z .pages)
         λ d. true≢false (sym (next-row z p w fits two m .holds) ∙ differs-not p (unsealed z w) (r z p w fits two m) (row-byte p (unsealed z w) (r z p w fits two m) d)),
       ))
 
-  -- Whatever a whole row leaves is the image, or refused.
+  -- A whole row leaves the wanted image, or a refused one.
   pub several-whole : SumsRight z w → WantedOrRefused z w (after (severalPages z p w) p)
   several-whole right =
       by-cases z p w fits two (λ s. WantedOrRefused z w (after s p)) (λ e. inl e) (λ n e. inl (last-done z p w fits two e))

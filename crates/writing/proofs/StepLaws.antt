@@ -1,4 +1,4 @@
--- A step, by the number of pages.
+-- Laws of a step, by the number of pages.
 use Rattle.writing.proofs.Names.{_≡_, refl, Bool, true, false, cond, List, _⊎_, inl, inr, ℕ, _+_, _-_, _*_, _≤_, arith, ltb, length, ltb-false, le-ltb, Sizes, Bytes, pageSum, SumsRight, differing, done, onePage}
 use Rattle.writing.proofs.Names.{severalPages, step, after, Changes, Torn, WantedOrRefused, Fits}
 use Rattle.writing.proofs.PageLaws.{refused-by, refit}

@@ -1,4 +1,4 @@
--- The call's answer; and what only inner contracts need.
+-- The answer of `next_row`; and what only inner contracts need.
 use mathlib.Core.Path.{_≡_}
 use mathlib.Core.Bool.{Bool, not, _&&_, cond}
 use mathlib.Core.List.{List}
@@ -14,7 +14,7 @@ use Rattle.writing.specs.declared.rows.Tally.{Tally}
 use Rattle.writing.specs.Numbers.{count, last}
 use Rattle.writing.specs.Steps.{Step, done, write, differs}
 
--- A row by its first byte's offset; zeros where nothing is to be written.
+-- A row by its first byte's offset; zeros if nothing is to be written.
 abbrev pub answered : Outcome Step → NextRow
 answered (good done) = record { answer = Done; offset = 0; bytes = replicate 8 0 }
 answered (good (write r bytes)) = record { answer = Write; offset = 8 * r; bytes = bytes }
@@ -29,7 +29,8 @@ pub record Fits (z : Sizes) (present wanted : List ℕ) : Type 0 where
   pub most : imageBytes z ≤ 512
   pub whole : z .register % 8 ≡ 0
 
--- Of the first n rows, those that differ: how many, the last, and the last but for the check byte's.
+-- Of the first n rows, those that differ: their number, the
+-- last one, and the last one other than the check byte's.
 abbrev pub tallyTo : List ℕ → List ℕ → ℕ → ℕ → Tally
 tallyTo present wanted check n = record {
   rows = count (differs present wanted) n;
@@ -37,10 +38,10 @@ tallyTo present wanted check n = record {
   other = last (λ r. differs present wanted r && not (eqb r check)) n;
 }
 
--- With one row more, row i, which differs or not.
+-- The tally with one more row, row i, which differs or not.
 abbrev pub tallied : Tally → ℕ → ℕ → Bool → Tally
 tallied t i check differs = record { rows = cond differs 1 0 + t .rows; last = cond differs i (t .last); other = cond (differs && not (eqb i check)) i (t .other) }
 
--- 0 where a test holds of none of the numbers below n, else one more than the last it holds of.
+-- 0 if a test holds for no number below n, else one more than the last for which it holds.
 abbrev pub behindLast : (ℕ → Bool) → ℕ → ℕ
 behindLast test n = cond (eqb (count test n) 0) 0 (1 + last test n)

@@ -1,4 +1,4 @@
--- What a chip holds once a step is carried out, whole or torn.
+-- What a chip holds after a step, carried out whole or torn.
 use mathlib.Core.Path.{_≡_}
 use mathlib.Core.List.{List}
 use mathlib.Core.Logic.{_⊎_}
@@ -15,13 +15,14 @@ abbrev pub after : Step → List ℕ → List ℕ
 after done image = image
 after (write r bytes) image = written r bytes image
 
--- A write that was cut off: a byte that was not to change is as it was, any other is any byte.
+-- A write that was cut off: a byte that the write does
+-- not change keeps its value; any other may be any byte.
 pub record Torn (before after image : List ℕ) : Type 0 where
   pub long : length image ≡ length before
   pub bytes : Bytes image
   pub stays : (i : ℕ) → getD after i 0 ≡ getD before i 0 → getD image i 0 ≡ getD before i 0
 
--- What is written is a row of the image, of 8 bytes, and is not there yet.
+-- The step writes a row of the image, 8 bytes that differ from what is there.
 abbrev pub Changes : Sizes → List ℕ → Step → Type 0
 Changes z image done = Unit {0}
 Changes z image (write r bytes) = (r < rows z) × (length bytes ≡ 8) × (row r image ≡ bytes → ⊥)

@@ -1,5 +1,6 @@
-// How an image is written to a chip, a row of 8 bytes at a time, so that a chip pulled on the way is refused: the next row, from
-// what the chip holds and what it is to hold. Nothing is kept between calls, and `next_row` asks nothing of its caller.
+// Writes an image to a chip one row of 8 bytes at a time, so that a chip pulled out
+// halfway is refused. `next_row` computes the next row from what the chip holds and
+// what it shall hold. Nothing is kept between calls, and `next_row` has no `requires`.
 ghost use mathlib.Core.Path.{_≡_};
 ghost use mathlib.Core.Bool.{not, _&&_};
 ghost use Prim.Native.Nat.{_+_, _^_, _≤_, _<_};
@@ -17,21 +18,22 @@ use memory::SizesAnswer;
 use refusal::Refusal;
 use sheet::Checked;
 
+// The chip holds the image, a row is to be written, or the call is refused.
 pub enum Answer {
     Done,
     Write,
     Refused(Refusal),
 }
 
-// Of `Write`, the row's offset in the image and its bytes; else zeros.
+// With `Write`, the row's offset in the image and its bytes; else zeros.
 pub struct NextRow {
     pub answer: Answer,
     pub offset: usize,
     pub bytes: [u8; 8],
 }
 
-// The next row to write to a chip that holds `present`, so that it comes to hold `wanted`; or that it does. Else the check's refusal of
-// `wanted`, or 1 for the length of `present`.
+// The next row to write to a chip that holds `present`, so that it will hold `wanted`; or
+// `Done` if it does. Else the check's refusal of `wanted`, or 1 for the length of `present`.
 pub fn next_row(kind: u8, present: &[u8], wanted: &[u8]) -> NextRow
     ensures { λ r. ⌜ r ≡ answered (nextRow kind (now (present .entry)) (now (wanted .entry))) ⌝ }
 {
@@ -149,7 +151,7 @@ fn several_pages(sizes: Sizes, present: &[u8], wanted: &[u8]) -> NextRow
     write(last, rows::raised_row(wanted, second, 1, last))
 }
 
-// Whether page 0 adds up, and the row is behind it.
+// Whether page 0 adds up, and the row is after it.
 fn invalidate_first(sizes: Sizes, present: &[u8], row: usize) -> bool
     requires { ⌜ (sizes .register ≤ 8) × (sizes .register + 32 ≤ length (now present)) ⌝ }
     ensures { λ r. ⌜ r ≡ (not (ltb row (coveredRows sizes)) && eqb (pageSum sizes (now (present .entry)) 0) 0) ⌝ }

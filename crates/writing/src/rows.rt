@@ -9,13 +9,14 @@ ghost use Rattle.writing.specs.Steps.{row, rows, checkRow, written, same
 ghost use Rattle.writing.specs.Answers.{Fits, tallyTo, tallied, behindLast};
 use memory::Sizes;
 
-// The rows that differ: how many, the last, and the last but for the check byte's.
+// The rows that differ: their number, the last one, and the last one other than the check byte's.
 pub struct Tally {
     pub rows: usize,
     pub last: usize,
     pub other: usize,
 }
 
+// The 8 bytes of row r.
 pub fn row_of(image: &[u8], r: usize) -> [u8; 8]
     requires { ⌜ 8 * r + 8 ≤ length (now image) ⌝ }
     ensures { λ b. ⌜ b ≡ row r (now (image .entry)) ⌝ }
@@ -33,7 +34,7 @@ pub fn row_of(image: &[u8], r: usize) -> [u8; 8]
     ]
 }
 
-// A row of the image with the byte at an offset higher by d.
+// A row of the image with the byte at offset `at` raised by d.
 pub fn raised_row(image: &[u8], at: usize, d: u8, r: usize) -> [u8; 8]
     requires { ⌜ 8 * r + 8 ≤ length (now image) ⌝ }
     ensures { λ b. ⌜ b ≡ row r (raised (now (image .entry)) at d) ⌝ }
@@ -47,7 +48,8 @@ pub fn raised_row(image: &[u8], at: usize, d: u8, r: usize) -> [u8; 8]
     bytes
 }
 
-// All eight are looked at, so that the compiler compares them at once.
+// Whether a row is equal in both images. Compares all
+// eight bytes, so that the compiler does it at once.
 fn same_row(present: &[u8], wanted: &[u8], r: usize) -> bool
     requires { ⌜ (8 * r + 8 ≤ length (now present)) × (8 * r + 8 ≤ length (now wanted)) ⌝ }
     ensures { λ b. ⌜ b ≡ same (now (present .entry)) (now (wanted .entry)) 8 (8 * r) ⌝ }
@@ -64,7 +66,7 @@ fn same_row(present: &[u8], wanted: &[u8], r: usize) -> bool
     alike
 }
 
-// Byte i of the image with the byte at an offset one higher.
+// Byte i of the image with the byte at offset `at` raised by 1.
 fn raised_byte(image: &[u8], at: usize, i: usize) -> u8
     requires { ⌜ i < length (now image) ⌝ }
     ensures { λ r. ⌜ r ≡ getD (raised (now (image .entry)) at 1) i 0 ⌝ }
@@ -75,7 +77,7 @@ fn raised_byte(image: &[u8], at: usize, i: usize) -> u8
     image[i]
 }
 
-// Whether a row is that of the other image with the byte at an offset one higher.
+// Whether a row of `present` equals that of `wanted` with the byte at offset `at` raised by 1.
 fn same_raised(present: &[u8], wanted: &[u8], at: usize, r: usize) -> bool
     requires { ⌜ (8 * r + 8 ≤ length (now present)) × (8 * r + 8 ≤ length (now wanted)) ⌝ }
     ensures { λ b. ⌜ b ≡ same (now (present .entry)) (raised (now (wanted .entry)) at 1) 8 (8 * r) ⌝ }
@@ -94,6 +96,7 @@ fn same_raised(present: &[u8], wanted: &[u8], at: usize, r: usize) -> bool
     true
 }
 
+// Whether no row differs.
 pub fn all_same(present: &[u8], wanted: &[u8]) -> bool
     requires { ⌜ length (now present) ≡ length (now wanted) ⌝ }
     ensures { λ b. ⌜ b ≡ eqb (count (differs (now (present .entry)) (now (wanted .entry))) (length (now (present .entry)) / 8)) 0 ⌝ }
@@ -109,7 +112,8 @@ pub fn all_same(present: &[u8], wanted: &[u8]) -> bool
     true
 }
 
-// One more than the last row that is not that of the other image with the byte at an offset one higher; 0 if there is none.
+// One more than the last row of `present` that differs from `wanted`
+// with the byte at offset `at` raised by 1; 0 if none does.
 pub fn behind_last(present: &[u8], wanted: &[u8], at: usize) -> usize
     requires { ⌜ length (now present) ≡ length (now wanted) ⌝ }
     ensures { λ n. ⌜ n ≡ behindLast (differs (now (present .entry)) (raised (now (wanted .entry)) at 1)) (length (now (present .entry)) / 8) ⌝ }
@@ -145,6 +149,7 @@ fn with_row(t: Tally, i: usize, check: usize, differs: bool) -> Tally
     t
 }
 
+// The rows of the two images that differ.
 pub fn tally_rows(sizes: Sizes, present: &[u8], wanted: &[u8]) -> Tally
     requires { ⌜ Fits sizes (now present) (now wanted) ⌝ }
     ensures { λ r. ⌜ r ≡ tallyTo (now (present .entry)) (now (wanted .entry)) (checkRow sizes) (rows sizes) ⌝ }
@@ -164,7 +169,7 @@ pub fn tally_rows(sizes: Sizes, present: &[u8], wanted: &[u8]) -> Tally
     t
 }
 
-// The sum of what page 0's check byte covers.
+// The sum of the bytes that page 0's check byte covers.
 pub fn first_sum(sizes: Sizes, image: &[u8]) -> u8
     requires { ⌜ (sizes .register ≤ 8) × (sizes .register + 32 ≤ length (now image)) ⌝ }
     ensures { λ r. ⌜ r ≡ pageSum sizes (now (image .entry)) 0 ⌝ }
@@ -173,7 +178,7 @@ pub fn first_sum(sizes: Sizes, image: &[u8]) -> u8
     memory::sum(&image[..end])
 }
 
-// The sum of an image with one row as in another, from its own.
+// The sum of `present` with one row as in `wanted`, from its own sum.
 pub fn sum_with(own: u8, present: &[u8], wanted: &[u8], r: usize) -> u8
     requires { ⌜ (own ≡ total (now present) % 256) × (length (now wanted) ≡ length (now present)) × (8 * r + 8 ≤ length (now present)) ⌝ }
     ensures { λ s. ⌜ s ≡ total (written r (row r (now (wanted .entry))) (now (present .entry))) % 256 ⌝ }

@@ -60,7 +60,7 @@ def sheet_for(code, text):
     by = fields.Around(33, code, 0)
     first = (low if least[1] else f"{low} {greatest[1]}") if low else f"0 {greatest[1]}"
     sheet.values[7], sheet.values[8] = (FIELDS[33][6].parsed(end, by, "--span") for end in (first, high))
-    if sheet.values[7] == sheet.values[8] or math.inf in (sheet.values[7], sheet.values[8]):
+    if sheet.values[7] == sheet.values[8] or math.inf in (abs(sheet.values[7]), abs(sheet.values[8])):
         raise misused(f"--span: '{text}' is no span")
     return sheet
 

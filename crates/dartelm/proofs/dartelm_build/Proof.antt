@@ -1,7 +1,5 @@
--- `dartelm_build` meets its contract.
--- Assumes nothing.
 use Rattle.dartelm.proofs.Names.{needs, ap, ap₂, _∙_, Domain, Sheet, Options, build, levelOf}
-use Rattle.dartelm.proofs.Telling.{tells-written}
+use Rattle.dartelm.proofs.Answering.{answers-written}
 use Rattle.dartelm.proofs.Handing.{handed-sheet}
 use Rattle.dartelm.proofs.dartelm_build.Statement.{statement}
 use Rattle.dartelm.proofs.dartelm_build.Tie as tie
@@ -12,9 +10,9 @@ returns c =
     let built = c .before .before .before .build-lent in
     let same = built .ensures (levelOf (a .fields .level)) in
     let taken = c .before .before .before .before .before .before .before .before .before .before .before .before .before .before .before .options-of .ensures in
-    tells-written (a .image .now) _ (built .result) (c .wrote .ensures) (same .0) (same .1)
+    answers-written (a .image .now) _ (built .result) (c .wrote .ensures) (same .0) (same .1)
     (ap₂ (λ (s : Sheet) (d : Domain). build (a .kind) (a .image .now) s (a .text .now) d (a .points .now))
-    (handed-sheet (a .fields) taken (c .before .before .before .before .before .before .before .before .before .before .before .spread .ensures))
+    (handed-sheet (a .fields) taken (c .before .before .before .before .before .before .before .before .before .before .before .split-values .ensures))
     (ap (λ (o : Options). o .domain) taken ∙ c .before .before .before .before .before .before .before .before .before .before .before .before .before .before .before .before .domain-of .ensures))
 
 pub dartelm-build-spec : {M : Type 1} → statement M

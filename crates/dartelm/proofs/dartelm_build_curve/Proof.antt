@@ -1,7 +1,5 @@
--- `dartelm_build_curve` meets its contract.
--- Assumes nothing.
 use Rattle.dartelm.proofs.Names.{needs, ap, Sheet, buildCurve, levelOf}
-use Rattle.dartelm.proofs.Telling.{tells-written}
+use Rattle.dartelm.proofs.Answering.{answers-written}
 use Rattle.dartelm.proofs.Handing.{handed-sheet}
 use Rattle.dartelm.proofs.dartelm_build_curve.Statement.{statement}
 use Rattle.dartelm.proofs.dartelm_build_curve.Tie as tie
@@ -11,9 +9,9 @@ returns c =
     let a = c .before .before .before .before .before .before .before .before .before .before .before .before .before .before .before .before .before .before .args in
     let built = c .before .before .before .build-curve-lent in
     let same = built .ensures (levelOf (a .fields .level)) in
-    tells-written (a .image .now) _ (built .result) (c .wrote .ensures) (same .0) (same .1)
+    answers-written (a .image .now) _ (built .result) (c .wrote .ensures) (same .0) (same .1)
     (ap (λ (s : Sheet). buildCurve (a .kind) (a .image .now) s (a .text .now) (a .curve))
-    (handed-sheet (a .fields) (c .before .before .before .before .before .before .before .before .before .before .before .before .before .before .before .options-of .ensures) (c .before .before .before .before .before .before .before .before .before .before .before .spread .ensures)))
+    (handed-sheet (a .fields) (c .before .before .before .before .before .before .before .before .before .before .before .before .before .before .before .options-of .ensures) (c .before .before .before .before .before .before .before .before .before .before .before .split-values .ensures)))
 
 pub dartelm-build-curve-spec : {M : Type 1} → statement M
 dartelm-build-curve-spec =

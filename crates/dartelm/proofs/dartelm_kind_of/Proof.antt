@@ -1,5 +1,3 @@
--- `dartelm_kind_of` meets its contract.
--- Assumes nothing.
 use Rattle.dartelm.proofs.Names.{ne-eqb, imageSizes, kindOf}
 use Rattle.dartelm.proofs.dartelm_kind_of.Statement.{statement}
 use Rattle.dartelm.proofs.dartelm_kind_of.Tie as tie

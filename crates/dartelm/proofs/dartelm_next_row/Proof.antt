@@ -1,5 +1,3 @@
--- `dartelm_next_row` meets its contract.
--- Assumes nothing.
 use Rattle.dartelm.proofs.Names.{needs, nextRow}
 use Rattle.dartelm.proofs.NextRows.{row-refused, row-done, row-written}
 use Rattle.dartelm.proofs.dartelm_next_row.Statement.{statement}

@@ -1,15 +1,7 @@
--- `dartelm_page` meets its contract.
--- Assumes nothing.
 use Rattle.dartelm.proofs.Names.{needs}
 use Rattle.dartelm.proofs.Padding.{page-short, page-told}
 use Rattle.dartelm.proofs.dartelm_page.Statement.{statement}
 use Rattle.dartelm.proofs.dartelm_page.Tie as tie
-
-page-bytes-requires : tie.Need-page-bytes-requires
-page-bytes-requires c κs = search needs
-
-slice-aggregate-copy : tie.Need-slice-aggregate-copy
-slice-aggregate-copy c = search needs
 
 copy-requires : tie.Need-copy-requires
 copy-requires c κs =
@@ -23,4 +15,4 @@ returns c =
 
 pub dartelm-page-spec : {M : Type 1} → statement M
 dartelm-page-spec =
-    tie.close (tie.spec page-bytes-requires slice-aggregate-copy copy-requires returns)
+    tie.close (tie.spec (λ c κs. search needs) (λ c. search needs) copy-requires returns)

@@ -1,24 +1,7 @@
--- `dartelm_text` meets its contract.
--- Assumes nothing.
-use Rattle.dartelm.proofs.Names.{needs, _≡_, sym, ap, [], arith, length, textOf, told, textAnswer}
+use Rattle.dartelm.proofs.Names.{needs, _≡_, sym, ap, [], arith, length, textOf, structOf, textAnswer}
 use Rattle.dartelm.proofs.Padding.{text-refused, text-told}
 use Rattle.dartelm.proofs.dartelm_text.Statement.{statement}
 use Rattle.dartelm.proofs.dartelm_text.Tie as tie
-
-text-of-requires : tie.Need-text-of-requires
-text-of-requires c κs = search needs
-
-enum-known-answer : tie.Need-enum-known-answer
-enum-known-answer c = search needs
-
-enum-known-answer-2 : tie.Need-enum-known-answer-2
-enum-known-answer-2 c = search needs
-
-slice-aggregate-copy : tie.Need-slice-aggregate-copy
-slice-aggregate-copy c = search needs
-
-slice-aggregate-copy-2 : tie.Need-slice-aggregate-copy-2
-slice-aggregate-copy-2 c = search needs
 
 copy-requires : tie.Need-copy-requires
 copy-requires c κs =
@@ -28,7 +11,7 @@ copy-requires c κs =
 returns : tie.Need-returns
 returns c =
     let a = c .before .before .before .before .before .args in
-    sym (ap (told textAnswer []) (text-refused (textOf (a .field) (a .code)) _ _ (c .before .before .before .before .text-of .ensures) (c .before .answer .given .1)))
+    sym (ap (structOf textAnswer []) (text-refused (textOf (a .field) (a .code)) _ _ (c .before .before .before .before .text-of .ensures) (c .before .answer .given .1)))
 
 returns-2 : tie.Need-returns-2
 returns-2 c =
@@ -39,11 +22,11 @@ pub dartelm-text-spec : {M : Type 1} → statement M
 dartelm-text-spec =
     tie.close
     (tie.spec
-    text-of-requires
-    enum-known-answer
-    enum-known-answer-2
-    slice-aggregate-copy
-    slice-aggregate-copy-2
+    (λ c κs. search needs)
+    (λ c. search needs)
+    (λ c. search needs)
+    (λ c. search needs)
+    (λ c. search needs)
     copy-requires
     returns
     returns-2)

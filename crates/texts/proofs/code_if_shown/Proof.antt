@@ -1,5 +1,4 @@
--- `texts::code_if_shown` meets its contract: the characters that the code's text has are compared with the text.
--- Assumes nothing.
+-- The text of the code is compared with the given text.
 use Rattle.texts.proofs.Names.{sym, ap, _∙_, true, false, length-take-le, needs, refused}
 use Rattle.texts.proofs.Answers.{front-of, not-shown, compared}
 use Rattle.texts.proofs.code_if_shown.Statement.{statement}

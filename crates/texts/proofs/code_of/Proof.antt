@@ -1,5 +1,4 @@
--- `texts::code_of` meets its contract: a text of the field's length has the only code that can have it, or none.
--- Assumes nothing.
+-- A text of the field's length has the only code that can have it, or none.
 use Rattle.texts.proofs.Names.{sym, ap, _∙_, needs, refused}
 use Rattle.texts.proofs.Turning.{letter, date, initials, other, wrong-length, code-shown, no-such-code}
 use Rattle.texts.proofs.code_of.Statement.{statement}

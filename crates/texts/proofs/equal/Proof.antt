@@ -1,5 +1,4 @@
--- `texts::equal` meets its contract: what is left to compare from any place on says the same as the whole.
--- Assumes nothing.
+-- The loop's invariant: comparing the rest gives the answer of the whole comparison.
 use Rattle.texts.proofs.Names.{_≡_, refl, sym, ap, _∙_, _≤_, _-_, arith, length, drop, needs, same}
 use Rattle.texts.proofs.Same.{not-same, same-on, same-stop, same-end}
 use Rattle.texts.proofs.equal.Statement.{statement}

@@ -1,5 +1,3 @@
--- `texts::text_of` meets its contract: each answer is the definition's at its field, out of range or in it.
--- Assumes nothing.
 use Rattle.texts.proofs.Names.{sym, ap, zero-le, needs, lettersText, dateText, textSaid}
 use Rattle.texts.proofs.Turning.{letter, date, initials, other, too-low, too-high, in-range, no-such-text}
 use Rattle.texts.proofs.Answers.{no-text}

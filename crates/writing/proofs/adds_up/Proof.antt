@@ -1,4 +1,3 @@
--- `adds_up` meets its contract.
 use Rattle.writing.proofs.Names.{needs, sym, ap, _∙_, ℕ, eqb, eq-eqb, ne-eqb}
 use Rattle.writing.proofs.adds_up.Statement.{statement}
 use Rattle.writing.proofs.adds_up.Tie as tie

@@ -1,4 +1,3 @@
--- `invalidate_first` meets its contract.
 use Rattle.writing.proofs.Names.{needs, ap, ℕ, arith, eqb, lt-ltb, le-ltb, coveredRows}
 use Rattle.writing.proofs.invalidate_first.Statement.{statement}
 use Rattle.writing.proofs.invalidate_first.Tie as tie

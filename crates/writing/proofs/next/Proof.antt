@@ -1,4 +1,3 @@
--- `next` meets its contract.
 use Rattle.writing.proofs.Names.{needs, arith, lt-ltb, le-ltb, step}
 use Rattle.writing.proofs.next.Statement.{statement}
 use Rattle.writing.proofs.next.Tie as tie

@@ -1,4 +1,3 @@
--- `one_page` meets its contract.
 use Rattle.writing.proofs.Names.{needs, _≡_, sym, ap, _∙_, List, ℕ, _≤_, arith, good, row, rows, checkRow, written, differing, raised, write, answered, tallyTo}
 use Rattle.writing.proofs.RowLaws.{over-length}
 use Rattle.writing.proofs.PageLaws.{alike-length}

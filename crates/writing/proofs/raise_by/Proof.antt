@@ -1,4 +1,3 @@
--- `raise_by` meets its contract.
 use Rattle.writing.proofs.Names.{needs, sym, _∙_}
 use Rattle.writing.proofs.raise_by.Statement.{statement}
 use Rattle.writing.proofs.raise_by.Tie as tie

@@ -1,4 +1,3 @@
--- `several_pages` meets its contract.
 use Rattle.writing.proofs.Names.{needs, _≡_, sym, ap, _∙_, List, ℕ, _-_, _/_, arith, eqb, good, count, rows, checkRow, coveredRows, differs, differing, unsealed, write, answered, behindLast}
 use Rattle.writing.proofs.SeveralLaws.{several-room}
 use Rattle.writing.proofs.CodeLaws.{behind-none, behind-some, several-done, several-last, several-invalidate, several-on}

@@ -1,13 +1,12 @@
--- `building::build` meets its contract.
 use Rattle.build.proofs.Names.{needs}
-use Rattle.build.proofs.Spreading.{spread-sheet}
+use Rattle.build.proofs.Splitting.{split-sheet}
 use Rattle.build.proofs.building.build.Statement.{statement}
 use Rattle.build.proofs.building.build.Tie as tie
 
 returns : tie.Need-returns
 returns c =
     let a = c .before .before .before .before .before .before .before .before .before .before .before .before .before .before .before .before .before .args in
-    rw (spread-sheet (a .sheet) (c .before .before .before .before .before .before .before .before .before .before .spread .ensures)) at (c .before .before .build-lent .ensures (a .sheet .level))
+    rw (split-sheet (a .sheet) (c .before .before .before .before .before .before .before .before .before .before .split-values .ensures)) at (c .before .before .build-lent .ensures (a .sheet .level))
 
 pub build-spec : {M : Type 1} → statement M
 build-spec =

@@ -1,5 +1,4 @@
--- `building::build_curve_lent` meets its contract.
-use Rattle.build.proofs.Names.{refl, sym, needs, length, told, written-refused, sizesSaid, sizes-chip, sizes-whole, drawn}
+use Rattle.build.proofs.Names.{refl, sym, needs, length, said-of, written-refused, sizesSaid, sizes-chip, sizes-whole, byCurve}
 use Rattle.build.proofs.BuiltIn.{build-refused, build-sized}
 use Rattle.build.proofs.building.build_curve_lent.Statement.{statement}
 use Rattle.build.proofs.building.build_curve_lent.Tie as tie
@@ -8,20 +7,20 @@ build-curve-in-requires : tie.Need-build-curve-in-requires
 build-curve-in-requires c κs =
     let s = c .before .before .before .before .before .before .before .before .before in
     let a = s .args in
-    let e = sym (told sizesSaid (c .before .before .sizes .given .1) (c .before .before .before .before .image-sizes .ensures)) in
+    let e = sym (said-of sizesSaid (c .before .before .sizes .given .1) (c .before .before .before .before .image-sizes .ensures)) in
     (sizes-whole (a .kind) (a .image .now) _ e, sizes-chip (a .kind) (length (a .image .now)) _ e .most, s .pre)
 
 returns : tie.Need-returns
 returns c level =
     let a = c .before .before .before .before .before .before .before .before .args in
-    let e = sym (told sizesSaid (c .before .r .given .1) (c .before .before .before .image-sizes .ensures)) in
-    written-refused _ refl (build-refused (a .kind) (a .image .now) _ (a .text .now) (drawn (a .curve)) e)
+    let e = sym (said-of sizesSaid (c .before .r .given .1) (c .before .before .before .image-sizes .ensures)) in
+    written-refused _ refl (build-refused (a .kind) (a .image .now) _ (a .text .now) (byCurve (a .curve)) e)
 
 returns-2 : tie.Need-returns-2
 returns-2 c level =
     let a = c .before .before .before .before .before .before .before .before .before .before .before .before .args in
-    let e = sym (told sizesSaid (c .before .before .before .before .before .sizes .given .1) (c .before .before .before .before .before .before .before .image-sizes .ensures)) in
-    rw (build-sized (a .kind) (a .image .now) _ (a .text .now) (drawn (a .curve)) e) (c .before .before .build-curve-in .ensures level)
+    let e = sym (said-of sizesSaid (c .before .before .before .before .before .sizes .given .1) (c .before .before .before .before .before .before .before .image-sizes .ensures)) in
+    rw (build-sized (a .kind) (a .image .now) _ (a .text .now) (byCurve (a .curve)) e) (c .before .before .build-curve-in .ensures level)
 
 pub build-curve-lent-spec : {M : Type 1} → statement M
 build-curve-lent-spec =

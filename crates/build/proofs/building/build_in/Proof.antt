@@ -1,4 +1,3 @@
--- `building::build_in` meets its contract.
 use Rattle.build.proofs.Names.{refl, sym, ap, _∙_, needs, Refused, written-refused, listed}
 use Rattle.build.proofs.Tests.{turned-down, accepted}
 use Rattle.build.proofs.Coding.{packed-none}
@@ -20,7 +19,7 @@ returns-2 c level =
     let t = listed (a .options .domain) (a .points .now) in
     let length = sym (c .before .before .before .before .before .before .before .before .before .before .before .is-wrong-list .ensures) ∙ c .before .before .before .before .before .before .before .before .before .before .if1 .left in
     let right = list-right (a .options .domain) (a .points .now) length in
-    let planned = planned-alike (a .options .template) (a .options .«end_bit») level (a .sorts .now) (a .wholes .now) (a .singles .now) (c .before .before .before .before .before .before .before .before .plan-fields .ensures) in
+    let planned = planned-alike (a .options .template) (a .options .«end_bit») level (a .tags .now) (a .wholes .now) (a .singles .now) (c .before .before .before .before .before .before .before .before .plan-fields .ensures) in
     let fields = fields-good planned (c .before .before .before .before .before .bits .given .1) in
     written-refused _ refl (built-ending (a .sizes) _ (a .text .now) t right fields (turned-down _ (c .before .before .before .check-ending .ensures) (c .before .r2 .given .1)))
 
@@ -31,7 +30,7 @@ returns-3 c level =
     let t = listed (a .options .domain) (a .points .now) in
     let length = sym (c .before .before .before .before .before .before .before .before .before .before .before .before .before .before .is-wrong-list .ensures) ∙ c .before .before .before .before .before .before .before .before .before .before .before .before .before .if1 .left in
     let right = list-right (a .options .domain) (a .points .now) length in
-    let planned = planned-alike (a .options .template) (a .options .«end_bit») level (a .sorts .now) (a .wholes .now) (a .singles .now) (c .before .before .before .before .before .before .before .before .before .before .before .plan-fields .ensures) in
+    let planned = planned-alike (a .options .template) (a .options .«end_bit») level (a .tags .now) (a .wholes .now) (a .singles .now) (c .before .before .before .before .before .before .before .before .before .before .before .plan-fields .ensures) in
     let fields = fields-good planned (c .before .before .before .before .before .before .before .before .bits .given .1) in
     let ends = accepted _ (c .before .before .before .before .before .before .check-ending .ensures) (c .before .before .before .before .enum-told .given .1) in
     written-refused _ refl (built-behind (a .sizes) _ (a .text .now) t right fields ends (turned-down _ (c .before .before .before .check-points .ensures) (c .before .r3 .given .1)))
@@ -54,7 +53,7 @@ returns-4 c level =
     let t = listed (a .options .domain) (a .points .now) in
     let length = sym (c .before .before .before .before .before .before .before .is-wrong-list .ensures) ∙ c .before .before .before .before .before .before .if1 .left in
     let right = list-right (a .options .domain) (a .points .now) length in
-    let planned = planned-alike (a .options .template) (a .options .«end_bit») level (a .sorts .now) (a .wholes .now) (a .singles .now) (c .before .before .before .before .plan-fields .ensures) in
+    let planned = planned-alike (a .options .template) (a .options .«end_bit») level (a .tags .now) (a .wholes .now) (a .singles .now) (c .before .before .before .before .plan-fields .ensures) in
     written-refused _ refl (built-fields (a .sizes) _ (a .text .now) t right (fields-down planned (c .before .r .given .1)))
 
 returns-5 : tie.Need-returns-5
@@ -64,7 +63,7 @@ returns-5 c level =
     let t = listed (a .options .domain) (a .points .now) in
     let length = sym (c .before .before .before .before .before .before .before .before .before .before .before .before .before .before .before .before .before .before .is-wrong-list .ensures) ∙ c .before .before .before .before .before .before .before .before .before .before .before .before .before .before .before .before .before .if1 .left in
     let right = list-right (a .options .domain) (a .points .now) length in
-    let planned = planned-alike (a .options .template) (a .options .«end_bit») level (a .sorts .now) (a .wholes .now) (a .singles .now) (c .before .before .before .before .before .before .before .before .before .before .before .before .before .before .before .plan-fields .ensures) in
+    let planned = planned-alike (a .options .template) (a .options .«end_bit») level (a .tags .now) (a .wholes .now) (a .singles .now) (c .before .before .before .before .before .before .before .before .before .before .before .before .before .before .before .plan-fields .ensures) in
     let fields = fields-good planned (c .before .before .before .before .before .before .before .before .before .before .before .before .bits .given .1) in
     let ends = accepted _ (c .before .before .before .before .before .before .before .before .before .before .check-ending .ensures) (c .before .before .before .before .before .before .before .before .enum-told .given .1) in
     let table = accepted _ (c .before .before .before .before .before .before .before .check-points .ensures) (c .before .before .before .before .before .enum-told2 .given .1) in

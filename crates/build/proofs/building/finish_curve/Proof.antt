@@ -1,4 +1,3 @@
--- `building::finish_curve` meets its contract.
 use Rattle.build.proofs.Names.{sym, ap, _∙_, needs, ltb-true, ltb-false, arith, written-refused, written-done, Refused, streamBits, unpacked, codedCurve}
 use Rattle.build.proofs.BuiltIn.{too-many, inside, fits}
 use Rattle.build.proofs.building.finish_curve.Statement.{statement}

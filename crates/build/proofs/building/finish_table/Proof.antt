@@ -1,4 +1,3 @@
--- `building::finish_table` meets its contract.
 use Rattle.build.proofs.Names.{sym, ap, _∙_, needs, ltb-true, ltb-false, arith, written-refused, written-done, Refused, _/_, length, pairsLent, tablePieces, streamBits, unpacked, piecesOf}
 use Rattle.build.proofs.PairTurns.{table-bits}
 use Rattle.build.proofs.BuiltIn.{table-few, too-many, inside, fits}

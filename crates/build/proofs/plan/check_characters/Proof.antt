@@ -1,4 +1,3 @@
--- `plan::check_characters` meets its contract.
 use Rattle.build.proofs.Names.{_≡_, refl, sym, _∙_, _≤_, _-_, needs, arith, length, drop, unfit}
 use Rattle.build.proofs.TextTurns.{unfit-zero, unfit-above, unfit-next, unfit-end}
 use Rattle.build.proofs.plan.check_characters.Statement.{statement}

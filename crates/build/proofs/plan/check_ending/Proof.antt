@@ -1,4 +1,3 @@
--- `plan::check_ending` meets its contract.
 use Rattle.build.proofs.Names.{needs, add-one, arith, last-most}
 use Rattle.build.proofs.TextTurns.{open-ending, shut-ending, no-ending}
 use Rattle.build.proofs.plan.check_ending.Statement.{statement}

@@ -1,5 +1,4 @@
--- `plan::check_pair` meets its contract.
-use Rattle.build.proofs.Names.{sym, _∙_, needs, told, bind-good, bind-refused, then-good, then-refused, judgedSaid, previousSaid, codesSaid, pairAt}
+use Rattle.build.proofs.Names.{sym, _∙_, needs, said-of, bind-good, bind-refused, then-good, then-refused, judgedSaid, previousSaid, codesSaid, pairAt}
 use Rattle.build.proofs.PairTurns.{codes-then}
 use Rattle.build.proofs.plan.check_pair.Statement.{statement}
 use Rattle.build.proofs.plan.check_pair.Tie as tie
@@ -7,21 +6,21 @@ use Rattle.build.proofs.plan.check_pair.Tie as tie
 returns : tie.Need-returns
 returns c =
     let a = c .before .before .before .before .args in
-    let none = sym (told codesSaid (c .before .r .given .1) (c .before .before .before .code-pair .ensures)) in
+    let none = sym (said-of codesSaid (c .before .r .given .1) (c .before .before .before .code-pair .ensures)) in
     sym (codes-then (a .i) (pairAt (a .points .now) (a .i)) (a .domain) (previousSaid (a .before)) ∙ bind-refused _ none)
 
 returns-2 : tie.Need-returns-2
 returns-2 c =
     let a = c .before .before .before .before .before .before .before .before .args in
-    let codes = sym (told codesSaid (c .before .before .before .before .before .codes .given .1) (c .before .before .before .before .before .before .before .code-pair .ensures)) in
-    let level = sym (told judgedSaid (c .before .r2 .given .1) (c .before .before .before .follows .ensures)) in
+    let codes = sym (said-of codesSaid (c .before .before .before .before .before .codes .given .1) (c .before .before .before .before .before .before .before .code-pair .ensures)) in
+    let level = sym (said-of judgedSaid (c .before .r2 .given .1) (c .before .before .before .follows .ensures)) in
     sym (codes-then (a .i) (pairAt (a .points .now) (a .i)) (a .domain) (previousSaid (a .before)) ∙ bind-good _ codes ∙ then-refused _ level)
 
 returns-3 : tie.Need-returns-3
 returns-3 c =
     let a = c .before .before .before .before .before .before .before .args in
-    let codes = sym (told codesSaid (c .before .before .before .before .codes .given .1) (c .before .before .before .before .before .before .code-pair .ensures)) in
-    let rises = sym (told judgedSaid (c .enum-told .given .1) (c .before .before .follows .ensures)) in
+    let codes = sym (said-of codesSaid (c .before .before .before .before .codes .given .1) (c .before .before .before .before .before .before .code-pair .ensures)) in
+    let rises = sym (said-of judgedSaid (c .enum-told .given .1) (c .before .before .follows .ensures)) in
     sym (codes-then (a .i) (pairAt (a .points .now) (a .i)) (a .domain) (previousSaid (a .before)) ∙ bind-good _ codes ∙ then-good _ rises)
 
 pub check-pair-spec : {M : Type 1} → statement M

@@ -1,5 +1,4 @@
--- `plan::check_points` meets its contract.
-use Rattle.build.proofs.Names.{_≡_, sym, _∙_, _/_, _≤_, _-_, needs, arith, length, told, previousSaid, pairsLent, pairPieces, tablePieces, tested, codesSaid}
+use Rattle.build.proofs.Names.{_≡_, sym, _∙_, _/_, _≤_, _-_, needs, arith, length, said-of, previousSaid, pairsLent, pairPieces, tablePieces, tested, codesSaid}
 use Rattle.build.proofs.PairTurns.{pairsFrom, table-tested, test-refused, test-next, test-end}
 use Rattle.build.proofs.plan.check_points.Statement.{statement}
 use Rattle.build.proofs.plan.check_points.Tie as tie
@@ -14,13 +13,13 @@ abbrev μ-loop : tie.MeasureT-loop
 returns : tie.Need-returns Inv-loop μ-loop
 returns c =
     let l = c .before .before .before .before .before .loop in
-    let r = sym (told codesSaid (c .before .r .given .1) (c .before .before .before .check-pair .ensures)) in
+    let r = sym (said-of codesSaid (c .before .r .given .1) (c .before .before .before .check-pair .ensures)) in
     sym (sym (l .inv .1) ∙ test-refused (c .before .before .before .before .before .before .args .points .now) (l .i) _ (previousSaid (l .before)) (c .before .before .before .before .loop-test .taken) r)
 
 loop-again : tie.Need-loop-again Inv-loop μ-loop
 loop-again c =
     let l = c .before .before .before .before .before .loop in
-    let codes = sym (told codesSaid (c .before .codes .given .1) (c .before .before .before .check-pair .ensures)) in
+    let codes = sym (said-of codesSaid (c .before .codes .given .1) (c .before .before .before .check-pair .ensures)) in
     (omega arith, sym (test-next (c .before .before .before .before .before .before .args .points .now) (l .i) _ (previousSaid (l .before)) (c .before .before .before .before .loop-test .taken) codes) ∙ l .inv .1)
 
 returns-2 : tie.Need-returns-2 Inv-loop μ-loop

@@ -1,4 +1,3 @@
--- `plan::code_at` meets its contract.
 use Rattle.build.proofs.Names.{subst, _+_, arith, needs, rowOf, last-most, Encodes}
 use Rattle.build.proofs.Coding.{quick-encodes}
 use Rattle.build.proofs.plan.code_at.Statement.{statement}

@@ -1,14 +1,13 @@
--- `plan::code_basic` meets its contract.
 use Rattle.build.proofs.Names.{_≤_, _-_, arith, needs, length, basic, FieldsCoded, basic-most}
-use Rattle.build.proofs.Coding.{quick-asked, quick-here, coded-next, coded-same, coded-up, stopped}
+use Rattle.build.proofs.Coding.{quick-asked, quick-here, coded-at, coded-same, stopped}
 use Rattle.build.proofs.plan.code_basic.Statement.{statement}
 use Rattle.build.proofs.plan.code_basic.Tie as tie
 
 abbrev Inv-loop : tie.InvT-loop
-Inv-loop template sorts wholes singles codes₀ end precision₀ i₀ codes precision i = (i ≤ length basic) × FieldsCoded template sorts wholes singles codes precision i
+Inv-loop template tags wholes singles codes₀ end precision₀ i₀ codes precision i = (i ≤ length basic) × FieldsCoded template tags wholes singles codes precision i
 
 abbrev μ-loop : tie.MeasureT-loop
-μ-loop template sorts wholes singles codes₀ end precision₀ i₀ codes precision i = end - i
+μ-loop template tags wholes singles codes₀ end precision₀ i₀ codes precision i = end - i
 
 quick-code-requires : tie.Need-quick-code-requires Inv-loop μ-loop
 quick-code-requires c κs =
@@ -44,5 +43,6 @@ code-basic-spec =
     (λ c. omega arith)
     (λ c. omega arith)
     loop-again
-    (λ c. coded-same (coded-next (c .before .loop .inv .1)) (c .before .before .before .before .before .before .pre))
-    (λ c. let l = c .before .loop in coded-up (l .inv .1) (omega (arith, c .loop-test .left, c .before .before .basic-fields .ensures)) (l .inv .0)))
+    (λ c κs. let l = c .before .before .loop in coded-at (l .inv .1) (omega (arith, l .inv .0, c .before .loop-test .left, c .before .before .before .basic-fields .ensures)))
+    (λ c. coded-same (c .before .before .code-front .ensures) (c .before .before .before .before .before .before .before .before .before .before .pre))
+    (λ c. c .before .before .code-front .ensures))

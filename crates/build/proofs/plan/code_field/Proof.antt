@@ -1,4 +1,3 @@
--- `plan::code_field` meets its contract.
 use Rattle.build.proofs.Names.{arith, needs, last-most}
 use Rattle.build.proofs.Coding.{coded-fits, turn-room, turn-sound, turn-refused, turn-coded}
 use Rattle.build.proofs.plan.code_field.Statement.{statement}

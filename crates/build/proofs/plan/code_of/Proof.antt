@@ -1,4 +1,3 @@
--- `plan::code_of` meets its contract.
 use Rattle.build.proofs.Names.{needs, rowOf, row-sound, lent-real}
 use Rattle.build.proofs.Coding.{encodes}
 use Rattle.build.proofs.plan.code_of.Statement.{statement}

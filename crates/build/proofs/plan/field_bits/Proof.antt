@@ -1,4 +1,3 @@
--- `plan::field_bits` meets its contract.
 use Rattle.build.proofs.Names.{_≡_, ap, _∙_, _+_, _-_, arith, needs, linesOf, lastField, bitsBefore, last-most}
 use Rattle.build.proofs.Coding.{bits-small}
 use Rattle.build.proofs.plan.field_bits.Statement.{statement}

@@ -1,4 +1,3 @@
--- `plan::is_wrong_list` meets its contract.
 use Rattle.build.proofs.Names.{eq-eqb, ne-eqb}
 use Rattle.build.proofs.plan.is_wrong_list.Statement.{statement}
 use Rattle.build.proofs.plan.is_wrong_list.Tie as tie

@@ -1,4 +1,3 @@
--- `plan::packed` meets its contract.
 use Rattle.build.proofs.Names.{ap, _∙_, ℕ, _^_, _<_, arith, bitOr, or-shifted, shl-exact, below-2^32}
 use Rattle.build.proofs.plan.packed.Statement.{statement}
 use Rattle.build.proofs.plan.packed.Tie as tie

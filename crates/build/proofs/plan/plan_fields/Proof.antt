@@ -1,4 +1,3 @@
--- `plan::plan_fields` meets its contract.
 use Rattle.build.proofs.Names.{needs}
 use Rattle.build.proofs.Coding.{coded-none, coded-all, all-refused}
 use Rattle.build.proofs.plan.plan_fields.Statement.{statement}

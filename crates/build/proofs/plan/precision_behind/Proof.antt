@@ -1,4 +1,3 @@
--- `plan::precision_behind` meets its contract.
 use Rattle.build.proofs.Names.{needs}
 use Rattle.build.proofs.plan.precision_behind.Statement.{statement}
 use Rattle.build.proofs.plan.precision_behind.Tie as tie

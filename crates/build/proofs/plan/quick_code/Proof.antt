@@ -1,12 +1,11 @@
--- `plan::quick_code` meets its contract.
-use Rattle.build.proofs.Names.{refl, subst, needs, Told}
+use Rattle.build.proofs.Names.{refl, subst, needs, DirectCode}
 use Rattle.build.proofs.plan.quick_code.Statement.{statement}
 use Rattle.build.proofs.plan.quick_code.Tie as tie
 
 returns : tie.Need-returns
 returns c = record {
   wide = refl;
-  told = subst (λ v. Told (c .before .before .before .before .args .row) v (c .swift .result)) (c .before .value-at .ensures) (c .swift .ensures);
+  direct = subst (λ v. DirectCode (c .before .before .before .before .args .row) v (c .direct-code .result)) (c .before .value-at .ensures) (c .direct-code .ensures);
 }
 
 pub quick-code-spec : {M : Type 1} → statement M

@@ -1,4 +1,3 @@
--- `plan::quick_own` meets its contract.
 use Rattle.build.proofs.Names.{ap, arith, needs, lastField, last-most}
 use Rattle.build.proofs.Coding.{quick-asked, quick-here, row-known}
 use Rattle.build.proofs.plan.quick_own.Statement.{statement}

@@ -1,4 +1,3 @@
--- `write::lay_block` meets its contract.
 use Rattle.build.proofs.Names.{refl, [], needs, arith, blockPieces}
 use Rattle.build.proofs.Filling.{filling-none, joined-inside, joined-more, filled}
 use Rattle.build.proofs.write.lay_block.Statement.{statement}

@@ -1,4 +1,3 @@
--- `write::lay_ending` meets its contract.
 use Rattle.build.proofs.Names.{_≡_, refl, sym, [], _∷_, append-nil, Bool, _+_, _*_, _%_, _^_, needs, arith, bitOr, boolByte, piece}
 use Rattle.build.proofs.BuiltIn.{end-byte, end-lt}
 use Rattle.build.proofs.Filling.{or-behind, filling-none, filling-more, joined-inside, joined-more, filled}

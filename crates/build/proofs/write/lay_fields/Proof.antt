@@ -1,4 +1,3 @@
--- `write::lay_fields` meets its contract.
 use Rattle.build.proofs.Names.{_≡_, refl, _∷_, map, _+_, _-_, _%_, _^_, _≤_, _<_, arith, bitAnd, and-mask, length, getD, slice, fieldPiece, unpack, unpacked, Fitting}
 use Rattle.build.proofs.Coding.{packed-left, packed-fits, packed-long, fields-end}
 use Rattle.build.proofs.Filling.{Gathering, gathering-none, gathering-ready, gathering-put, gather, gather-next, filled}
@@ -12,7 +11,7 @@ Inv-loop sizes image₀ fields first end cursor₀ code₀ width₀ i₀ image c
 abbrev μ-loop : tie.MeasureT-loop
 μ-loop sizes image₀ fields first end cursor₀ code₀ width₀ i₀ image cursor code width i = end - i
 
--- A turn's field, and those behind it.
+-- One turn's field, and those after it.
 turn : (c : tie.After-shared-slice-known2 Inv-loop μ-loop) →
     let a = c .before .before .before .before .before .args in
     let i = c .before .before .loop .i in

@@ -1,5 +1,4 @@
--- `write::lay_pair` meets its contract.
-use Rattle.build.proofs.Names.{_≡_, refl, sym, [], needs, _+_, _*_, _%_, _^_, arith, bitOr, good, told, calPoint, calDeviation, codesFor, codesSaid, Fitting, pairAt, codedPair}
+use Rattle.build.proofs.Names.{_≡_, refl, sym, [], needs, _+_, _*_, _%_, _^_, arith, bitOr, good, said-of, calPoint, calDeviation, codesFor, codesSaid, Fitting, pairAt, codedPair}
 use Rattle.build.proofs.Filling.{or-behind, Filling, filling-none, joined-inside, joined-more, filled}
 use Rattle.build.proofs.PairTurns.{pair-fits}
 use Rattle.build.proofs.write.lay_pair.Statement.{statement}
@@ -7,12 +6,12 @@ use Rattle.build.proofs.write.lay_pair.Tie as tie
 
 -- The pair has its codes.
 coded : (c : tie.After-codes) → let a = c .before .before .before .before .args in codesFor (a .i) (pairAt (a .points .now) (a .i)) ≡ good (c .codes .given .0 .0)
-coded c = sym (told codesSaid (c .codes .given .1) (c .before .before .code-pair .ensures))
+coded c = sym (said-of codesSaid (c .codes .given .1) (c .before .before .code-pair .ensures))
 
 fits : (c : tie.After-codes) → let codes = c .codes .given .0 .0 in Fitting (calPoint .width) (codes .point) × Fitting (calDeviation .width) (codes .deviation)
 fits c = let a = c .before .before .before .before .args in pair-fits (a .i) (pairAt (a .points .now) (a .i)) _ (coded c)
 
--- Nothing of it is laid.
+-- Nothing of the pair is written.
 start : (c : tie.After-codes) →
     let a = c .before .before .before .before .args in
     Filling (a .sizes) (a .image .now) (a .cursor) (codedPair (good (c .codes .given .0 .0))) (a .image .now) (a .cursor) (codedPair (good (c .codes .given .0 .0)))
@@ -30,7 +29,7 @@ append-requires c κs =
 returns : tie.Need-returns
 returns c =
     let s = c .before .before .before .before in
-    let none = sym (told codesSaid (c .enum-told .given .1) (c .before .before .code-pair .ensures)) in
+    let none = sym (said-of codesSaid (c .enum-told .given .1) (c .before .before .code-pair .ensures)) in
     rw none (filled (s .args .sizes) (filling-none _ (rw none at (s .pre .0))))
 
 returns-2 : tie.Need-returns-2

@@ -1,4 +1,3 @@
--- `write::lay_pairs` meets its contract.
 use Rattle.build.proofs.Names.{_≡_, refl, _/_, _≤_, _-_, needs, arith, length, pairsLent, codedPairs}
 use Rattle.build.proofs.Filling.{Filling, filling-none, room-first, filling-more, filled}
 use Rattle.build.proofs.PairTurns.{pairsFrom, coded-left, coded-end}

@@ -1,4 +1,3 @@
--- `write::lay_table` meets its contract.
 use Rattle.build.proofs.Names.{_≡_, refl, sym, [], _∷_, _++_, append-nil, _+_, _*_, _/_, _%_, _^_, needs, arith, bitOr, length, piece, domain-most, blockPieces, pairsLent, tablePieces, piecesOf, codedPairs}
 use Rattle.build.proofs.Filling.{or-behind, filling-none, room-first, filling-more, joined-inside, joined-more, filled}
 use Rattle.build.proofs.PairTurns.{table-none, table-some}

@@ -1,4 +1,3 @@
--- `write::lay_text` meets its contract.
 use Rattle.build.proofs.Names.{_≡_, refl, map, _-_, _≤_, needs, arith, length, drop, piece}
 use Rattle.build.proofs.Filling.{Filling, filling-none, joined-inside, joined-more, filled}
 use Rattle.build.proofs.TextTurns.{chars, chars-bits, chars-fit, chars-left, chars-lt, chars-end}
@@ -12,11 +11,11 @@ Inv-loop sizes image₀ text cursor₀ i₀ n image cursor i =
 abbrev μ-loop : tie.MeasureT-loop
 μ-loop sizes image₀ text cursor₀ i₀ n image cursor i = length text - i
 
-gathered-requires : tie.Need-gathered-requires Inv-loop μ-loop
-gathered-requires c κs =
+pack-characters-requires : tie.Need-pack-characters-requires Inv-loop μ-loop
+pack-characters-requires c κs =
     let s = c .before .before .before .before .before .before in
     let l = c .before .before .before .loop in
-    let end = c .before .seven-on .ensures in
+    let end = c .before .next-seven .ensures in
     (omega (arith, end, l .inv .0), omega (arith, end), omega (arith, end), s .pre .1)
 
 append-requires : tie.Need-append-requires Inv-loop μ-loop
@@ -25,11 +24,11 @@ append-requires c κs =
     let l = c .before .before .before .before .loop in
     let text = s .args .text .now in
     let h = c .before .before .before .loop-test .taken in
-    let at = c .before .before .seven-on .ensures in
-    let end = c .before .before .seven-on .result in
+    let at = c .before .before .next-seven .ensures in
+    let end = c .before .before .next-seven .result in
     let bits = chars-bits text (l .i) end (omega (arith, at)) in
     let inside = joined-inside (s .args .sizes) (chars text (l .i) end) _ (chars-left text (l .i) end (omega (arith, at)) (omega (arith, at, h))) (l .inv .1 .1) (omega (arith, bits, at, h)) (omega (arith, bits, at)) in
-    ((rw bits at inside, rw (c .gathered .ensures) (chars-lt text (l .i) end (omega (arith, at)) (s .pre .1))), l .inv .1 .1 .room .free .below)
+    ((rw bits at inside, rw (c .pack-characters .ensures) (chars-lt text (l .i) end (omega (arith, at)) (s .pre .1))), l .inv .1 .1 .room .free .below)
 
 loop-again : tie.Need-loop-again Inv-loop μ-loop
 loop-again c =
@@ -37,10 +36,10 @@ loop-again c =
     let l = c .before .before .before .before .before .before .before .loop in
     let text = s .args .text .now in
     let h = c .before .before .before .before .before .before .loop-test .taken in
-    let at = c .before .before .before .before .before .seven-on .ensures in
-    let end = c .before .before .before .before .before .seven-on .result in
+    let at = c .before .before .before .before .before .next-seven .ensures in
+    let end = c .before .before .before .before .before .next-seven .result in
     let bits = chars-bits text (l .i) end (omega (arith, at)) in
-    (omega (arith, at), (omega (arith, c .before .before .append .kept, l .inv .1 .0), joined-more (s .args .sizes) (chars text (l .i) end) _ (chars-left text (l .i) end (omega (arith, at)) (omega (arith, at, h))) (l .inv .1 .1) (chars-fit text (l .i) end (s .pre .1)) (rw (← bits) at (c .before .before .append .ensures)) (c .before .before .before .gathered .ensures)))
+    (omega (arith, at), (omega (arith, c .before .before .append .kept, l .inv .1 .0), joined-more (s .args .sizes) (chars text (l .i) end) _ (chars-left text (l .i) end (omega (arith, at)) (omega (arith, at, h))) (l .inv .1 .1) (chars-fit text (l .i) end (s .pre .1)) (rw (← bits) at (c .before .before .append .ensures)) (c .before .before .before .pack-characters .ensures)))
 
 returns : tie.Need-returns Inv-loop μ-loop
 returns c =
@@ -57,10 +56,10 @@ lay-text-spec =
     (λ c. (search needs, (refl, filling-none _ (c .before .before .pre .0))))
     (λ c κs. search needs)
     (λ c. search needs)
-    (λ c. omega (arith, c .before .seven-on .ensures))
-    gathered-requires
+    (λ c. omega (arith, c .before .next-seven .ensures))
+    pack-characters-requires
     append-requires
-    (λ c. omega (arith, c .before .before .before .before .before .seven-on .ensures))
+    (λ c. omega (arith, c .before .before .before .before .before .next-seven .ensures))
     loop-again
     (λ c. c .before .loop .inv .1 .0)
     returns)

@@ -1,5 +1,4 @@
--- `committing::commit` meets its contract.
-use Rattle.change.proofs.Names.{needs, refl, sym, ap, arith, told, written-refused, written-done, Missing, judgedSaid, opens, held, not-opened}
+use Rattle.change.proofs.Names.{needs, refl, sym, ap, arith, said-of, written-refused, written-done, Missing, judgedSaid, opens, held, not-opened}
 use Rattle.change.proofs.PartLaws.{opened-right}
 use Rattle.change.proofs.CommitLaws.{commit-unread, commit-refused, commit-known, commit-stored, commit-place}
 use Rattle.change.proofs.committing.commit.Statement.{statement}
@@ -17,7 +16,7 @@ row-of-requires c κs =
     let s = m .before .before .before .before .before in
     let a = s .before .before .before .args in
     let (x, h) = opens (a .kind) (a .image .now) _ (s .«open» .ensures) (m .before .before .before .opened .given .1) in
-    commit-known h (a .level) (a .field) (a .present) (a .new) (sym (told judgedSaid (c .before .before .enum-told .given .1) (m .may-commit .ensures (a .kind) x h)))
+    commit-known h (a .level) (a .field) (a .present) (a .new) (sym (said-of judgedSaid (c .before .before .enum-told .given .1) (m .may-commit .ensures (a .kind) x h)))
 
 locate-requires : tie.Need-locate-requires
 locate-requires c κs =
@@ -25,7 +24,7 @@ locate-requires c κs =
     let s = m .before .before .before .before .before in
     let a = s .before .before .before .args in
     let (x, h) = opens (a .kind) (a .image .now) _ (s .«open» .ensures) (m .before .before .before .opened .given .1) in
-    let k = commit-known h (a .level) (a .field) (a .present) (a .new) (sym (told judgedSaid (c .before .before .before .before .enum-told .given .1) (m .may-commit .ensures (a .kind) x h))) in
+    let k = commit-known h (a .level) (a .field) (a .present) (a .new) (sym (said-of judgedSaid (c .before .before .before .before .enum-told .given .1) (m .may-commit .ensures (a .kind) x h))) in
     (k .0, omega (arith, k .1))
 
 rewrite-requires : tie.Need-rewrite-requires
@@ -34,7 +33,7 @@ rewrite-requires c κs =
     let s = m .before .before .before .before .before in
     let a = s .before .before .before .args in
     let (x, h) = opens (a .kind) (a .image .now) _ (s .«open» .ensures) (m .before .before .before .opened .given .1) in
-    let e = sym (told judgedSaid (c .before .before .before .before .before .enum-told .given .1) (m .may-commit .ensures (a .kind) x h)) in
+    let e = sym (said-of judgedSaid (c .before .before .before .before .before .enum-told .given .1) (m .may-commit .ensures (a .kind) x h)) in
     (commit-place h (a .level) (a .field) (a .present) (a .new) e (c .locate .ensures) (ap (λ r. r .width) (c .before .before .row-of .ensures)), opened-right h (a .level) (a .field) Missing)
 
 returns : tie.Need-returns
@@ -49,7 +48,7 @@ returns-2 c =
     let s = m .before .before .before .before .before in
     let a = s .before .before .before .args in
     let (x, h) = opens (a .kind) (a .image .now) _ (s .«open» .ensures) (m .before .before .before .opened .given .1) in
-    written-refused (a .image .now) refl (commit-refused h (a .level) (a .field) (a .present) (a .new) (sym (told judgedSaid (c .before .r2 .given .1) (m .may-commit .ensures (a .kind) x h))))
+    written-refused (a .image .now) refl (commit-refused h (a .level) (a .field) (a .present) (a .new) (sym (said-of judgedSaid (c .before .r2 .given .1) (m .may-commit .ensures (a .kind) x h))))
 
 returns-3 : tie.Need-returns-3
 returns-3 c =
@@ -58,7 +57,7 @@ returns-3 c =
     let s = m .before .before .before .before .before in
     let a = s .before .before .before .args in
     let (x, h) = opens (a .kind) (a .image .now) _ (s .«open» .ensures) (m .before .before .before .opened .given .1) in
-    let e = sym (told judgedSaid (w .before .before .before .before .before .before .enum-told .given .1) (m .may-commit .ensures (a .kind) x h)) in
+    let e = sym (said-of judgedSaid (w .before .before .before .before .before .before .enum-told .given .1) (m .may-commit .ensures (a .kind) x h)) in
     written-done (a .image .now) (commit-stored h (a .level) (a .field) (a .present) (a .new) e (w .before .locate .ensures) (ap (λ r. r .width) (w .before .before .before .row-of .ensures))) (w .rewrite .ensures)
 
 pub commit-spec : {M : Type 1} → statement M

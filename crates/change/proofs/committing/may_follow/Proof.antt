@@ -1,4 +1,3 @@
--- `committing::may_follow` meets its contract.
 use Rattle.change.proofs.Names.{needs, sym, ap, _∙_, not-true, not-false, refused}
 use Rattle.change.proofs.CommitLaws.{follow-other, follow-by}
 use Rattle.change.proofs.committing.may_follow.Statement.{statement}

@@ -1,5 +1,4 @@
--- `committing::may_stand` meets its contract.
-use Rattle.change.proofs.Names.{needs, arith, told, judgedSaid}
+use Rattle.change.proofs.Names.{needs, arith, said-of, judgedSaid}
 use Rattle.change.proofs.CommitLaws.{stands-not, stands-by, taken-judged}
 use Rattle.change.proofs.committing.may_stand.Statement.{statement}
 use Rattle.change.proofs.committing.may_stand.Tie as tie
@@ -13,13 +12,13 @@ returns-2 : tie.Need-returns-2
 returns-2 c =
     let j = c .before .before in
     let a = j .before .before .before .args in
-    stands-by (a .row) (a .code) (omega (arith, j .before .if1 .left)) (taken-judged (a .row) (a .code) (told judgedSaid (c .enum-told .given .1) (j .judge .ensures)))
+    stands-by (a .row) (a .code) (omega (arith, j .before .if1 .left)) (taken-judged (a .row) (a .code) (said-of judgedSaid (c .enum-told .given .1) (j .judge .ensures)))
 
 returns-3 : tie.Need-returns-3
 returns-3 c =
     let j = c .before .before in
     let a = j .before .before .before .args in
-    stands-by (a .row) (a .code) (omega (arith, j .before .if1 .left)) (taken-judged (a .row) (a .code) (told judgedSaid (c .enum-told2 .given .1) (j .judge .ensures)))
+    stands-by (a .row) (a .code) (omega (arith, j .before .if1 .left)) (taken-judged (a .row) (a .code) (said-of judgedSaid (c .enum-told2 .given .1) (j .judge .ensures)))
 
 pub may-stand-spec : {M : Type 1} → statement M
 may-stand-spec =

@@ -1,5 +1,4 @@
--- `proposing::propose` meets its contract.
-use Rattle.change.proofs.Names.{needs, sym, _∙_, told, encodedSaid, rowOf, row-sound, reads-back, opens, held, not-opened}
+use Rattle.change.proofs.Names.{needs, sym, _∙_, said-of, encodedSaid, rowOf, row-sound, reads-back, opens, held, not-opened}
 use Rattle.change.proofs.PartLaws.{code-known, lent-real}
 use Rattle.change.proofs.CommitLaws.{propose-unread, propose-refused, propose-coded}
 use Rattle.change.proofs.proposing.propose.Statement.{statement}
@@ -10,7 +9,7 @@ code-in-requires c κs =
     let f = c .before .before .before in
     let s = f .before .before .before .before .before in
     let a = s .before .before .args in
-    let k = code-known _ _ _ _ _ (sym (told encodedSaid (c .before .new .given .1) (f .code-for .ensures))) in
+    let k = code-known _ _ _ _ _ (sym (said-of encodedSaid (c .before .new .given .1) (f .code-for .ensures))) in
     (held (a .kind) (a .image .now) _ (s .«open» .ensures) (f .before .before .before .opened .given .1), k .0, k .1)
 
 proposed-requires : tie.Need-proposed-requires
@@ -18,7 +17,7 @@ proposed-requires c κs =
     let f = c .before .before .before .before in
     let b = f .before .before .before .before .before .before .before in
     let a = b .args in
-    let k = code-known _ _ _ _ _ (sym (told encodedSaid (c .before .before .new .given .1) (f .code-for .ensures))) in
+    let k = code-known _ _ _ _ _ (sym (said-of encodedSaid (c .before .before .new .given .1) (f .code-for .ensures))) in
     (k .0, k .1, reads-back (rowOf _ (a .field)) (a .field) 0 _ (a .value) (row-sound _ (a .field) (k .0) (k .1)) (lent-real (a .value) (b .good .1 .1 .1 .1 .0)) (k .2) .0)
 
 returns : tie.Need-returns
@@ -33,7 +32,7 @@ returns-2 c =
     let s = f .before .before .before .before .before in
     let a = s .before .before .args in
     let (x, h) = opens (a .kind) (a .image .now) _ (s .«open» .ensures) (f .before .before .before .opened .given .1) in
-    sym (propose-refused h (a .level) (a .field) (a .value) (sym (told encodedSaid (c .before .r2 .given .1) (f .code-for .ensures))))
+    sym (propose-refused h (a .level) (a .field) (a .value) (sym (said-of encodedSaid (c .before .r2 .given .1) (f .code-for .ensures))))
 
 returns-3 : tie.Need-returns-3
 returns-3 c =
@@ -42,7 +41,7 @@ returns-3 c =
     let a = s .before .before .args in
     let (x, h) = opens (a .kind) (a .image .now) _ (s .«open» .ensures) (f .before .before .before .opened .given .1) in
     c .proposed .ensures
-    ∙ sym (propose-coded h (a .level) (a .field) (a .value) (sym (told encodedSaid (c .before .before .before .new .given .1) (f .code-for .ensures))) (c .before .code-in .ensures (a .kind) x h))
+    ∙ sym (propose-coded h (a .level) (a .field) (a .value) (sym (said-of encodedSaid (c .before .before .before .new .given .1) (f .code-for .ensures))) (c .before .code-in .ensures (a .kind) x h))
 
 pub propose-spec : {M : Type 1} → statement M
 propose-spec =

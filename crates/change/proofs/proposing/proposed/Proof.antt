@@ -1,5 +1,4 @@
--- `proposing::proposed` meets its contract.
-use Rattle.change.proofs.Names.{needs, sym, ap₂, _∙_, subst, _^_, _<_, arith, told, bind-good, bind-refused, decodedSaid, decode, Sound, row-sound}
+use Rattle.change.proofs.Names.{needs, sym, ap₂, _∙_, subst, _^_, _<_, arith, said-of, bind-good, bind-refused, decodedSaid, decode, Sound, row-sound}
 use Rattle.change.proofs.proposing.proposed.Statement.{statement}
 use Rattle.change.proofs.proposing.proposed.Tie as tie
 
@@ -14,13 +13,13 @@ returns : tie.Need-returns
 returns c =
     let d = c .before .before .before in
     let a = d .before .before .before .args in
-    sym (bind-refused _ (sym (told decodedSaid (c .before .r .given .1) (d .decode .ensures) ∙ ap₂ (λ r n. decode r n (a .new)) (d .before .before .row-of .ensures) (d .before .locate .ensures))))
+    sym (bind-refused _ (sym (said-of decodedSaid (c .before .r .given .1) (d .decode .ensures) ∙ ap₂ (λ r n. decode r n (a .new)) (d .before .before .row-of .ensures) (d .before .locate .ensures))))
 
 returns-2 : tie.Need-returns-2
 returns-2 c =
     let d = c .before .before .before in
     let a = d .before .before .before .args in
-    sym (bind-good _ (sym (told decodedSaid (c .before .value .given .1) (d .decode .ensures) ∙ ap₂ (λ r n. decode r n (a .new)) (d .before .before .row-of .ensures) (d .before .locate .ensures))))
+    sym (bind-good _ (sym (said-of decodedSaid (c .before .value .given .1) (d .decode .ensures) ∙ ap₂ (λ r n. decode r n (a .new)) (d .before .before .row-of .ensures) (d .before .locate .ensures))))
 
 pub proposed-spec : {M : Type 1} → statement M
 proposed-spec =

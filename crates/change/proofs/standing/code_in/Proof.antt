@@ -1,4 +1,3 @@
--- `standing::code_in` meets its contract.
 use Rattle.change.proofs.Names.{needs, ap, _∙_, arith, good-same, no-value, row-sound, got, past, held-whole}
 use Rattle.change.proofs.CommitLaws.{field-taken}
 use Rattle.change.proofs.standing.code_in.Statement.{statement}

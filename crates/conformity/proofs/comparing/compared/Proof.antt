@@ -1,4 +1,3 @@
--- `comparing::compared` meets its contract.
 use Rattle.conformity.proofs.Names.{_≡_, sym, ap, _∙_, subst, ℕ, _*_, _≤_, needs, arith, take, length-take-le, pairsLent, Contents, points, Table, Opens, points-are, opened-table}
 use Rattle.conformity.proofs.Filling.{points-few}
 use Rattle.conformity.proofs.Greatest.{compared-is}
@@ -8,7 +7,7 @@ use Rattle.conformity.proofs.comparing.compared.Tie as tie
 few : (c : tie.After-summary) → c .before .before .args .sheet .summary .points ≤ 127
 few c = points-few (c .before .before .pre .0 .opens)
 
--- The front of the room has the sheet's pairs.
+-- The front of the array has the sheet's pairs.
 front : (c : tie.After-stored-points) → let s = c .before .before .before in (kind : ℕ) (x : Contents) → Opens kind (s .args .image .now) (s .args .sheet) x →
     pairsLent (take (2 * s .args .sheet .summary .points) (c .stored-points .result)) ≡ points x
 front c kind x h = ap (λ (n : ℕ). pairsLent (take (2 * n) (c .stored-points .result))) (points-are h) ∙ c .stored-points .ensures .1 kind x h

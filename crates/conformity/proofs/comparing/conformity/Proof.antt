@@ -1,4 +1,3 @@
--- `comparing::conformity` meets its contract.
 use Rattle.conformity.proofs.Names.{needs, opens, held, not-opened}
 use Rattle.conformity.proofs.Orders.{compares-refused}
 use Rattle.conformity.proofs.comparing.conformity.Statement.{statement}

@@ -1,4 +1,3 @@
--- `comparing::is_straight` meets its contract.
 use Rattle.conformity.proofs.Names.{needs}
 use Rattle.conformity.proofs.comparing.is_straight.Statement.{statement}
 use Rattle.conformity.proofs.comparing.is_straight.Tie as tie

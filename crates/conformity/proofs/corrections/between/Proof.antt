@@ -1,10 +1,9 @@
--- `corrections::between` meets its contract.
 use Rattle.conformity.proofs.Names.{_≡_, refl, ap₂, _∙_, ℕ, _+_, _*_, needs, sfits-of, arith, pos, _-ℤ_, less, told-up, told-dn, told-≤, told-gap, deviation-parts, Gaps, gaps}
 use Rattle.conformity.proofs.Exacts.{exact-between}
 use Rattle.conformity.proofs.corrections.between.Statement.{statement}
 use Rattle.conformity.proofs.corrections.between.Tie as tie
 
--- How far p is from the two points.
+-- The distances of p from the two points.
 past : (c : tie.After-gap) → let a = c .before .before .args in pos (c .gap .result) ≡ a .p -ℤ a .before .point
 past c =
     let s = c .before .before in

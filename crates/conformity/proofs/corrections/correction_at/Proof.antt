@@ -1,4 +1,3 @@
--- `corrections::correction_at` meets its contract.
 use Rattle.conformity.proofs.Names.{refl, subst, needs, arith, toZ-ofZ, pairsLent, pairs-length, Exact}
 use Rattle.conformity.proofs.Exacts.{exact-none, deviation-at, first-at, last-at, between-at, next-at}
 use Rattle.conformity.proofs.corrections.correction_at.Statement.{statement}

@@ -1,4 +1,3 @@
--- `corrections::held` meets its contract.
 use Rattle.conformity.proofs.Names.{refl, needs, sfits-of, told-up, told-dn}
 use Rattle.conformity.proofs.Exacts.{exact-held}
 use Rattle.conformity.proofs.corrections.held.Statement.{statement}

@@ -1,4 +1,3 @@
--- `differences::apart` meets its contract.
 use Rattle.conformity.proofs.Names.{inl, inr, needs, arith}
 use Rattle.conformity.proofs.differences.apart.Statement.{statement}
 use Rattle.conformity.proofs.differences.apart.Tie as tie

@@ -1,4 +1,3 @@
--- `differences::difference` meets its contract.
 use Rattle.conformity.proofs.Names.{_∙_, _*_, _^_, _≤_, needs, mul-le-mul-right, arith, abs-parts, told-up, told-dn}
 use Rattle.conformity.proofs.Greatest.{exact-difference, apart-most}
 use Rattle.conformity.proofs.differences.difference.Statement.{statement}

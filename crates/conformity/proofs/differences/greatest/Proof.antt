@@ -1,4 +1,4 @@
--- `differences::greatest` meets its contract. The loop's invariant: the greatest so far and the greatest of the points left.
+-- The loop's invariant: the greatest so far and the greatest of the points left.
 use Rattle.conformity.proofs.Names.{_≡_, refl, _∙_, max, _-_, _/_, _^_, _≤_, _<_, needs, arith, length, w64, SFits, toZ-ofZ, pairsLent, pairAt, pairsFrom, differenceAt, greatestOver}
 use Rattle.conformity.proofs.Exacts.{deviation-at}
 use Rattle.conformity.proofs.Greatest.{greatest-end, greatest-next, own-at, Follows, follows-on}

@@ -1,4 +1,4 @@
--- `differences::passed` meets its contract. The loop's invariant: the last of the points passed lies before p.
+-- The loop's invariant: the last of the points passed is before p.
 use Rattle.conformity.proofs.Names.{_*_, _-_, _/_, needs, arith, pos, length, getD, w64, SFits, toZ, toZ-ofZ}
 use Rattle.conformity.proofs.Exacts.{Passed, passed-stops, passed-all, passed-one}
 use Rattle.conformity.proofs.differences.passed.Statement.{statement}

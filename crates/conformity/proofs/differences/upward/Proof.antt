@@ -1,4 +1,3 @@
--- `differences::upward` meets its contract.
 use Rattle.conformity.proofs.Names.{_^_, needs, arith}
 use Rattle.conformity.proofs.Ceilings.{rest-less, parts-up, whole-small, rest-up-small}
 use Rattle.conformity.proofs.differences.upward.Statement.{statement}

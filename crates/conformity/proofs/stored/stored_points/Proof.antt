@@ -1,4 +1,4 @@
--- `stored::stored_points` meets its contract. The loop's invariant: the pairs so far are the sheet's.
+-- The loop's invariant: the pairs so far are the sheet's.
 use Rattle.conformity.proofs.Names.{_≡_, refl, subst, ℕ, _+_, _*_, _-_, _≤_, _<_, needs, sfits-of, arith, length, length-set, w64, toZ-ofZ, Contents, points, Opens, points-are}
 use Rattle.conformity.proofs.Filling.{points-few, Filled, filled-next, filled-all}
 use Rattle.conformity.proofs.stored.stored_points.Statement.{statement}
@@ -11,7 +11,7 @@ Inv-loop sheet image count room₀ i₀ room i =
 abbrev μ-loop : tie.MeasureT-loop
 μ-loop sheet image count room₀ i₀ room i = sheet .summary .points - i
 
--- There is room for the pair.
+-- The array has room for the pair.
 fits : (c : tie.In-loop Inv-loop μ-loop) → 2 * c .before .loop .i + 1 < 254
 fits c = omega (arith, c .loop-test .taken, points-few (c .before .before .before .before .pre .opens))
 

@@ -1,5 +1,3 @@
--- `sheets::sheet_in` meets its contract.
--- Assumes nothing.
 use Rattle.dartelm.proofs.Names.{needs, ℕ, _-_, _≤_, _≡_, sym, ap, _∙_, List, length, arith, Opened, Contents, Opens, templateFlag, byFlags, noValue, foundFields, end-byte, Layout, lastField, last-most}
 use Rattle.dartelm.proofs.Names.{fields-count, layout-is, holding}
 use Rattle.dartelm.proofs.Filling.{filled}
@@ -13,9 +11,6 @@ Inv-loop sheet image layout count values₀ at₀ values at =
 
 abbrev μ-loop : tie.MeasureT-loop
 μ-loop sheet image layout count values₀ at₀ values at = count - at
-
-loop-holds : tie.Need-loop-holds Inv-loop μ-loop
-loop-holds c = (omega arith, λ k x h. rw (c .no-value .ensures))
 
 value-in-requires : tie.Need-value-in-requires Inv-loop μ-loop
 value-in-requires c κs =
@@ -67,7 +62,7 @@ sheet-in-spec =
     μ-loop
     (λ c κs. search needs)
     (λ c κs. search needs)
-    loop-holds
+    (λ c. (omega arith, λ k x h. rw (c .no-value .ensures)))
     (λ c. search needs)
     value-in-requires
     (λ c κs. search needs)

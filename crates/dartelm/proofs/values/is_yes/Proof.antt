@@ -1,5 +1,3 @@
--- `values::is_yes` meets its contract.
--- Assumes nothing.
 use Rattle.dartelm.proofs.Names.{needs}
 use Rattle.dartelm.proofs.values.is_yes.Statement.{statement}
 use Rattle.dartelm.proofs.values.is_yes.Tie as tie

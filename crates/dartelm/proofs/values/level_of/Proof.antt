@@ -2,7 +2,7 @@ use Rattle.dartelm.proofs.Names.{_≡_, refl, ℕ, zero, suc, needs, Ow
 use Rattle.dartelm.proofs.values.level_of.Statement.{statement}
 use Rattle.dartelm.proofs.values.level_of.Tie as tie
 
--- Neither 1 nor 2 is the owner.
+-- Any number but 1 and 2 is the owner.
 other : (n : ℕ) → (n ≡ 1 → ⊥) → (n ≡ 2 → ⊥) → Owner ≡ levelOf n
 other zero a b = refl
 other (suc zero) a b = absurd (a refl)

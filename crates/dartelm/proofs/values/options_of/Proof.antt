@@ -1,5 +1,3 @@
--- `values::options_of` meets its contract.
--- Assumes nothing.
 use Rattle.dartelm.proofs.Names.{needs, ap₂, Bool, Template}
 use Rattle.dartelm.proofs.values.options_of.Statement.{statement}
 use Rattle.dartelm.proofs.values.options_of.Tie as tie

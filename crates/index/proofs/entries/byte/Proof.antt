@@ -1,4 +1,3 @@
--- `entries::byte` meets its contract.
 use Rattle.index.proofs.Names.{and-mask, mask-lt}
 use Rattle.index.proofs.entries.byte.Statement.{statement}
 use Rattle.index.proofs.entries.byte.Tie as tie

@@ -1,4 +1,3 @@
--- `entries::entry_at` meets its contract.
 use Rattle.index.proofs.Names.{needs, _≡_, ap, ap₂, _∙_, [], _∷_, ℕ, _+_, _*_, arith, getD, number, entry}
 use Rattle.index.proofs.entries.entry_at.Statement.{statement}
 use Rattle.index.proofs.entries.entry_at.Tie as tie

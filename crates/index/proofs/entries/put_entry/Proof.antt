@@ -1,4 +1,3 @@
--- `entries::put_entry` meets its contract.
 use Rattle.index.proofs.Names.{needs, ap, _∙_, List, ℕ, _+_, arith, bytesOf, laid}
 use Rattle.index.proofs.Laying.{laid-more}
 use Rattle.index.proofs.entries.put_entry.Statement.{statement}

@@ -1,4 +1,3 @@
--- `entries::put_two` meets its contract.
 use Rattle.index.proofs.Names.{needs, arith, length-set}
 use Rattle.index.proofs.Laying.{two-laid}
 use Rattle.index.proofs.entries.put_two.Statement.{statement}

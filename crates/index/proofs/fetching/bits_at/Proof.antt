@@ -1,5 +1,4 @@
--- `fetching::bits_at` meets its contract.
-use Rattle.index.proofs.Names.{needs, ap, _∙_, refused, told, decodedSaid}
+use Rattle.index.proofs.Names.{needs, ap, _∙_, refused, said-of, decodedSaid}
 use Rattle.index.proofs.FetchLaws.{bits-past, bits-fit, bits-decoded}
 use Rattle.index.proofs.fetching.bits_at.Statement.{statement}
 use Rattle.index.proofs.fetching.bits_at.Tie as tie
@@ -22,14 +21,14 @@ returns-2 c =
     let d = c .before .before .before in
     let t = d .before .before .before .before in
     let a = t .before .before .args in
-    bits-decoded (a .sizes) (a .image .now) (a .row) (a .entry) _ (t .take .ensures) (d .before .before .code .given .1) (told decodedSaid (c .before .r .given .1) (d .decode .ensures))
+    bits-decoded (a .sizes) (a .image .now) (a .row) (a .entry) _ (t .take .ensures) (d .before .before .code .given .1) (said-of decodedSaid (c .before .r .given .1) (d .decode .ensures))
 
 returns-3 : tie.Need-returns-3
 returns-3 c =
     let d = c .before .before .before in
     let t = d .before .before .before .before in
     let a = t .before .before .args in
-    bits-decoded (a .sizes) (a .image .now) (a .row) (a .entry) _ (t .take .ensures) (d .before .before .code .given .1) (told decodedSaid (c .before .value .given .1) (d .decode .ensures))
+    bits-decoded (a .sizes) (a .image .now) (a .row) (a .entry) _ (t .take .ensures) (d .before .before .code .given .1) (said-of decodedSaid (c .before .value .given .1) (d .decode .ensures))
 
 pub bits-at-spec : {M : Type 1} → statement M
 bits-at-spec =

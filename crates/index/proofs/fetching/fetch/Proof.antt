@@ -1,5 +1,4 @@
--- `fetching::fetch` meets its contract.
-use Rattle.index.proofs.Names.{needs, sym, ap, _∙_, refused, told, sizesSaid, sumsSaid, sizes-chip, sized}
+use Rattle.index.proofs.Names.{needs, sym, ap, _∙_, refused, said-of, sizesSaid, sumsSaid, sizes-chip, sized}
 use Rattle.index.proofs.FetchLaws.{fetch-unsized, fetch-turned, fetch-right}
 use Rattle.index.proofs.fetching.fetch.Statement.{statement}
 use Rattle.index.proofs.fetching.fetch.Tie as tie
@@ -15,13 +14,13 @@ fetch-in-requires c κs =
     let z = c .before .before .before .before .before .before in
     let a = z .before .before .before .args in
     let are = c .before .before .before .before .sizes .given .1 in
-    (sized (a .kind) (a .image .now) _ (z .image-sizes .ensures) are, sizes-chip (a .kind) _ _ (sym (told sizesSaid are (z .image-sizes .ensures))) .paged)
+    (sized (a .kind) (a .image .now) _ (z .image-sizes .ensures) are, sizes-chip (a .kind) _ _ (sym (said-of sizesSaid are (z .image-sizes .ensures))) .paged)
 
 returns : tie.Need-returns
 returns c =
     let z = c .before .before .before in
     let a = z .before .before .before .args in
-    sym (fetch-unsized (a .kind) (a .image .now) (a .index .now) (a .field) (sym (told sizesSaid (c .before .r .given .1) (z .image-sizes .ensures))))
+    sym (fetch-unsized (a .kind) (a .image .now) (a .index .now) (a .field) (sym (said-of sizesSaid (c .before .r .given .1) (z .image-sizes .ensures))))
 
 returns-2 : tie.Need-returns-2
 returns-2 c =
@@ -29,8 +28,8 @@ returns-2 c =
     let z = s .before .before .before .before in
     let a = z .before .before .before .args in
     ap refused (c .blank-chip .ensures)
-    ∙ sym (fetch-turned (a .kind) (a .image .now) (a .index .now) (a .field) (sym (told sizesSaid (s .before .before .sizes .given .1) (z .image-sizes .ensures)))
-    (sym (told sumsSaid (c .before .enum-told .given .1) (s .check-sums .ensures))))
+    ∙ sym (fetch-turned (a .kind) (a .image .now) (a .index .now) (a .field) (sym (said-of sizesSaid (s .before .before .sizes .given .1) (z .image-sizes .ensures)))
+    (sym (said-of sumsSaid (c .before .enum-told .given .1) (s .check-sums .ensures))))
 
 returns-3 : tie.Need-returns-3
 returns-3 c =
@@ -38,8 +37,8 @@ returns-3 c =
     let z = s .before .before .before .before in
     let a = z .before .before .before .args in
     ap refused (c .wrong-sum .ensures)
-    ∙ sym (fetch-turned (a .kind) (a .image .now) (a .index .now) (a .field) (sym (told sizesSaid (s .before .before .sizes .given .1) (z .image-sizes .ensures)))
-    (sym (told sumsSaid (c .before .before .page .given .1) (s .check-sums .ensures))))
+    ∙ sym (fetch-turned (a .kind) (a .image .now) (a .index .now) (a .field) (sym (said-of sizesSaid (s .before .before .sizes .given .1) (z .image-sizes .ensures)))
+    (sym (said-of sumsSaid (c .before .before .page .given .1) (s .check-sums .ensures))))
 
 returns-4 : tie.Need-returns-4
 returns-4 c =
@@ -47,8 +46,8 @@ returns-4 c =
     let z = s .before .before .before .before in
     let a = z .before .before .before .args in
     c .fetch-in .ensures
-    ∙ sym (fetch-right (a .kind) (a .image .now) (a .index .now) (a .field) (sym (told sizesSaid (s .before .before .sizes .given .1) (z .image-sizes .ensures)))
-    (sym (told sumsSaid (c .before .enum-told2 .given .1) (s .check-sums .ensures))))
+    ∙ sym (fetch-right (a .kind) (a .image .now) (a .index .now) (a .field) (sym (said-of sizesSaid (s .before .before .sizes .given .1) (z .image-sizes .ensures)))
+    (sym (said-of sumsSaid (c .before .enum-told2 .given .1) (s .check-sums .ensures))))
 
 pub fetch-spec : {M : Type 1} → statement M
 fetch-spec =

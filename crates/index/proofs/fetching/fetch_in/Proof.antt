@@ -1,5 +1,4 @@
--- `fetching::fetch_in` meets its contract.
-use Rattle.index.proofs.Names.{needs, sym, ap, _∙_, ℕ, _*_, arith, refused, shortIndex, told, streamNumber, lastField, last-most, templateAt, rowSaid}
+use Rattle.index.proofs.Names.{needs, sym, ap, _∙_, ℕ, _*_, arith, refused, shortIndex, said-of, streamNumber, lastField, last-most, templateAt, rowSaid}
 use Rattle.index.proofs.FetchLaws.{length-sound, in-none, in-past, in-short, in-refused, in-bits}
 use Rattle.index.proofs.fetching.fetch_in.Statement.{statement}
 use Rattle.index.proofs.fetching.fetch_in.Tie as tie
@@ -42,7 +41,7 @@ bits-at-requires c κs =
     let t = r .before .before .before .before .before .before in
     let a = t .before .before .before .args in
     let last = r .before .before .before .before .before .last-field .ensures in
-    let (sound, width) = length-sound _ (a .field) _ _ (omega arith) (omega arith) (sym (told rowSaid (c .before .row .given .1) (r .row-of-length .ensures))) in
+    let (sound, width) = length-sound _ (a .field) _ _ (omega arith) (omega arith) (sym (said-of rowSaid (c .before .row .given .1) (r .row-of-length .ensures))) in
     (t .before .before .before .pre .0, sound, width)
 
 returns-4 : tie.Need-returns-4
@@ -52,7 +51,7 @@ returns-4 c =
     let a = t .before .before .before .args in
     let last = r .before .before .before .before .before .last-field .ensures ∙ ap lastField (t .template-at .ensures) in
     in-refused (a .sizes) (a .image .now) (a .index .now) (a .field) (omega arith) (omega arith) (t .template-at .ensures) (r .before .entry-at .ensures) (omega arith)
-    (told rowSaid (c .before .r .given .1) (r .row-of-length .ensures))
+    (said-of rowSaid (c .before .r .given .1) (r .row-of-length .ensures))
 
 returns-5 : tie.Need-returns-5
 returns-5 c =
@@ -61,7 +60,7 @@ returns-5 c =
     let a = t .before .before .before .args in
     let last = r .before .before .before .before .before .last-field .ensures ∙ ap lastField (t .template-at .ensures) in
     in-bits (a .sizes) (a .image .now) (a .index .now) (a .field) (omega arith) (omega arith) (t .template-at .ensures) (r .before .entry-at .ensures) (omega arith)
-    (told rowSaid (c .before .before .row .given .1) (r .row-of-length .ensures)) (c .bits-at .ensures)
+    (said-of rowSaid (c .before .before .row .given .1) (r .row-of-length .ensures)) (c .bits-at .ensures)
 
 pub fetch-in-spec : {M : Type 1} → statement M
 fetch-in-spec =

@@ -1,4 +1,4 @@
--- `fetching::row_of_length` meets its contract. The loop's invariant: what the choices that are left say is what all say.
+-- The loop's invariant: the choices left give the answer of all choices.
 use Rattle.index.proofs.Names.{needs, _≡_, refl, sym, ap, _∙_, _-_, _≤_, add-one, arith, good, refused, lineOf, rowOfLength}
 use Rattle.index.proofs.FetchLaws.{lengthFrom, length-found, length-next, length-none}
 use Rattle.index.proofs.fetching.row_of_length.Statement.{statement}

@@ -1,4 +1,4 @@
--- `fetching::template_at` meets its contract: a stream of one page or more has the number's bits.
+-- A stream of at least one page has the number's bits.
 use Rattle.index.proofs.Names.{needs, ltb-true, ap, _∙_, arith, streamBits, takenAs, templateAt}
 use Rattle.index.proofs.FetchLaws.{took, missed}
 use Rattle.index.proofs.fetching.template_at.Statement.{statement}

@@ -1,4 +1,3 @@
--- `making::make_index` meets its contract.
 use Rattle.index.proofs.Names.{needs, refl, sym, ap, _∙_, arith, refused, written-refused, written-done, opens, not-opened, behind-is}
 use Rattle.index.proofs.IndexLaws.{index-unread, opened-few, opened-made, opened-short}
 use Rattle.index.proofs.making.make_index.Statement.{statement}

@@ -1,4 +1,5 @@
--- `making::write_basic` meets its contract. The loop's invariant: the first entries, behind them the buffer as it was, and the bits before the next.
+-- The loop's invariant: the first entries are written, the rest of
+-- the buffer is unchanged, and the cursor counts the bits so far.
 use Rattle.index.proofs.Names.{needs, _≡_, refl, ap, _∙_, ℕ, _+_, _-_, _≤_, _<_, arith, length, Bridge, Layout, basic, linesOf, bitsBefore, layoutAt, place-few, basic-most, last-most, entryBytes, laid}
 use Rattle.index.proofs.Names.{firstEntries}
 use Rattle.index.proofs.Laying.{first-more}

@@ -1,11 +1,12 @@
--- `making::write_bridge` meets its contract, as `write_basic` does; the first block stands before the bits of the fields.
+-- The loop's invariant: the entries before a field are written. The
+-- first block comes before the bits of the template's own fields.
 use Rattle.index.proofs.Names.{needs, _-_, arith, Bridge, last-most, layoutAt}
-use Rattle.index.proofs.OwnEntries.{Come, own-begun, own-ended, own-few, own-next}
+use Rattle.index.proofs.OwnEntries.{JudgedUpTo, own-begun, own-ended, own-few, own-next}
 use Rattle.index.proofs.making.write_bridge.Statement.{statement}
 use Rattle.index.proofs.making.write_bridge.Tie as tie
 
 abbrev Inv-loop : tie.InvT-loop
-Inv-loop buffer₀ precision last cursor₀ i₀ buffer cursor i = Come (layoutAt Bridge precision) buffer₀ i cursor buffer
+Inv-loop buffer₀ precision last cursor₀ i₀ buffer cursor i = JudgedUpTo (layoutAt Bridge precision) buffer₀ i cursor buffer
 
 abbrev μ-loop : tie.MeasureT-loop
 μ-loop buffer₀ precision last cursor₀ i₀ buffer cursor i = last - i

@@ -1,4 +1,4 @@
--- `making::write_entries` meets its contract: what each call writes begins with what the one before it wrote.
+-- What each call writes begins with what the calls before it wrote.
 use Rattle.index.proofs.Names.{needs, ap, _∙_, List, ℕ, arith, length, basic, lastField, basic-most, entryBytes, laid, firstEntries}
 use Rattle.index.proofs.Laying.{first-over, first-begun}
 use Rattle.index.proofs.making.write_entries.Statement.{statement}

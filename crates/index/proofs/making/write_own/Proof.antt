@@ -1,4 +1,3 @@
--- `making::write_own` meets its contract.
 use Rattle.index.proofs.Names.{needs, _≡_, sym, ap, _∙_, subst, _*_, _≤_, length, basic, lastField, layoutAt, entryBytes, laid, firstEntries}
 use Rattle.index.proofs.making.write_own.Statement.{statement}
 use Rattle.index.proofs.making.write_own.Tie as tie

@@ -1,4 +1,4 @@
--- `making::write_points` meets its contract. The loop's invariant goes by the layouts whose points begin where it did.
+-- The loop's invariant holds for every layout whose points begin at the same bit.
 use Rattle.index.proofs.Names.{needs, _≡_, refl, sym, ap, _∙_, ℕ, _+_, _-_, _*_, _≤_, arith, length, Layout, lastField, pairPlace, end-few, entryBytes, laid, firstEntries}
 use Rattle.index.proofs.Laying.{first-more}
 use Rattle.index.proofs.EntryLaws.{pair-entry}

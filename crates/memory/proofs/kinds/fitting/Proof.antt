@@ -1,4 +1,3 @@
--- `kinds::fitting` meets its contract.
 use Rattle.memory.proofs.Names.{needs, ap, eq-eqb, ne-eqb, refused}
 use Rattle.memory.proofs.kinds.fitting.Statement.{statement}
 use Rattle.memory.proofs.kinds.fitting.Tie as tie

@@ -1,4 +1,3 @@
--- `kinds::image_sizes` meets its contract.
 use Rattle.memory.proofs.Names.{needs, refl, sym, ap, _∙_, refused}
 use Rattle.memory.proofs.Chips.{sizes-kind, sizes-others}
 use Rattle.memory.proofs.kinds.image_sizes.Statement.{statement}

@@ -1,4 +1,4 @@
--- `pages::all_blank` meets its contract. The loop's invariant: whether what is left is blank says whether all is.
+-- The loop's invariant: all pages are blank exactly if those left are.
 use Rattle.memory.proofs.Names.{needs, _≡_, sym, _∙_, _-_, _≤_, sub-zero, arith, not-true, not-false, blankFrom}
 use Rattle.memory.proofs.SumLaws.{turn-blank, turn-written}
 use Rattle.memory.proofs.pages.all_blank.Statement.{statement}

@@ -1,4 +1,4 @@
--- `pages::all_ff` meets its contract. The loop's invariant: whether the rest is all FF says whether the whole is.
+-- The loop's invariant: all bytes are FF exactly if those left are.
 use Rattle.memory.proofs.Names.{needs, _≡_, sym, ap, _∙_, Bool, _&&_, suc, _-_, _≤_, arith, add-one, length, getD, drop, drop-cons, drop-length, eq-eqb, ne-eqb, allFF}
 use Rattle.memory.proofs.pages.all_ff.Statement.{statement}
 use Rattle.memory.proofs.pages.all_ff.Tie as tie

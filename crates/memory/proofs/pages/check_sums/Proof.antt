@@ -1,4 +1,3 @@
--- `pages::check_sums` meets its contract.
 use Rattle.memory.proofs.Names.{needs, sym, _∙_, _>>_}
 use Rattle.memory.proofs.pages.check_sums.Statement.{statement}
 use Rattle.memory.proofs.pages.check_sums.Tie as tie

@@ -1,4 +1,3 @@
--- `pages::is_blank` meets its contract.
 use Rattle.memory.proofs.Names.{needs, ap, _∙_, allFF}
 use Rattle.memory.proofs.SumLaws.{page-taken}
 use Rattle.memory.proofs.pages.is_blank.Statement.{statement}

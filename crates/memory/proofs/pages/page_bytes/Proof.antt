@@ -1,4 +1,3 @@
--- `pages::page_bytes` meets its contract.
 use Rattle.memory.proofs.Names.{needs, arith}
 use Rattle.memory.proofs.PageParts.{chip, part-none, part-past, part-page}
 use Rattle.memory.proofs.pages.page_bytes.Statement.{statement}

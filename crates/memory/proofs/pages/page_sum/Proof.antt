@@ -1,4 +1,3 @@
--- `pages::page_sum` meets its contract.
 use Rattle.memory.proofs.Names.{needs, sym, _∙_, arith, length-take-le}
 use Rattle.memory.proofs.SumLaws.{sum-first, sum-later}
 use Rattle.memory.proofs.pages.page_sum.Statement.{statement}

@@ -1,4 +1,3 @@
--- `pages::seal` meets its contract.
 use Rattle.memory.proofs.Names.{needs, arith}
 use Rattle.memory.proofs.Sealing.{seal-code}
 use Rattle.memory.proofs.pages.seal.Statement.{statement}

@@ -1,4 +1,4 @@
--- `pages::sum` meets its contract. The loop's invariant: the sum so far and the sum of the rest are the whole sum.
+-- The loop's invariant: the sum so far plus the sum of the rest is the whole sum.
 use Rattle.memory.proofs.Names.{needs, _≡_, ap, _+_, _-_, _%_, _≤_, _<_, arith, add-one, length, getD, drop, drop-cons, drop-length, total}
 use Rattle.memory.proofs.pages.sum.Statement.{statement}
 use Rattle.memory.proofs.pages.sum.Tie as tie

@@ -1,4 +1,3 @@
--- `pages::test_page` meets its contract.
 use Rattle.memory.proofs.Names.{needs, sym, _∙_}
 use Rattle.memory.proofs.SumLaws.{test-blank, test-good, test-wrong}
 use Rattle.memory.proofs.pages.test_page.Statement.{statement}

@@ -1,4 +1,4 @@
--- `pages::test_pages` meets its contract. The loop's invariant: what is left to test says what the whole test says.
+-- The loop's invariant: the test of the pages left gives the answer of the whole test.
 use Rattle.memory.proofs.Names.{needs, _≡_, sym, ap, _∙_, _-_, _≤_, sub-zero, arith, not-true, not-false, isGood, sumsFrom}
 use Rattle.memory.proofs.SumLaws.{turn-good, turn-wrong}
 use Rattle.memory.proofs.pages.test_pages.Statement.{statement}

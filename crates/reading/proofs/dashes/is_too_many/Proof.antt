@@ -1,4 +1,3 @@
--- `dashes::is_too_many` meets its contract.
 use Rattle.reading.proofs.Names.{needs, lt-ltb, le-ltb}
 use Rattle.reading.proofs.dashes.is_too_many.Statement.{statement}
 use Rattle.reading.proofs.dashes.is_too_many.Tie as tie

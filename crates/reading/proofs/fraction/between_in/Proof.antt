@@ -2,14 +2,14 @@ use Rattle.reading.proofs.Names.{needs, sfits-of, _≡_, ap, _∙_, _^_
 use Rattle.reading.proofs.fraction.between_in.Statement.{statement}
 use Rattle.reading.proofs.fraction.between_in.Tie as tie
 
--- Behind a point, up to the next; and behind a sum, up to the next.
+-- After a point, up to the next; and after a sum, up to the next.
 points : (c : tie.After-enum-told) → let a = c .before .before .args in Between pointOf (a .p) (a .before) (a .behind)
 points c = rw (c .enum-told .given .1) at (c .before .before .pre .0)
 
 sums : (c : tie.After-enum-told2) → let a = c .before .before .args in Between sum (a .p) (a .before) (a .behind)
 sums c = rw (c .enum-told2 .given .1) at (c .before .before .pre .0)
 
--- The deviation there.
+-- The deviation at p.
 is : (c : tie.After-between) → let a = c .before .before .before .args in c .between .result ≡ rounded (between (a .p) 1 (a .before) (a .behind))
 is c =
     let s = c .before .before .before in

@@ -4,7 +4,7 @@ use Rattle.reading.proofs.Fractions.{none-shows, first-shows, last-show
 use Rattle.reading.proofs.fraction.fraction_in.Statement.{statement}
 use Rattle.reading.proofs.fraction.fraction_in.Tie as tie
 
--- So many pairs lie before p.
+-- The pairs before p.
 found : (c : tie.After-pairs-before) →
     let a = c .before .before .before .before .args in
     (kind : ℕ) (x : Contents) → Opens kind (a .image .now) (a .sheet) x → Before (figureIn (a .domain)) (points x) (a .p) (c .pairs-before .result)

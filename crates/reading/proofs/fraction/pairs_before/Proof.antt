@@ -1,4 +1,4 @@
--- `fraction::pairs_before` meets its contract. The loop's invariant: the pair before `low` is below p, and the pair at `high` is not.
+-- The loop's invariant: the pair before `low` is below p, and the pair at `high` is not.
 use Rattle.reading.proofs.Names.{sfits-of, ℕ, _-_, _≤_, arith, w64, SFits, toZ, toZ-ofZ, Contents, points, Search, search-all, search-left, search-right, search-done, Opens, points-are, figureIn}
 use Rattle.reading.proofs.Opening.{opened-figures}
 use Rattle.reading.proofs.fraction.pairs_before.Statement.{statement}

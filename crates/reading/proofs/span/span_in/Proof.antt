@@ -1,4 +1,4 @@
-use Rattle.reading.proofs.Names.{needs, sym, ap, _∙_, arith, w64, toZ-ofZ, refused, told, span-listed, span-unscaled, endsSaid}
+use Rattle.reading.proofs.Names.{needs, sym, ap, _∙_, arith, w64, toZ-ofZ, refused, said-of, span-listed, span-unscaled, endsSaid}
 use Rattle.reading.proofs.Opening.{bridge}
 use Rattle.reading.proofs.Spans.{no-low, no-high, by-ends}
 use Rattle.reading.proofs.span.span_in.Statement.{statement}
@@ -21,7 +21,7 @@ returns-3 c =
     let l = g .before .before .before .before in
     λ kind x h.
     by-ends h (l .before .before .before .before .pre .1) (sym (l .before .before .unscaled-in .ensures kind x h) ∙ l .low .given .1) (sym (g .before .before .unscaled-in2 .ensures kind x h) ∙ g .high .given .1)
-    (k .before .before .unscaled-in3 .ensures kind x h) (k .before .unscaled-in4 .ensures kind x h) (told endsSaid (c .before .r .given .1) (k .ends-of .ensures))
+    (k .before .before .unscaled-in3 .ensures kind x h) (k .before .unscaled-in4 .ensures kind x h) (said-of endsSaid (c .before .r .given .1) (k .ends-of .ensures))
 
 returns-4 : tie.Need-returns-4
 returns-4 c =
@@ -32,7 +32,7 @@ returns-4 c =
     λ kind x h.
     rw (toZ-ofZ {w = w64} {z = ends .least} (search needs), toZ-ofZ {w = w64} {z = ends .greatest} (search needs))
     (by-ends h (l .before .before .before .before .pre .1) (sym (l .before .before .unscaled-in .ensures kind x h) ∙ l .low .given .1) (sym (g .before .before .unscaled-in2 .ensures kind x h) ∙ g .high .given .1)
-    (k .before .before .unscaled-in3 .ensures kind x h) (k .before .unscaled-in4 .ensures kind x h) (told endsSaid (c .before .before .ends .given .1) (k .ends-of .ensures)))
+    (k .before .before .unscaled-in3 .ensures kind x h) (k .before .unscaled-in4 .ensures kind x h) (said-of endsSaid (c .before .before .ends .given .1) (k .ends-of .ensures)))
 
 pub span-in-spec : {M : Type 1} → statement M
 span-in-spec =

@@ -1,14 +1,14 @@
-use Rattle.reading.proofs.Names.{needs, _≡_, sym, ap, _∙_, ℕ, toZ-ofZ, good, refused, told, Contents, Opens, points-are, tooMany, spanOf, Ready, spanSaid}
+use Rattle.reading.proofs.Names.{needs, _≡_, sym, ap, _∙_, ℕ, toZ-ofZ, good, refused, said-of, Contents, Opens, points-are, tooMany, spanOf, Ready, spanSaid}
 use Rattle.reading.proofs.Spans.{resistance-is, span-ready}
 use Rattle.reading.proofs.Orders.{takes-no-span, takes-far, takes-shown}
 use Rattle.reading.proofs.taking.bridge_reading.Statement.{statement}
 use Rattle.reading.proofs.taking.bridge_reading.Tie as tie
 
--- The span that was found, whatever the image holds.
+-- The span, whatever the image's contents.
 found : (c : tie.After-known-told2) →
     let a = c .before .before .before .before .before .args in
     (kind : ℕ) (x : Contents) → Opens kind (a .image .now) (a .sheet) x → spanOf x ≡ good (c .before .span .given .0 .0)
-found c kind x h = sym (told spanSaid (c .before .span .given .1) (c .before .before .before .span-in .ensures kind x h))
+found c kind x h = sym (said-of spanSaid (c .before .span .given .1) (c .before .before .before .span-in .ensures kind x h))
 
 ready : (c : tie.After-known-told2) → Ready (c .before .span .given .0 .0)
 ready c = let k = c .before .before .before .before .before .pre in span-ready (k .0 .opens) (k .1) (found c _ _ (k .0 .opens))
@@ -24,7 +24,7 @@ returns c =
 returns-2 : tie.Need-returns-2
 returns-2 c =
     let s = c .before .before .before .before .before in
-    λ kind x h. takes-no-span kind (s .args .image .now) (s .args .input) (s .args .dash) (h .accepted) (resistance-is h ∙ s .pre .1) (ap (tooMany (s .args .dash)) (sym (points-are h)) ∙ s .pre .2) (sym (told spanSaid (c .before .r .given .1) (c .before .before .before .span-in .ensures kind x h)))
+    λ kind x h. takes-no-span kind (s .args .image .now) (s .args .input) (s .args .dash) (h .accepted) (resistance-is h ∙ s .pre .1) (ap (tooMany (s .args .dash)) (sym (points-are h)) ∙ s .pre .2) (sym (said-of spanSaid (c .before .r .given .1) (c .before .before .before .span-in .ensures kind x h)))
 
 returns-3 : tie.Need-returns-3
 returns-3 c =

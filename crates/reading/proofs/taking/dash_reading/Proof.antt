@@ -1,4 +1,3 @@
--- `taking::dash_reading` meets its contract.
 use Rattle.reading.proofs.Names.{needs, sym, ap, _∙_, toZ-ofZ, refused, tooManyPoints, points-are, tooMany}
 use Rattle.reading.proofs.Spans.{resistance-is}
 use Rattle.reading.proofs.Orders.{takes-many}

@@ -1,4 +1,4 @@
-use Rattle.reading.proofs.Names.{needs, sfits-of, _≡_, sym, ap, _∙_, ℕ, _^_, _≤_, arith, natAbs, toZ-ofZ, Contents, told-small, Opens, position, fraction, share}
+use Rattle.reading.proofs.Names.{needs, sfits-of, _≡_, sym, ap, _∙_, ℕ, _^_, _≤_, arith, natAbs, toZ-ofZ, Contents, told-small, Opens, position, fraction, physicalFraction}
 use Rattle.reading.proofs.Positions.{position-small}
 use Rattle.reading.proofs.Fractions.{fraction-small, reading-made}
 use Rattle.reading.proofs.taking.shown.Statement.{statement}
@@ -30,7 +30,7 @@ returns c =
     let p = toZ-ofZ (sfits-of (f .before .position .ok)) ∙ at (f .before) in
     let q = toZ-ofZ (sfits-of (f .fraction .ok)) ∙ is f kind x h in
     reading-made (x .calibration) (a .span) (a .input) (sfits-of (f .fraction .ok)) (is f kind x h)
-    (c .before .share .ensures kind x h (q ∙ ap (fraction (x .calibration)) (sym p)) ∙ ap (share (x .calibration)) p) (c .physical-figure .ensures)
+    (c .before .physical-fraction .ensures kind x h (q ∙ ap (fraction (x .calibration)) (sym p)) ∙ ap (physicalFraction (x .calibration)) p) (c .physical-figure .ensures)
 
 pub shown-spec : {M : Type 1} → statement M
 shown-spec =

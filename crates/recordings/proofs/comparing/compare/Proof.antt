@@ -1,4 +1,3 @@
--- `comparing::compare` meets its contract.
 use Rattle.recordings.proofs.Names.{needs, opens, held, not-opened}
 use Rattle.recordings.proofs.Ticks.{compare-refused}
 use Rattle.recordings.proofs.comparing.compare.Statement.{statement}

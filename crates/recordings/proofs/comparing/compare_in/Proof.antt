@@ -1,4 +1,3 @@
--- `comparing::compare_in` meets its contract.
 use Rattle.recordings.proofs.Names.{sym, _∙_, needs}
 use Rattle.recordings.proofs.Ticks.{compare-unlike, compare-like}
 use Rattle.recordings.proofs.comparing.compare_in.Statement.{statement}

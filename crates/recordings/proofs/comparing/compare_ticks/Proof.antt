@@ -1,10 +1,9 @@
--- `comparing::compare_ticks` meets its contract.
 use Rattle.recordings.proofs.Names.{_≡_, true, false, ℕ, _/_, _-_, not-true, not-false, arith, length, Contents, Opens, refreshes, right, comparedFrom, refreshAt}
 use Rattle.recordings.proofs.Ticks.{refreshesFrom, six-times, turn-fails, turn-next, turn-end}
 use Rattle.recordings.proofs.comparing.compare_ticks.Statement.{statement}
 use Rattle.recordings.proofs.comparing.compare_ticks.Tie as tie
 
--- From this tick on it is as from the first on.
+-- The loop's invariant: the comparison from this tick on gives the answer of the whole.
 abbrev Inv-loop : tie.InvT-loop
 Inv-loop sheet image slow fast ticks tick₀ tick =
     (kind : ℕ) (c : Contents) → Opens kind image sheet c → comparedFrom kind image (refreshes slow) tick (refreshesFrom fast tick) ≡ comparedFrom kind image (refreshes slow) 0 (refreshes fast)

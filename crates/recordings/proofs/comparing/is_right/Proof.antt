@@ -1,4 +1,3 @@
--- `comparing::is_right` meets its contract.
 use Rattle.recordings.proofs.Names.{sym, _∙_, needs, right}
 use Rattle.recordings.proofs.comparing.is_right.Statement.{statement}
 use Rattle.recordings.proofs.comparing.is_right.Tie as tie

@@ -1,4 +1,3 @@
--- `comparing::is_same` meets its contract.
 use Rattle.recordings.proofs.Names.{toZ-ofZ}
 use Rattle.recordings.proofs.comparing.is_same.Statement.{statement}
 use Rattle.recordings.proofs.comparing.is_same.Tie as tie

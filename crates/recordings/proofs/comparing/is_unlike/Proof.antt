@@ -1,4 +1,3 @@
--- `comparing::is_unlike` meets its contract.
 use Rattle.recordings.proofs.Names.{ap, not, _/_, eq-eqb, ne-eqb}
 use Rattle.recordings.proofs.Ticks.{not-sixes, sixes}
 use Rattle.recordings.proofs.comparing.is_unlike.Statement.{statement}

@@ -1,4 +1,3 @@
--- `rows::too_long` meets its contract.
 use Rattle.refusal.proofs.Names.{ap, arith, returned}
 use Rattle.refusal.proofs.rows.too_long.Statement.{statement}
 use Rattle.refusal.proofs.rows.too_long.Tie as tie

@@ -1,5 +1,5 @@
--- `curve_block::is_term` meets its contract: the exponent's code is the lowest bits, the coefficient's those above them.
-use Rattle.sheet.proofs.Names.{needs, _≡_, sym, _∙_, true, false, ℕ, arith, and-mask, told, judgedSaid, exponent-sound, coefficient-sound}
+-- The exponent's code is the lowest bits, the coefficient's those above them.
+use Rattle.sheet.proofs.Names.{needs, _≡_, sym, _∙_, true, false, ℕ, arith, and-mask, said-of, judgedSaid, exponent-sound, coefficient-sound}
 use Rattle.sheet.proofs.curve_block.is_term.Statement.{statement}
 use Rattle.sheet.proofs.curve_block.is_term.Tie as tie
 
@@ -13,9 +13,9 @@ returns-3 c r =
     let a = e .before .before .args in
     let mask = and-mask (a .both) 7 in
     record {
-      power = rw mask at (sym (told judgedSaid (f .before .before .enum-told2 .given .1) (rw (e .before .term-exponent .ensures) at (e .judge .ensures))));
+      power = rw mask at (sym (said-of judgedSaid (f .before .before .enum-told2 .given .1) (rw (e .before .term-exponent .ensures) at (e .judge .ensures))));
       rising = rw mask at (sym (c .exponent-follows .ensures) ∙ r);
-      factor = sym (told judgedSaid (c .before .enum-told4 .given .1) (rw (f .before .term-coefficient .ensures) at (f .judge2 .ensures)));
+      factor = sym (said-of judgedSaid (c .before .enum-told4 .given .1) (rw (f .before .term-coefficient .ensures) at (f .judge2 .ensures)));
     }
 
 pub is-term-spec : {M : Type 1} → statement M

@@ -1,4 +1,4 @@
-use Rattle.sheet.proofs.Names.{needs, _≡_, refl, sym, _∙_, _≤_, arith, told, segmentOf, behindSegment, nothingPassed, segmentsOf, streamIn, passed, segmentStepSaid}
+use Rattle.sheet.proofs.Names.{needs, _≡_, refl, sym, _∙_, _≤_, arith, said-of, segmentOf, behindSegment, nothingPassed, segmentsOf, streamIn, passed, segmentStepSaid}
 use Rattle.sheet.proofs.CurveSteps.{passedLeft, passed-done, passed-halts, passed-next, total-few}
 use Rattle.sheet.proofs.curve_block.take_segments.Statement.{statement}
 use Rattle.sheet.proofs.curve_block.take_segments.Tie as tie
@@ -17,7 +17,7 @@ returns c =
     let t = c .before .before .before in
     let l = t .before .before in
     let a = l .before .before .args in
-    sym (passed-halts (streamIn (a .sizes) (a .image .now)) segmentOf behindSegment (passed (l .loop .before) (l .loop .terms)) _ _ (t .before .loop-test .taken) (told segmentStepSaid (c .before .r .given .1) (t .take-segment .ensures))) ∙ l .loop .inv .1
+    sym (passed-halts (streamIn (a .sizes) (a .image .now)) segmentOf behindSegment (passed (l .loop .before) (l .loop .terms)) _ _ (t .before .loop-test .taken) (said-of segmentStepSaid (c .before .r .given .1) (t .take-segment .ensures))) ∙ l .loop .inv .1
 
 loop-again : tie.Need-loop-again Inv-loop μ-loop
 loop-again c =
@@ -26,7 +26,7 @@ loop-again c =
     let a = l .before .before .args in
     let stand = passed (l .loop .before) (l .loop .terms) in (
       total-few (streamIn (a .sizes) (a .image .now)) stand (l .loop .cursor .at) (t .take-segment .ensures) (c .before .last .given .1),
-      sym (passed-next (streamIn (a .sizes) (a .image .now)) segmentOf behindSegment stand _ _ (t .before .loop-test .taken) (told segmentStepSaid (c .before .last .given .1) (t .take-segment .ensures))) ∙ l .loop .inv .1,
+      sym (passed-next (streamIn (a .sizes) (a .image .now)) segmentOf behindSegment stand _ _ (t .before .loop-test .taken) (said-of segmentStepSaid (c .before .last .given .1) (t .take-segment .ensures))) ∙ l .loop .inv .1,
     )
 
 returns-2 : tie.Need-returns-2 Inv-loop μ-loop

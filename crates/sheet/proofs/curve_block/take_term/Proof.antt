@@ -1,4 +1,4 @@
--- `curve_block::take_term` meets its contract: a term of 39 bits that stands, or what its fields one by one come to.
+-- A valid term of 39 bits, or the outcome of its fields one by one.
 use Rattle.sheet.proofs.Names.{needs, ap₂, _∙_, some, ℕ, arith, and-mask, good, earlierSaid, streamIn, parsed}
 use Rattle.sheet.proofs.Steps.{got, bits-here}
 use Rattle.sheet.proofs.CurveSteps.{term-at-once}

@@ -1,4 +1,4 @@
-use Rattle.sheet.proofs.Names.{needs, _≡_, refl, sym, _∙_, none, told, earlierSaid, termOf, behindTerm, termsOf, streamIn, earlierStepSaid}
+use Rattle.sheet.proofs.Names.{needs, _≡_, refl, sym, _∙_, none, said-of, earlierSaid, termOf, behindTerm, termsOf, streamIn, earlierStepSaid}
 use Rattle.sheet.proofs.CurveSteps.{passedLeft, passed-done, passed-halts, passed-next}
 use Rattle.sheet.proofs.curve_block.take_terms.Statement.{statement}
 use Rattle.sheet.proofs.curve_block.take_terms.Tie as tie
@@ -16,14 +16,14 @@ returns c =
     let t = c .before .before .before in
     let l = t .before .before in
     let a = l .before .before .args in
-    sym (passed-halts (streamIn (a .sizes) (a .image .now)) termOf behindTerm (earlierSaid (l .loop .before)) _ _ (t .before .loop-test .taken) (told earlierStepSaid (c .before .r .given .1) (t .take-term .ensures))) ∙ l .loop .inv
+    sym (passed-halts (streamIn (a .sizes) (a .image .now)) termOf behindTerm (earlierSaid (l .loop .before)) _ _ (t .before .loop-test .taken) (said-of earlierStepSaid (c .before .r .given .1) (t .take-term .ensures))) ∙ l .loop .inv
 
 loop-again : tie.Need-loop-again Inv-loop μ-loop
 loop-again c =
     let t = c .before .before .before in
     let l = t .before .before in
     let a = l .before .before .args in
-    sym (passed-next (streamIn (a .sizes) (a .image .now)) termOf behindTerm (earlierSaid (l .loop .before)) _ _ (t .before .loop-test .taken) (told earlierStepSaid (c .before .last .given .1) (t .take-term .ensures))) ∙ l .loop .inv
+    sym (passed-next (streamIn (a .sizes) (a .image .now)) termOf behindTerm (earlierSaid (l .loop .before)) _ _ (t .before .loop-test .taken) (said-of earlierStepSaid (c .before .last .given .1) (t .take-term .ensures))) ∙ l .loop .inv
 
 returns-2 : tie.Need-returns-2 Inv-loop μ-loop
 unfolding termsOf

@@ -1,4 +1,3 @@
--- `held::pair_in` meets its contract.
 use Rattle.sheet.proofs.Names.{needs, ap, _∙_, arith, good-same, no-value, streamIn, pairIn, pairFrom}
 use Rattle.sheet.proofs.Steps.{got, past, bits-lt}
 use Rattle.sheet.proofs.HeldLaws.{held-whole, behind-few, index-few, held-pair}

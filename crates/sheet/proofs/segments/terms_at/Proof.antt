@@ -3,7 +3,7 @@ use Rattle.sheet.proofs.Steps.{got, past, bits-lt}
 use Rattle.sheet.proofs.segments.terms_at.Statement.{statement}
 use Rattle.sheet.proofs.segments.terms_at.Tie as tie
 
--- The count stands behind the start.
+-- The count is after the start.
 behind-start : (c : tie.After-over) → let a = c .before .before .args in
     numberIn (parse (streamIn (a .sizes) (a .image .now)) (bits 7) (c .over .result .next .at)) ≡ numberIn (parse (streamIn (a .sizes) (a .image .now)) (bits 7) (a .cursor .at + 13))
 behind-start c =

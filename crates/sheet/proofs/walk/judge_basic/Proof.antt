@@ -1,11 +1,11 @@
--- `walk::judge_basic` meets its contract: a row that refuses ends the judging, and behind the last that can all is open.
-use Rattle.sheet.proofs.Names.{needs, suc, _-_, _+_, arith, length, Bridge, Stands, Turned, basic, last-most, streamIn, judged, layoutAt, basic-most}
-use Rattle.sheet.proofs.WalkSteps.{BasicCome, basic-start, basic-turn, judged-all, Turn, basic-stood}
+-- A row that refuses ends the loop. After the last row that can refuse, every field is open.
+use Rattle.sheet.proofs.Names.{needs, suc, _-_, _+_, arith, length, Bridge, Valid, Turned, basic, last-most, streamIn, judged, layoutAt, basic-most}
+use Rattle.sheet.proofs.WalkSteps.{BasicJudgedUpTo, basic-start, basic-turn, judged-all, Turn, basic-stood}
 use Rattle.sheet.proofs.walk.judge_basic.Statement.{statement}
 use Rattle.sheet.proofs.walk.judge_basic.Tie as tie
 
 abbrev Inv-loop : tie.InvT-loop
-Inv-loop sizes image last cursor₀ field₀ cursor field = BasicCome Bridge sizes image field (cursor .at)
+Inv-loop sizes image last cursor₀ field₀ cursor field = BasicJudgedUpTo Bridge sizes image field (cursor .at)
 
 abbrev μ-loop : tie.MeasureT-loop
 μ-loop sizes image last cursor₀ field₀ cursor field = suc last - field
@@ -15,7 +15,7 @@ loop-holds c = let a = c .before .before .before .args in rw (c .start .ensures)
 
 turn : (c : tie.After-basic-row Inv-loop μ-loop) → let l = c .before .before in let a = l .before .before .before .before .args in
     Turn (a .sizes) (a .image .now) (c .basic-row .result) (l .loop .cursor .at) (judged (streamIn (a .sizes) (a .image .now)) basic 0 0)
-    (BasicCome Bridge (a .sizes) (a .image .now) (l .loop .field + 1))
+    (BasicJudgedUpTo Bridge (a .sizes) (a .image .now) (l .loop .field + 1))
 turn c =
     let l = c .before .before in
     let b = l .before .before in
@@ -38,7 +38,7 @@ returns-2 : tie.Need-returns-2 Inv-loop μ-loop
 returns-2 c =
     let l = c .before in
     let b = l .before .before in
-    basic-stood (b .before .before .pre) Stands (judged-all Bridge _ (length basic) _ (l .loop .inv .1) (b .basic-closed .ensures .1 Bridge) (omega arith) (c .loop-test .left))
+    basic-stood (b .before .before .pre) Valid (judged-all Bridge _ (length basic) _ (l .loop .inv .1) (b .basic-closed .ensures .1 Bridge) (omega arith) (c .loop-test .left))
 
 pub judge-basic-spec : {M : Type 1} → statement M
 judge-basic-spec =

@@ -1,11 +1,10 @@
--- `walk::judge_bridge` meets its contract, as `judge_basic` does.
 use Rattle.sheet.proofs.Names.{needs, suc, _-_, arith, Bridge, lastField, last-most, basic-most, layoutAt}
-use Rattle.sheet.proofs.WalkSteps.{OwnCome, own-start, OwnTurn, own-turn, judged-all}
+use Rattle.sheet.proofs.WalkSteps.{OwnJudgedUpTo, own-start, OwnTurn, own-turn, judged-all}
 use Rattle.sheet.proofs.walk.judge_bridge.Statement.{statement}
 use Rattle.sheet.proofs.walk.judge_bridge.Tie as tie
 
 abbrev Inv-loop : tie.InvT-loop
-Inv-loop sizes image precision last cursor₀ field₀ cursor field = OwnCome sizes image (layoutAt Bridge precision) field (cursor .at)
+Inv-loop sizes image precision last cursor₀ field₀ cursor field = OwnJudgedUpTo sizes image (layoutAt Bridge precision) field (cursor .at)
 
 abbrev μ-loop : tie.MeasureT-loop
 μ-loop sizes image precision last cursor₀ field₀ cursor field = suc last - field

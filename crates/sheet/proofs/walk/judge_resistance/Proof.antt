@@ -1,11 +1,10 @@
--- `walk::judge_resistance` meets its contract, as `judge_basic` does.
 use Rattle.sheet.proofs.Names.{needs, suc, _-_, arith, Resistance, lastField, last-most, basic-most, layoutAt}
-use Rattle.sheet.proofs.WalkSteps.{OwnCome, own-start, OwnTurn, own-turn, judged-all}
+use Rattle.sheet.proofs.WalkSteps.{OwnJudgedUpTo, own-start, OwnTurn, own-turn, judged-all}
 use Rattle.sheet.proofs.walk.judge_resistance.Statement.{statement}
 use Rattle.sheet.proofs.walk.judge_resistance.Tie as tie
 
 abbrev Inv-loop : tie.InvT-loop
-Inv-loop sizes image precision last cursor₀ field₀ cursor field = OwnCome sizes image (layoutAt Resistance precision) field (cursor .at)
+Inv-loop sizes image precision last cursor₀ field₀ cursor field = OwnJudgedUpTo sizes image (layoutAt Resistance precision) field (cursor .at)
 
 abbrev μ-loop : tie.MeasureT-loop
 μ-loop sizes image precision last cursor₀ field₀ cursor field = suc last - field

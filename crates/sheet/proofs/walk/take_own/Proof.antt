@@ -1,4 +1,4 @@
--- `walk::take_own` meets its contract: behind the fields that were judged only the last may pass the end.
+-- After the fields that were judged only the last may pass the end.
 use Rattle.sheet.proofs.Names.{needs, _≡_, sym, ap, _∙_, ℕ, arith, refused, fieldAt, streamNumber, span-listed, fieldPlace, choice-place, layoutAt}
 use Rattle.sheet.proofs.WalkSteps.{stream-holds, own-turned, own-past, own-stands}
 use Rattle.sheet.proofs.walk.take_own.Statement.{statement}

@@ -1,4 +1,3 @@
--- `bitfields::append` meets its contract.
 use Rattle.stream.proofs.Names.{le-refl, arith}
 use Rattle.stream.proofs.Runs.{side-byte, side-eight, side-run, side-over}
 use Rattle.stream.proofs.Laying.{word-lt, append-near, append-over}

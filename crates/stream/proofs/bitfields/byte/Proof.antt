@@ -1,4 +1,3 @@
--- `bitfields::byte` meets its contract.
 use Rattle.stream.proofs.Names.{and-mask, mask-lt}
 use Rattle.stream.proofs.bitfields.byte.Statement.{statement}
 use Rattle.stream.proofs.bitfields.byte.Tie as tie

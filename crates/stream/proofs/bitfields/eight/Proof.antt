@@ -1,4 +1,3 @@
--- `bitfields::eight` meets its contract.
 use Rattle.stream.proofs.Names.{needs, lit<}
 use Rattle.stream.proofs.Runs.{eight-in, eight-fits, joined}
 use Rattle.stream.proofs.bitfields.eight.Statement.{statement}

@@ -1,4 +1,3 @@
--- `bitfields::lay_eight` meets its contract.
 use Rattle.stream.proofs.Names.{needs, lit<, length-set}
 use Rattle.stream.proofs.Runs.{eight-in, eight-fits}
 use Rattle.stream.proofs.Laying.{laid-word}

@@ -1,4 +1,3 @@
--- `bitfields::over_check` meets its contract.
 use Rattle.stream.proofs.Names.{arith}
 use Rattle.stream.proofs.Words.{one-shl-pos, left-out}
 use Rattle.stream.proofs.bitfields.over_check.Statement.{statement}

@@ -1,4 +1,3 @@
--- `bitfields::put` meets its contract.
 use Rattle.stream.proofs.Names.{needs, refl, arith}
 use Rattle.stream.proofs.Words.{one-shl-pos, low-bits-lt, high-bits-lt}
 use Rattle.stream.proofs.Runs.{side-image, side, side-first, side-rest}

@@ -1,4 +1,3 @@
--- `bitfields::put_eight` meets its contract.
 use Rattle.stream.proofs.Names.{arith}
 use Rattle.stream.proofs.Laying.{eight-put}
 use Rattle.stream.proofs.bitfields.put_eight.Statement.{statement}

@@ -1,4 +1,3 @@
--- `bitfields::replaced` meets its contract.
 use Rattle.stream.proofs.Names.{arith}
 use Rattle.stream.proofs.Words.{one-shl-pos, put-word}
 use Rattle.stream.proofs.bitfields.replaced.Statement.{statement}

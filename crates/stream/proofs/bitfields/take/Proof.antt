@@ -1,4 +1,3 @@
--- `bitfields::take` meets its contract.
 use Rattle.stream.proofs.Names.{arith}
 use Rattle.stream.proofs.Words.{one-shl-pos}
 use Rattle.stream.proofs.Runs.{side, side-first, side-rest, take-near, take-far}

@@ -1,4 +1,3 @@
--- `bitfields::window` meets its contract.
 use Rattle.stream.proofs.Names.{arith}
 use Rattle.stream.proofs.Runs.{window-end}
 use Rattle.stream.proofs.bitfields.window.Statement.{statement}

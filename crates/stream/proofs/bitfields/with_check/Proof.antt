@@ -1,4 +1,3 @@
--- `bitfields::with_check` meets its contract.
 use Rattle.stream.proofs.Names.{arith}
 use Rattle.stream.proofs.Words.{one-shl-pos, put-between}
 use Rattle.stream.proofs.bitfields.with_check.Statement.{statement}

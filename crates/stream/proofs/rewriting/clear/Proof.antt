@@ -1,4 +1,4 @@
--- `rewriting::clear` meets its contract. The loop's invariant: zeros up to `i`, and behind them the image as it was.
+-- The loop's invariant: zeros up to `i`, and after them the image unchanged.
 use Rattle.stream.proofs.Names.{_≡_, refl, ap, _∙_, _++_, append-nil, _≤_, _-_, arith, length, drop, set, replicate, length-set, drop-length, fill-none, fill-more, needs}
 use Rattle.stream.proofs.rewriting.clear.Statement.{statement}
 use Rattle.stream.proofs.rewriting.clear.Tie as tie

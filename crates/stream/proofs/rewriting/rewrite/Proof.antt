@@ -1,4 +1,3 @@
--- `rewriting::rewrite` meets its contract.
 use Rattle.stream.proofs.Names.{needs, arith}
 use Rattle.stream.proofs.Mending.{rewritten, rewritten-once}
 use Rattle.stream.proofs.rewriting.rewrite.Statement.{statement}

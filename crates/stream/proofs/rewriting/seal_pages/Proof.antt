@@ -1,4 +1,4 @@
--- `rewriting::seal_pages` meets its contract. The loop's invariant: the pages before `page` are sealed.
+-- The loop's invariant: the pages before `page` are sealed.
 use Rattle.stream.proofs.Names.{_≡_, refl, needs, arith, _≤_, _-_, length}
 use Rattle.stream.proofs.SealAll.{Sealed, sealed-none, sealed-more, sealed-all}
 use Rattle.stream.proofs.rewriting.seal_pages.Statement.{statement}

@@ -1,5 +1,4 @@
--- `texts::dates::code_of` meets its contract: the text of a code reads as its date.
--- Assumes nothing.
+-- The text of a code reads as its date.
 use Rattle.texts.proofs.Names.{arith, needs}
 use Rattle.texts.proofs.Digits.{read}
 use Rattle.texts.proofs.dates.code_of.Statement.{statement}

@@ -1,5 +1,4 @@
--- `texts::dates::date_of` meets its contract: the year and the month that were found make a real date with that many days before it.
--- Assumes nothing.
+-- The year and the month that the search finds make a real date with that many days before it.
 use Rattle.texts.proofs.Names.{sym, arith, needs}
 use Rattle.texts.proofs.Finding.{year-near, rest-of-year, found}
 use Rattle.texts.proofs.dates.date_of.Statement.{statement}

@@ -1,5 +1,4 @@
--- `texts::dates::day_code` meets its contract: a code's date is within each test, and the days before it are the code.
--- Assumes nothing.
+-- A code's date passes each test, and the days before it are the code.
 use Rattle.texts.proofs.Names.{sym, arith, needs}
 use Rattle.texts.proofs.Finding.{ranged, few}
 use Rattle.texts.proofs.dates.day_code.Statement.{statement}

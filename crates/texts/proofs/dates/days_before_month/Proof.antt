@@ -1,6 +1,5 @@
--- `texts::dates::days_before_month` meets its contract: antt works the table out from the calendar, and tests at once what it gives at each month of
--- a leap year and of another.
--- Assumes nothing.
+-- Antt computes the table from the calendar, and tests
+-- all months of a leap year and of another year.
 use Rattle.texts.proofs.Names.{_≡_, sym, subst, _∙_, Bool, true, false, _&&_, cond, List, [], _∷_, foldr, ℕ, zero, suc, _+_, _-_, _≤_, _<_, suc-le-suc, arith, T, eqb, ltb, eqb→eq, ltb→lt, getD, take, needs}
 use Rattle.texts.proofs.Names.{lt-ltb, le-ltb, and-yes, leap, daysBeforeMonth}
 use Rattle.texts.proofs.Below.{below, at}
@@ -8,7 +7,7 @@ use Rattle.texts.proofs.Months.{model, like-model}
 use Rattle.texts.proofs.dates.days_before_month.Statement.{statement}
 use Rattle.texts.proofs.dates.days_before_month.Tie as tie
 
--- the entries for a month and those behind it: the days of a year that is no leap year
+-- The entries from a month on: the days before it in a year that is not a leap year.
 abbrev from : ℕ → ℕ → List ℕ
 from month zero = []
 from month (suc n) = daysBeforeMonth (model false) month ∷ from (suc month) n
@@ -16,7 +15,7 @@ from month (suc n) = daysBeforeMonth (model false) month ∷ from (suc month) n
 abbrev entry : ℕ → ℕ
 entry month = getD (from 1 12) (month - 1) 0
 
--- a leap year has one more from March on
+-- A leap year has one more from March on.
 abbrev given : Bool → ℕ → ℕ
 given long month = entry month + cond (ltb month 3) 0 (cond long 1 0)
 

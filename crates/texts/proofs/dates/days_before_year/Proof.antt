@@ -1,5 +1,4 @@
--- `texts::dates::days_before_year` meets its contract, by the law that counts leap years.
--- Assumes nothing.
+-- The law that counts leap years gives the result.
 use Rattle.texts.proofs.Names.{arith, needs}
 use Rattle.texts.proofs.Leap.{year-formula}
 use Rattle.texts.proofs.dates.days_before_year.Statement.{statement}

@@ -1,5 +1,3 @@
--- `texts::dates::leap` meets its contract: the tests are the definition's.
--- Assumes nothing.
 use Rattle.texts.proofs.Names.{eq-eqb, ne-eqb}
 use Rattle.texts.proofs.dates.leap.Statement.{statement}
 use Rattle.texts.proofs.dates.leap.Tie as tie

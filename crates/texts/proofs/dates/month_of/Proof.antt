@@ -1,5 +1,4 @@
--- `texts::dates::month_of` meets its contract. The loop's invariant: the next month's first day is after the day.
--- Assumes nothing.
+-- The loop's invariant: the next month's first day is after the day.
 use Rattle.texts.proofs.Names.{sym, _≤_, _<_, _+_, arith, needs, daysBeforeMonth}
 use Rattle.texts.proofs.Finding.{month-turn}
 use Rattle.texts.proofs.dates.month_of.Statement.{statement}

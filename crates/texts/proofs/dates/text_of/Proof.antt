@@ -1,5 +1,3 @@
--- `texts::dates::text_of` meets its contract.
--- Assumes nothing.
 use Rattle.texts.proofs.Names.{div-one, needs, dateText}
 use Rattle.texts.proofs.dates.text_of.Statement.{statement}
 use Rattle.texts.proofs.dates.text_of.Tie as tie

@@ -1,5 +1,3 @@
--- `texts::dates::two_digits` meets its contract.
--- Assumes nothing.
 use Rattle.texts.proofs.Names.{_+_, arith, needs}
 use Rattle.texts.proofs.dates.two_digits.Statement.{statement}
 use Rattle.texts.proofs.dates.two_digits.Tie as tie

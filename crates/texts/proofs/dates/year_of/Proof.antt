@@ -1,5 +1,4 @@
--- `texts::dates::year_of` meets its contract. The loop's invariant: the year's first day is not after the code.
--- Assumes nothing.
+-- The loop's invariant: the year's first day is not after the code.
 use Rattle.texts.proofs.Names.{_≤_, _-_, arith, needs, daysOfYears, daysBeforeYear}
 use Rattle.texts.proofs.Finding.{year-near}
 use Rattle.texts.proofs.dates.year_of.Statement.{statement}

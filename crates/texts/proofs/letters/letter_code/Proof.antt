@@ -1,5 +1,4 @@
--- `texts::letters::letter_code` meets its contract: the letters before the one that is found are others, and no letter stands twice.
--- Assumes nothing.
+-- The letters before the found one differ from it, and no letter occurs twice.
 use Rattle.texts.proofs.Names.{_≡_, sym, _∙_, ℕ, _≤_, _<_, _-_, arith, getD, below-more, needs, letters}
 use Rattle.texts.proofs.Alphabet.{distinct}
 use Rattle.texts.proofs.letters.letter_code.Statement.{statement}

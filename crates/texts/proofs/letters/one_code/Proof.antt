@@ -1,5 +1,3 @@
--- `texts::letters::one_code` meets its contract.
--- Assumes nothing.
 use Rattle.texts.proofs.Names.{needs}
 use Rattle.texts.proofs.Alphabet.{only-one}
 use Rattle.texts.proofs.letters.one_code.Statement.{statement}

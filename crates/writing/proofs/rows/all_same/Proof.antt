@@ -1,4 +1,4 @@
--- `rows::all_same` meets its contract. The loop's invariant: no row before row i differs.
+-- The loop's invariant: no row before row i differs.
 use Rattle.writing.proofs.Names.{needs, _≡_, sym, ap, _∙_, false, not, ℕ, _-_, _/_, _≤_, _<_, arith, length, differs, below-more}
 use Rattle.writing.proofs.CodeLaws.{some-differs, none-differ}
 use Rattle.writing.proofs.rows.all_same.Statement.{statement}

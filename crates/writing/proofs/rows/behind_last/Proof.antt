@@ -1,4 +1,4 @@
--- `rows::behind_last` meets its contract. The loop's invariant: no row from row r on differs.
+-- The loop's invariant: no row from row r on differs.
 use Rattle.writing.proofs.Names.{needs, _≡_, sym, ap, _∙_, false, not, ℕ, _+_, _-_, _/_, _≤_, _<_, arith, length, differs, raised}
 use Rattle.writing.proofs.CodeLaws.{last-here, last-none, behind-more}
 use Rattle.writing.proofs.rows.behind_last.Statement.{statement}

@@ -1,4 +1,3 @@
--- `rows::first_sum` meets its contract.
 use Rattle.writing.proofs.Names.{needs, sym, arith, length-take-le}
 use Rattle.writing.proofs.rows.first_sum.Statement.{statement}
 use Rattle.writing.proofs.rows.first_sum.Tie as tie

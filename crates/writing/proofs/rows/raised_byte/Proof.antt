@@ -1,4 +1,3 @@
--- `rows::raised_byte` meets its contract.
 use Rattle.writing.proofs.Names.{needs, sym, ap, _∙_, ℕ, _+_, _%_, arith, getD}
 use Rattle.writing.proofs.PageLaws.{raised-at, raised-other}
 use Rattle.writing.proofs.rows.raised_byte.Statement.{statement}

@@ -1,4 +1,3 @@
--- `rows::raised_row` meets its contract.
 use Rattle.writing.proofs.Names.{needs, ap, _∙_, List, ℕ, _+_, _%_, getD, set}
 use Rattle.writing.proofs.CodeLaws.{raised-in, raised-out}
 use Rattle.writing.proofs.rows.raised_row.Statement.{statement}

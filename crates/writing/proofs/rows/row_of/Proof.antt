@@ -1,4 +1,3 @@
--- `rows::row_of` meets its contract.
 use Rattle.writing.proofs.Names.{needs}
 use Rattle.writing.proofs.CodeLaws.{row-bytes}
 use Rattle.writing.proofs.rows.row_of.Statement.{statement}

@@ -1,4 +1,3 @@
--- `rows::same_raised` meets its contract.
 use Rattle.writing.proofs.Names.{needs, _≡_, sym, ap, _∙_, ℕ, _+_, _-_, _*_, _≤_, arith, same, raised}
 use Rattle.writing.proofs.CodeLaws.{same-turn, same-stop, same-end, same-out}
 use Rattle.writing.proofs.rows.same_raised.Statement.{statement}

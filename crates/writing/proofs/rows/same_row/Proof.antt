@@ -1,4 +1,4 @@
--- `rows::same_row` meets its contract. The loop's invariant: what is alike so far and the rest are the whole row.
+-- The loop's invariant: the bytes equal so far and the rest are the whole row.
 use Rattle.writing.proofs.Names.{needs, _≡_, ap, _&&_, ⊎-elim, ℕ, _+_, _-_, _*_, _≤_, arith, same}
 use Rattle.writing.proofs.CodeLaws.{alike-stop, alike-turn, alike-end}
 use Rattle.writing.proofs.rows.same_row.Statement.{statement}

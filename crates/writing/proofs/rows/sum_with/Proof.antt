@@ -1,4 +1,3 @@
--- `rows::sum_with` meets its contract.
 use Rattle.writing.proofs.Names.{needs, ap, _∙_, ℕ, _%_}
 use Rattle.writing.proofs.CodeLaws.{sum-row, sum-exchanged, part-row}
 use Rattle.writing.proofs.rows.sum_with.Statement.{statement}

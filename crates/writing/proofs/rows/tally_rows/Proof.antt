@@ -1,4 +1,3 @@
--- `rows::tally_rows` meets its contract.
 use Rattle.writing.proofs.Names.{needs, rows, checkRow, differs, _≡_, refl, ap, _∙_, _-_, _≤_, _/_, arith, tallyTo}
 use Rattle.writing.proofs.CodeLaws.{count-le, tally-more}
 use Rattle.writing.proofs.rows.tally_rows.Statement.{statement}

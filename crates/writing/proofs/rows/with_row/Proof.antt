@@ -1,4 +1,3 @@
--- `rows::with_row` meets its contract.
 use Rattle.writing.proofs.Names.{needs, zero-add, eq-eqb, ne-eqb}
 use Rattle.writing.proofs.rows.with_row.Statement.{statement}
 use Rattle.writing.proofs.rows.with_row.Tie as tie

@@ -1,4 +1,3 @@
--- `Cursor::take` meets its contract.
 use Rattle.stream.proofs.Names.{needs, arith}
 use Rattle.stream.proofs.Taking.{take-inside, take-past}
 use Rattle.stream.proofs.cursor.Cursor.take.Statement.{statement}

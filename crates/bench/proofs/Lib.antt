@@ -1,3 +1,0 @@
-mod Names
-pub mod LineLaws
-pub mod GatherLaws

@@ -1,0 +1,9 @@
+pub mod Answers
+pub mod Rules
+pub mod Units
+pub mod Unscaled
+pub mod Validity
+pub mod Stored
+pub mod DirectCode
+pub mod Singles
+pub mod Tables

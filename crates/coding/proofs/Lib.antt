@@ -1,3 +1,0 @@
-mod Names
-pub mod Lent
-pub mod Told

@@ -1,9 +1,0 @@
-use Rattle.coding.proofs.Names.{needs, toZ-ofZ, encode}
-use Rattle.coding.proofs.calibration.encode_point.Statement.{statement}
-use Rattle.coding.proofs.calibration.encode_point.Tie as tie
-
-pub encode-point-spec : {M : Type 1} → statement M
-unfolding encode
-encode-point-spec =
-    tie.close
-    (tie.spec (λ c κs. search needs) (λ c. rw (toZ-ofZ (c .before .fits .figure)) at (c .stepped .ensures)))

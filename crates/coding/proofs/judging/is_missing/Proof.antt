@@ -1,8 +1,0 @@
-use Rattle.coding.proofs.Names.{needs}
-use Rattle.coding.proofs.judging.is_missing.Statement.{statement}
-use Rattle.coding.proofs.judging.is_missing.Tie as tie
-
-pub is-missing-spec : {M : Type 1} → statement M
-is-missing-spec =
-    tie.close
-    (tie.spec (λ c κs. search needs) (λ c. rw (c .before .if1 .taken, c .all-ones .ensures)) (λ c. search needs))

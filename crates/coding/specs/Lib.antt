@@ -1,3 +1,0 @@
-pub mod Unscaled
-pub mod Swift
-pub mod CurveRules

@@ -1,0 +1,4 @@
+mod Names
+pub mod LineLaws
+pub mod GatherLaws
+pub mod ReplyLaws

@@ -1,0 +1,19 @@
+mod Names
+pub mod Distances
+pub mod NestedLaws
+pub mod PowerLaws
+pub mod Order
+pub mod Places
+pub mod Weights
+pub mod Bends
+pub mod Beforehand
+pub mod Climb
+pub mod Pieces
+pub mod Shadow
+pub mod Steepness
+pub mod Sums
+pub mod Bound
+pub mod Crossings
+pub mod Conformity
+pub mod Monotone
+pub mod Sizes

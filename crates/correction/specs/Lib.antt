@@ -1,0 +1,9 @@
+pub mod Before
+pub mod Certificate
+pub mod Curve
+pub mod Line
+pub mod Conformity
+pub mod Crossing
+pub mod Powers
+pub mod Ranges
+pub mod Monotone

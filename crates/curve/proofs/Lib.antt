@@ -1,3 +1,0 @@
-mod Names
-pub mod NestedLaws
-pub mod PowerLaws

@@ -1,2 +1,0 @@
-pub mod Curve
-pub mod Powers

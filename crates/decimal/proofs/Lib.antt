@@ -1,3 +1,0 @@
-mod Names
-pub mod DigitLaws
-pub mod RoundLaws

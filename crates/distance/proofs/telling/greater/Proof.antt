@@ -1,7 +1,0 @@
--- `telling::greater` meets its contract.
-use Rattle.distance.proofs.Names.{arith}
-use Rattle.distance.proofs.telling.greater.Statement.{statement}
-use Rattle.distance.proofs.telling.greater.Tie as tie
-
-pub greater-spec : {M : Type 1} → statement M
-greater-spec = tie.close (tie.spec (λ c. omega arith) (λ c. omega arith))

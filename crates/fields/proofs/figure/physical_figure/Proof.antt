@@ -1,7 +1,0 @@
-use Rattle.fields.proofs.Names.{needs, refl, physicalFigure}
-use Rattle.fields.proofs.figure.physical_figure.Statement.{statement}
-use Rattle.fields.proofs.figure.physical_figure.Tie as tie
-
-pub physical-figure-spec : {M : Type 1} → statement M
-unfolding physicalFigure
-physical-figure-spec = tie.close (tie.spec (λ c. search needs) (λ c. search needs) (λ c. refl))

@@ -1,9 +1,0 @@
--- `templates::basic_closed` meets its contract: the fields behind the third are open, by one computed test.
-use Rattle.fields.proofs.Names.{arith, basic, linesOf}
-use Rattle.fields.proofs.OpenLaws.{open-in}
-use Rattle.fields.proofs.templates.basic_closed.Statement.{statement}
-use Rattle.fields.proofs.templates.basic_closed.Tie as tie
-
-pub basic-closed-spec : {M : Type 1} → statement M
-unfolding basic linesOf
-basic-closed-spec = tie.close (tie.spec (λ c. (omega arith, λ t latest f lo hi. open-in t 4 1 (λ latest. tt) latest f (omega arith) (omega arith))))

@@ -1,0 +1,4 @@
+mod Names
+pub mod DigitLaws
+pub mod ShownLaws
+pub mod RoundLaws

@@ -1,2 +1,0 @@
-mod Names
-pub mod ShownLaws
