@@ -1,10 +1,12 @@
 """What the tests share: commands run in this process or as a program; samples; a folder of one's own."""
 import atexit
 import contextlib
+import faulthandler
 import io
 import os
 import random
 import shutil
+import signal
 import subprocess
 import sys
 import tempfile
@@ -32,6 +34,12 @@ REFUSED = ("blank.kind1", "damaged.kind1")
 ACCEPTED = tuple(sorted(name for name in os.listdir(SAMPLES) if ".kind" in name and name not in REFUSED))
 TODAY = ("--today", "2026-03-01")
 PROGRAM = os.path.join(HOME, "bin", "dartelm")
+# What a program may take, in seconds, until a test fails; and all tests, until they end and say where each thread is.
+LONGEST, ALL = 120, 800
+faulthandler.dump_traceback_later(ALL, exit=True)
+# A shell that runs the tests in the background has them ignore an interrupt, and what they start would ignore it too.
+signal.signal(signal.SIGINT, signal.default_int_handler)
+
 
 def console(*words):
     """The words of the console's answer, which is another program over the same calls."""

@@ -80,9 +80,11 @@ class Use(support.Case):
         self.ends(1, "why", "-", data=b"")
 
     def test_an_answer_that_cannot_be_written(self):
-        with open("/dev/full", "wb") as full:
-            _, err = self.ends(3, "show", sample("load-cell.kind1"), stdout=full)
-        self.assertIn("No space left", err)
+        buffered = {name: value for name, value in os.environ.items() if name != "PYTHONUNBUFFERED"}
+        for env in (buffered, {**buffered, "PYTHONUNBUFFERED": "1"}):
+            with open("/dev/full", "wb") as full:
+                _, err = self.ends(3, "show", sample("load-cell.kind1"), stdout=full, env=env)
+            self.assertEqual(err, "dartelm: the answer cannot be written: No space left on device\n")
         done = subprocess.run(
             f"'{support.PROGRAM}' show --points '{sample('many-points.kind2')}' | head -c 1",
             shell=True,

@@ -194,10 +194,9 @@ class Write(support.Case):
             stderr=subprocess.PIPE,
             text=True,
             start_new_session=True,
-            preexec_fn=lambda: signal.signal(signal.SIGINT, signal.default_int_handler),
         ) as process:
             begun.append(process)
-            out, err = process.communicate()
+            out, err = process.communicate(timeout=support.LONGEST)
         del there.write
         return process.returncode, out, err
 

@@ -3,6 +3,7 @@ import os
 import signal
 import subprocess
 import threading
+import time
 
 import bench
 import support
@@ -68,6 +69,11 @@ class Read(bench.Case):
         server.adapter.speaks.clear()
         self.gives(3, "chips", *self.at, err="does not list its chips: Input/output error; check the adapter\n")
         server.adapter.speaks.set()
+        # The server takes what comes late for the answer to its next question, and finds its way again.
+        for _ in range(30):
+            if self.run_here("show", f"ow:{SMALL}", *self.at)[0] == 0:
+                break
+            time.sleep(1)
         self.gives(0, "show", f"ow:{SMALL}", *self.at)
 
 
@@ -136,14 +142,8 @@ class Stopped(bench.Case):
 
         self.small.behind = behind
         words = [support.PROGRAM, "write", sample("torque.kind1"), "--to", f"ow:{SMALL}", "--force", *self.at]
-        process = subprocess.Popen(
-            words,
-            stdout=subprocess.PIPE,
-            stderr=subprocess.PIPE,
-            text=True,
-            preexec_fn=lambda: signal.signal(signal.SIGINT, signal.default_int_handler),
-        )
-        self.addCleanup(process.communicate)
+        process = subprocess.Popen(words, stdout=subprocess.PIPE, stderr=subprocess.PIPE, text=True)
+        self.addCleanup(process.communicate, timeout=support.LONGEST)
         self.addCleanup(process.kill)
         self.assertTrue(taken.wait(30))
         return process
@@ -156,7 +156,7 @@ class Stopped(bench.Case):
     def test_interrupted(self):
         process = self.begun(3)
         process.send_signal(signal.SIGINT)
-        _, err = process.communicate()
+        _, err = process.communicate(timeout=support.LONGEST)
         self.assertEqual(process.returncode, 128 + signal.SIGINT)
         self.assertIn("unfinished: the chip is refused now; the same command finishes it\n", err)
         self.finished()
@@ -164,13 +164,13 @@ class Stopped(bench.Case):
     def test_killed(self):
         process = self.begun(2)
         process.kill()
-        process.communicate()
+        process.communicate(timeout=support.LONGEST)
         self.finished()
 
     def test_the_server_ends(self):
         process = self.begun(2)
         self.server.close()
-        _, err = process.communicate()
+        _, err = process.communicate(timeout=support.LONGEST)
         self.assertEqual(process.returncode, 3, err)
         self.assertIn("unfinished: the chip is refused now; the same command finishes it\n", err)
         held = bytes(self.small.memory)
@@ -182,7 +182,7 @@ class Stopped(bench.Case):
         process = self.begun(1)
         self.gives(3, "write", sample("torque.kind1"), "--to", f"ow:{SMALL}", *self.at, err="another command writes this chip now\n")
         self.server.adapter.speaks.set()
-        _, err = process.communicate()
+        _, err = process.communicate(timeout=support.LONGEST)
         self.assertEqual((process.returncode, err, bytes(self.small.memory)), (0, "", TORQUE))
 
 

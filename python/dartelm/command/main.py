@@ -268,7 +268,7 @@ def main(words):
         return said(str(error), UNREAD)
     except BrokenPipeError:
         # A reader that has seen enough, as head.
-        os.dup2(os.open(os.devnull, os.O_WRONLY), 1)
+        drop_output()
         return ACCEPTED
     except OSError as error:
         return said(f"{error.filename or 'the answer cannot be written'}: {error.strerror}", UNREAD)
@@ -278,10 +278,17 @@ def main(words):
         return said(f"this should not happen, please report it: {type(error).__name__}: {error}", UNREAD)
 
 
+def drop_output():
+    """What Python has kept back of an answer that cannot be written is not tried once more at its end."""
+    os.dup2(os.open(os.devnull, os.O_WRONLY), 1)
+
+
 def said(text, status):
     try:
         sys.stdout.flush()
-    except (OSError, ValueError, AttributeError):
+    except OSError:
+        drop_output()
+    except (ValueError, AttributeError):
         pass
     tell(text)
     return status
