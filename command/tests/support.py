@@ -35,7 +35,7 @@ ACCEPTED = tuple(sorted(name for name in os.listdir(SAMPLES) if ".kind" in name 
 TODAY = ("--today", "2026-03-01")
 PROGRAM = os.path.join(HOME, "bin", "dartelm")
 # What a program may take, in seconds, until a test fails; and all tests, until they end and say where each thread is.
-LONGEST, ALL = 120, 800
+LONGEST, ALL = 120, 540
 faulthandler.dump_traceback_later(ALL, exit=True)
 # A shell that runs the tests in the background has them ignore an interrupt, and what they start would ignore it too.
 signal.signal(signal.SIGINT, signal.default_int_handler)
