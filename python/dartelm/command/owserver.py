@@ -21,7 +21,6 @@ PORT = 4304
 SILENCE, PATIENCE = 5.0, 60.0
 # No answer that is asked for here is longer, and no error has a greater number.
 LONGEST, LAST_ERROR = 65536, 4095
-ROW = 8
 NO_SUCH = 1
 READ_ONLY = (errno.EROFS, errno.EACCES, errno.EPERM, errno.ENOTSUP)
 # By the family: the chip, its kind and its bytes.
