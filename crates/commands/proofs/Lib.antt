@@ -2,3 +2,4 @@ mod Names
 pub mod LineLaws
 pub mod GatherLaws
 pub mod ReplyLaws
+pub mod ChoiceLaws

@@ -1,3 +1,4 @@
+pub mod Command
 pub mod Kinds
 pub mod Dashes
 pub mod Lists
