@@ -3,3 +3,4 @@ pub mod LineLaws
 pub mod GatherLaws
 pub mod ReplyLaws
 pub mod ChoiceLaws
+pub mod BuildLaws

@@ -6,4 +6,5 @@ pub mod Arguments
 pub mod Replies
 pub mod Curves
 pub mod Builds
+pub mod Built
 pub mod Gathering
