@@ -1,5 +1,5 @@
 -- docs/CONSOLE.md: which command a line is, by its first word and its number of words, the first counted.
-use mathlib.Core.Bool.{Bool, _&&_, cond}
+use mathlib.Core.Bool.{_&&_, cond}
 use mathlib.Core.List.{List, [], _∷_}
 use Prim.Native.Nat.{ℕ}
 use Prim.Native.String.{String, [] as end, _∷_ as _then_}

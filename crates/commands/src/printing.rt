@@ -115,7 +115,7 @@ pub fn field_reply(reply: FieldReply) {
 }
 
 // Answers a lent buffer after a call, or the refusal.
-pub fn written(answer: Written, buffer: &[u8]) {
+fn written(answer: Written, buffer: &[u8]) {
     match answer {
         Written::Done => {
             put(b"ok ");
