@@ -2,7 +2,7 @@
 use Rattle.commands.proofs.Names.{_≡_, refl, sym, ap, _∙_, Bool, true, false, List, Option, none, some, ℕ, _≤_, _<_, arith, length, take, lt-leb, le-leb, leb, length-take-le, take-append-seam, _++_, says_if_}
 use Rattle.commands.proofs.Names.{_>>=_, within, frontSaid, Held, Filled, To, NotFilled, filled, filledSaid, every, written, isWhole, whole-room, whole-said, not-whole, written-long, filled-whole}
 use Rattle.commands.proofs.Names.{Option·some-injective, Option·none-ne-some, number, bytes, wordAt, kindOf, Chip, chipOf, Lent, lent, lentBy, lentSaid, ChipRequest, OfChip, NoChip, ChipImage, chipImage}
-use Rattle.commands.proofs.Names.{chipImageSaid}
+use Rattle.commands.proofs.Names.{chipImageSaid, map, spelt, pageBytes, ChipNumber, NumberRequest, OfNumber, NoNumber, ImageNumber, numberRequest, numberRequestSaid, numberReply, pageReply}
 
 -- ---- a room that a word filled
 
@@ -98,3 +98,27 @@ lent-room line first held {chip = chip} k e = by (number (wordAt 1 line)) (sym (
 -- What a call left in the part, at the start of the room.
 pub part-back : (part rest : List ℕ) (n : ℕ) → length part ≡ n → take n (part ++ rest) ≡ part
 part-back part rest n e = rw (← e) (take-append-seam part rest)
+
+-- ---- a call at the kind, the image and the number
+
+module _ {A : Type 0} (call : ℕ → List ℕ → ℕ → A) (line first held : List ℕ) where
+  abbrev called : Option ImageNumber → Option A
+  called o = o >>= λ r. some (call (r .chip .kind) (r .chip .image) (r .number))
+
+  pub number-not : {r : NumberRequest} → r ≡ NoNumber → numberRequestSaid r held ≡ numberRequest (length first) line → none ≡ numberReply call (length first) line
+  number-not k e = ap called (sym (ap (λ (y : NumberRequest). numberRequestSaid y held) k) ∙ e)
+
+  pub number-is : {r : NumberRequest} {q : ChipNumber} {image : List ℕ} → r ≡ OfNumber q → numberRequestSaid r held ≡ numberRequest (length first) line → image ≡ take (q .chip .length) held → some (call (q .chip .kind) image (q .number)) ≡ numberReply call (length first) line
+  number-is {q = q} k e i = ap (λ (m : List ℕ). some (call (q .chip .kind) m (q .number))) i ∙ ap called (sym (ap (λ (y : NumberRequest). numberRequestSaid y held) k) ∙ e)
+
+-- ---- a page as digits
+
+module _ (line first held digits : List ℕ) where
+  abbrev paged : Option (List ℕ) → Option (List ℕ)
+  paged o = o >>= λ page. within (length digits) (map some (spelt page))
+
+  pub page-not : {r : NumberRequest} → r ≡ NoNumber → numberRequestSaid r held ≡ numberRequest (length first) line → none ≡ pageReply (length first) (length digits) line
+  page-not k e = ap paged (number-not pageBytes line first held k e)
+
+  pub page-is : (f : Filled) (out : List ℕ) {r : NumberRequest} {q : ChipNumber} {image page : List ℕ} → r ≡ OfNumber q → numberRequestSaid r held ≡ numberRequest (length first) line → image ≡ take (q .chip .length) held → page ≡ pageBytes (q .chip .kind) image (q .number) → filledSaid f out ≡ filled (map some (spelt page)) digits → frontSaid f out ≡ pageReply (length first) (length digits) line
+  page-is f out {page = page} k e i p s = front-within (map some (spelt page)) digits f out s ∙ ap (λ (m : List ℕ). within (length digits) (map some (spelt m))) p ∙ ap paged (number-is pageBytes line first held k e i)

@@ -1,3 +1,4 @@
+pub mod Command
 pub mod Kinds
 pub mod Dashes
 pub mod Lists
@@ -5,4 +6,5 @@ pub mod Arguments
 pub mod Replies
 pub mod Curves
 pub mod Builds
+pub mod Built
 pub mod Gathering

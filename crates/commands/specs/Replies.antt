@@ -1,6 +1,6 @@
 -- docs/CONSOLE.md: the answer to a line, from its words. Words are counted from 0, the command. A line
 -- that is no such command has no answer. A room is how many bytes or figures a word may spell.
-use mathlib.Core.List.{List}
+use mathlib.Core.List.{List, map}
 use mathlib.Core.Option.{Option, none, some}
 use Prim.Native.Nat.{ℕ}
 use lib.ListN.{take}
@@ -9,7 +9,12 @@ use Rattle.refusal.specs.Written.{writtenSaid}
 use Rattle.codes.specs.declared.Value.{Value}
 use Rattle.texts.specs.declared.Text.{Text}
 use Rattle.texts.specs.Text.{textOf, textSaid, codeOf, codeSaid}
-use Rattle.sheet.specs.Check.{fieldSaid}
+use Rattle.templates.specs.declared.Pair.{Pair}
+use Rattle.templates.specs.declared.Segment.{Segment}
+use Rattle.templates.specs.declared.Term.{Term}
+use Rattle.memory.specs.Image.{pageBytes}
+use Rattle.sheet.specs.declared.Summary.{Summary}
+use Rattle.sheet.specs.Check.{check, readField, readPair, readSegment, readTerm, readCharacter, checkSaid, fieldSaid, pairSaid, segmentSaid, termSaid, characterSaid}
 use Rattle.writing.specs.declared.NextRow.{NextRow}
 use Rattle.writing.specs.Steps.{nextRow}
 use Rattle.writing.specs.Answers.{answered}
@@ -25,7 +30,7 @@ use Rattle.recordings.specs.Recordings.{Compared, compare, comparedSaid}
 use Rattle.console_words.specs.Words.{wordAt}
 use Rattle.console_words.specs.Said.{says_if_}
 use Rattle.console_words.specs.Figures.{number, figure, figures}
-use Rattle.console_words.specs.Hexadecimal.{bytes}
+use Rattle.console_words.specs.Hexadecimal.{bytes, spelt}
 use Rattle.commands.specs.declared.arguments.ChipRequest.{ChipRequest}
 use Rattle.commands.specs.declared.arguments.ChipRequest.the-variants.{Of as OfChip, Unknown as NoChip}
 use Rattle.commands.specs.declared.arguments.NumberRequest.{NumberRequest}
@@ -34,8 +39,18 @@ use Rattle.commands.specs.declared.arguments.WriteReply.{WriteReply}
 use Rattle.commands.specs.declared.arguments.WriteReply.the-variants.{Is as IsWritten, Unknown as NotWritten}
 use Rattle.commands.specs.declared.edits.ProposeReply.{ProposeReply}
 use Rattle.commands.specs.declared.edits.ProposeReply.the-variants.{Is as IsProposed, Unknown as NotProposed}
-use Rattle.commands.specs.declared.indexes.FetchReply.{FetchReply}
-use Rattle.commands.specs.declared.indexes.FetchReply.the-variants.{Is as IsFetched, Unknown as NotFetched}
+use Rattle.commands.specs.declared.reads.CheckReply.{CheckReply}
+use Rattle.commands.specs.declared.reads.CheckReply.the-variants.{Is as IsChecked, Unknown as NotChecked}
+use Rattle.commands.specs.declared.reads.FieldReply.{FieldReply}
+use Rattle.commands.specs.declared.reads.FieldReply.the-variants.{Is as IsField, Unknown as NoField}
+use Rattle.commands.specs.declared.items.PairReply.{PairReply}
+use Rattle.commands.specs.declared.items.PairReply.the-variants.{Is as IsPair, Unknown as NoPair}
+use Rattle.commands.specs.declared.items.SegmentReply.{SegmentReply}
+use Rattle.commands.specs.declared.items.SegmentReply.the-variants.{Is as IsSegment, Unknown as NoSegment}
+use Rattle.commands.specs.declared.items.TermReply.{TermReply}
+use Rattle.commands.specs.declared.items.TermReply.the-variants.{Is as IsTerm, Unknown as NoTerm}
+use Rattle.commands.specs.declared.items.CharacterReply.{CharacterReply}
+use Rattle.commands.specs.declared.items.CharacterReply.the-variants.{Is as IsCharacter, Unknown as NoCharacter}
 use Rattle.commands.specs.declared.readings.ReadingReply.{ReadingReply}
 use Rattle.commands.specs.declared.readings.ReadingReply.the-variants.{Is as IsReading, Unknown as NoReading}
 use Rattle.commands.specs.declared.comparing.CompareReply.{CompareReply}
@@ -84,6 +99,69 @@ numberRequest room line = do
 abbrev pub numberRequestSaid : NumberRequest → List ℕ → Option ImageNumber
 numberRequestSaid (OfNumber r) room = some (record { chip = record { kind = r .chip .kind; image = take (r .chip .length) room }; number = r .number })
 numberRequestSaid NoNumber room = none
+
+-- A call at the kind, the image and the number.
+abbrev pub numberReply : {A : Type 0} → (ℕ → List ℕ → ℕ → A) → ℕ → List ℕ → Option A
+numberReply call room line = do
+  r ← numberRequest room line
+  some (call (r .chip .kind) (r .chip .image) (r .number))
+
+-- ---- check KIND IMAGE
+
+abbrev pub checkReply : ℕ → List ℕ → Option (Outcome Summary)
+checkReply room line = do
+  chip ← chipImage room line
+  some (check (chip .kind) (chip .image))
+
+abbrev pub checkReplySaid : CheckReply → Option (Outcome Summary)
+checkReplySaid (IsChecked answer) = some (checkSaid answer)
+checkReplySaid NotChecked = none
+
+-- ---- page KIND IMAGE PAGE: its bytes as digits, where a room holds so many
+
+abbrev pub pageReply : ℕ → ℕ → List ℕ → Option (List ℕ)
+pageReply room digitRoom line = do
+  page ← numberReply pageBytes room line
+  within digitRoom (map some (spelt page))
+
+-- ---- field KIND IMAGE FIELD
+
+abbrev pub fieldReply : ℕ → List ℕ → Option (Outcome Value)
+fieldReply = numberReply readField
+
+abbrev pub fieldReplySaid : FieldReply → Option (Outcome Value)
+fieldReplySaid (IsField answer) = some (fieldSaid answer)
+fieldReplySaid NoField = none
+
+-- ---- pair, segment, term and char KIND IMAGE INDEX
+
+abbrev pub pairReply : ℕ → List ℕ → Option (Outcome Pair)
+pairReply = numberReply readPair
+
+abbrev pub pairReplySaid : PairReply → Option (Outcome Pair)
+pairReplySaid (IsPair answer) = some (pairSaid answer)
+pairReplySaid NoPair = none
+
+abbrev pub segmentReply : ℕ → List ℕ → Option (Outcome Segment)
+segmentReply = numberReply readSegment
+
+abbrev pub segmentReplySaid : SegmentReply → Option (Outcome Segment)
+segmentReplySaid (IsSegment answer) = some (segmentSaid answer)
+segmentReplySaid NoSegment = none
+
+abbrev pub termReply : ℕ → List ℕ → Option (Outcome Term)
+termReply = numberReply readTerm
+
+abbrev pub termReplySaid : TermReply → Option (Outcome Term)
+termReplySaid (IsTerm answer) = some (termSaid answer)
+termReplySaid NoTerm = none
+
+abbrev pub characterReply : ℕ → List ℕ → Option (Outcome ℕ)
+characterReply = numberReply readCharacter
+
+abbrev pub characterReplySaid : CharacterReply → Option (Outcome ℕ)
+characterReplySaid (IsCharacter answer) = some (characterSaid answer)
+characterReplySaid NoCharacter = none
 
 -- ---- reading KIND IMAGE INPUT DASH
 
@@ -162,10 +240,6 @@ fetchReply room bufferRoom line = do
   index ← within bufferRoom (bytes (wordAt 3 line))
   field ← number (wordAt 4 line)
   some (fetch (chip .kind) (chip .image) index field)
-
-abbrev pub fetchReplySaid : FetchReply → Option (Outcome Value)
-fetchReplySaid (IsFetched answer) = some (fieldSaid answer)
-fetchReplySaid NotFetched = none
 
 -- ---- change and propose KIND IMAGE FIELD VALUE LEVEL, and commit KIND IMAGE FIELD PRESENT NEW LEVEL
 

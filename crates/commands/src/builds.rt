@@ -1,6 +1,8 @@
 // The command `build`.
 use crate::arguments;
 use crate::arguments::ROOM;
+use crate::arguments::WriteReply;
+use crate::arguments::WrittenFront;
 use crate::curves;
 use crate::curves::Drawn;
 use crate::printing;
@@ -11,8 +13,10 @@ use console_words::Filled;
 use console_words::LevelWord;
 use console_words::Number;
 use console_words::ValueWord;
-use console_words::front_mut;
+use console_words::front;
+use console_words::front_figures;
 use console_words::word;
+use refusal::Written;
 use templates::Level;
 use templates::Template;
 use templates::TemplateAnswer;
@@ -20,11 +24,14 @@ use texts::equal;
 ghost use mathlib.Core.Bool.{false};
 ghost use mathlib.Core.Path.{_≡_};
 ghost use Prim.Native.Nat.{_≤_};
+ghost use lib.ListN.{length};
 ghost use Rattle.templates.specs.Answers.{templateSaid};
 ghost use Rattle.console_words.specs.Said.{numberSaid, filled, filledSaid};
 ghost use Rattle.commands.specs.Curves.{drawnSaid};
 ghost use Rattle.commands.specs.Builds.{endBitWord, hasCurve, isBuild, templateIn, head as headIn, headSaid, slots as slotsIn, slotsSaid, flag as flagIn, sheet as sheetIn, sheetSaid, textIn, domainIn, pointsIn};
 ghost use Rattle.commands.specs.Builds.{curveIn};
+ghost use Rattle.commands.specs.Built.{fromPoints, fromCurve, builtBy, builtSaid, buildReply, shorter};
+ghost use Rattle.commands.specs.Replies.{writeReplySaid};
 
 // The first word that is a value.
 const VALUES: u64 = 5;
@@ -235,70 +242,120 @@ fn curve_in(line: &[u8], end: u64) -> Drawn
     }
 }
 
-// Builds in a lent buffer from the text, the domain and the points, the words after the end bit's.
-fn build_in(image: &mut [u8], kind: u8, line: &[u8], end: u64, sheet: Sheet)
-    requires { ⌜ end ≤ 26 ⌝ }
-{
-    let Number::Is(domain) = domain_of(line, end) else {
-        return printing::unknown();
-    };
-    let mut text = [0u8; ROOM];
-    let Filled::To(characters) = text_of(line, end, &mut text) else {
-        return printing::unknown();
-    };
-    let mut points = [0i64; ROOM];
-    let Filled::To(figures) = points_of(line, end, &mut points) else {
-        return printing::unknown();
-    };
-    let text = console_words::front(&text, characters);
-    let points = console_words::front_figures(&points, figures);
-    let answer = build::build(
-        kind,
-        image,
-        sheet,
-        text,
-        templates::domain_of(domain),
-        points,
-    );
-    printing::written(answer, image);
+// What a build answers, or that its words are not valid.
+pub enum BuildReply {
+    Is(Written),
+    Unknown,
 }
 
-// Builds in a lent buffer from the text and a curve, the words after the end bit's.
-fn draw_in(image: &mut [u8], kind: u8, line: &[u8], end: u64, sheet: Sheet)
+// The build in a lent buffer from the text, the domain and the points, the words after the end bit's.
+fn build_in(
+    image: &mut [u8],
+    kind: u8,
+    line: &[u8],
+    end: u64,
+    sheet: Sheet,
+    text: &mut [u8],
+    points: &mut [i64],
+) -> BuildReply
     requires { ⌜ end ≤ 26 ⌝ }
+    ensures { λ r. ⌜ builtSaid r (now (image .exit)) ≡ fromPoints kind (now (image .entry)) sheet (length (now (text .entry))) (length (now (points .entry))) (now (line .entry)) end ⌝ }
 {
-    let mut text = [0u8; ROOM];
-    let Filled::To(characters) = text_of(line, end, &mut text) else {
-        return printing::unknown();
+    let Number::Is(domain) = domain_of(line, end) else {
+        return BuildReply::Unknown;
+    };
+    let Filled::To(characters) = text_of(line, end, text) else {
+        return BuildReply::Unknown;
+    };
+    let Filled::To(figures) = points_of(line, end, points) else {
+        return BuildReply::Unknown;
+    };
+    let domain = templates::domain_of(domain);
+    let text = front(text, characters);
+    let points = front_figures(points, figures);
+    BuildReply::Is(build::build(kind, image, sheet, text, domain, points))
+}
+
+// The build in a lent buffer from the text and a curve, the words after the end bit's.
+fn draw_in(
+    image: &mut [u8],
+    kind: u8,
+    line: &[u8],
+    end: u64,
+    sheet: Sheet,
+    text: &mut [u8],
+) -> BuildReply
+    requires { ⌜ end ≤ 26 ⌝ }
+    ensures { λ r. ⌜ builtSaid r (now (image .exit)) ≡ fromCurve kind (now (image .entry)) sheet (length (now (text .entry))) (now (line .entry)) end ⌝ }
+{
+    let Filled::To(characters) = text_of(line, end, text) else {
+        return BuildReply::Unknown;
     };
     let drawn = curve_in(line, end);
     if !drawn.taken {
-        return printing::unknown();
+        return BuildReply::Unknown;
     }
-    let text = console_words::front(&text, characters);
     let curve = drawn.curve;
-    let answer = build::build_curve(kind, image, sheet, text, curve);
-    printing::written(answer, image);
+    let text = front(text, characters);
+    BuildReply::Is(build::build_curve(kind, image, sheet, text, curve))
 }
 
-// Answers `build`: the words before the values, the sheet
-// record, the text, and the domain and the points or a curve.
-pub fn build(line: &[u8]) {
+// The build in a lent buffer from the words after the end bit's.
+fn built(
+    image: &mut [u8],
+    line: &[u8],
+    head: Head,
+    sheet: Sheet,
+    text: &mut [u8],
+    points: &mut [i64],
+) -> BuildReply
+    ensures { λ r. ⌜ builtSaid r (now (image .exit)) ≡ builtBy (now (image .entry)) (length (now (text .entry))) (length (now (points .entry))) (now (line .entry)) head sheet ⌝ }
+{
+    let template = head.template;
+    let end = end_bit_word(template);
+    if is_drawn(line, end) {
+        return draw_in(image, head.kind, line, end, sheet, text);
+    }
+    build_in(image, head.kind, line, end, sheet, text, points)
+}
+
+// A length, or that of the room if it has fewer bytes.
+fn shorter_of(length: usize, room: usize) -> usize
+    ensures { λ r. ⌜ r ≡ shorter length room ⌝ }
+{
+    if length > room {
+        return room;
+    }
+    length
+}
+
+// The build of a line, in the first bytes of a room.
+fn build_reply(line: &[u8], room: &mut [u8], text: &mut [u8], points: &mut [i64]) -> WriteReply
+    ensures { λ r. ⌜ writeReplySaid r (now (room .exit)) ≡ buildReply (now (room .entry)) (length (now (text .entry))) (length (now (points .entry))) (now (line .entry)) ⌝ }
+{
     let Headed::Is(head) = head_of(line) else {
-        return printing::unknown();
+        return WriteReply::Unknown;
     };
     let template = head.template;
     let level = head.level;
     let sheeted = sheet_of(line, template, level);
     if !sheeted.taken {
-        return printing::unknown();
+        return WriteReply::Unknown;
     }
     let sheet = sheeted.sheet;
-    let end = end_bit_word(template);
-    let mut room = [0u8; ROOM];
-    let image = front_mut(&mut room, head.length);
-    if is_drawn(line, end) {
-        return draw_in(image, head.kind, line, end, sheet);
+    let length = shorter_of(head.length, room.len());
+    match built(&mut room[..length], line, head, sheet, text, points) {
+        BuildReply::Is(answer) => WriteReply::Is(WrittenFront { answer, length }),
+        BuildReply::Unknown => WriteReply::Unknown,
     }
-    build_in(image, head.kind, line, end, sheet);
+}
+
+// Answers `build`: the words before the values, the sheet
+// record, the text, and the domain and the points or a curve.
+pub fn build(line: &[u8]) {
+    let mut room = [0u8; ROOM];
+    let mut text = [0u8; ROOM];
+    let mut points = [0i64; ROOM];
+    let reply = build_reply(line, &mut room, &mut text, &mut points);
+    printing::write_reply(reply, &room);
 }

@@ -48,7 +48,7 @@ fn print_compared(answer: ComparedAnswer) {
     }
 }
 
-// Answers `compare`: the image and the recordings, words 2 to 4.
+// Answers `compare`: the kind, the image and the recordings, words 1 to 4.
 pub fn compare(line: &[u8]) {
     let mut room = [0u8; ROOM];
     let mut slow = [0i64; ROOM];

@@ -46,7 +46,7 @@ fn print_conformity(answer: ConformityAnswer) {
     }
 }
 
-// Answers `conform`: the image and the points, words 2 and 3.
+// Answers `conform`: the kind, the image and the points, words 1 to 3.
 pub fn conform(line: &[u8]) {
     let mut room = [0u8; ROOM];
     let mut points = [0i64; ROOM];

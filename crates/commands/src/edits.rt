@@ -70,7 +70,7 @@ fn change_reply(line: &[u8], room: &mut [u8]) -> WriteReply
     WriteReply::Is(WrittenFront { answer, length })
 }
 
-// Answers `change`: the image, the field, the value and the level, words 2 to 5.
+// Answers `change`: the kind, the image, the field, the value and the level, words 1 to 5.
 pub fn change(line: &[u8]) {
     let mut room = [0u8; ROOM];
     let reply = change_reply(line, &mut room);
@@ -114,7 +114,7 @@ fn print_proposal(answer: ProposalAnswer) {
     }
 }
 
-// Answers `propose`: the image, the field, the value and the level, words 2 to 5.
+// Answers `propose`: the kind, the image, the field, the value and the level, words 1 to 5.
 pub fn propose(line: &[u8]) {
     let mut room = [0u8; ROOM];
     match propose_reply(line, &mut room) {
@@ -184,7 +184,7 @@ fn commit_reply(line: &[u8], room: &mut [u8]) -> WriteReply
     WriteReply::Is(WrittenFront { answer, length })
 }
 
-// Answers `commit`: the image, the field, the two codes and the level, words 2 to 6.
+// Answers `commit`: the kind, the image, the field, the two codes and the level, words 1 to 6.
 pub fn commit(line: &[u8]) {
     let mut room = [0u8; ROOM];
     let reply = commit_reply(line, &mut room);

@@ -5,14 +5,14 @@ use crate::arguments::ROOM;
 use crate::arguments::WriteReply;
 use crate::arguments::WrittenFront;
 use crate::printing;
+use crate::reads::FieldReply;
 use console_words::Filled;
 use console_words::Number;
 use console_words::front;
 use console_words::word;
-use sheet::FieldAnswer;
 ghost use mathlib.Core.Path.{_≡_};
 ghost use lib.ListN.{length};
-ghost use Rattle.commands.specs.Replies.{indexReply, writeReplySaid, fetchReply, fetchReplySaid};
+ghost use Rattle.commands.specs.Replies.{indexReply, writeReplySaid, fetchReply, fieldReplySaid};
 
 // The index of the image in the buffer, words 1 to 3.
 fn index_reply(line: &[u8], room: &mut [u8], buffer: &mut [u8]) -> WriteReply
@@ -29,7 +29,7 @@ fn index_reply(line: &[u8], room: &mut [u8], buffer: &mut [u8]) -> WriteReply
     WriteReply::Is(WrittenFront { answer, length })
 }
 
-// Answers `index`: the image and the buffer, words 2 and 3.
+// Answers `index`: the kind, the image and the buffer, words 1 to 3.
 pub fn index(line: &[u8]) {
     let mut room = [0u8; ROOM];
     let mut buffer = [0u8; ROOM];
@@ -37,35 +37,27 @@ pub fn index(line: &[u8]) {
     printing::write_reply(reply, &buffer);
 }
 
-pub enum FetchReply {
-    Is(FieldAnswer),
-    Unknown,
-}
-
 // The field fetched from the image by the index's bytes, words 1 to 4.
-fn fetch_reply(line: &[u8], room: &mut [u8], buffer: &mut [u8]) -> FetchReply
-    ensures { λ r. ⌜ fetchReplySaid r ≡ fetchReply (length (now (room .entry))) (length (now (buffer .entry))) (now (line .entry)) ⌝ }
+fn fetch_reply(line: &[u8], room: &mut [u8], buffer: &mut [u8]) -> FieldReply
+    ensures { λ r. ⌜ fieldReplySaid r ≡ fetchReply (length (now (room .entry))) (length (now (buffer .entry))) (now (line .entry)) ⌝ }
 {
     let ChipRequest::Of(chip) = arguments::lent(line, room) else {
-        return FetchReply::Unknown;
+        return FieldReply::Unknown;
     };
     let Filled::To(length) = console_words::bytes_of(word(line, 3), buffer) else {
-        return FetchReply::Unknown;
+        return FieldReply::Unknown;
     };
     let Number::Is(field) = console_words::number_of(word(line, 4)) else {
-        return FetchReply::Unknown;
+        return FieldReply::Unknown;
     };
     let image = front(room, chip.length);
     let index = front(buffer, length);
-    FetchReply::Is(index::fetch(chip.kind, image, index, field))
+    FieldReply::Is(index::fetch(chip.kind, image, index, field))
 }
 
-// Answers `fetch`: the image, the index's bytes and the field, words 2 to 4.
+// Answers `fetch`: the kind, the image, the index's bytes and the field, words 1 to 4.
 pub fn fetch(line: &[u8]) {
     let mut room = [0u8; ROOM];
     let mut buffer = [0u8; ROOM];
-    match fetch_reply(line, &mut room, &mut buffer) {
-        FetchReply::Is(answer) => printing::field(answer),
-        FetchReply::Unknown => printing::unknown(),
-    }
+    printing::field_reply(fetch_reply(line, &mut room, &mut buffer));
 }

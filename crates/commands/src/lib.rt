@@ -4,7 +4,8 @@
 // go through `io` and `libc`, whose contracts of C's read and write are assumed.
 mod arguments; // arguments.rt: the kind and the image of a line
 mod builds; // builds.rt: build
-mod dispatch; // dispatch.rt: a command, by its words
+mod choosing; // choosing.rt: which command a line is
+mod dispatch; // dispatch.rt: a line answered by its command
 mod conformities; // conformities.rt: conform
 mod curves; // curves.rt: the curve of a build
 mod distances; // distances.rt: distance
@@ -12,7 +13,8 @@ mod edits; // edits.rt: change, propose and commit
 mod indexes; // indexes.rt: index and fetch
 mod printing; // printing.rt: the parts of an answer
 mod readings; // readings.rt: reading
-mod reads; // reads.rt: the commands that leave the image unchanged
+mod reads; // reads.rt: check, show, page and field
+mod items; // items.rt: pair, segment, term and char
 mod rows; // rows.rt: next
 mod comparing; // comparing.rt: compare
 mod serving; // serving.rt: lines from standard input

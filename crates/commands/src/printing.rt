@@ -1,6 +1,7 @@
 // Prints the parts of an answer.
 use crate::arguments::ROOM;
 use crate::arguments::WriteReply;
+use crate::reads::FieldReply;
 use codes::Value;
 use console_words::Filled;
 use libc::STDOUT_FILENO;
@@ -98,15 +99,23 @@ pub fn value(v: Value) {
 }
 
 // Prints a field's value, or the refusal.
-pub fn field(answer: FieldAnswer) {
+fn field(answer: FieldAnswer) {
     match answer {
         FieldAnswer::Holds(v) => value(v),
         FieldAnswer::Refused(r) => refused(r),
     }
 }
 
+// The same of a line, which may be no command.
+pub fn field_reply(reply: FieldReply) {
+    match reply {
+        FieldReply::Is(answer) => field(answer),
+        FieldReply::Unknown => unknown(),
+    }
+}
+
 // Answers a lent buffer after a call, or the refusal.
-pub fn written(answer: Written, buffer: &[u8]) {
+fn written(answer: Written, buffer: &[u8]) {
     match answer {
         Written::Done => {
             put(b"ok ");

@@ -69,7 +69,7 @@ fn print_reading(answer: ReadingAnswer) {
     }
 }
 
-// Answers `reading`: the image, the input and the dash, words 2 to 4.
+// Answers `reading`: the kind, the image, the input and the dash, words 1 to 4.
 pub fn reading(line: &[u8]) {
     let mut room = [0u8; ROOM];
     match reading_reply(line, &mut room) {

@@ -1,15 +1,37 @@
-// The commands that leave the image unchanged.
+// The commands `check`, `show`, `page` and `field`.
+use crate::arguments;
+use crate::arguments::ChipRequest;
+use crate::arguments::NumberRequest;
+use crate::arguments::ROOM;
 use crate::printing;
+use console_words::Filled;
+use console_words::front;
 use listing::put;
-use listing::put_figure;
 use listing::put_number;
 use memory::page_bytes;
-use sheet::CharacterAnswer;
 use sheet::Checked;
-use sheet::PairAnswer;
-use sheet::SegmentAnswer;
+use sheet::FieldAnswer;
 use sheet::Summary;
-use sheet::TermAnswer;
+ghost use mathlib.Core.Path.{_≡_};
+ghost use lib.ListN.{length};
+ghost use Rattle.commands.specs.Lists.{frontSaid};
+ghost use Rattle.commands.specs.Replies.{checkReply, checkReplySaid, pageReply, fieldReply, fieldReplySaid};
+
+pub enum CheckReply {
+    Is(Checked),
+    Unknown,
+}
+
+// The check of the image, words 1 and 2.
+fn check_reply(line: &[u8], room: &mut [u8]) -> CheckReply
+    ensures { λ r. ⌜ checkReplySaid r ≡ checkReply (length (now (room .entry))) (now (line .entry)) ⌝ }
+{
+    let ChipRequest::Of(chip) = arguments::lent(line, room) else {
+        return CheckReply::Unknown;
+    };
+    let image = front(room, chip.length);
+    CheckReply::Is(sheet::check(chip.kind, image))
+}
 
 fn accepted(summary: Summary) {
     put(b"ok ");
@@ -34,62 +56,80 @@ fn accepted(summary: Summary) {
     printing::number(summary.terms);
 }
 
-// Answers `check`: the counts of an accepted image, or the refusal.
-pub fn check(kind: u8, image: &[u8]) {
-    match sheet::check(kind, image) {
+fn print_check(answer: Checked) {
+    match answer {
         Checked::Accepted(summary) => accepted(summary),
         Checked::Refused(r) => printing::refused(r),
     }
 }
 
-// Answers `page`: the stream bytes of a page.
-pub fn page(kind: u8, image: &[u8], page: u64) {
-    printing::bytes(page_bytes(kind, image, page));
-    printing::end();
-}
-
-// Answers `field`: the value of a field.
-pub fn field(kind: u8, image: &[u8], field: u64) {
-    printing::field(sheet::read_field(kind, image, field));
-}
-
-// Answers `pair`: a calibration point and its deviation.
-pub fn pair(kind: u8, image: &[u8], index: u64) {
-    match sheet::read_pair(kind, image, index) {
-        PairAnswer::Holds(pair) => printing::figures(pair.point, pair.deviation),
-        PairAnswer::Refused(r) => printing::refused(r),
+// Answers `check`: the kind and the image, words 1 and 2.
+pub fn check(line: &[u8]) {
+    let mut room = [0u8; ROOM];
+    match check_reply(line, &mut room) {
+        CheckReply::Is(answer) => print_check(answer),
+        CheckReply::Unknown => printing::unknown(),
     }
 }
 
-// Answers `segment`: a segment's start and its number of terms.
-pub fn segment(kind: u8, image: &[u8], index: u64) {
-    match sheet::read_segment(kind, image, index) {
-        SegmentAnswer::Holds(segment) => {
-            put_figure(segment.start);
-            put(b" ");
-            printing::number(segment.terms);
-        }
-        SegmentAnswer::Refused(r) => printing::refused(r),
+// Answers `show`: the kind and the image, words 1 and 2.
+pub fn show(line: &[u8]) {
+    let mut room = [0u8; ROOM];
+    match arguments::lent(line, &mut room) {
+        ChipRequest::Of(chip) => listing::show(chip.kind, front(&room, chip.length)),
+        ChipRequest::Unknown => printing::unknown(),
     }
 }
 
-// Answers `term`: a term's exponent and coefficient.
-pub fn term(kind: u8, image: &[u8], index: u64) {
-    match sheet::read_term(kind, image, index) {
-        TermAnswer::Holds(term) => {
-            put_figure(term.exponent);
-            put(b" ");
-            printing::single(term.coefficient);
+// The digits of a page's 31 bytes.
+const PAGE_DIGITS: usize = 62;
+
+// The bytes of the page, words 1 to 3, spelt at the start of a buffer.
+fn page_reply(line: &[u8], room: &mut [u8], digits: &mut [u8]) -> Filled
+    ensures { λ r. ⌜ frontSaid r (now (digits .exit)) ≡ pageReply (length (now (room .entry))) (length (now (digits .entry))) (now (line .entry)) ⌝ }
+{
+    let NumberRequest::Of(request) = arguments::number_request(line, room) else {
+        return Filled::Not;
+    };
+    let chip = request.chip;
+    let image = front(room, chip.length);
+    let page = page_bytes(chip.kind, image, request.number);
+    console_words::spell(page, digits)
+}
+
+// Answers `page`: the kind, the image and the page, words 1 to 3.
+pub fn page(line: &[u8]) {
+    let mut room = [0u8; ROOM];
+    let mut digits = [0u8; PAGE_DIGITS];
+    match page_reply(line, &mut room, &mut digits) {
+        Filled::To(count) => {
+            put(front(&digits, count));
             printing::end();
         }
-        TermAnswer::Refused(r) => printing::refused(r),
+        Filled::Not => printing::unknown(),
     }
 }
 
-// Answers `character`: a character of the closing text, as a number.
-pub fn character(kind: u8, image: &[u8], index: u64) {
-    match sheet::read_character(kind, image, index) {
-        CharacterAnswer::Holds(b) => printing::number(b as u64),
-        CharacterAnswer::Refused(r) => printing::refused(r),
-    }
+// What a call that reads a field answers.
+pub enum FieldReply {
+    Is(FieldAnswer),
+    Unknown,
+}
+
+// The value of the field, words 1 to 3.
+fn field_reply(line: &[u8], room: &mut [u8]) -> FieldReply
+    ensures { λ r. ⌜ fieldReplySaid r ≡ fieldReply (length (now (room .entry))) (now (line .entry)) ⌝ }
+{
+    let NumberRequest::Of(request) = arguments::number_request(line, room) else {
+        return FieldReply::Unknown;
+    };
+    let chip = request.chip;
+    let image = front(room, chip.length);
+    FieldReply::Is(sheet::read_field(chip.kind, image, request.number))
+}
+
+// Answers `field`: the kind, the image and the field, words 1 to 3.
+pub fn field(line: &[u8]) {
+    let mut room = [0u8; ROOM];
+    printing::field_reply(field_reply(line, &mut room));
 }

@@ -34,7 +34,7 @@ fn no_row() -> NextReply
     }
 }
 
-// The next row from what the chip holds, word 2, to the image to be written, word 3.
+// The next row of the kind from what the chip holds to the image to be written, words 1 to 3.
 fn next_reply(line: &[u8], room: &mut [u8], image: &mut [u8]) -> NextReply
     ensures { λ r. ⌜ nextReplySaid r ≡ nextReply (length (now (room .entry))) (length (now (image .entry))) (now (line .entry)) ⌝ }
 {
@@ -67,7 +67,7 @@ fn print_row(next: NextRow) {
     }
 }
 
-// Answers `next`: what the chip holds, word 2, and the image to be written, word 3.
+// Answers `next`: the kind, what the chip holds and the image to be written, words 1 to 3.
 pub fn next(line: &[u8]) {
     let mut room = [0u8; ROOM];
     let mut image = [0u8; ROOM];
