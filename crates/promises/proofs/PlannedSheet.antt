@@ -299,7 +299,8 @@ module _ {S : ℕ} {c : Contents} (h : Formed S c) (sheet : Sheet) (table : Tabl
       rw (tested-again (h .behind) c (h .calibrated) table lentBehind)
       (bind-good _ fields-again
       ∙ then-good _ (ap (λ b. endingTested (ending (templateIn sheet)) b (c .text)) sameEnd ∙ ending-again (ending (templateIn sheet)) (c .endBit) (c .text) stray (h .ending .characters))
-      ∙ bind-good _ (behind-again (h .behind) c (h .calibrated) table lentBehind))
+      ∙ bind-good _ (behind-again (h .behind) c (h .calibrated) table lentBehind)
+      ∙ ap (λ b. good ((bs ++ (blockPieces (numberOf (c .template)) ++ os)) ++ (ts ++ endingPieces b (c .text)))) sameEnd)
 
   pub zero-behind : again ++ zeroIf (c .endBit && leb (needed again + 7) S) ≡ sheetPieces h
   zero-behind =
