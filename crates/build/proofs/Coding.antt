@@ -4,7 +4,7 @@ use Rattle.build.proofs.Names.{ℕ-discrete, ℤ, w64, SFits, toZ, ofZ,
 use Rattle.build.proofs.Names.{drop-of-length-le, slice, slice-cons, slice-empty, drop-cons, getD-set-same, getD-set-other, take-take, Refusal, Outcome, good, refused, _>>=_, bind-good, bind-refused, bind-assoc}
 use Rattle.build.proofs.Names.{bind-same, Piece, piece, needed, needed-append, Value, Whole, Missing, Row, Encoded, Code, NoCode, Template, Layout, encode, Line, chose, basic, linesOf, numberOf, lastField, lineOf}
 use Rattle.build.proofs.Names.{rowOf, rowsOf, noLine, bitsBefore, Sound, AllSound, Real, encodedSaid, reads-back, row-sound, rows-sound, DirectCode, blockPieces, Steady, lines-steady, Sheet, CodedField, Coded}
-use Rattle.build.proofs.Names.{Next, NotCoded, Bits, NotPlanned, slot, lent, templateIn, linePieces, fieldPieces, Encodes, Fitting, Fit, blank, fieldPiece, unpack, unpacked, codedFields, valueLent, slotsLent}
+use Rattle.build.proofs.Names.{Next, NotCoded, Are, Listed, NotPlanned, slot, lent, templateIn, linePieces, fieldPieces, Encodes, Fitting, Fit, blank, fieldPiece, unpack, unpacked, codedList, valueLent, slotsLent}
 use Rattle.build.proofs.Names.{LentLengths, fieldsLent, Quick, codedFrom, FieldsCoded, CodedTo, FieldsPlanned, last-most, basic-most}
 use Rattle.build.proofs.FieldPlans.{withBlock, block-needed, fields-listed}
 use Rattle.build.proofs.Lent.{long-slot}
@@ -20,7 +20,7 @@ pub quick-encodes : (row : Row) (place : ℕ) (v : Value) (code : ℕ) → Direc
 quick-encodes row place v code told h = record { said = sym (told h .0 place); fits = λ n e. let same : code ≡ n = cc in subst (λ m. m < 2 ^ row .width) same (told h .1) }
 
 pub coded-fits : {row : Row} {place : ℕ} {v : Value} {e : Encoded} {code : ℕ} → Sound row → Encodes row place v e → e ≡ Code code → Fitting (row .width) code
-coded-fits s c a = record { some = s .some; most = s .most; fits = c .fits _ a }
+coded-fits s c a = record { some = s .some; most = omega (arith, s .most); fits = c .fits _ a }
 
 -- A figure that is passed to a callee.
 pub encode-of-word : (row : Row) (place : ℕ) {figure : ℤ} → SFits w64 figure → encode row place (Whole (toZ w64 (ofZ w64 figure))) ≡ encode row place (Whole figure)
@@ -56,7 +56,7 @@ module _ (fields : List CodedField) (i end : ℕ) where
   fields-end h k = let e : i ≡ end = omega arith in ap (λ (n : ℕ). slice n end (map fieldPiece fields)) e ∙ slice-empty end (map fieldPiece fields)
 
 -- One more packed field.
-pub packed-set : (codes : List ℕ) (i p : ℕ) {width code : ℕ} → p / 2 ^ 32 ≡ width → p % 2 ^ 32 ≡ code → unpacked (set codes i p) ≡ set (unpacked codes) i (record { width = width; code = code })
+pub packed-set : (codes : List ℕ) (i p : ℕ) {width code : ℕ} → p / 2 ^ 56 ≡ width → p % 2 ^ 56 ≡ code → unpacked (set codes i p) ≡ set (unpacked codes) i (record { width = width; code = code })
 packed-set [] i p w c = refl
 packed-set (y ∷ codes) zero p w c = ap₂ (λ (n m : ℕ). record { width = n; code = m } ∷ unpacked codes) w c
 packed-set (y ∷ codes) (suc i) p w c = ap (λ l. unpack y ∷ l) (packed-set codes i p w c)
@@ -70,21 +70,18 @@ module _ (codes : List ℕ) (i none : ℕ) where
   packed-left end h k =
       fields-left (unpacked codes) i end (unpack none) h (omega (arith, length-map codes unpack)) ∙ ap (λ x. fieldPiece x ∷ slice (i + 1) end (map fieldPiece (unpacked codes))) packed-at
 
-  pub packed-fits : {n : ℕ} → Fit n (unpacked codes) → i < n → Fitting (getD codes i none / 2 ^ 32) (getD codes i none % 2 ^ 32)
+  pub packed-fits : {n : ℕ} → Fit n (unpacked codes) → i < n → Fitting (getD codes i none / 2 ^ 56) (getD codes i none % 2 ^ 56)
   packed-fits fit h = subst (λ x. Fitting (x .width) (x .code)) packed-at (fit .each i (unpack none) h)
 
 pub packed-long : {n : ℕ} (codes : List ℕ) → Fit n (unpacked codes) → length codes ≡ n
 packed-long codes fit = sym (length-map codes unpack) ∙ fit .long
 
-pub fit-listed : {n : ℕ} (codes : List ℕ) → Fit n (unpacked codes) → Fit (length codes) (unpacked codes)
-fit-listed codes fit = subst (λ (n : ℕ). Fit n (unpacked codes)) (sym (packed-long codes fit)) fit
-
 -- Room for n fields.
-pub packed-blank : (n : ℕ) → unpacked (replicate n (2 ^ 32)) ≡ replicate n blank
+pub packed-blank : (n : ℕ) → unpacked (replicate n (2 ^ 56)) ≡ replicate n blank
 packed-blank zero = refl
 packed-blank (suc n) = ap (λ l. blank ∷ l) (packed-blank n)
 
-pub packed-none : (n : ℕ) → Fit n (unpacked (replicate n (2 ^ 32)))
+pub packed-none : (n : ℕ) → Fit n (unpacked (replicate n (2 ^ 56)))
 packed-none n = subst (Fit n) (sym (packed-blank n)) (fit-none n)
 
 -- ---- line by line
@@ -251,7 +248,7 @@ module _ {t : Template} {tags : List ℕ} {wholes : List ℤ} {singles : List Fl
       pub turn-refused : {r : Refusal} → e ≡ NoCode r → CodedTo (i + 1) t tags wholes singles codes (NotCoded r)
       turn-refused a = coded-stop (fields-listed (fieldsLent t tags wholes singles) ∙ bind-refused _ (sym (d .rest) ∙ field-refused (fieldsLent t tags wholes singles) (unpacked codes) latest i h (sym encoded-here ∙ ap encodedSaid a))) (d .fit)
 
-      pub turn-coded : (p : ℕ) {code next : ℕ} → e ≡ Code code → (p / 2 ^ 32 ≡ rowHere .width) × (p % 2 ^ 32 ≡ code) → next ≡ chose (lineOf t (i + 1) .sets) code latest →
+      pub turn-coded : (p : ℕ) {code next : ℕ} → e ≡ Code code → (p / 2 ^ 56 ≡ rowHere .width) × (p % 2 ^ 56 ≡ code) → next ≡ chose (lineOf t (i + 1) .sets) code latest →
           CodedTo (i + 1) t tags wholes singles (set codes i p) (Next next)
       turn-coded p {code} {next} a are n =
           let x : CodedField = record { width = rowHere .width; code = code } in
@@ -267,17 +264,17 @@ module _ {t : Template} {tags : List ℕ} {wholes : List ℤ} {singles : List Fl
           }))
 
   -- All fields are coded.
-  pub coded-all : {codes : List ℕ} {latest bits : ℕ} → FieldsCoded t tags wholes singles codes latest (lastField t) →
-      (bits ≡ bitsBefore (linesOf t) latest (lastField t) + 10) × (bits < 2 ^ 16) → FieldsPlanned (fieldsLent t tags wholes singles) (unpacked codes) (Bits bits)
-  coded-all {codes} {latest} {bits} d b =
+  pub coded-all : {codes : List ℕ} {latest : ℕ} {l : Listed} → FieldsCoded t tags wholes singles codes latest (lastField t) →
+      (l .count ≡ lastField t) × (l .bits ≡ bitsBefore (linesOf t) latest (lastField t) + 10) × (l .bits < 2 ^ 16) → FieldsPlanned (fieldsLent t tags wholes singles) (unpacked codes) (Are l)
+  coded-all {codes} {latest} {l} d b =
       let all : List Piece = take (lastField t) (map fieldPiece (unpacked codes)) in
       let planned : linePieces (fieldsLent t tags wholes singles) (linesOf t) 0 1 ≡ good all = sym (d .rest) ∙ from-end (fieldsLent t tags wholes singles) (unpacked codes) latest (lastField t) (omega arith) in
-      let are : withBlock t all ≡ codedFields t (unpacked codes) =
+      let are : withBlock t all ≡ codedList t (unpacked codes) (lastField t) =
       ap (λ q. q ++ (blockPieces (numberOf t) ++ drop (length basic) all)) (take-take (length basic) (lastField t) (map fieldPiece (unpacked codes)) (basic-most t)) in
       record {
         said = sym (fields-listed (fieldsLent t tags wholes singles) ∙ bind-good _ planned ∙ ap good are);
         fit = d .fit;
-        count = λ n a. let same : bits ≡ n = cc in (omega (arith, same, b .0, d .count, block-needed t all, ap needed are), omega (arith, same, b .1));
+        count = λ n a. let same : l ≡ n = cc in let bits : l .bits ≡ needed (codedList t (unpacked codes) (lastField t)) = omega (arith, b .1, d .count, block-needed t all, ap needed are) in rw (← same) (b .0, bits, b .2);
       }
 
   pub all-refused : {n : ℕ} {codes : List ℕ} {answer : Coded} {r : Refusal} → CodedTo n t tags wholes singles codes answer → answer ≡ NotCoded r → FieldsPlanned (fieldsLent t tags wholes singles) (unpacked codes) (NotPlanned r)

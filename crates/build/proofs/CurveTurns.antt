@@ -1,12 +1,12 @@
 -- Laws of the loop over a curve, segment by segment and term by term.
 use Rattle.build.proofs.Names.{_≡_, refl, sym, ap, ap₂, subst, _∙_, Bool, true, false, not, List, [], _∷_, _++_, map, append-assoc, append-nil, Option, none, some, ℕ, suc, _+_, _-_, _*_, _≤_, _<_, add-one, arith}
 use Rattle.build.proofs.Names.{leb-true, not-false, leb, ℤ, pos, _*ℤ_, ltZ, length, take, drop, getD, set, length-set, drop-of-length-le, drop-cons, drop-drop, getD-take, length-take-le, Refusal, Outcome, good}
-use Rattle.build.proofs.Names.{refused, _>>=_, _>>_, wrongCurve, good-bind, good-same, no-value, passed, both, bind-good, bind-refused, Piece, piece, needed, needed-append, Whole, Single, Valid, Segment, Term}
+use Rattle.build.proofs.Names.{refused, _>>=_, _>>_, wrongCurve, good-bind, good-same, no-value, passed, both, bind-good, bind-refused, Piece, piece, needed, needed-append, Whole, Single, Segment, Term}
 use Rattle.build.proofs.Names.{Curve, encode, segmentStart, termCount, exponent, coefficient, isSegmentCount, isExponent, exponentFollows, exponentCode, tenthsOf, below-zero, above-five, between, exponent-coded}
-use Rattle.build.proofs.Names.{judgedSaid, CodedField, CurvePlan, startCode, termPieces, segmentPieces, curvePieces, Fitting, Fit, fieldPiece, coded, segmentFields, termFields, curveHead, codedCurve, noCurve}
-use Rattle.build.proofs.Names.{wholeCurve, CurvePlanned}
-use Rattle.codes.specs.declared.Judged.the-variants.{Refused}
-use Rattle.build.proofs.Coding.{taken, fit-none, fit-more}
+use Rattle.build.proofs.Names.{CodedField, Are, NotPlanned, startCode, termPieces, segmentPieces, curvePieces, Fitting, Fit, fieldPiece, firstCodes, bitString, blockHead, BlockPlanned, coded, segmentFields, termFields}
+use Rattle.build.proofs.Names.{blockPieces, wholeCurve}
+use Rattle.build.proofs.Coding.{taken, fit-more}
+use Rattle.build.proofs.Listing.{head-fit, head-pieces}
 use Rattle.build.proofs.SegmentPlans.{start-planned}
 
 -- ---- outcomes
@@ -92,47 +92,52 @@ module _ (count : ℕ) (segments : List Segment) (terms : List Term) where
 
   -- The pieces that have their codes.
   abbrev done : List CodedField → ℕ → ℕ → List Piece
-  done codes i k = take (4 + 2 * (i + k)) (map fieldPiece codes)
+  done codes i k = firstCodes codes (4 + 2 * (i + k))
 
-  pub record CurveDone (codes : List CodedField) (before : Option ℕ) (last : Option ℤ) (i k own : ℕ) : Type 0 where
+  pub record CurveDone (n : ℕ) (codes : List CodedField) (before : Option ℕ) (last : Option ℤ) (i k own : ℕ) : Type 0 where
     pub inside : i ≤ count
     pub most : k + own ≤ 30
-    pub fit : Fit 104 codes
+    pub room : 104 ≤ n
+    pub fit : Fit n codes
     pub said : (left before last i k own >>= λ rest. good (done codes i k ++ rest)) ≡ curvePieces curve
     pub bits : needed (done codes i k) ≡ 19 + 20 * i + 39 * k
 
-  pub done-none : isSegmentCount count ≡ true → CurveDone (curveHead count) none none 0 0 0
-  unfolding curveHead curvePieces termPieces
-  done-none e = record {
-    inside = omega arith;
-    most = omega arith;
-    fit = fit-more _ 3 _ (fit-more _ 2 _ (fit-more _ 1 _ (fit-more _ 0 _ (fit-none 104) (record { some = omega arith; most = omega arith; fits = omega arith })) (record { some = omega arith; most = omega arith; fits = omega arith })) (record { some = omega arith; most = omega arith; fits = omega arith })) (record { some = omega arith; most = omega arith; fits = omega (arith, few-segments count e .1) });
-    said = rw e (kept (segmentPieces none 0 0 segs terms) (done (curveHead count) 0 0));
-    bits = refl;
-  }
+  pub done-none : isSegmentCount count ≡ true → {n : ℕ} {codes : List CodedField} → 104 ≤ n → Fit n codes → CurveDone n (blockHead codes 41 0 8 count) none none 0 0 0
+  unfolding curvePieces termPieces
+  done-none e {n} {codes} room fit =
+      let head = head-pieces 41 0 8 count codes (omega (arith, fit .long)) in
+      record {
+        inside = omega arith;
+        most = omega arith;
+        room = room;
+        fit = head-fit 41 0 8 count codes fit (omega arith) (omega arith) (record { some = omega arith; most = omega arith; fits = omega (arith, few-segments count e .1) });
+        said = rw (head, e) (kept (segmentPieces none 0 0 segs terms) (blockPieces 41 ++ (piece 1 0 ∷ piece 8 count ∷ [])));
+        bits = ap needed head;
+      }
 
   -- Before a segment's first term there is no exponent.
-  pub done-own : {codes : List CodedField} {before : Option ℕ} {last : Option ℤ} {i k : ℕ} → CurveDone codes before last i k 0 → CurveDone codes before none i k 0
+  pub done-own : {n : ℕ} {codes : List CodedField} {before : Option ℕ} {last : Option ℤ} {i k : ℕ} → CurveDone n codes before last i k 0 → CurveDone n codes before none i k 0
   unfolding termPieces
-  done-own d = record { inside = d .inside; most = d .most; fit = d .fit; said = d .said; bits = d .bits }
+  done-own d = record { inside = d .inside; most = d .most; room = d .room; fit = d .fit; said = d .said; bits = d .bits }
 
   -- The terms of one segment, up to its end.
-  module _ {codes : List CodedField} {before : Option ℕ} {last : Option ℤ} {i k : ℕ} where
-    pub own-begun : {n : ℕ} → CurveDone codes before last i k n → CurveDone codes before last i k (k + n - k)
-    own-begun {n} d = let e : k + n - k ≡ n = omega arith in rw e d
+  module _ {n : ℕ} {codes : List CodedField} {before : Option ℕ} {last : Option ℤ} {i k : ℕ} where
+    pub own-begun : {own : ℕ} → CurveDone n codes before last i k own → CurveDone n codes before last i k (k + own - k)
+    own-begun {own} d = let e : k + own - k ≡ own = omega arith in rw e d
 
-    pub own-open : {end : ℕ} → k < end → CurveDone codes before last i k (end - k) → CurveDone codes before last i k (suc (end - (k + 1)))
+    pub own-open : {end : ℕ} → k < end → CurveDone n codes before last i k (end - k) → CurveDone n codes before last i k (suc (end - (k + 1)))
     own-open {end} h d = let e : end - k ≡ suc (end - (k + 1)) = omega arith in rw e at d
 
-    pub own-closed : {end : ℕ} → end ≤ k → CurveDone codes before last i k (end - k) → CurveDone codes before last i k 0
+    pub own-closed : {end : ℕ} → end ≤ k → CurveDone n codes before last i k (end - k) → CurveDone n codes before last i k 0
     own-closed {end} h d = let e : end - k ≡ 0 = omega arith in rw e at d
 
-  module _ {codes : List CodedField} {before : Option ℕ} {last : Option ℤ} {i k own : ℕ} (d : CurveDone codes before last i k own) where
+  module _ {n : ℕ} {codes : List CodedField} {before : Option ℕ} {last : Option ℤ} {i k own : ℕ} (d : CurveDone n codes before last i k own) where
     -- The curve is refused.
-    pub done-down : {r : Refusal} → left before last i k own ≡ refused r → CurvePlanned curve codes (noCurve r)
+    pub done-down : {r : Refusal} → left before last i k own ≡ refused r → BlockPlanned (curvePieces curve) n codes (NotPlanned r)
     done-down e = record {
-      said = sym (bind-refused _ e) ∙ d .said;
-      byCurve = λ a. absurd (let z : _≡_ {A = ℕ} 0 1 = cc in omega arith);
+      said = ap (λ o. o >>= λ ps. good (bitString ps)) (sym (bind-refused _ e) ∙ d .said);
+      fit = d .fit;
+      count = λ l a. absurd (let z : _≡_ {A = ℕ} 0 1 = cc in omega arith);
     }
 
     -- Two more codes.
@@ -143,9 +148,9 @@ module _ (count : ℕ) (segments : List Segment) (terms : List Term) where
       more : done (set (set codes at x) (at + 1) y) i' k' ≡ done codes i k ++ (fieldPiece x ∷ fieldPiece y ∷ [])
       more =
           let e : 4 + 2 * (i' + k') ≡ at + 2 = omega arith in
-          rw e (two-taken codes at x y (omega (arith, d .fit .long)))
+          rw e (two-taken codes at x y (omega (arith, d .fit .long, d .room)))
 
-      fit-two : Fitting (x .width) (x .code) → Fitting (y .width) (y .code) → Fit 104 (set (set codes at x) (at + 1) y)
+      fit-two : Fitting (x .width) (x .code) → Fitting (y .width) (y .code) → Fit n (set (set codes at x) (at + 1) y)
       fit-two f g = fit-more (set codes at x) (at + 1) y (fit-more codes at x (d .fit) f) g
 
       bits-two : needed (done (set (set codes at x) (at + 1) y) i' k') ≡ 19 + 20 * i + 39 * k + x .width + y .width
@@ -153,7 +158,7 @@ module _ (count : ℕ) (segments : List Segment) (terms : List Term) where
 
   -- ---- a segment
 
-  module _ (long : length segments ≡ 20) (all : count ≤ 20) {codes : List CodedField} {before : Option ℕ} {last : Option ℤ} {i k : ℕ} (d : CurveDone codes before last i k 0) (h : i < count) (dflt : Segment) where
+  module _ (long : length segments ≡ 20) (all : count ≤ 20) {n : ℕ} {codes : List CodedField} {before : Option ℕ} {last : Option ℤ} {i k : ℕ} (d : CurveDone n codes before last i k 0) (h : i < count) (dflt : Segment) where
     abbrev s : Segment
     s = getD segments i dflt
 
@@ -171,7 +176,7 @@ module _ (count : ℕ) (segments : List Segment) (terms : List Term) where
         let e : k + 0 ≡ k = omega arith in
         rw (e, cut, drop-drop (s .terms) k terms)
 
-    pub segment-down : {r : Refusal} → segmentFields before i k s ≡ refused r → CurvePlanned curve codes (noCurve r)
+    pub segment-down : {r : Refusal} → segmentFields before i k s ≡ refused r → BlockPlanned (curvePieces curve) n codes (NotPlanned r)
     unfolding segmentFields
     segment-down {r} e =
         let down : startCode before i k s ≡ refused r = made-down (startCode before i k s) _ e in
@@ -179,7 +184,7 @@ module _ (count : ℕ) (segments : List Segment) (terms : List Term) where
 
     -- The next state, with the codes of a segment's two pieces.
     segment-next : (start : ℕ) → startCode before i k s ≡ good start → Fitting (segmentStart .width) start → Fitting (termCount .width) (s .terms) →
-        CurveDone (set (set codes (4 + 2 * (i + k)) (coded segmentStart start)) (4 + 2 * (i + k) + 1) (coded termCount (s .terms))) (some start) none (suc i) k (s .terms)
+        CurveDone n (set (set codes (4 + 2 * (i + k)) (coded segmentStart start)) (4 + 2 * (i + k) + 1) (coded termCount (s .terms))) (some start) none (suc i) k (s .terms)
     segment-next start e f g =
         let x : CodedField = coded segmentStart start in
         let y : CodedField = coded termCount (s .terms) in
@@ -193,6 +198,7 @@ module _ (count : ℕ) (segments : List Segment) (terms : List Term) where
         record {
           inside = omega arith;
           most = start-planned before i k s start e .few;
+          room = d .room;
           fit = fit-two d x y few (suc i) k next f g;
           said =
               ap (λ l. left (some start) none (suc i) k (s .terms) >>= λ rest. good (l ++ rest)) (more d x y few (suc i) k next)
@@ -201,7 +207,7 @@ module _ (count : ℕ) (segments : List Segment) (terms : List Term) where
         }
 
     pub segment-turn : (first second : CodedField) → segmentFields before i k s ≡ good (first ∷ second ∷ []) → Fitting (first .width) (first .code) → Fitting (second .width) (second .code) →
-        CurveDone (set (set codes (4 + 2 * (i + k)) first) (4 + 2 * (i + k) + 1) second) (some (first .code)) none (i + 1) k (s .terms)
+        CurveDone n (set (set codes (4 + 2 * (i + k)) first) (4 + 2 * (i + k) + 1) second) (some (first .code)) none (i + 1) k (s .terms)
     unfolding segmentFields
     segment-turn first second two f g =
         let (start, e, same) = good-bind (startCode before i k s) _ (first ∷ second ∷ []) two in
@@ -210,13 +216,13 @@ module _ (count : ℕ) (segments : List Segment) (terms : List Term) where
         let f' = subst (λ (z : CodedField). Fitting (z .width) (z .code)) (sym p) f in
         let g' = subst (λ (z : CodedField). Fitting (z .width) (z .code)) (sym q) g in
         rw (add-one i)
-        (subst (λ (z : CodedField). CurveDone (set (set codes (4 + 2 * (i + k)) first) (4 + 2 * (i + k) + 1) z) (some (first .code)) none (suc i) k (s .terms)) q
-        (subst (λ (z : CodedField). CurveDone (set (set codes (4 + 2 * (i + k)) z) (4 + 2 * (i + k) + 1) (coded termCount (s .terms))) (some (z .code)) none (suc i) k (s .terms)) p
+        (subst (λ (z : CodedField). CurveDone n (set (set codes (4 + 2 * (i + k)) first) (4 + 2 * (i + k) + 1) z) (some (first .code)) none (suc i) k (s .terms)) q
+        (subst (λ (z : CodedField). CurveDone n (set (set codes (4 + 2 * (i + k)) z) (4 + 2 * (i + k) + 1) (coded termCount (s .terms))) (some (z .code)) none (suc i) k (s .terms)) p
         (segment-next start e f' g')))
 
   -- ---- a term
 
-  module _ (long : length terms ≡ 30) (all : count ≤ 20) {codes : List CodedField} {before : Option ℕ} {last : Option ℤ} {i k own : ℕ} (d : CurveDone codes before last i k (suc own)) (dflt : Term) where
+  module _ (long : length terms ≡ 30) (all : count ≤ 20) {n : ℕ} {codes : List CodedField} {before : Option ℕ} {last : Option ℤ} {i k own : ℕ} (d : CurveDone n codes before last i k (suc own)) (dflt : Term) where
     abbrev t : Term
     t = getD terms k dflt
 
@@ -231,13 +237,13 @@ module _ (count : ℕ) (segments : List Segment) (terms : List Term) where
         let e : k + suc own ≡ suc k + own = omega arith in
         rw (e, drop-cons terms k dflt (omega (arith, d .most)))
 
-    pub term-down : {r : Refusal} → termFields last k t ≡ refused r → CurvePlanned curve codes (noCurve r)
+    pub term-down : {r : Refusal} → termFields last k t ≡ refused r → BlockPlanned (curvePieces curve) n codes (NotPlanned r)
     unfolding termFields
     term-down e = done-down d (term-step ∙ bind-refused _ (both-down (exponentCode last k (pos 10 *ℤ t .exponent)) (encode coefficient k (Single (t .coefficient))) _ _ e))
 
     term-next : (power factor : ℕ) → exponentCode last k (pos 10 *ℤ t .exponent) ≡ good power → encode coefficient k (Single (t .coefficient)) ≡ good factor →
         Fitting (exponent .width) power → Fitting (coefficient .width) factor →
-        CurveDone (set (set codes (4 + 2 * (i + k)) (coded exponent power)) (4 + 2 * (i + k) + 1) (coded coefficient factor)) before (some (tenthsOf power)) i (suc k) own
+        CurveDone n (set (set codes (4 + 2 * (i + k)) (coded exponent power)) (4 + 2 * (i + k) + 1) (coded coefficient factor)) before (some (tenthsOf power)) i (suc k) own
     term-next power factor e e' f g =
         let x : CodedField = coded exponent power in
         let y : CodedField = coded coefficient factor in
@@ -250,6 +256,7 @@ module _ (count : ℕ) (segments : List Segment) (terms : List Term) where
         record {
           inside = d .inside;
           most = omega (arith, d .most);
+          room = d .room;
           fit = fit-two d x y few i (suc k) next f g;
           said =
               ap₂ (λ l (z : ℤ). left before (some z) i (suc k) own >>= λ rest. good (l ++ rest)) (more d x y few i (suc k) next) (exponent-back last k (t .exponent) power e)
@@ -258,7 +265,7 @@ module _ (count : ℕ) (segments : List Segment) (terms : List Term) where
         }
 
     pub term-turn : (first second : CodedField) → termFields last k t ≡ good (first ∷ second ∷ []) → Fitting (first .width) (first .code) → Fitting (second .width) (second .code) →
-        CurveDone (set (set codes (4 + 2 * (i + k)) first) (4 + 2 * (i + k) + 1) second) before (some (tenthsOf (first .code))) i (k + 1) own
+        CurveDone n (set (set codes (4 + 2 * (i + k)) first) (4 + 2 * (i + k) + 1) second) before (some (tenthsOf (first .code))) i (k + 1) own
     unfolding termFields
     term-turn first second two f g =
         let (power, e, rest) = good-bind (exponentCode last k (pos 10 *ℤ t .exponent)) _ (first ∷ second ∷ []) two in
@@ -268,38 +275,25 @@ module _ (count : ℕ) (segments : List Segment) (terms : List Term) where
         let f' = subst (λ (z : CodedField). Fitting (z .width) (z .code)) (sym p) f in
         let g' = subst (λ (z : CodedField). Fitting (z .width) (z .code)) (sym q) g in
         rw (add-one k)
-        (subst (λ (z : CodedField). CurveDone (set (set codes (4 + 2 * (i + k)) first) (4 + 2 * (i + k) + 1) z) before (some (tenthsOf (first .code))) i (suc k) own) q
-        (subst (λ (z : CodedField). CurveDone (set (set codes (4 + 2 * (i + k)) z) (4 + 2 * (i + k) + 1) (coded coefficient factor)) before (some (tenthsOf (z .code))) i (suc k) own) p
+        (subst (λ (z : CodedField). CurveDone n (set (set codes (4 + 2 * (i + k)) first) (4 + 2 * (i + k) + 1) z) before (some (tenthsOf (first .code))) i (suc k) own) q
+        (subst (λ (z : CodedField). CurveDone n (set (set codes (4 + 2 * (i + k)) z) (4 + 2 * (i + k) + 1) (coded coefficient factor)) before (some (tenthsOf (z .code))) i (suc k) own) p
         (term-next power factor e e' f' g')))
 
   -- ---- all segments
 
-  pub done-all : count ≤ 20 → {codes : List CodedField} {before : Option ℕ} {last : Option ℤ} {i k : ℕ} → CurveDone codes before last i k 0 → length segments ≡ 20 → count ≤ i →
-      CurvePlanned curve codes (wholeCurve count k)
+  pub done-all : count ≤ 20 → {n : ℕ} {codes : List CodedField} {before : Option ℕ} {last : Option ℤ} {i k : ℕ} → CurveDone n codes before last i k 0 → length segments ≡ 20 → count ≤ i →
+      BlockPlanned (curvePieces curve) n codes (Are (wholeCurve count k))
   unfolding termPieces segmentPieces
-  done-all few {codes} {before} {last} {i} {k} d long h =
+  done-all few {n} {codes} {before} {last} {i} {k} d long h =
       let same : i ≡ count = omega (arith, d .inside) in
       let none-left : drop i segs ≡ [] = drop-of-length-le segs {i = i} (omega (arith, length-take-le count segments (omega arith))) in
+      let all : good (done codes count k) ≡ curvePieces curve = sym (sym (d .said) ∙ rw none-left (ap good (append-nil (done codes i k))) ∙ ap (λ (m : ℕ). good (done codes m k)) same) in
       record {
-        said = sym (sym (d .said) ∙ rw none-left (ap good (append-nil (done codes i k))) ∙ ap (λ (n : ℕ). good (done codes n k)) same);
-        byCurve = λ a. record {
-          fit = d .fit;
-          some = omega arith;
-          most = omega (arith, d .most);
-          count = sym (rw same at (d .bits));
-          small = omega (arith, d .most);
-        };
+        said = ap (λ o. o >>= λ ps. good (bitString ps)) all;
+        fit = d .fit;
+        count = λ l a. let is : wholeCurve count k ≡ l = cc in rw (← is) (omega (arith, d .most, d .room), sym (rw same at (d .bits)), omega (arith, d .most));
       }
 
--- ---- a plan
-
-module _ {curve : Curve} {codes : List CodedField} {p : CurvePlan} (planned : CurvePlanned curve codes p) where
-  pub curve-down : {r : Refusal} → p .answer ≡ Refused r → curvePieces curve ≡ refused r
-  curve-down e = sym (planned .said) ∙ ap (λ j. judgedSaid j >> good (codedCurve codes (p .count))) e
-
-  pub curve-good : p .answer ≡ Valid → curvePieces curve ≡ good (codedCurve codes (p .count))
-  curve-good e = sym (planned .said) ∙ ap (λ j. judgedSaid j >> good (codedCurve codes (p .count))) e
-
-pub curve-wrong : (curve : Curve) (codes : List CodedField) → isSegmentCount (curve .count) ≡ false → CurvePlanned curve codes (noCurve (wrongCurve (curve .count)))
+pub curve-wrong : (curve : Curve) {n : ℕ} {codes : List CodedField} → Fit n codes → isSegmentCount (curve .count) ≡ false → BlockPlanned (curvePieces curve) n codes (NotPlanned (wrongCurve (curve .count)))
 unfolding curvePieces
-curve-wrong curve codes e = record { said = rw e; byCurve = λ a. absurd (let z : _≡_ {A = ℕ} 0 1 = cc in omega arith) }
+curve-wrong curve fit e = record { said = rw e; fit = fit; count = λ l a. absurd (let z : _≡_ {A = ℕ} 0 1 = cc in omega arith) }

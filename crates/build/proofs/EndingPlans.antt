@@ -1,6 +1,6 @@
 -- Laws of the ending: the end bit and the text.
-use Rattle.build.proofs.Names.{_≡_, Bool, false, not, _&&_, _||_, List, [], _∷_, ℕ, zero, suc, _-_, _<_, arith, eqb, ltb, length, getD, ltb-false, eqb-false, good, wrongSort, outOfRange, good-same, passed}
-use Rattle.build.proofs.Names.{neither, Piece, Characters, unfit, endingPieces, codedEnding}
+use Rattle.build.proofs.Names.{_≡_, Bool, false, not, _&&_, _||_, List, [], _∷_, ℕ, zero, suc, _-_, _<_, arith, eqb, ltb, length, getD, ltb-false, eqb-false, good, wrongSort, outOfRange, passed, not-refused}
+use Rattle.build.proofs.Names.{neither, Characters, unfit, endingTested}
 
 -- ---- the characters
 
@@ -20,17 +20,11 @@ character-lt (c ∷ text) h (suc i) = character-lt text (h .2) i
 abbrev pub strayText : Bool → List ℕ → Bool
 strayText endBit text = not endBit && ltb 0 (length text)
 
--- ---- planned
+-- ---- tested
 
-pub record EndingPlanned (endBit : Bool) (text : List ℕ) (ps : List Piece) : Type 0 where
-  pub stray : strayText endBit text ≡ false
-  pub characters : Characters text
-  pub are : codedEnding endBit text ≡ ps
-
-module _ (f : ℕ) (endBit : Bool) (text : List ℕ) (ps : List Piece) where
-  pub ending-planned : endingPieces f endBit text ≡ good ps → EndingPlanned endBit text ps
-  unfolding endingPieces
-  ending-planned e =
-      let (a, e1) = passed (wrongSort f) (strayText endBit text) _ ps e in
-      let (b, e2) = passed (outOfRange f) (unfit text) _ ps e1 in
-      record { stray = a; characters = fit-characters text b; are = good-same e2 }
+module _ (f : ℕ) (endBit : Bool) (text : List ℕ) where
+  pub ending-characters : endingTested f endBit text ≡ good tt → Characters text
+  unfolding endingTested
+  ending-characters e =
+      let (a, e1) = passed (wrongSort f) (strayText endBit text) _ tt e in
+      fit-characters text (not-refused (outOfRange f) (unfit text) e1)

@@ -7,6 +7,7 @@ pub mod EndingPlans
 pub mod Filling
 pub mod TextTurns
 pub mod Coding
+pub mod Listing
 pub mod PairTurns
 pub mod CurvePlans
 pub mod SegmentPlans

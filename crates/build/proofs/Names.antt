@@ -1,11 +1,11 @@
 -- What the proofs of this crate take from the kit, from the crates below and from its own definitions.
 pub use Prim.Native.Nat.{_%_, _*_, _+_, _-_, _/_, _<_, _^_, _≤_, min, suc, zero, ℕ}
-pub use mathlib.Core.{Bool.Bool, Bool._&&_, Bool._||_, Bool.false, Bool.not, Bool.true, List.List, List.[], List._++_, List._∷_, List.append-assoc, List.append-nil, List.map, Logic._≢_, Logic.⊎-elim}
+pub use mathlib.Core.{Bool.Bool, Bool._&&_, Bool._||_, Bool.false, Bool.not, Bool.true, List.List, List.[], List._++_, List._∷_, List.map-append, List.append-assoc, List.append-nil, List.map, Logic._≢_, Logic.⊎-elim}
 pub use mathlib.Core.{Option.Option, Option.none, Option.some, Path._∙_, Path._≡_, Path.ap, Path.ap₂, Path.refl, Path.subst, Path.sym}
-pub use native.Mathlib.{Decide.ℕ-discrete, Nat.add-comm, Nat.lt-of-lt-of-le, Nat.mul-assoc, Nat.zero-mul, Numerals.add-one, Omega.arith}
+pub use native.Mathlib.{Decide.decLe, Decide.ℕ-discrete, Nat.add-comm, Nat.lt-of-not-le, Nat.lt-of-lt-of-le, Nat.mul-assoc, Nat.zero-mul, Numerals.add-one, Omega.arith}
 pub use lib.Bits.{and-mask, bitAnd, bitOr, or-shifted, or-shifted-r}
-pub use lib.ListN.{List·getD-map, drop, drop-of-length-le, getD, getD-replicate, length, length-drop, length-map, length-replicate, length-set, replicate, set, take, take-append-drop}
-pub use lib.Seq.{drop-append-le, drop-cons, drop-drop, getD-set-other, getD-set-same, getD-take, length-take-le, slice, slice-cons, slice-empty, take-take}
+pub use lib.ListN.{List·getD-append, List·getD-map, drop, drop-of-length-le, getD, getD-replicate, length, length-append, length-drop, length-map, length-replicate, length-set, replicate, set, take, take-append-drop}
+pub use lib.Seq.{drop-append-le, drop-cons, drop-drop, getD-append-add, getD-drop, getD-set-other, getD-set-same, getD-take, length-take-le, slice, slice-cons, slice-empty, take-all, take-append-add, take-append-le, take-take}
 pub use lib.{Arith.digits-lt, Dec.eqb, Dec.leb, Dec.ltb, Ieee.Float, Ieee.nan, IntN._*ℤ_, IntN.pos, IntN.ℤ, Pow.pow-add, Pow.pow-mono, Pow.shl-exact, Signed.ltZ}
 pub use mir.{Facts.toZ-ofZ, Syntax.w64, Val.SFits, Val.boolByte, Val.ofZ, Val.toZ}
 pub use borrow.Author.{Needs.needs, Tests.eq-eqb, Tests.eqb-false, Tests.le-ltb, Tests.leb-true, Tests.lt-ltb, Tests.ltb-false, Tests.ltb-true, Tests.ne-eqb, Tests.not-false}
@@ -34,13 +34,14 @@ pub use Rattle.templates.specs.Lines.{Line, bitsBefore, chose, ending, lastFiel
 pub use Rattle.templates.specs.declared.{Codes.Codes, Curve.Curve, Domain.Domain, Layout.Layout, Level.Level, Pair.Pair, Segment.Segment, Template.Template, Template.the-variants.Bridge, Term.Term}
 unfoldable pub use Rattle.templates.specs.Lines.{basic, linesOf}
 pub use Rattle.layout.{proofs.Choices.Steady, proofs.Choices.lines-steady, proofs.Endings.Characters, proofs.Endings.text-needed, specs.Pieces.blockPieces, specs.Pieces.endCode, specs.Places.tableBits}
-pub use Rattle.build.specs.Build.{Table, behindPieces, byCurve, lent, listTested, listed, pairsLent, slot, templateIn, unfit}
-pub use Rattle.build.specs.Filled.{Begun, Filled, Free, Room, codedEnding, codedPair, codedPairs, codedSheet}
-pub use Rattle.build.specs.Tested.{Accepted, CodedTo, CurvePlanned, Encodes, FieldsCoded, FieldsPlanned, Fit, Fitting, LentLengths, PairCoded, Quick, SplitValues, blank, bySort, coded, codedCurve, codedFields}
-pub use Rattle.build.specs.Tested.{codedFrom, codesSaid, fieldPiece, fieldsLent, noCurve, pairAt, piecesOf, plannedSaid, sheetLent, slotsLent, tested, twoSaid, unpack, unpacked, valueLent, wholeCurve}
-pub use Rattle.build.specs.declared.plan.Planned.{Planned, the-variants.Bits, the-variants.Refused as NotPlanned}
-pub use Rattle.build.specs.declared.plan.{Coded.Coded, Coded.the-variants.Next, Coded.the-variants.Refused as NotCoded, CodedField.CodedField}
-pub use Rattle.build.specs.declared.{Sheet.Sheet, Slot.Slot, curve_plan.CodedPair.the-variants.Are, curve_plan.CurvePlan.CurvePlan}
-unfoldable pub use Rattle.build.specs.Build.{buildWith, builtIn, codesFor, countTested, curvePieces, endingPieces, fieldPieces, linePieces, pairCodes, pairPieces, plan, segmentPieces, startCode, tablePieces}
+pub use Rattle.build.specs.Build.{Table, behindPieces, byCurve, endingPieces, lent, listTested, listed, pairsLent, slot, templateIn, unfit}
+pub use Rattle.build.specs.Filled.{Begun, Filled, Free, Room}
+pub use Rattle.build.specs.Listed.{BitString, BlockPlanned, Fit, Fitting, Ready, bitString, blank, bothListed, codedList, codedSheet, fieldPiece, finished, firstCodes, plannedSaid, unpack, unpacked}
+pub use Rattle.build.specs.Tested.{CodedTo, Encodes, FieldsCoded, FieldsPlanned, FrontPlanned, LentLengths, PairCoded, Quick, SheetPlanned, SplitValues, bySort, coded, codedFrom, codesSaid, fieldsLent, pairAt}
+pub use Rattle.build.specs.Tested.{sheetLent, slotsLent, tested, twoSaid, valueLent, wholeCurve}
+pub use Rattle.build.specs.declared.list.{CodedField.CodedField, Listed.Listed, Planned.Planned, Planned.the-variants.Are, Planned.the-variants.Refused as NotPlanned}
+pub use Rattle.build.specs.declared.plan.{Coded.Coded, Coded.the-variants.Next, Coded.the-variants.Refused as NotCoded}
+pub use Rattle.build.specs.declared.{Options.Options, Sheet.Sheet, Slot.Slot, curve_plan.CodedPair.the-variants.Are as Both}
+unfoldable pub use Rattle.build.specs.Build.{buildWith, builtIn, codesFor, countTested, curvePieces, endingTested, fieldPieces, linePieces, pairCodes, pairPieces, plan, segmentPieces, startCode, tablePieces}
 unfoldable pub use Rattle.build.specs.Build.{termPieces}
-unfoldable pub use Rattle.build.specs.{Filled.fitted, Tested.curveHead, Tested.segmentFields, Tested.termFields}
+unfoldable pub use Rattle.build.specs.{Listed.blockHead, Listed.fitted, Tested.segmentFields, Tested.termFields}

@@ -1,6 +1,6 @@
--- Laws of the plan of calibration pairs: its parts, and the bits that they need.
-use Rattle.build.proofs.Names.{_≡_, refl, sym, ap, subst, List, [], _∷_, _++_, Option, none, some, ℕ, suc, _+_, _*_, _/_, arith, ℤ, length, good, good-same, good-bind, good-then, Piece, piece, needed, Whole, Pair}
-use Rattle.build.proofs.Names.{Codes, Domain, encode, domainCode, calPoint, calDeviation, follows, tableBits, blockPieces, pairsLent, codesFor, pairCodes, pairPieces, tablePieces}
+-- Laws of the plan of calibration pairs: its parts.
+use Rattle.build.proofs.Names.{_≡_, refl, subst, List, [], _∷_, _++_, Option, none, some, ℕ, suc, _+_, _/_, arith, ℤ, length, good, good-same, good-bind, good-then, Piece, piece, Whole, Pair}
+use Rattle.build.proofs.Names.{Codes, Domain, encode, domainCode, calPoint, calDeviation, follows, blockPieces, pairsLent, codesFor, pairCodes, pairPieces, tablePieces}
 
 -- ---- the lent points
 
@@ -57,12 +57,6 @@ no-pair domain before i ps e = good-same e
 
 -- ---- the table
 
-pub pairs-needed : (domain : Domain) (before : Option Codes) (i : ℕ) (pairs : List Pair) (ps : List Piece) → pairPieces domain before i pairs ≡ good ps → needed ps ≡ 37 * length pairs
-pairs-needed domain before i [] ps e = ap needed (sym (no-pair domain before i ps e))
-pairs-needed domain before i (p ∷ pairs) ps e =
-    let d = pairs-planned domain before i p pairs ps e in
-    omega (arith, pairs-needed domain (some (d .codes)) (suc i) pairs (d .rest) (d .others), ap needed (d .joined))
-
 -- The pieces of a table that is not empty.
 pub record TablePlanned (domain : Domain) (pairs : List Pair) (ts : List Piece) : Type 0 where
   pub pieces : List Piece
@@ -78,9 +72,3 @@ table-planned domain p pairs ts e =
 pub no-table : (domain : Domain) (ts : List Piece) → tablePieces domain [] ≡ good ts → [] ≡ ts
 unfolding tablePieces
 no-table domain ts e = good-same e
-
-pub table-needed : (domain : Domain) (pairs : List Pair) (ts : List Piece) → tablePieces domain pairs ≡ good ts → needed ts ≡ tableBits (length pairs)
-table-needed domain [] ts e = ap needed (sym (no-table domain ts e))
-table-needed domain (p ∷ pairs) ts e =
-    let d = table-planned domain p pairs ts e in
-    omega (arith, ap needed (d .joined), pairs-needed domain none 0 (p ∷ pairs) (d .pieces) (d .plans))

@@ -1,10 +1,12 @@
--- Laws of the loop over the lent points, pair by pair.
-use Rattle.build.proofs.Names.{_≡_, refl, sym, ap, ap₂, _∙_, List, [], _∷_, _++_, Option, none, some, ℕ, suc, _+_, _*_, _/_, _≤_, _<_, add-one, arith, ℤ, pos, length, drop, getD, length-drop, drop-cons, Refusal}
-use Rattle.build.proofs.Names.{Outcome, good, refused, _>>=_, _>>_, bind-good, bind-refused, Piece, piece, needed, Whole, Row, Pair, Codes, Domain, encode, domainCode, calPoint, calDeviation, codesOf, follows}
-use Rattle.build.proofs.Names.{Sound, point-sound, deviation-sound, reads-back, blockPieces, tableBits, pairsLent, codesFor, pairCodes, pairPieces, tablePieces, tested, piecesOf, Accepted, Fitting, pairAt}
-use Rattle.build.proofs.Names.{codedPair, codedPairs}
+-- Laws of the loops over the lent points, pair by pair.
+use Rattle.build.proofs.Names.{_≡_, refl, sym, ap, ap₂, _∙_, List, [], _∷_, _++_, append-assoc, append-nil, Option, none, some, ℕ, zero, suc, _+_, _*_, _/_, _^_, _≤_, _<_, add-one, arith, ℤ, pos, length, drop, getD, set, length-drop, drop-cons, Refusal}
+use Rattle.build.proofs.Names.{Outcome, good, refused, _>>=_, _>>_, bind-good, bind-refused, bind-assoc, bind-same, Piece, piece, needed, needed-append, Whole, Row, Pair, Codes, Domain, encode, domainCode, domain-most, calPoint, calDeviation, codesOf, follows}
+use Rattle.build.proofs.Names.{Sound, point-sound, deviation-sound, reads-back, blockPieces, tableBits, pairsLent, codesFor, pairCodes, pairPieces, tablePieces, tested, pairAt}
+use Rattle.build.proofs.Names.{CodedField, Listed, Are, NotPlanned, Fitting, Fit, fieldPiece, firstCodes, blockHead, BitString, bitString, BlockPlanned}
 use Rattle.build.proofs.Tests.{tested-made}
-use Rattle.build.proofs.PairPlans.{codes-planned, no-pair, pairs-planned, table-planned, table-needed, pairs-length}
+use Rattle.build.proofs.PairPlans.{codes-planned, pairs-length}
+use Rattle.build.proofs.Coding.{taken, fit-more}
+use Rattle.build.proofs.Listing.{head-fit, head-pieces, string-between, two-one}
 
 -- ---- one pair
 
@@ -28,7 +30,7 @@ module _ (i : ℕ) (p : Pair) where
 
   -- A code fits its row.
   pub fitting : (row : Row) (z : ℤ) (code : ℕ) → Sound row → encode row i (Whole z) ≡ good code → Fitting (row .width) code
-  fitting row z code s e = record { some = s .some; most = s .most; fits = reads-back row i 0 code (Whole z) s tt e .0 }
+  fitting row z code s e = record { some = s .some; most = omega (arith, s .most); fits = reads-back row i 0 code (Whole z) s tt e .0 }
 
   pub pair-fits : (codes : Codes) → codesFor i p ≡ good codes → Fitting (calPoint .width) (codes .point) × Fitting (calDeviation .width) (codes .deviation)
   pair-fits codes e =
@@ -85,40 +87,99 @@ unfolding tablePieces pairPieces
 table-tested domain [] = refl
 table-tested domain (p ∷ pairs) = tested-made (pairPieces domain none 0 (p ∷ pairs)) _
 
--- ---- written
+-- ---- planned
 
-module _ (points : List ℤ) (i : ℕ) where
-  pub coded-end : length points / 2 ≤ i → codedPairs i (pairsFrom points i) ≡ []
-  coded-end h = ap (codedPairs i) (pairs-end points i h)
+pub some-points : (n : ℕ) → (n ≡ 0 → ⊥) → 0 < n
+some-points zero h = absurd (h refl)
+some-points (suc n) h = omega arith
 
-  pub coded-left : i < length points / 2 → codedPairs i (pairsFrom points i) ≡ codedPair (codesFor i (pairAt points i)) ++ codedPairs (i + 1) (pairsFrom points (i + 1))
-  coded-left h = ap (codedPairs i) (pairs-left points i h) ∙ ap (λ (n : ℕ). codedPair (codesFor i (pairAt points i)) ++ codedPairs n (pairsFrom points (i + 1))) (sym (add-one i))
+-- The pieces of a table that is not empty, as bit strings.
+abbrev tableString : Domain → List ℤ → Outcome BitString
+tableString domain points = tablePieces domain (pairsLent points) >>= λ ps. good (bitString ps)
 
--- The pairs of an accepted table have codes.
-coded-all : (domain : Domain) (before : Option Codes) (i : ℕ) (pairs : List Pair) (ps : List Piece) → pairPieces domain before i pairs ≡ good ps → codedPairs i pairs ≡ ps
-coded-all domain before i [] ps e = no-pair domain before i ps e
-coded-all domain before i (p ∷ pairs) ps e =
-    let d = pairs-planned domain before i p pairs ps e in
-    ap₂ (λ o q. codedPair o ++ q) (d .first .coded) (coded-all domain (some (d .codes)) (suc i) pairs (d .rest) (d .others)) ∙ d .joined
+table-some : (domain : Domain) (pairs : List Pair) → 0 < length pairs →
+    (tablePieces domain pairs >>= λ ps. good (bitString ps)) ≡ (pairPieces domain none 0 pairs >>= λ rest. good (bitString ((blockPieces 40 ++ (piece 1 (domainCode domain) ∷ piece 7 (length pairs) ∷ [])) ++ rest)))
+unfolding tablePieces
+table-some domain [] h = absurd (omega arith)
+table-some domain (p ∷ pairs) h = bind-assoc (pairPieces domain none 0 (p ∷ pairs)) _ _
 
--- ---- the table
+module _ (domain : Domain) (points : List ℤ) (n : ℕ) where
+  -- The first i pairs have their codes.
+  pub record PointsDone (codes : List CodedField) (before : Option Codes) (i : ℕ) : Type 0 where
+    pub inside : i ≤ length points / 2
+    pub fit : Fit n codes
+    pub said : (pairPieces domain before i (pairsFrom points i) >>= λ rest. good (bitString (firstCodes codes (4 + i) ++ rest))) ≡ tableString domain points
+    pub bits : needed (firstCodes codes (4 + i)) ≡ 18 + 37 * i
 
-pairs-some : (domain : Domain) (pairs : List Pair) → (length pairs ≡ 0 → ⊥) → Accepted (tablePieces domain pairs) →
-    piecesOf (tablePieces domain pairs) ≡ blockPieces 40 ++ (piece 1 (domainCode domain) ∷ piece 7 (length pairs) ∷ codedPairs 0 pairs)
-pairs-some domain [] n ok = absurd (n refl)
-pairs-some domain (p ∷ pairs) n ok =
-    let d = table-planned domain p pairs (piecesOf (tablePieces domain (p ∷ pairs))) ok in
-    sym (d .joined) ∙ ap (λ q. blockPieces 40 ++ (piece 1 (domainCode domain) ∷ piece 7 (length (p ∷ pairs)) ∷ q)) (sym (coded-all domain none 0 (p ∷ pairs) (d .pieces) (d .plans)))
+  pub points-none : {codes : List CodedField} → Fit n codes → 0 < length points / 2 → length points ≤ 254 → 4 ≤ n →
+      PointsDone (blockHead codes 40 (domainCode domain) 7 (length points / 2)) none 0
+  points-none {codes} fit enough few room =
+      let head = head-pieces 40 (domainCode domain) 7 (length points / 2) codes (omega (arith, fit .long)) in
+      record {
+        inside = omega arith;
+        fit = head-fit 40 (domainCode domain) 7 (length points / 2) codes fit (omega arith) (omega (arith, domain-most domain)) (record { some = omega arith; most = omega arith; fits = omega arith });
+        said = rw head (sym (rw (pairs-length points) at (table-some domain (pairsLent points) (omega (arith, pairs-length points)))));
+        bits = ap needed head;
+      }
 
-module _ (domain : Domain) (points : List ℤ) where
-  pub table-none : length points / 2 ≡ 0 → piecesOf (tablePieces domain (pairsLent points)) ≡ []
+  module _ {codes : List CodedField} {before : Option Codes} {i : ℕ} (d : PointsDone codes before i) where
+    pub points-down : {r : Refusal} → i < length points / 2 → pairCodes domain before i (pairAt points i) ≡ refused r → BlockPlanned (tablePieces domain (pairsLent points)) n codes (NotPlanned r)
+    points-down h e = record {
+      said = sym (bind-refused _ (step points i domain before h ∙ bind-refused _ e)) ∙ d .said;
+      fit = d .fit;
+      count = λ l a. absurd (let z : _≡_ {A = ℕ} 0 1 = cc in omega arith);
+    }
+
+    -- One more pair, as one code.
+    pub points-next : {pair : Codes} → i < length points / 2 → 4 + i < n → pairCodes domain before i (pairAt points i) ≡ good pair → codesFor i (pairAt points i) ≡ good pair →
+        PointsDone (set codes (4 + i) (record { width = 37; code = pair .point + pair .deviation * 2 ^ 16 })) (some pair) (i + 1)
+    points-next {pair} h room e coded =
+        let fits = pair-fits i (pairAt points i) pair coded in
+        let x : CodedField = record { width = 37; code = pair .point + pair .deviation * 2 ^ 16 } in
+        let one : Piece = fieldPiece x in
+        let two : List Piece = piece (calPoint .width) (pair .point) ∷ piece (calDeviation .width) (pair .deviation) ∷ [] in
+        let D : List Piece = firstCodes codes (4 + i) in
+        let rest : Outcome (List Piece) = pairPieces domain (some pair) (suc i) (pairsFrom points (i + 1)) in
+        let next : 4 + (i + 1) ≡ suc (4 + i) = omega arith in
+        let more : firstCodes (set codes (4 + i) x) (4 + (i + 1)) ≡ D ++ (one ∷ []) = rw next (taken codes (4 + i) x (omega (arith, d .fit .long))) in
+        let here : (pairPieces domain before i (pairsFrom points i) >>= λ l. good (bitString (D ++ l))) ≡ (rest >>= λ l. good (bitString (D ++ (two ++ l)))) =
+        ap (λ o. o >>= λ l. good (bitString (D ++ l))) (step points i domain before h ∙ bind-good _ e) ∙ bind-assoc rest _ _ in
+        let joined : (rest >>= λ l. good (bitString (D ++ (two ++ l)))) ≡ (rest >>= λ l. good (bitString (firstCodes (set codes (4 + i) x) (4 + (i + 1)) ++ l))) =
+        bind-same rest (λ l. ap good (string-between D two (one ∷ []) l (two-one 16 21 (pair .point) (pair .deviation)) ∙ ap bitString (sym (ap (λ m. m ++ l) more ∙ append-assoc D (one ∷ []) l)))) in
+        record {
+          inside = omega arith;
+          fit = fit-more codes (4 + i) x (d .fit) (record { some = omega arith; most = omega arith; fits = omega (arith, fits .0 .fits, fits .1 .fits) });
+          said =
+              ap (λ (m : ℕ). pairPieces domain (some pair) m (pairsFrom points (i + 1)) >>= λ l. good (bitString (firstCodes (set codes (4 + i) x) (4 + (i + 1)) ++ l))) (add-one i)
+              ∙ sym (here ∙ joined) ∙ d .said;
+          bits = omega (arith, ap needed more, needed-append D (one ∷ []), d .bits);
+        }
+
+    pub points-all : length points / 2 ≤ i → length points ≤ 254 → 4 + length points / 2 ≤ n → {l : Listed} → l .count ≡ 4 + length points / 2 → l .bits ≡ tableBits (length points / 2) →
+        0 < length points / 2 → BlockPlanned (tablePieces domain (pairsLent points)) n codes (Are l)
+    unfolding pairPieces
+    points-all end few room {l} c b enough =
+        let same : i ≡ length points / 2 = omega (arith, d .inside) in
+        let D : List Piece = firstCodes codes (4 + i) in
+        record {
+          said = rw (c, ← same) (sym (sym (d .said) ∙ rw (pairs-end points i end) (ap (λ m. good (bitString m)) (append-nil D))));
+          fit = d .fit;
+          count = λ m a. let is : l ≡ m = cc in rw (← is) (omega (arith, c), rw (c, ← same) (b ∙ omega (arith, d .bits, bits-some (length points / 2) enough)), omega (arith, b, bits-some (length points / 2) enough));
+        }
+      where
+        bits-some : (k : ℕ) → 0 < k → tableBits k ≡ 18 + 37 * k
+        bits-some zero h = absurd (omega arith)
+        bits-some (suc k) h = omega arith
+
+  pub table-none : length points / 2 ≡ 0 → tablePieces domain (pairsLent points) ≡ good []
   unfolding tablePieces
-  table-none h = ap (λ l. piecesOf (tablePieces domain l)) (pairs-none points (omega arith))
+  table-none h = ap (tablePieces domain) (pairs-none points (omega arith))
 
-  pub table-some : (length points / 2 ≡ 0 → ⊥) → Accepted (tablePieces domain (pairsLent points)) →
-      piecesOf (tablePieces domain (pairsLent points)) ≡ blockPieces 40 ++ (piece 1 (domainCode domain) ∷ piece 7 (length points / 2) ∷ codedPairs 0 (pairsLent points))
-  table-some n ok = rw (pairs-length points) at (pairs-some domain (pairsLent points) (λ e. n (sym (pairs-length points) ∙ e)) ok)
-
-  -- The bits of a table.
-  pub table-bits : Accepted (tablePieces domain (pairsLent points)) → tableBits (length points / 2) ≡ needed (piecesOf (tablePieces domain (pairsLent points)))
-  table-bits ok = sym (table-needed domain (pairsLent points) (piecesOf (tablePieces domain (pairsLent points))) ok ∙ ap tableBits (pairs-length points))
+  -- An empty list has no block.
+  pub points-empty : {codes : List CodedField} → Fit n codes → length points / 2 ≡ 0 → BlockPlanned (tablePieces domain (pairsLent points)) n codes (Are (record { count = 0; bits = 0 }))
+  unfolding tablePieces
+  points-empty fit h = record {
+    said = rw (pairs-none points (omega arith));
+    fit = fit;
+    count = λ l a. let is : record { count = 0; bits = 0 } ≡ l = cc in rw (← is) (omega arith, refl, omega arith);
+  }

@@ -1,7 +1,7 @@
 -- Laws of a segment's own fields and a term's: their tests, and their codes.
 use Rattle.build.proofs.Names.{_≡_, sym, ap, subst, true, false, not, List, [], _∷_, Option, ℕ, _+_, _≤_, arith, ltb-false, not-false, ltb, ℤ, pos, _*ℤ_, w64, SFits, toZ, ofZ, toZ-ofZ, Refusal, Outcome, good}
 use Rattle.build.proofs.Names.{refused, wrongCurve, tooManyTerms, good-bind, good-then, good-same, passed, bind-refused, Value, Whole, Single, Row, Segment, Term, encode, segmentStart, termCount, exponent}
-use Rattle.build.proofs.Names.{coefficient, isTermCount, mostTerms, startFollows, exponentFollows, exponentCode, Sound, Real, start-sound, exponent-sound, coefficient-sound, reads-back, CodedField, Are}
+use Rattle.build.proofs.Names.{coefficient, isTermCount, mostTerms, startFollows, exponentFollows, exponentCode, Sound, Real, start-sound, exponent-sound, coefficient-sound, reads-back, CodedField, Both}
 use Rattle.build.proofs.Names.{countTested, startCode, Fitting, coded, PairCoded, segmentFields, termFields, not-refused, terms-most}
 use Rattle.build.specs.declared.curve_plan.CodedPair.the-variants.{Refused}
 
@@ -10,11 +10,11 @@ use Rattle.build.specs.declared.curve_plan.CodedPair.the-variants.{Refus
 pub two-down : {two : Outcome (List CodedField)} {r : Refusal} → two ≡ refused r → PairCoded two (Refused r)
 two-down e = record { said = sym e; fits = λ first second h. absurd (let z : _≡_ {A = ℕ} 0 1 = cc in omega arith) }
 
-pub two-good : {two : Outcome (List CodedField)} {a b : CodedField} → two ≡ good (a ∷ b ∷ []) → Fitting (a .width) (a .code) → Fitting (b .width) (b .code) → PairCoded two (Are a b)
+pub two-good : {two : Outcome (List CodedField)} {a b : CodedField} → two ≡ good (a ∷ b ∷ []) → Fitting (a .width) (a .code) → Fitting (b .width) (b .code) → PairCoded two (Both a b)
 two-good {a = a} {b = b} e f g = record { said = sym e; fits = λ first second h. let p : a ≡ first = cc in let q : b ≡ second = cc in (rw p at f, rw q at g) }
 
 fitting : (row : Row) (i : ℕ) (value : Value) (code : ℕ) → Sound row → Real value → encode row i value ≡ good code → Fitting (row .width) code
-fitting row i value code s real e = record { some = s .some; most = s .most; fits = reads-back row i 0 code value s real e .0 }
+fitting row i value code s real e = record { some = s .some; most = omega (arith, s .most); fits = reads-back row i 0 code value s real e .0 }
 
 -- ---- a term count
 
@@ -81,7 +81,7 @@ module _ (before : Option ℕ) (i total : ℕ) (s : Segment) where
   unfolding segmentFields
   segment-few {two} e = let (start, own, same) = good-bind (startCode before i total s) _ two e in start-planned start own .few
 
-  pub segment-coded : {start : ℕ} → startCode before i total s ≡ good start → PairCoded (segmentFields before i total s) (Are (coded segmentStart start) (coded termCount (s .terms)))
+  pub segment-coded : {start : ℕ} → startCode before i total s ≡ good start → PairCoded (segmentFields before i total s) (Both (coded segmentStart start) (coded termCount (s .terms)))
   unfolding segmentFields
   segment-coded {start} e =
       let p = start-planned start e in
@@ -104,7 +104,7 @@ module _ (before : Option ℤ) (i : ℕ) (t : Term) where
     coefficient-refused f = rw (e, f)
 
     pub term-coded : {factor : ℕ} → Real (Single (t .coefficient)) → encode coefficient i (Single (t .coefficient)) ≡ good factor →
-        PairCoded (termFields before i t) (Are (coded exponent power) (coded coefficient factor))
+        PairCoded (termFields before i t) (Both (coded exponent power) (coded coefficient factor))
     unfolding termFields
     term-coded {factor} real f =
         let (w, own) = passed (wrongCurve i) (not (exponentFollows before (pos 10 *ℤ t .exponent))) (encode exponent i (Whole (pos 10 *ℤ t .exponent))) power e in

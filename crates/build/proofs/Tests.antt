@@ -1,5 +1,5 @@
 -- Laws of tests: an outcome without its value.
-use Rattle.build.proofs.Names.{_≡_, refl, sym, ap, _∙_, List, Refusal, Outcome, good, refused, _>>=_, no-value, Piece, Judged, Valid, judgedSaid, tested, Accepted}
+use Rattle.build.proofs.Names.{_≡_, refl, sym, ap, _∙_, Refusal, Outcome, good, refused, _>>=_, no-value, Judged, Valid, judgedSaid, tested}
 use Rattle.codes.specs.declared.Judged.the-variants.{Refused}
 
 -- A step that maps the value tests nothing.
@@ -11,13 +11,13 @@ tested-refused : {A : Type 0} (o : Outcome A) {r : Refusal} → refused r ≡ te
 tested-refused (good a) e = no-value e
 tested-refused (refused s) {r} e = let same : s ≡ r = cc in ap refused same
 
-tested-good : (o : Outcome (List Piece)) → good tt ≡ tested o → Accepted o
-tested-good (good ps) e = refl
+tested-good : {A : Type 0} (o : Outcome A) → good tt ≡ tested o → (a : A) × (o ≡ good a)
+tested-good (good a) e = (a, refl)
 tested-good (refused r) e = no-value (sym e)
 
-module _ (o : Outcome (List Piece)) {j : Judged} (said : judgedSaid j ≡ tested o) where
+module _ {A : Type 0} (o : Outcome A) {j : Judged} (said : judgedSaid j ≡ tested o) where
   pub turned-down : {r : Refusal} → j ≡ Refused r → o ≡ refused r
   turned-down e = tested-refused o (sym (ap judgedSaid e) ∙ said)
 
-  pub accepted : j ≡ Valid → Accepted o
+  pub accepted : j ≡ Valid → (a : A) × (o ≡ good a)
   accepted e = tested-good o (sym (ap judgedSaid e) ∙ said)

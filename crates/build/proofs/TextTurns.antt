@@ -1,7 +1,7 @@
 -- Laws of the loop over the text, character by character.
-use Rattle.build.proofs.Names.{_≡_, refl, sym, ap, ap₂, _∙_, Bool, true, false, _||_, List, [], _∷_, _++_, map, ℕ, zero, suc, _+_, _-_, _*_, _^_, _≤_, _<_, lt-of-lt-of-le, add-one, arith, lt-ltb, le-ltb, eq-eqb}
+use Rattle.build.proofs.Names.{_≡_, refl, sym, ap, ap₂, _∙_, true, false, _||_, List, [], _∷_, _++_, map, ℕ, zero, suc, _+_, _-_, _*_, _^_, _≤_, _<_, lt-of-lt-of-le, add-one, arith, lt-ltb, le-ltb, eq-eqb}
 use Rattle.build.proofs.Names.{ne-eqb, eqb, ltb, length, take, drop, getD, length-map, List·getD-map, take-append-drop, drop-of-length-le, pow-mono, slice, slice-cons, drop-cons, drop-append-le, length-take-le}
-use Rattle.build.proofs.Names.{Outcome, good, refused, _>>_, refuse_if_, wrongSort, outOfRange, Piece, piece, pack, needed, pack-lt, unfit, endingPieces, tested, codedEnding}
+use Rattle.build.proofs.Names.{Outcome, good, refused, _>>_, refuse_if_, wrongSort, outOfRange, Piece, piece, pack, needed, pack-lt, unfit, endingTested}
 use Rattle.memory.proofs.PieceLaws.{Fit}
 
 module _ (text : List ℕ) (i : ℕ) (h : i < length text) where
@@ -74,19 +74,15 @@ chars-end text i h = drop-of-length-le (map (piece 7) text) {i = i} (omega (arit
 -- ---- the ending, with its text tested
 
 module _ (f : ℕ) (text : List ℕ) where
-  pub open-ending : {o : Outcome (Unit {0})} → o ≡ (refuse outOfRange f if unfit text) → o ≡ tested (endingPieces f true text)
-  unfolding endingPieces
-  open-ending e = e ∙ go (unfit text)
-    where
-      go : (t : Bool) → (refuse outOfRange f if t) ≡ ((refuse outOfRange f if t >> good (codedEnding true text)) >> good tt)
-      go true = refl
-      go false = refl
+  pub open-ending : {o : Outcome (Unit {0})} → o ≡ (refuse outOfRange f if unfit text) → o ≡ endingTested f true text
+  unfolding endingTested
+  open-ending e = e
 
-  pub shut-ending : 0 < length text → refused (wrongSort f) ≡ tested (endingPieces f false text)
-  unfolding endingPieces
+  pub shut-ending : 0 < length text → refused (wrongSort f) ≡ endingTested f false text
+  unfolding endingTested
   shut-ending h = rw (lt-ltb 0 (length text) h)
 
-pub no-ending : (f : ℕ) (text : List ℕ) → length text ≤ 0 → good tt ≡ tested (endingPieces f false text)
-unfolding endingPieces
+pub no-ending : (f : ℕ) (text : List ℕ) → length text ≤ 0 → good tt ≡ endingTested f false text
+unfolding endingTested
 no-ending f [] h = refl
 no-ending f (c ∷ text) h = absurd (omega arith)

@@ -65,11 +65,14 @@ abbrev pub unfit : List ℕ → Bool
 unfit [] = false
 unfit (c ∷ text) = eqb c 0 || ltb 127 c || unfit text
 
-unfoldable pub endingPieces : ℕ → Bool → List ℕ → Outcome (List Piece)
-endingPieces f endBit text = do
+unfoldable pub endingTested : ℕ → Bool → List ℕ → Outcome (Unit {0})
+endingTested f endBit text = do
   refuse wrongSort f if not endBit && ltb 0 (length text)
   refuse outOfRange f if unfit text
-  good (piece 2 3 ∷ piece 1 (endCode endBit) ∷ map (piece 7) text)
+
+-- Selector 3, the end bit and the text.
+abbrev pub endingPieces : Bool → List ℕ → List Piece
+endingPieces endBit text = piece 2 3 ∷ piece 1 (endCode endBit) ∷ map (piece 7) text
 
 -- ---- block 40
 
@@ -169,14 +172,14 @@ abbrev pub behindPieces : Table → Outcome (List Piece)
 behindPieces (listed domain points) = tablePieces domain (pairsLent points)
 behindPieces (byCurve curve) = curvePieces curve
 
--- All pieces that a build writes, in order.
+-- The tests in their order, then all pieces that a build writes.
 unfoldable pub plan : Sheet → List ℕ → Table → Outcome (List Piece)
 plan sheet text table = do
   listTested table
   fields ← fieldPieces sheet
-  end ← endingPieces (ending (templateIn sheet)) (sheet .«end_bit») text
+  endingTested (ending (templateIn sheet)) (sheet .«end_bit») text
   behind ← behindPieces table
-  good (fields ++ (behind ++ end))
+  good (fields ++ (behind ++ endingPieces (sheet .«end_bit») text))
 
 -- The image of these sizes. "Bits after the end are not judged; a build
 -- writes zeros there"; the zero character that ends a text is among them.

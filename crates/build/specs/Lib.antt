@@ -1,3 +1,4 @@
 pub mod Build
+pub mod Listed
 pub mod Tested
 pub mod Filled

@@ -1,18 +1,18 @@
 -- Only inner contracts need this: the answers of a build's
--- tests, and what holds of the codes to be written.
+-- tests, and the codes that they put onto the list.
 use mathlib.Core.Path.{_≡_}
 use mathlib.Core.Bool.{Bool, false}
 use mathlib.Core.List.{List, [], _∷_, _++_, map}
 use mathlib.Core.Option.{Option}
-use Prim.Native.Nat.{ℕ, zero, suc, _+_, _*_, _/_, _%_, _^_, _≤_, _<_}
+use Prim.Native.Nat.{ℕ, zero, suc, _+_, _*_, _^_, _≤_, _<_}
 use lib.IntN.{ℤ, pos, _*ℤ_}
 use lib.Ieee.{Float, nan}
-use lib.ListN.{length, getD, take, drop, set, replicate}
-use lib.Seq.{slice}
+use lib.ListN.{length, getD, take, drop}
 use Rattle.refusal.specs.declared.Refusal.{Refusal}
 pub use Rattle.refusal.specs.Outcome.{tested}
 use Rattle.refusal.specs.Outcome.{Outcome, good, refused, _>>_, _>>=_}
-use Rattle.memory.specs.Pieces.{Piece, piece, needed}
+use Rattle.memory.specs.declared.Sizes.{Sizes}
+use Rattle.memory.specs.Pieces.{Piece, needed}
 use Rattle.codes.specs.declared.Value.{Value}
 use Rattle.codes.specs.declared.Value.the-variants.{Whole, Single, Missing}
 use Rattle.codes.specs.declared.Row.{Row}
@@ -20,41 +20,31 @@ use Rattle.templates.specs.declared.Pair.{Pair}
 use Rattle.templates.specs.declared.Codes.{Codes}
 use Rattle.templates.specs.declared.Segment.{Segment}
 use Rattle.templates.specs.declared.Term.{Term}
-use Rattle.templates.specs.declared.Curve.{Curve}
 use Rattle.codes.specs.declared.Encoded.{Encoded}
 use Rattle.codes.specs.declared.Encoded.the-variants.{Code}
-use Rattle.codes.specs.declared.Judged.the-variants.{Valid, Refused as TurnedDown}
 use Rattle.templates.specs.declared.Template.{Template}
 use Rattle.templates.specs.declared.Level.{Level}
 use Rattle.templates.specs.declared.Level.the-variants.{Owner}
 use Rattle.codes.specs.Rules.{encode}
-use Rattle.templates.specs.Lines.{basic, numberOf, linesOf, lastField, bitsBefore}
+use Rattle.templates.specs.Lines.{basic, linesOf, lastField, ending, bitsBefore}
 use Rattle.templates.specs.Curves.{segmentStart, termCount, exponent, coefficient, exponentCode}
-use Rattle.codes.specs.Answers.{encodedSaid, judgedSaid}
+use Rattle.codes.specs.Answers.{encodedSaid}
 use Rattle.codes.specs.DirectCode.{DirectCode}
-use Rattle.layout.specs.Pieces.{blockPieces}
+use Rattle.build.specs.declared.Options.{Options}
 use Rattle.build.specs.declared.Slot.{Slot}
 use Rattle.build.specs.declared.Sheet.{Sheet}
-use Rattle.build.specs.declared.plan.CodedField.{CodedField}
-use Rattle.build.specs.declared.plan.Planned.{Planned}
-use Rattle.build.specs.declared.plan.Planned.the-variants.{Bits, Refused as NotPlanned}
+use Rattle.build.specs.declared.list.CodedField.{CodedField}
+use Rattle.build.specs.declared.list.Listed.{Listed}
+use Rattle.build.specs.declared.list.Planned.{Planned}
+use Rattle.build.specs.declared.list.Planned.the-variants.{Are, Refused as NotPlanned}
 use Rattle.build.specs.declared.plan.Coded.{Coded}
 use Rattle.build.specs.declared.plan.Coded.the-variants.{Next, Refused as NotCoded}
 use Rattle.build.specs.declared.plan.PairAnswer.{PairAnswer}
-use Rattle.build.specs.declared.plan.PairAnswer.the-variants.{Are, Refused}
+use Rattle.build.specs.declared.plan.PairAnswer.the-variants.{Are as Coding, Refused}
 use Rattle.build.specs.declared.curve_plan.CodedPair.{CodedPair}
 use Rattle.build.specs.declared.curve_plan.CodedPair.the-variants.{Are as Both, Refused as Neither}
-use Rattle.build.specs.declared.curve_plan.CurvePlan.{CurvePlan}
-use Rattle.build.specs.Build.{slot, templateIn, linePieces, fieldPieces, startCode, curvePieces}
-
--- ---- pieces of an accepted outcome
-
-abbrev pub piecesOf : Outcome (List Piece) → List Piece
-piecesOf (good pieces) = pieces
-piecesOf (refused r) = []
-
-abbrev pub Accepted : Outcome (List Piece) → Type 0
-Accepted o = o ≡ good (piecesOf o)
+use Rattle.build.specs.Build.{slot, templateIn, linePieces, fieldPieces, endingTested, startCode, Table, builtIn}
+use Rattle.build.specs.Listed.{Fitting, Fit, fieldPiece, unpacked, codedList, plannedSaid, Ready, finished}
 
 -- ---- the values of a sheet, lent
 
@@ -101,33 +91,6 @@ pub record Encodes (row : Row) (place : ℕ) (value : Value) (answer : Encoded) 
   pub said : encodedSaid answer ≡ encode row place value
   pub fits : (code : ℕ) → answer ≡ Code code → code < 2 ^ row .width
 
--- A code that fits a field of 1 to 32 bits.
-pub record Fitting (width code : ℕ) : Type 0 where
-  pub some : 1 ≤ width
-  pub most : width ≤ 32
-  pub fits : code < 2 ^ width
-
--- The codes of an array of n fields fit their bits.
-pub record Fit (n : ℕ) (fields : List CodedField) : Type 0 where
-  pub long : length fields ≡ n
-  pub each : (i : ℕ) (none : CodedField) → i < n → Fitting (getD fields i none .width) (getD fields i none .code)
-
-abbrev pub fieldPiece : CodedField → Piece
-fieldPiece x = piece (x .width) (x .code)
-
--- Basic, the first block, and the template's own fields.
-abbrev pub codedFields : Template → List CodedField → List Piece
-codedFields template fields =
-    slice 0 (length basic) (map fieldPiece fields) ++
-    (blockPieces (numberOf template) ++ slice (length basic) (lastField template) (map fieldPiece fields))
-
--- A coded field, from its packed number.
-abbrev pub unpack : ℕ → CodedField
-unpack n = record { width = n / 2 ^ 32; code = n % 2 ^ 32 }
-
-abbrev pub unpacked : List ℕ → List CodedField
-unpacked codes = map unpack codes
-
 -- A row's bits, and the code of field i + 1 by it, if it is below 2^32.
 pub record Quick (row : Row) (tags : List ℕ) (wholes : List ℤ) (singles : List Float) (i : ℕ) (quick : CodedField) : Type 0 where
   pub wide : quick .width ≡ row .width
@@ -153,14 +116,11 @@ pub record CodedTo (n : ℕ) (t : Template) (tags : List ℕ) (wholes : List ℤ
   pub stop : (r : Refusal) → answer ≡ NotCoded r → fieldPieces (fieldsLent t tags wholes singles) ≡ refused r
   pub fit : Fit 21 (unpacked codes)
 
-abbrev pub plannedSaid : Planned → Outcome (Unit {0})
-plannedSaid (Bits bits) = good tt
-plannedSaid (NotPlanned r) = refused r
-
+-- The fields are the first on a list of 21 codes, or one of them is refused.
 pub record FieldsPlanned (sheet : Sheet) (fields : List CodedField) (r : Planned) : Type 0 where
-  pub said : (plannedSaid r >> good (codedFields (templateIn sheet) fields)) ≡ fieldPieces sheet
+  pub said : (plannedSaid r >> good (codedList (templateIn sheet) fields (lastField (templateIn sheet)))) ≡ fieldPieces sheet
   pub fit : Fit 21 fields
-  pub count : (bits : ℕ) → r ≡ Bits bits → (bits ≡ needed (codedFields (templateIn sheet) fields)) × (bits < 2 ^ 16)
+  pub count : (l : Listed) → r ≡ Are l → (l .count ≡ lastField (templateIn sheet)) × (l .bits ≡ needed (codedList (templateIn sheet) fields (lastField (templateIn sheet)))) × (l .bits < 2 ^ 16)
 
 -- ---- the points
 
@@ -169,7 +129,7 @@ abbrev pub pairAt : List ℤ → ℕ → Pair
 pairAt points i = record { point = getD points (2 * i) (pos 0); deviation = getD points (2 * i + 1) (pos 0) }
 
 abbrev pub codesSaid : PairAnswer → Outcome Codes
-codesSaid (Are codes) = good codes
+codesSaid (Coding codes) = good codes
 codesSaid (Refused r) = refused r
 
 -- ---- the curve
@@ -198,40 +158,21 @@ termFields before i t = do
   factor ← encode coefficient i (Single (t .coefficient))
   good (coded exponent power ∷ coded coefficient factor ∷ [])
 
--- The first pieces of a list.
-abbrev pub codedCurve : List CodedField → ℕ → List Piece
-codedCurve codes count = take count (map fieldPiece codes)
+-- The codes of a whole curve.
+abbrev pub wholeCurve : ℕ → ℕ → Listed
+wholeCurve segments terms = record { count = 4 + 2 * (segments + terms); bits = 19 + 20 * segments + 39 * terms }
 
--- A piece that is not coded yet.
-abbrev pub blank : CodedField
-blank = record { width = 1; code = 0 }
+-- ---- a sheet
 
--- Room for the pieces of a curve, with those before the first segment.
-unfoldable pub curveHead : ℕ → List CodedField
-curveHead count =
-    set (set (set (set (replicate 104 blank) 0 (record { width = 2; code = 0 })) 1 (record { width = 8; code = 41 })) 2 (record { width = 1; code = 0 })) 3 (record { width = 8; code = count })
+-- The fields are on a list of n codes and the ending passed its test, or one of them is refused.
+pub record FrontPlanned (sheet : Sheet) (text : List ℕ) (n : ℕ) (codes : List CodedField) (r : Planned) : Type 0 where
+  pub stop : (x : Refusal) → r ≡ NotPlanned x → (fieldPieces sheet >> endingTested (ending (templateIn sheet)) (sheet .«end_bit») text) ≡ refused x
+  pub fields : (l : Listed) → r ≡ Are l → fieldPieces sheet ≡ good (codedList (templateIn sheet) codes (l .count))
+  pub end : (l : Listed) → r ≡ Are l → endingTested (ending (templateIn sheet)) (sheet .«end_bit») text ≡ good tt
+  pub count : (l : Listed) → r ≡ Are l → (length basic < l .count) × (l .count ≤ 21) × (l .bits ≡ needed (codedList (templateIn sheet) codes (l .count))) × (l .bits < 2 ^ 16)
+  pub fit : Fit n codes
 
--- A refused curve.
-abbrev pub noCurve : Refusal → CurvePlan
-noCurve r = record { answer = TurnedDown r; count = 0; bits = 0 }
-
--- A curve with all its pieces.
-abbrev pub wholeCurve : ℕ → ℕ → CurvePlan
-wholeCurve segments terms = record { answer = Valid; count = 4 + 2 * (segments + terms); bits = 19 + 20 * segments + 39 * terms }
-
--- The pieces of an accepted curve.
-pub record Drawn (codes : List CodedField) (r : CurvePlan) : Type 0 where
-  pub fit : Fit 104 codes
-  pub some : 0 < r .count
-  pub most : r .count ≤ 104
-  pub count : r .bits ≡ needed (codedCurve codes (r .count))
-  pub small : r .bits < 2 ^ 16
-
-pub record CurvePlanned (curve : Curve) (codes : List CodedField) (r : CurvePlan) : Type 0 where
-  pub said : (judgedSaid (r .answer) >> good (codedCurve codes (r .count))) ≡ curvePieces curve
-  pub byCurve : r .answer ≡ Valid → Drawn codes r
-
--- ---- what is to be written: codes and characters that fit
-pub record Tested (fields : List CodedField) (text : List ℕ) : Type 0 where
-  pub fit : Fit 21 fields
-  pub characters : (i : ℕ) → getD text i 0 < 128
+-- To finish what the tests leave is to build the sheet, whatever the sizes of the image.
+pub record SheetPlanned (options : Options) (tags : List ℕ) (wholes : List ℤ) (singles : List Float) (text : List ℕ) (table : Table) (codes : List ℕ) (r : Planned) : Type 0 where
+  pub said : (level : Level) (z : Sizes) → finished z (options .template) (options .«end_bit») text (unpacked codes) r ≡ builtIn z (sheetLent (options .template) (options .«end_bit») level tags wholes singles) text table
+  pub ready : (l : Listed) → r ≡ Are l → Ready (options .template) codes l text

@@ -2,16 +2,15 @@
 use crate::Options;
 use crate::Sheet;
 use crate::Slot;
-use crate::curve_plan::CurvePlan;
 use crate::curve_plan::plan_curve;
-use crate::plan::NO_CODE;
-use crate::plan::Planned;
+use crate::list::Listed;
+use crate::list::NO_CODE;
+use crate::list::Planned;
 use crate::plan::check_ending;
-use crate::plan::check_points;
 use crate::plan::is_wrong_list;
 use crate::plan::plan_fields;
-use crate::write::write_curve;
-use crate::write::write_table;
+use crate::plan::plan_points;
+use crate::write::write_image;
 use codes::Judged;
 use codes::Value;
 use memory::Sizes;
@@ -20,28 +19,37 @@ use refusal::Written;
 use templates::Curve;
 use templates::Domain;
 ghost use mathlib.Core.Path.{_≡_};
-ghost use Prim.Native.Nat.{min, _+_, _*_, _^_, _≤_, _<_};
+ghost use Prim.Native.Nat.{min, _+_, _*_, _/_, _^_, _≤_, _<_};
 ghost use lib.Dec.{ltb};
 ghost use lib.ListN.{length};
+ghost use Rattle.refusal.specs.Outcome.{good};
 ghost use Rattle.refusal.specs.Written.{writtenSaid, afterwards};
 ghost use Rattle.memory.specs.Image.{imageBytes, streamBits};
 ghost use Rattle.memory.specs.Answers.{WholeImage};
-ghost use Rattle.memory.specs.Pieces.{needed};
 ghost use Rattle.templates.specs.declared.Level.{Level};
-ghost use Rattle.build.specs.Build.{pairsLent, tablePieces, listed, byCurve, builtIn, build as buildOf, buildCurve};
-ghost use Rattle.build.specs.Tested.{piecesOf, Accepted, unpacked, codedFields, codedCurve, Drawn, Tested, LentLengths, SplitValues, sheetLent};
-ghost use Rattle.build.specs.Filled.{codedSheet, fitted};
+ghost use Rattle.build.specs.declared.list.Planned.the-variants.{Are};
+ghost use Rattle.build.specs.Build.{listed, byCurve, listTested, builtIn, build as buildOf, buildCurve};
+ghost use Rattle.build.specs.Listed.{Fit, unpacked, Ready, finished, bothListed};
+ghost use Rattle.build.specs.Tested.{LentLengths, SplitValues, sheetLent, FrontPlanned, SheetPlanned};
 
-// The bits that fields, the block after them and characters need. Row 11 names at most
+// The codes that a list has room for: the fields of any template; then the first four
+// of a block, and a code for each of 127 points or two for each of 20 segments and 30 terms.
+const FIELDS: usize = 21;
+
+const WITH_POINTS: usize = FIELDS + 4 + 127;
+
+const WITH_CURVE: usize = FIELDS + 4 + 2 * 50;
+
+// The bits that codes, the ending and its characters need. Row 11 names at most
 // 65,535: for more characters than that their number is returned, which can't overflow.
-fn bits_needed(fields: u64, behind: u64, characters: u64) -> u64
-    requires { ⌜ (fields < 2 ^ 16) × (behind < 2 ^ 16) ⌝ }
-    ensures { λ r. ⌜ min r 65_535 ≡ min (fields + behind + 3 + 7 * characters) 65_535 ⌝ }
+fn bits_needed(codes: u64, characters: u64) -> u64
+    requires { ⌜ codes < 2 ^ 17 ⌝ }
+    ensures { λ r. ⌜ min r 65_535 ≡ min (codes + 3 + 7 * characters) 65_535 ⌝ }
 {
     if 65_535 < characters {
         return characters;
     }
-    fields + behind + 3 + 7 * characters
+    codes + 3 + 7 * characters
 }
 
 // Whether the stream has fewer bits.
@@ -52,78 +60,123 @@ fn is_too_long(sizes: Sizes, bits: u64) -> bool
     (memory::stream_bits(sizes) as u64) < bits
 }
 
-// After all tests: 11 if the stream has fewer bits than needed, else writes the image with a table.
-fn finish_table(
+// After all other tests: their refusal; or 11 if the stream has fewer bits than needed, else writes the image.
+fn finish(
     sizes: Sizes,
     image: &mut [u8],
     options: Options,
-    fields: &[u64],
-    field_bits: u64,
+    codes: &[u64],
+    planned: Planned,
+    text: &[u8],
+) -> Written
+    requires { ⌜ WholeImage sizes (now image) × (imageBytes sizes ≤ 512) ⌝ }
+    requires { ⌜ ((l : Listed) → planned ≡ Are l → Ready (options .template) (now codes) l (now text)) ⌝ }
+    ensures { λ r. ⌜ (let outcome = finished sizes (options .template) (options .«end_bit») (now (text .entry)) (unpacked (now (codes .entry))) planned in
+        (writtenSaid r (now (image .exit)) ≡ outcome) × (now (image .exit) ≡ afterwards (now (image .entry)) outcome)) ⌝ }
+{
+    match planned {
+        Planned::Refused(r) => Written::Refused(r),
+        Planned::Are(listed) => {
+            let bits = bits_needed(listed.bits, text.len() as u64);
+            if is_too_long(sizes, bits) {
+                return Written::Refused(refusal::too_long(bits));
+            }
+            let template = options.template;
+            write_image(sizes, image, template, codes, listed, options.end_bit, text);
+            Written::Done
+        }
+    }
+}
+
+// The fields and the ending: 9 or 10, field by field, then 9 or 10 of the ending. The fields' codes go onto the list.
+fn plan_front(
+    options: Options,
+    tags: &[u8],
+    wholes: &[i64],
+    singles: &[f32],
+    text: &[u8],
+    codes: &mut [u64],
+) -> Planned
+    requires { ⌜ LentLengths (now tags) (now wholes) (now singles) × (21 ≤ length (now codes)) × Fit (length (now codes)) (unpacked (now codes)) ⌝ }
+    ensures { λ r. ⌜ ((level : Level) → FrontPlanned (sheetLent (options .template) (options .«end_bit») level (now (tags .entry)) (now (wholes .entry)) (now (singles .entry))) (now (text .entry)) (length (now (codes .entry))) (unpacked (now (codes .exit))) r) ⌝ }
+{
+    let template = options.template;
+    match plan_fields(template, tags, wholes, singles, &mut codes[..FIELDS]) {
+        Planned::Refused(r) => Planned::Refused(r),
+        Planned::Are(fields) => match check_ending(template, options.end_bit, text) {
+            Judged::Refused(r) => Planned::Refused(r),
+            Judged::Valid => Planned::Are(fields),
+        },
+    }
+}
+
+// Codes of a list, and those after them.
+fn both_listed(first: Listed, second: Listed) -> Listed
+    requires { ⌜ (first .count ≤ 256) × (second .count ≤ 256) × (first .bits < 2 ^ 16) × (second .bits < 2 ^ 16) ⌝ }
+    ensures { λ r. ⌜ r ≡ bothListed first second ⌝ }
+{
+    Listed {
+        count: first.count + second.count,
+        bits: first.bits + second.bits,
+    }
+}
+
+// All tests but 16 and 11, in document 01's order; what passes them goes onto the list.
+fn plan_sheet(
+    options: Options,
+    tags: &[u8],
+    wholes: &[i64],
+    singles: &[f32],
     text: &[u8],
     points: &[i64],
-) -> Written
-    requires { ⌜ WholeImage sizes (now image) × (imageBytes sizes ≤ 512) ⌝ }
-    requires { ⌜ Tested (unpacked (now fields)) (now text) × («field_bits» ≡ needed (codedFields (options .template) (unpacked (now fields)))) × («field_bits» < 2 ^ 16) ⌝ }
-    requires { ⌜ Accepted (tablePieces (options .domain) (pairsLent (now points))) × (length (now points) ≤ 254) ⌝ }
-    ensures { λ r. ⌜ (let outcome = fitted sizes (codedSheet (options .template) (unpacked (now (fields .entry))) (options .«end_bit») (now (text .entry)) (piecesOf (tablePieces (options .domain) (pairsLent (now (points .entry)))))) in
-        (writtenSaid r (now (image .exit)) ≡ outcome) × (now (image .exit) ≡ afterwards (now (image .entry)) outcome)) ⌝ }
+    codes: &mut [u64],
+) -> Planned
+    requires { ⌜ LentLengths (now tags) (now wholes) (now singles) × Fit (length (now codes)) (unpacked (now codes)) × (length (now codes) ≤ 256) ⌝ }
+    requires { ⌜ (21 ≤ length (now codes)) × (listTested (listed (options .domain) (now points)) ≡ good tt) × (0 < length (now points) / 2 → 25 + length (now points) / 2 ≤ length (now codes)) ⌝ }
+    ensures { λ r. ⌜ SheetPlanned options (now (tags .entry)) (now (wholes .entry)) (now (singles .entry)) (now (text .entry)) (listed (options .domain) (now (points .entry))) (now (codes .exit)) r ⌝ }
 {
-    let behind = layout::table_bits(points.len() as u64 / 2) as u64;
-    let bits = bits_needed(field_bits, behind, text.len() as u64);
-    if is_too_long(sizes, bits) {
-        return Written::Refused(refusal::too_long(bits));
+    match plan_front(options, tags, wholes, singles, text, codes) {
+        Planned::Refused(r) => Planned::Refused(r),
+        Planned::Are(front) => {
+            let at = front.count;
+            let domain = options.domain;
+            match plan_points(domain, points, &mut codes[at..]) {
+                Planned::Refused(r) => Planned::Refused(r),
+                Planned::Are(block) => Planned::Are(both_listed(front, block)),
+            }
+        }
     }
-    let template = options.template;
-    let domain = options.domain;
-    write_table(
-        sizes,
-        image,
-        template,
-        fields,
-        options.end_bit,
-        text,
-        domain,
-        points,
-    );
-    Written::Done
 }
 
-// After all tests: 11 if the stream has fewer bits than needed, else writes the image with a curve.
-fn finish_curve(
-    sizes: Sizes,
-    image: &mut [u8],
+// All tests but 11 of a sheet with a curve, which has no points list.
+fn plan_curve_sheet(
     options: Options,
-    fields: &[u64],
-    field_bits: u64,
+    tags: &[u8],
+    wholes: &[i64],
+    singles: &[f32],
     text: &[u8],
-    codes: &[u64],
-    curve: CurvePlan,
-) -> Written
-    requires { ⌜ WholeImage sizes (now image) × (imageBytes sizes ≤ 512) ⌝ }
-    requires { ⌜ Tested (unpacked (now fields)) (now text) × («field_bits» ≡ needed (codedFields (options .template) (unpacked (now fields)))) × («field_bits» < 2 ^ 16) ⌝ }
-    requires { ⌜ Drawn (unpacked (now codes)) curve ⌝ }
-    ensures { λ r. ⌜ (let outcome = fitted sizes (codedSheet (options .template) (unpacked (now (fields .entry))) (options .«end_bit») (now (text .entry)) (codedCurve (unpacked (now (codes .entry))) (curve .count))) in
-        (writtenSaid r (now (image .exit)) ≡ outcome) × (now (image .exit) ≡ afterwards (now (image .entry)) outcome)) ⌝ }
+    curve: Curve,
+    codes: &mut [u64],
+) -> Planned
+    requires { ⌜ LentLengths (now tags) (now wholes) (now singles) × Fit (length (now codes)) (unpacked (now codes)) × (length (now codes) ≤ 256) ⌝ }
+    requires { ⌜ 125 ≤ length (now codes) ⌝ }
+    ensures { λ r. ⌜ SheetPlanned options (now (tags .entry)) (now (wholes .entry)) (now (singles .entry)) (now (text .entry)) (byCurve curve) (now (codes .exit)) r ⌝ }
 {
-    let bits = bits_needed(field_bits, curve.bits, text.len() as u64);
-    if is_too_long(sizes, bits) {
-        return Written::Refused(refusal::too_long(bits));
+    match plan_front(options, tags, wholes, singles, text, codes) {
+        Planned::Refused(r) => Planned::Refused(r),
+        Planned::Are(front) => {
+            let at = front.count;
+            match plan_curve(curve, &mut codes[at..]) {
+                Planned::Refused(r) => Planned::Refused(r),
+                Planned::Are(block) => Planned::Are(both_listed(front, block)),
+            }
+        }
     }
-    let template = options.template;
-    write_curve(
-        sizes,
-        image,
-        template,
-        fields,
-        options.end_bit,
-        text,
-        codes,
-        curve.count as usize,
-    );
-    Written::Done
 }
 
-// All tests, in document 01's order; then the image with a table. The level makes no difference.
+// All tests, in document 01's order; then the image with a table. The level makes no
+// difference. Without points the list has room for fields alone, which is faster to clear,
+// and `plan_sheet` has one caller, into which the compiler inlines it.
 fn build_in(
     sizes: Sizes,
     image: &mut [u8],
@@ -139,24 +192,17 @@ fn build_in(
         (writtenSaid r (now (image .exit)) ≡ outcome) × (now (image .exit) ≡ afterwards (now (image .entry)) outcome))) ⌝ }
 {
     let n = points.len();
-    let template = options.template;
-    let domain = options.domain;
     if is_wrong_list(n) {
         return Written::Refused(refusal::wrong_list(n as u64));
     }
-    let mut fields = [NO_CODE; 21];
-    match plan_fields(template, tags, wholes, singles, &mut fields) {
-        Planned::Refused(r) => Written::Refused(r),
-        Planned::Bits(bits) => {
-            if let Judged::Refused(r) = check_ending(template, options.end_bit, text) {
-                return Written::Refused(r);
-            }
-            if let Judged::Refused(r) = check_points(domain, points) {
-                return Written::Refused(r);
-            }
-            finish_table(sizes, image, options, &fields, bits, text, points)
-        }
+    if n == 0 {
+        let mut codes = [NO_CODE; FIELDS];
+        let planned = plan_front(options, tags, wholes, singles, text, &mut codes);
+        return finish(sizes, image, options, &codes, planned, text);
     }
+    let mut codes = [NO_CODE; WITH_POINTS];
+    let planned = plan_sheet(options, tags, wholes, singles, text, points, &mut codes);
+    finish(sizes, image, options, &codes, planned, text)
 }
 
 // All tests, in document 01's order; then the image with a curve, which has no points list.
@@ -174,23 +220,9 @@ fn build_curve_in(
     ensures { λ r. ⌜ ((level : Level) → (let outcome = builtIn sizes (sheetLent (options .template) (options .«end_bit») level (now (tags .entry)) (now (wholes .entry)) (now (singles .entry))) (now (text .entry)) (byCurve curve) in
         (writtenSaid r (now (image .exit)) ≡ outcome) × (now (image .exit) ≡ afterwards (now (image .entry)) outcome))) ⌝ }
 {
-    let template = options.template;
-    let mut fields = [NO_CODE; 21];
-    match plan_fields(template, tags, wholes, singles, &mut fields) {
-        Planned::Refused(r) => Written::Refused(r),
-        Planned::Bits(bits) => {
-            if let Judged::Refused(r) = check_ending(template, options.end_bit, text) {
-                return Written::Refused(r);
-            }
-            let mut codes = [NO_CODE; 104];
-            let block = plan_curve(curve, &mut codes);
-            let byCurve = block.answer;
-            if let Judged::Refused(r) = byCurve {
-                return Written::Refused(r);
-            }
-            finish_curve(sizes, image, options, &fields, bits, text, &codes, block)
-        }
-    }
+    let mut codes = [NO_CODE; WITH_CURVE];
+    let planned = plan_curve_sheet(options, tags, wholes, singles, text, curve, &mut codes);
+    finish(sizes, image, options, &codes, planned, text)
 }
 
 // Splits the values of slots into sorts, whole numbers and Singles.

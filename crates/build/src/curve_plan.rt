@@ -1,6 +1,9 @@
-// What a build tests of a curve before it writes, and the pieces of its block.
-use crate::plan::CodedField;
-use crate::plan::packed;
+// What a build tests of a curve before it writes, and the codes of its block, which go onto the list.
+use crate::list::CodedField;
+use crate::list::Listed;
+use crate::list::Planned;
+use crate::list::put_head;
+use crate::list::put_pair;
 use codes::Encoded;
 use codes::Judged;
 use refusal::Refusal;
@@ -10,25 +13,19 @@ use templates::Segment;
 use templates::Term;
 ghost use mathlib.Core.Path.{_≡_};
 ghost use mathlib.Core.Bool.{true};
-ghost use Prim.Native.Nat.{_+_, _^_, _<_, _≤_};
-ghost use lib.ListN.{length, replicate, set};
+ghost use Prim.Native.Nat.{_≤_};
+ghost use lib.ListN.{length};
 ghost use Rattle.templates.specs.Curves.{isSegmentCount, tenthsBefore};
 ghost use Rattle.codes.specs.Answers.{encodedSaid, judgedSaid};
 ghost use Rattle.templates.specs.Answers.{earlierSaid};
-ghost use Rattle.build.specs.Build.{countTested, startCode};
-ghost use Rattle.build.specs.Tested.{Fitting, unpacked, segmentFields, termFields, PairCoded, curveHead, noCurve, wholeCurve, CurvePlanned};
+ghost use Rattle.build.specs.Build.{countTested, startCode, curvePieces};
+ghost use Rattle.build.specs.Listed.{Fit, unpacked, BlockPlanned};
+ghost use Rattle.build.specs.Tested.{segmentFields, termFields, PairCoded, wholeCurve};
 
 // Two pieces, or 10, 24 or 25.
 pub enum CodedPair {
     Are(CodedField, CodedField),
     Refused(Refusal),
-}
-
-// The number of pieces of a curve's block, and the bits that they need; or the refusal.
-pub struct CurvePlan {
-    pub answer: Judged,
-    pub count: u64,
-    pub bits: u64,
 }
 
 // 24 for a segment's term count, then 25 with the terms before it.
@@ -109,64 +106,26 @@ fn code_term(before: Earlier, i: u64, term: Term) -> CodedPair
     }
 }
 
-// Stores two pieces in the list, from index `at` on.
-fn put_pair(codes: &mut [u64], at: usize, first: CodedField, second: CodedField)
-    requires { ⌜ at + 1 < length (now codes) ⌝ }
-    requires { ⌜ Fitting (first .width) (first .code) × Fitting (second .width) (second .code) ⌝ }
-    ensures { λ _. ⌜ unpacked (now (codes .exit)) ≡ set (set (unpacked (now (codes .entry))) at first) (at + 1) second ⌝ }
-{
-    codes[at] = packed(first.width, first.code);
-    codes[at + 1] = packed(second.width, second.code);
-}
-
-// The pieces before the first segment: selector 0, template 41, domain 0 and the segment count.
-fn curve_head(codes: &mut [u64], count: u64)
-    requires { ⌜ (now codes ≡ replicate 104 (2 ^ 32)) × (isSegmentCount count ≡ true) ⌝ }
-    ensures { λ _. ⌜ unpacked (now (codes .exit)) ≡ curveHead count ⌝ }
-{
-    let selector = CodedField { width: 2, code: 0 };
-    let template = CodedField { width: 8, code: 41 };
-    put_pair(codes, 0, selector, template);
-    let domain = CodedField { width: 1, code: 0 };
-    let segments = CodedField {
-        width: 8,
-        code: count,
-    };
-    put_pair(codes, 2, domain, segments);
-}
-
-// A refused curve, whatever was coded of it.
-fn no_curve(because: Refusal) -> CurvePlan
-    ensures { λ r. ⌜ r ≡ noCurve because ⌝ }
-{
-    CurvePlan {
-        answer: Judged::Refused(because),
-        count: 0,
-        bits: 0,
-    }
-}
-
-// A curve with all its pieces: four at the start, then two a segment and two a term.
-fn whole_curve(segments: u64, terms: u64) -> CurvePlan
+// The codes of a whole curve: four at the start, then two a segment and two a term.
+fn curve_listed(segments: usize, terms: usize) -> Listed
     requires { ⌜ (segments ≤ 20) × (terms ≤ 30) ⌝ }
     ensures { λ r. ⌜ r ≡ wholeCurve segments terms ⌝ }
 {
-    CurvePlan {
-        answer: Judged::Valid,
+    Listed {
         count: 4 + 2 * (segments + terms),
-        bits: 19 + 20 * segments + 39 * terms,
+        bits: 19 + 20 * segments as u64 + 39 * terms as u64,
     }
 }
 
-// After the first four pieces, for each segment its own two and those of its terms.
-fn plan_segments(curve: Curve, codes: &mut [u64]) -> CurvePlan
-    requires { ⌜ (isSegmentCount (curve .count) ≡ true) × (now codes ≡ replicate 104 (2 ^ 32)) ⌝ }
-    ensures { λ r. ⌜ CurvePlanned curve (unpacked (now (codes .exit))) r ⌝ }
+// The first four codes; then for each segment its own two and those of its terms.
+fn plan_segments(curve: Curve, codes: &mut [u64]) -> Planned
+    requires { ⌜ (isSegmentCount (curve .count) ≡ true) × (104 ≤ length (now codes)) × Fit (length (now codes)) (unpacked (now codes)) ⌝ }
+    ensures { λ r. ⌜ BlockPlanned (curvePieces curve) (length (now (codes .entry))) (unpacked (now (codes .exit))) r ⌝ }
 {
     let count = curve.count as usize;
     let segments = curve.segments;
     let terms = curve.terms;
-    curve_head(codes, curve.count);
+    put_head(codes, 41, 0, 8, curve.count);
     let mut before = Earlier::Nothing;
     let mut total: usize = 0;
     let mut i: usize = 0;
@@ -175,7 +134,7 @@ fn plan_segments(curve: Curve, codes: &mut [u64]) -> CurvePlan
         let at = 4 + 2 * (i + total);
         match code_segment(before, i as u64, total as u64, segment) {
             CodedPair::Refused(r) => {
-                return no_curve(r);
+                return Planned::Refused(r);
             }
             CodedPair::Are(first, second) => {
                 put_pair(codes, at, first, second);
@@ -190,7 +149,7 @@ fn plan_segments(curve: Curve, codes: &mut [u64]) -> CurvePlan
             let next = 4 + 2 * (i + total);
             match code_term(last, total as u64, term) {
                 CodedPair::Refused(r) => {
-                    return no_curve(r);
+                    return Planned::Refused(r);
                 }
                 CodedPair::Are(first, second) => {
                     put_pair(codes, next, first, second);
@@ -200,16 +159,16 @@ fn plan_segments(curve: Curve, codes: &mut [u64]) -> CurvePlan
             total += 1;
         }
     }
-    whole_curve(count as u64, total as u64)
+    Planned::Are(curve_listed(count, total))
 }
 
-// 24 for the segment count, then 10, 24 and 25 segment by segment; the pieces go into `codes`.
-pub fn plan_curve(curve: Curve, codes: &mut [u64]) -> CurvePlan
-    requires { ⌜ now codes ≡ replicate 104 (2 ^ 32) ⌝ }
-    ensures { λ r. ⌜ CurvePlanned curve (unpacked (now (codes .exit))) r ⌝ }
+// Block 41: 24 for the segment count, then 10, 24 and 25 segment by segment; its codes go onto the list.
+pub fn plan_curve(curve: Curve, codes: &mut [u64]) -> Planned
+    requires { ⌜ (104 ≤ length (now codes)) × Fit (length (now codes)) (unpacked (now codes)) ⌝ }
+    ensures { λ r. ⌜ BlockPlanned (curvePieces curve) (length (now (codes .entry))) (unpacked (now (codes .exit))) r ⌝ }
 {
     if templates::is_segment_count(curve.count) {
         return plan_segments(curve, codes);
     }
-    no_curve(refusal::wrong_curve(curve.count))
+    Planned::Refused(refusal::wrong_curve(curve.count))
 }

@@ -4,6 +4,7 @@
 // three lists. Lent is document 01's term: passed as a slice for the time of the call.
 mod building; // building.rt: an image from a sheet
 mod curve_plan; // curve_plan.rt: what a build tests of a curve
+mod list; // list.rt: the list of codes that a build fills
 mod plan; // plan.rt: what a build tests before it writes
 mod write; // write.rt: what a build writes
 

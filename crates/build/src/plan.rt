@@ -1,12 +1,19 @@
-// What a build tests before it writes: the fields, the ending, and the points.
+// What a build tests before it writes, and the codes that go onto its list: the fields, the ending, and the points.
+use crate::list::CodedField;
+use crate::list::Listed;
+use crate::list::Planned;
+use crate::list::packed;
+use crate::list::put_head;
 use codes::Encoded;
 use codes::Judged;
 use codes::Row;
 use codes::Value;
+use layout::PAIR_BITS;
 use refusal::Refusal;
 use templates::Codes;
 use templates::Domain;
 use templates::Layout;
+use templates::POINT_BITS;
 use templates::Previous;
 use templates::Template;
 ghost use mathlib.Core.Path.{_≡_};
@@ -21,35 +28,15 @@ ghost use Rattle.codes.specs.Stored.{Sound};
 ghost use Rattle.codes.specs.Answers.{judgedSaid};
 ghost use Rattle.templates.specs.Answers.{previousSaid};
 ghost use Rattle.codes.specs.DirectCode.{DirectCode};
-ghost use Rattle.build.specs.Build.{unfit, endingPieces, pairsLent, codesFor, pairCodes, tablePieces};
-ghost use Rattle.build.specs.Tested.{tested, pairAt, codesSaid, Encodes, Fitting, Fit, unpacked, valueLent, LentLengths, fieldsLent, Quick, FieldsCoded, CodedTo, FieldsPlanned};
-
-// A field to be written: its bits and its code.
-pub struct CodedField {
-    pub width: u64,
-    pub code: u64,
-}
-
-// The bits of a sheet's fields and their block, or 9 or 10.
-pub enum Planned {
-    Bits(u64),
-    Refused(Refusal),
-}
+ghost use Rattle.build.specs.Build.{unfit, endingTested, pairsLent, codesFor, pairCodes, tablePieces};
+ghost use Rattle.build.specs.Listed.{Fit, unpacked, BlockPlanned};
+ghost use Rattle.build.specs.Tested.{tested, pairAt, codesSaid, Encodes, valueLent, LentLengths, fieldsLent, Quick, FieldsCoded, CodedTo, FieldsPlanned};
 
 // The precision for the field after those that are coded, or 9 or 10.
 pub enum Coded {
     Next(u64),
     Refused(Refusal),
 }
-
-// A coded field packed in a u64: width in the upper 32 bits, code in the lower.
-pub const CODE_BITS: u64 = 32;
-
-// The mask of the code in a packed field.
-pub const CODES: u64 = 0xffff_ffff;
-
-// A packed field of one bit with code 0, in place of one not coded yet.
-pub const NO_CODE: u64 = 1 << CODE_BITS;
 
 // The codes of a pair, or 10, 7 or 22.
 pub enum PairAnswer {
@@ -151,14 +138,6 @@ fn precision_behind(layout: Layout, field: u64, code: u64) -> u64
         return code;
     }
     layout.precision
-}
-
-// A coded field packed in one number.
-pub fn packed(width: u64, code: u64) -> u64
-    requires { ⌜ Fitting width code ⌝ }
-    ensures { λ r. ⌜ (r / 2 ^ 32 ≡ width) × (r % 2 ^ 32 ≡ code) ⌝ }
-{
-    (width << CODE_BITS) | code
 }
 
 // Codes field i + 1, after the i that are coded: its bits and its code go into `codes`.
@@ -342,7 +321,18 @@ fn field_bits(layout: Layout) -> u64
     templates::bits_before(layout, templates::last_field(template) + 1) + 10
 }
 
-// 9 or 10, field by field, each by the precision before it; the coded fields go into `codes`.
+// The codes of the fields, which are all of a template, and their bits with their block.
+fn fields_listed(layout: Layout) -> Listed
+    ensures { λ r. ⌜ (r .count ≡ lastField (layout .template)) × (r .bits ≡ bitsBefore (linesOf (layout .template)) (layout .precision) (lastField (layout .template)) + 10) × (r .bits < 2 ^ 16) ⌝ }
+{
+    let template = layout.template;
+    Listed {
+        count: templates::last_field(template) as usize,
+        bits: field_bits(layout),
+    }
+}
+
+// 9 or 10, field by field, each by the precision before it; the codes go onto the list.
 pub fn plan_fields(
     template: Template,
     tags: &[u8],
@@ -357,7 +347,7 @@ pub fn plan_fields(
         Coded::Refused(r) => Planned::Refused(r),
         Coded::Next(behind) => match code_own(template, behind, tags, wholes, singles, codes) {
             Coded::Refused(r) => Planned::Refused(r),
-            Coded::Next(precision) => Planned::Bits(field_bits(Layout {
+            Coded::Next(precision) => Planned::Are(fields_listed(Layout {
                 template,
                 precision,
             })),
@@ -385,7 +375,7 @@ fn check_characters(field: u64, text: &[u8]) -> Judged
 
 // The ending: 9 for text with end bit 0, then 10 for a character.
 pub fn check_ending(template: Template, end_bit: bool, text: &[u8]) -> Judged
-    ensures { λ r. ⌜ judgedSaid r ≡ tested (endingPieces (ending template) «end_bit» (now (text .entry))) ⌝ }
+    ensures { λ r. ⌜ judgedSaid r ≡ endingTested (ending template) «end_bit» (now (text .entry)) ⌝ }
 {
     let field = templates::last_field(template) + 1;
     if end_bit {
@@ -398,7 +388,7 @@ pub fn check_ending(template: Template, end_bit: bool, text: &[u8]) -> Judged
 }
 
 // The codes of pair i: 10 for the point, 10 for its deviation.
-pub fn code_pair(points: &[i64], i: usize) -> PairAnswer
+fn code_pair(points: &[i64], i: usize) -> PairAnswer
     requires { ⌜ 2 * i + 1 < length (now points) ⌝ }
     ensures { λ r. ⌜ codesSaid r ≡ codesFor i (pairAt (now (points .entry)) i) ⌝ }
 {
@@ -450,6 +440,47 @@ pub fn check_points(domain: Domain, points: &[i64]) -> Judged
         i += 1;
     }
     Judged::Valid
+}
+
+// The codes of a pair as one, the point in its lowest bits.
+fn pair_code(codes: Codes) -> u64
+    requires { ⌜ (codes .point < 2 ^ 16) × (codes .deviation < 2 ^ 21) ⌝ }
+    ensures { λ r. ⌜ (r ≡ codes .point + codes .deviation * 2 ^ 16) × (r < 2 ^ 37) ⌝ }
+{
+    let deviation = codes.deviation as u64;
+    codes.point as u64 | (deviation << POINT_BITS)
+}
+
+// Block 40: 10, 7 and 22, pair by pair; its first four codes and one for each
+// pair go onto the list. Without points nothing does, and no domain is looked at.
+pub fn plan_points(domain: Domain, points: &[i64], codes: &mut [u64]) -> Planned
+    requires { ⌜ (length (now points) ≤ 254) × (0 < length (now points) / 2 → 4 + length (now points) / 2 ≤ length (now codes)) ⌝ }
+    requires { ⌜ Fit (length (now codes)) (unpacked (now codes)) ⌝ }
+    ensures { λ r. ⌜ BlockPlanned (tablePieces domain (pairsLent (now (points .entry)))) (length (now (codes .entry))) (unpacked (now (codes .exit))) r ⌝ }
+{
+    let n = points.len() / 2;
+    if n == 0 {
+        return Planned::Are(Listed { count: 0, bits: 0 });
+    }
+    put_head(codes, 40, templates::domain_code(domain), 7, n as u64);
+    let mut before = Previous::Nothing;
+    let mut i: usize = 0;
+    while i < n {
+        match check_pair(domain, before, points, i) {
+            PairAnswer::Refused(r) => {
+                return Planned::Refused(r);
+            }
+            PairAnswer::Are(pair) => {
+                codes[4 + i] = packed(PAIR_BITS as u64, pair_code(pair));
+                before = Previous::Pair(pair);
+            }
+        }
+        i += 1;
+    }
+    Planned::Are(Listed {
+        count: 4 + n,
+        bits: layout::table_bits(n as u64) as u64,
+    })
 }
 
 // Whether a points list is odd or over 254 long.

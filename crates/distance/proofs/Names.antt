@@ -15,7 +15,7 @@ unfoldable pub use Rattle.codes.specs.Rules.{encode}
 pub use Rattle.templates.{proofs.CalibrationLaws.follows-rises, specs.Calibration.D, specs.Calibration.R, specs.Calibration.calDeviation, specs.Calibration.calPoint, specs.Calibration.leastDeviation}
 pub use Rattle.templates.{specs.declared.Codes.Codes, specs.declared.Domain.Domain, specs.declared.Domain.the-variants.Electrical, specs.declared.Pair.Pair}
 pub use Rattle.build.{proofs.PairPlans.Coded, proofs.PairPlans.codes-planned, proofs.PairPlans.pairs-length, proofs.PairPlans.pairs-planned, proofs.PairPlans.table-planned}
-pub use Rattle.build.{proofs.PairTurns.pairs-left, proofs.PairTurns.pairsFrom, proofs.Tests.accepted, proofs.Tests.turned-down, specs.Build.pairPieces, specs.Build.pairsLent, specs.Tested.pairAt, specs.Tested.piecesOf}
+pub use Rattle.build.{proofs.PairTurns.pairs-left, proofs.PairTurns.pairsFrom, proofs.Tests.accepted, proofs.Tests.turned-down, specs.Build.pairPieces, specs.Build.pairsLent, specs.Tested.pairAt}
 unfoldable pub use Rattle.build.specs.Build.{tablePieces}
 pub use Rattle.correction.{proofs.Beforehand.told-dn, proofs.Beforehand.told-up, proofs.Distances.near-abs, specs.Certificate.Neighbours, specs.Certificate.Slopes, specs.Ranges.Figures, specs.Ranges.Table}
 pub use Rattle.distance.specs.{Distance.bySlope, Distance.leastSlope, Distance.steepest, Least.Least, Least.LeastSlope, Least.NoSlope, Steps.Step, declared.CertificateBound.CertificateBound}

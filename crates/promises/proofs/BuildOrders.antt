@@ -3,7 +3,7 @@ use Rattle.promises.proofs.Names.{_≡_, refl, Bool, not, _||_, _&&_, L
 use Rattle.promises.proofs.Names.{_>>_, wrongSort, outOfRange, tooLong, wrongList, notRising, sumsNotRising, wrongCurve, tooManyTerms, By, buildOrder, curveOrder, distanceOrder, Among, by-among, by-bind, by-then}
 use Rattle.promises.proofs.Names.{by-test, by-last, imageSizes, streamBits, needed, Value, Whole, Single, Row, Pair, Codes, Domain, Electrical, Segment, Term, Curve, Stepped, topCode, steppedValue, steppedCode}
 use Rattle.promises.proofs.Names.{outside, encode, Line, chose, basic, templateLines, ending, D, R, leastDeviation, calPoint, calDeviation, isPhysical, storedSum, follows, segmentStart, exponent, coefficient}
-use Rattle.promises.proofs.Names.{isSegmentCount, isTermCount, mostTerms, startFollows, exponentFollows, exponentCode, Sheet, templateIn, lent, linePieces, fieldPieces, unfit, endingPieces, pairsLent, codesFor}
+use Rattle.promises.proofs.Names.{isSegmentCount, isTermCount, mostTerms, startFollows, exponentFollows, exponentCode, Sheet, templateIn, lent, linePieces, fieldPieces, unfit, endingTested, pairsLent, codesFor}
 use Rattle.promises.proofs.Names.{pairCodes, pairPieces, tablePieces, termPieces, countTested, startCode, segmentPieces, curvePieces, Table, listed, byCurve, listTested, behindPieces, plan, builtIn, buildWith}
 use Rattle.promises.proofs.Names.{distance, WritesByOrder}
 use Rattle.promises.proofs.Refusals.{image-by, encode-by, change-by, propose-by, commit-by}
@@ -27,10 +27,10 @@ module _ (rows : List ℕ) (h : Among (9 ∷ 10 ∷ []) rows) where
       by-bind rows (linePieces sheet basic 0 1) _ (lines-by sheet basic 0 1) (λ basics.
       by-bind rows (linePieces sheet (templateLines (templateIn sheet)) 0 (suc (length basic))) _ (lines-by sheet (templateLines (templateIn sheet)) 0 (suc (length basic))) (λ own. tt))
 
-  ending-by : (f : ℕ) (endBit : Bool) (text : List ℕ) → By rows (endingPieces f endBit text)
-  unfolding endingPieces
+  ending-by : (f : ℕ) (endBit : Bool) (text : List ℕ) → By rows (endingTested f endBit text)
+  unfolding endingTested
   ending-by f endBit text =
-      by-test rows (wrongSort f) (not endBit && ltb 0 (length text)) _ (h .0) (by-test rows (outOfRange f) (unfit text) _ (h .1 .0) tt)
+      by-test rows (wrongSort f) (not endBit && ltb 0 (length text)) _ (h .0) (by-last rows (outOfRange f) (unfit text) (h .1 .0))
 
 -- ---- points
 
@@ -132,8 +132,8 @@ module _ (rows : List ℕ) (h : Among (1 ∷ 9 ∷ 10 ∷ 11 ∷ []) rows) (tabl
       by-bind rows (plan sheet text table) _
       (by-then rows (listTested table) _ first
       (by-bind rows (fieldPieces sheet) _ (fields-by rows codes sheet) (λ fields.
-      by-bind rows (endingPieces (ending (templateIn sheet)) (sheet .«end_bit») text) _ (ending-by rows codes (ending (templateIn sheet)) (sheet .«end_bit») text) (λ end.
-      by-bind rows (behindPieces table) _ behind (λ pieces. tt))))) (λ pieces.
+      by-then rows (endingTested (ending (templateIn sheet)) (sheet .«end_bit») text) _ (ending-by rows codes (ending (templateIn sheet)) (sheet .«end_bit») text)
+      (by-bind rows (behindPieces table) _ behind (λ pieces. tt))))) (λ pieces.
       by-test rows (tooLong (needed pieces)) (ltb (streamBits z) (needed pieces)) _ (h .1 .1 .1 .0) tt))
 
 pub writes-by-order : (kind : ℕ) (image : List ℕ) → WritesByOrder kind image

@@ -87,9 +87,9 @@ pub use Rattle.change.specs.{Change.recodedIn, declared.Proposal.Proposal}
 unfoldable pub use Rattle.change.specs.Change.{change, changeable, codeFor, commit, mayCommit, mayStand, propose, rewritten}
 pub use Rattle.build.proofs.{CurvePlans.block-planned, CurvePlans.no-segment, CurvePlans.no-term, CurvePlans.segments-planned, CurvePlans.terms-planned, EndingPlans.fit-characters, EndingPlans.strayText}
 pub use Rattle.build.proofs.{PairPlans.PairPlanned, PairPlans.codes-planned, PairPlans.no-pair, PairPlans.no-table, PairPlans.pairs-length, PairPlans.pairs-planned, PairPlans.table-planned, SegmentPlans.start-planned}
-pub use Rattle.build.specs.Build.{Table, behindPieces, build, byCurve, lent, listTested, listed, pairsLent, slot, templateIn, unfit}
+pub use Rattle.build.specs.Build.{Table, behindPieces, build, byCurve, endingPieces, lent, listTested, listed, pairsLent, slot, templateIn, unfit}
 pub use Rattle.build.specs.declared.{Sheet.Sheet, Slot.Slot}
-unfoldable pub use Rattle.build.specs.Build.{buildWith, builtIn, codesFor, countTested, curvePieces, endingPieces, fieldPieces, linePieces, pairCodes, pairPieces, plan, segmentPieces, startCode, tablePieces, termPieces}
+unfoldable pub use Rattle.build.specs.Build.{buildWith, builtIn, codesFor, countTested, curvePieces, endingTested, fieldPieces, linePieces, pairCodes, pairPieces, plan, segmentPieces, startCode, tablePieces, termPieces}
 pub use Rattle.writing.proofs.CallLaws.{Called, called, calls, kind-pages}
 pub use Rattle.writing.proofs.StepLaws.{done-there, left-most, left-none, left-two, step-bytes, step-changes, step-fits, step-nearer, step-torn, step-whole, there-done}
 pub use Rattle.writing.specs.{Answers.Fits, Chip.Refuses, Chip.Torn, Chip.WantedOrRefused, Chip.after, Numbers.count, Steps.Step, Steps.differing as differingRows, Steps.differs, Steps.nextRow, Steps.step, Steps.write}

@@ -2,9 +2,9 @@
 -- zero that may end the text, and a parsed sheet is planned again.
 use Rattle.promises.proofs.Names.{_≡_, refl, sym, ap, ap₂, _∙_, subst, Bool, true, false, _&&_, _||_, List, [], _∷_, _++_, map, append-assoc, ℕ, suc, _+_, _-_, _*_, _/_, _%_, _≤_, _<_, arith, eqb, ltb, leb, ℤ}
 use Rattle.promises.proofs.Names.{length, take, length-map, ltb-false, le-ltb, lt-ltb, leb-true, leb-false, ne-eqb, good, wrongSort, outOfRange, wrongList, good-same, good-bind, good-then, passed, neither}
-use Rattle.promises.proofs.Names.{bind-good, Piece, piece, needed, needed-append, Template, basic, templateLines, numberOf, ending, Real, Domain, basic-sound, lines-sound, Calibration, bare, tableFound}
+use Rattle.promises.proofs.Names.{bind-good, then-good, Piece, piece, needed, needed-append, Template, basic, templateLines, numberOf, ending, Real, Domain, basic-sound, lines-sound, Calibration, bare, tableFound}
 use Rattle.promises.proofs.Names.{curveFound, Contents, pairIn, pairsIn, segmentsIn, allTerms, segmentIn, termIn, points, segments, terms, blockPieces, endCode, pieceOf, laid-length, calibrationPieces}
-use Rattle.promises.proofs.Names.{CalibrationAt, Characters, zeroIf, text-needed, charactersFrom, endPieces, Formed, sheetPieces, domainIn, Sheet, lent, templateIn, linePieces, fieldPieces, unfit, endingPieces}
+use Rattle.promises.proofs.Names.{CalibrationAt, Characters, zeroIf, text-needed, charactersFrom, endPieces, Formed, sheetPieces, domainIn, Sheet, lent, templateIn, linePieces, fieldPieces, unfit, endingTested, endingPieces}
 use Rattle.promises.proofs.Names.{pairsLent, tablePieces, Table, listed, byCurve, listTested, behindPieces, plan, LendableTable, segmentsLent, keptPoints, keptDomain, keptSegments, keptTerms, InDomain}
 use Rattle.promises.proofs.Names.{not-refused, fit-characters, strayText}
 use Rattle.promises.proofs.PlannedFields.{KeptFrom, LentFrom, lines-stand, lines-again, kept-append, lent-split}
@@ -35,12 +35,9 @@ zero-room S true at n = go (leb (at + 7 * n + 7) S) refl
     go false e = le-ltb n ((S - at) / 7) (omega (arith, leb-false (at + 7 * n + 7) S e))
 zero-room S false at n = le-ltb n 0 (omega arith)
 
-abbrev endLaid : Bool → List ℕ → List Piece
-endLaid endBit text = piece 2 3 ∷ piece 1 (endCode endBit) ∷ map (piece 7) text
-
-laid-ending : (f : ℕ) (endBit : Bool) (text : List ℕ) → strayText endBit text ≡ false → Characters text → endingPieces f endBit text ≡ good (endLaid endBit text)
-unfolding endingPieces
-laid-ending f endBit text stray h = rw (stray, characters-fit text h)
+ending-again : (f : ℕ) (endBit : Bool) (text : List ℕ) → strayText endBit text ≡ false → Characters text → endingTested f endBit text ≡ good tt
+unfolding endingTested
+ending-again f endBit text stray h = rw (stray, characters-fit text h)
 
 -- ---- a plan in its parts
 
@@ -54,22 +51,22 @@ pub record PlanParts (sheet : Sheet) (text : List ℕ) (table : Table) (pieces :
   pub stray : strayText (sheet .«end_bit») text ≡ false
   pub characters : Characters text
   pub behindPlanned : behindPieces table ≡ good behind
-  pub joined : (basics ++ (blockPieces (numberOf (templateIn sheet)) ++ own)) ++ (behind ++ endLaid (sheet .«end_bit») text) ≡ pieces
+  pub joined : (basics ++ (blockPieces (numberOf (templateIn sheet)) ++ own)) ++ (behind ++ endingPieces (sheet .«end_bit») text) ≡ pieces
 
 pub plan-parts : (sheet : Sheet) (text : List ℕ) (table : Table) (pieces : List Piece) → plan sheet text table ≡ good pieces →
     PlanParts sheet text table pieces
-unfolding plan fieldPieces endingPieces
+unfolding plan fieldPieces endingTested
 plan-parts sheet text table pieces e =
     let f : ℕ = ending (templateIn sheet) in
     let b : Bool = sheet .«end_bit» in
     let (t, e0) = good-then (listTested table) _ pieces e in
     let (fs, e1, e2) = good-bind (fieldPieces sheet) _ pieces e0 in
-    let (es, e3, e4) = good-bind (endingPieces f b text) _ pieces e2 in
+    let (e3, e4) = good-then (endingTested f b text) _ pieces e2 in
     let (ts, e5, e6) = good-bind (behindPieces table) _ pieces e4 in
     let (bs, f1, f2) = good-bind (linePieces sheet basic 0 1) _ fs e1 in
     let (os, f3, f4) = good-bind (linePieces sheet (templateLines (templateIn sheet)) 0 (suc (length basic))) _ fs f2 in
-    let (s, g1) = passed (wrongSort f) (strayText b text) _ es e3 in
-    let (u, g2) = passed (outOfRange f) (unfit text) _ es g1 in
+    let (s, g1) = passed (wrongSort f) (strayText b text) _ tt e3 in
+    let u = not-refused (outOfRange f) (unfit text) g1 in
     record {
       basics = bs;
       own = os;
@@ -80,7 +77,7 @@ plan-parts sheet text table pieces e =
       stray = s;
       characters = fit-characters text u;
       behindPlanned = e5;
-      joined = ap₂ (λ p q. p ++ (ts ++ q)) (good-same f4) (good-same g2) ∙ good-same e6;
+      joined = ap (λ p. p ++ (ts ++ endingPieces b text)) (good-same f4) ∙ good-same e6;
     }
 
 pub half : (lentPoints : List ℤ) → 2 * length (pairsLent lentPoints) ≤ length lentPoints
@@ -135,7 +132,7 @@ regroup bs block os ts cs zs n = simp append-assoc
 
 module _ (S number : ℕ) (endBit : Bool) (text : List ℕ) (bs os ts : List Piece) where
   abbrev laidDown : List Piece
-  laidDown = (bs ++ (blockPieces number ++ os)) ++ (ts ++ endLaid endBit text)
+  laidDown = (bs ++ (blockPieces number ++ os)) ++ (ts ++ endingPieces endBit text)
 
   abbrev endPlace : ℕ
   endPlace = needed bs + 10 + needed os + needed ts + 2
@@ -144,9 +141,9 @@ module _ (S number : ℕ) (endBit : Bool) (text : List ℕ) (bs os ts : List Pie
   laid-needed =
       omega (
         arith,
-        needed-append (bs ++ (blockPieces number ++ os)) (ts ++ endLaid endBit text),
+        needed-append (bs ++ (blockPieces number ++ os)) (ts ++ endingPieces endBit text),
         needed-append bs (blockPieces number ++ os),
-        needed-append ts (endLaid endBit text),
+        needed-append ts (endingPieces endBit text),
         text-needed text,
       )
 
@@ -187,8 +184,8 @@ plan-stands S sheet text table pieces real lendable e inside =
     let ts : List Piece = calibrationPieces (k .calibration) in
     let endAt : ℕ = behind + needed ts + 2 in
     let p : laidDown S (numberOf t) b text (map pieceOf (a .fields)) (map pieceOf (o .fields)) ts ≡ pieces =
-    ap₂ (λ q r. (q ++ (blockPieces (numberOf t) ++ map pieceOf (o .fields))) ++ (r ++ endLaid b text)) (sym (a .pieces)) (sym (k .pieces))
-    ∙ ap (λ q. (d .basics ++ (blockPieces (numberOf t) ++ q)) ++ (d .behind ++ endLaid b text)) (sym (o .pieces)) ∙ d .joined in
+    ap₂ (λ q r. (q ++ (blockPieces (numberOf t) ++ map pieceOf (o .fields))) ++ (r ++ endingPieces b text)) (sym (a .pieces)) (sym (k .pieces))
+    ∙ ap (λ q. (d .basics ++ (blockPieces (numberOf t) ++ q)) ++ (d .behind ++ endingPieces b text)) (sym (o .pieces)) ∙ d .joined in
     let n : endAt + 1 + 7 * length text ≡ needed pieces =
     laid-needed S (numberOf t) b text (map pieceOf (a .fields)) (map pieceOf (o .fields)) ts ∙ ap needed p in
     let first : suc (length basic) ≡ 1 + length (a .fields) = omega (arith, laid-length basic 0 0 (a .fields) (a .laid)) in
@@ -281,7 +278,7 @@ module _ {S : ℕ} {c : Contents} (h : Formed S c) (sheet : Sheet) (table : Tabl
   ts = calibrationPieces (c .calibration)
 
   abbrev pub again : List Piece
-  again = (bs ++ (blockPieces (numberOf (c .template)) ++ os)) ++ (ts ++ endLaid (c .endBit) (c .text))
+  again = (bs ++ (blockPieces (numberOf (c .template)) ++ os)) ++ (ts ++ endingPieces (c .endBit) (c .text))
 
   fields-again : fieldPieces sheet ≡ good (bs ++ (blockPieces (numberOf (c .template)) ++ os))
   unfolding fieldPieces
@@ -301,8 +298,9 @@ module _ {S : ℕ} {c : Contents} (h : Formed S c) (sheet : Sheet) (table : Tabl
       let stray = room-text S (c .endBit) (h .endAt + 1) (c .text) (h .ending .room) in
       rw (tested-again (h .behind) c (h .calibrated) table lentBehind)
       (bind-good _ fields-again
-      ∙ bind-good _ (ap (λ b. endingPieces (ending (templateIn sheet)) b (c .text)) sameEnd ∙ laid-ending (ending (templateIn sheet)) (c .endBit) (c .text) stray (h .ending .characters))
-      ∙ bind-good _ (behind-again (h .behind) c (h .calibrated) table lentBehind))
+      ∙ then-good _ (ap (λ b. endingTested (ending (templateIn sheet)) b (c .text)) sameEnd ∙ ending-again (ending (templateIn sheet)) (c .endBit) (c .text) stray (h .ending .characters))
+      ∙ bind-good _ (behind-again (h .behind) c (h .calibrated) table lentBehind)
+      ∙ ap (λ b. good ((bs ++ (blockPieces (numberOf (c .template)) ++ os)) ++ (ts ++ endingPieces b (c .text)))) sameEnd)
 
   pub zero-behind : again ++ zeroIf (c .endBit && leb (needed again + 7) S) ≡ sheetPieces h
   zero-behind =

@@ -5,7 +5,7 @@ use Rattle.build.proofs.plan.plan_fields.Tie as tie
 
 returns-3 : tie.Need-returns-3
 returns-3 c =
-    coded-all (c .before .before .before .before .before .before .code-own .ensures .done _ (c .before .before .precision .given .1)) (c .field-bits .ensures)
+    coded-all (c .before .before .before .before .before .before .code-own .ensures .done _ (c .before .before .precision .given .1)) (c .fields-listed .ensures)
 
 pub plan-fields-spec : {M : Type 1} → statement M
 plan-fields-spec =

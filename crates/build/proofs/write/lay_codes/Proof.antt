@@ -1,37 +1,37 @@
 use Rattle.build.proofs.Names.{_≡_, refl, _∷_, map, _+_, _-_, _%_, _^_, _≤_, _<_, arith, bitAnd, and-mask, length, getD, slice, fieldPiece, unpack, unpacked, Fitting}
 use Rattle.build.proofs.Coding.{packed-left, packed-fits, packed-long, fields-end}
 use Rattle.build.proofs.Filling.{Gathering, gathering-none, gathering-ready, gathering-put, gather, gather-next, filled}
-use Rattle.build.proofs.write.lay_fields.Statement.{statement}
-use Rattle.build.proofs.write.lay_fields.Tie as tie
+use Rattle.build.proofs.write.lay_codes.Statement.{statement}
+use Rattle.build.proofs.write.lay_codes.Tie as tie
 
 abbrev Inv-loop : tie.InvT-loop
-Inv-loop sizes image₀ fields first end cursor₀ code₀ width₀ i₀ image cursor code width i =
-    ((i ≤ end) × (first < i → 1 ≤ width)) × ((length image ≡ length image₀) × Gathering sizes image₀ cursor₀ (slice first end (map fieldPiece (unpacked fields))) image cursor width code (slice i end (map fieldPiece (unpacked fields))))
+Inv-loop sizes image₀ codes first end cursor₀ code₀ width₀ i₀ image cursor code width i =
+    ((i ≤ end) × (first < i → 1 ≤ width)) × ((length image ≡ length image₀) × Gathering sizes image₀ cursor₀ (slice first end (map fieldPiece (unpacked codes))) image cursor width code (slice i end (map fieldPiece (unpacked codes))))
 
 abbrev μ-loop : tie.MeasureT-loop
-μ-loop sizes image₀ fields first end cursor₀ code₀ width₀ i₀ image cursor code width i = end - i
+μ-loop sizes image₀ codes first end cursor₀ code₀ width₀ i₀ image cursor code width i = end - i
 
 -- One turn's field, and those after it.
 turn : (c : tie.After-shared-slice-known2 Inv-loop μ-loop) →
     let a = c .before .before .before .before .before .args in
     let i = c .before .before .loop .i in
-    slice i (a .end) (map fieldPiece (unpacked (a .fields .now))) ≡ fieldPiece (unpack (getD (a .fields .now) i 0)) ∷ slice (i + 1) (a .end) (map fieldPiece (unpacked (a .fields .now)))
+    slice i (a .end) (map fieldPiece (unpacked (a .codes .now))) ≡ fieldPiece (unpack (getD (a .codes .now) i 0)) ∷ slice (i + 1) (a .end) (map fieldPiece (unpacked (a .codes .now)))
 turn c =
     let s = c .before .before .before .before .before in
     let l = c .before .before .loop in
-    packed-left (s .args .fields .now) (l .i) 0 (s .args .end) (c .before .loop-test .taken) (omega (arith, packed-long (s .args .fields .now) (s .pre .1 .2)))
+    packed-left (s .args .codes .now) (l .i) 0 (s .args .end) (c .before .loop-test .taken) (omega (arith, packed-long (s .args .codes .now) (s .pre .1 .2)))
 
 fits : (c : tie.After-shared-slice-known2 Inv-loop μ-loop) →
     let a = c .before .before .before .before .before .args in
-    let field = unpack (getD (a .fields .now) (c .before .before .loop .i) 0) in
+    let field = unpack (getD (a .codes .now) (c .before .before .loop .i) 0) in
     Fitting (field .width) (field .code)
 fits c =
     let s = c .before .before .before .before .before in
-    packed-fits (s .args .fields .now) (c .before .before .loop .i) 0 (s .pre .1 .2) (omega (arith, c .before .loop-test .taken))
+    packed-fits (s .args .codes .now) (c .before .before .loop .i) 0 (s .pre .1 .2) (omega (arith, c .before .loop-test .taken))
 
-code : (c : tie.After-shared-slice-known2 Inv-loop μ-loop) → let field = getD (c .before .before .before .before .before .args .fields .now) (c .before .before .loop .i) 0 in
-    bitAnd field 0xffff_ffff ≡ field % 2 ^ 32
-code c = and-mask _ 32
+code : (c : tie.After-shared-slice-known2 Inv-loop μ-loop) → let field = getD (c .before .before .before .before .before .args .codes .now) (c .before .before .loop .i) 0 in
+    bitAnd field 0xff_ffff_ffff_ffff ≡ field % 2 ^ 56
+code c = and-mask _ 56
 
 add-if1 : tie.Need-add-if1 Inv-loop μ-loop
 add-if1 c = omega (arith, fits c .most, c .before .before .loop .inv .1 .1 .most)
@@ -66,17 +66,17 @@ returns c =
     let s = c .before .before .before .before .before .before .before .before in
     let l = c .before .before .before .before .before .loop in
     let z = s .args .sizes in
-    filled z (rw (fields-end (unpacked (s .args .fields .now)) (l .i) _ (l .inv .0 .0) (c .before .before .before .before .loop-test .left)) at (gathering-put z (l .inv .1 .1) (c .before .before .append2 .ensures)))
+    filled z (rw (fields-end (unpacked (s .args .codes .now)) (l .i) _ (l .inv .0 .0) (c .before .before .before .before .loop-test .left)) at (gathering-put z (l .inv .1 .1) (c .before .before .append2 .ensures)))
 
-pub lay-fields-spec : {M : Type 1} → statement M
-lay-fields-spec =
+pub lay-codes-spec : {M : Type 1} → statement M
+lay-codes-spec =
     tie.close
     (tie.spec
     Inv-loop
     μ-loop
     (λ c. ((omega (arith, c .before .before .pre .1 .0), λ h. omega arith), (refl, gathering-none _ (c .before .before .pre .0))))
     (λ c. omega arith)
-    (λ c. omega (arith, packed-long (c .before .before .before .before .before .args .fields .now) (c .before .before .before .before .before .pre .1 .2)))
+    (λ c. omega (arith, packed-long (c .before .before .before .before .before .args .codes .now) (c .before .before .before .before .before .pre .1 .2)))
     add-if1
     (λ c. omega arith)
     (λ c. omega arith)

@@ -1,7 +1,7 @@
 use Rattle.build.proofs.Names.{ap, _∙_, _+_, needs, set}
 use Rattle.build.proofs.Coding.{packed-set}
-use Rattle.build.proofs.curve_plan.put_pair.Statement.{statement}
-use Rattle.build.proofs.curve_plan.put_pair.Tie as tie
+use Rattle.build.proofs.list.put_pair.Statement.{statement}
+use Rattle.build.proofs.list.put_pair.Tie as tie
 
 returns : tie.Need-returns
 returns c =
