@@ -1,5 +1,6 @@
 """write on the real owserver: a chip that is pulled behind any row, or in one, holds the old image, the new one, or one that is
 refused, and the same command finishes it."""
+import concurrent.futures
 import multiprocessing
 import random
 import unittest
@@ -102,8 +103,9 @@ class Pulled(support.Case):
     def test_pulled(self):
         pairs = list(enumerate(self.pairs()))
         self.assertEqual(len(pairs), 20)
-        with multiprocessing.get_context("fork").Pool(AT_ONCE) as pool:
-            found = pool.map(try_pair, pairs, 1)
+        # Each begins as a new program, which has no lock of a thread that was not copied; one that dies is an error, and no wait.
+        with concurrent.futures.ProcessPoolExecutor(AT_ONCE, multiprocessing.get_context("spawn")) as pool:
+            found = list(pool.map(try_pair, pairs, timeout=3 * support.LONGEST))
         cuts, refused = (sum(one[at] for one in found) for at in (0, 1))
         failed = [text for *_, texts in found for text in texts]
         self.assertFalse(failed, "\n".join(failed))
