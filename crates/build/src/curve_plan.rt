@@ -13,7 +13,7 @@ use refusal::Refusal;
 use templates::{Curve, Earlier, Segment, Term};
 
 // Two pieces, or 10, 24 or 25.
-#[derive(Drop)]
+#[derive(Clone, Copy)]
 pub enum CodedPair {
     Are(CodedField, CodedField),
     Refused(Refusal),

@@ -5,21 +5,21 @@ ghost use Rattle.build.specs.Listed.{Fitting, unpacked, block_head};
 use refusal::Refusal;
 
 // A code to be written, with its bits.
-#[derive(Drop)]
+#[derive(Clone, Copy)]
 pub struct CodedField {
     pub width: u64,
     pub code: u64,
 }
 
 // How many codes are on the list, and the bits that they need.
-#[derive(Drop)]
+#[derive(Clone, Copy)]
 pub struct Listed {
     pub count: usize,
     pub bits: u64,
 }
 
 // What the tests leave: codes on the list, or a refusal.
-#[derive(Drop)]
+#[derive(Clone, Copy)]
 pub enum Planned {
     Are(Listed),
     Refused(Refusal),

@@ -18,14 +18,14 @@ use refusal::Refusal;
 use templates::{Codes, Domain, Layout, POINT_BITS, Previous, Template};
 
 // The precision for the field after those that are coded, or 9 or 10.
-#[derive(Drop)]
+#[derive(Clone, Copy)]
 pub enum Coded {
     Next(u64),
     Refused(Refusal),
 }
 
 // The codes of a pair, or 10, 7 or 22.
-#[derive(Drop)]
+#[derive(Clone, Copy)]
 pub enum PairAnswer {
     Are(Codes),
     Refused(Refusal),

@@ -12,7 +12,7 @@ use sheet::OpenedAnswer;
 use templates::{Level, Template};
 
 // Whether a field may be changed alone.
-#[derive(Drop)]
+#[derive(Clone, Copy)]
 pub enum Allowed {
     Free,
     Refused(Refusal),

@@ -1,5 +1,7 @@
 // Document 01: change one field of an image; document 02, Note 5: propose a change, and commit it;
 // Note 6: each by a writer of a level. No call has a `requires`, and a refusal writes nothing.
+#![tactic(auto)]
+
 mod changing; // changing.rt: the parts of a change, and the change
 mod committing; // committing.rt: puts a code where the present one still is
 mod proposing; // proposing.rt: what a field would become
@@ -12,7 +14,7 @@ pub use proposing::propose;
 use refusal::Refusal;
 
 // A proposal: "the present code, the code to be stored and its read-back value".
-#[derive(Drop)]
+#[derive(Clone, Copy)]
 pub struct Proposal {
     pub present: u64,
     pub new: u64,
@@ -20,7 +22,7 @@ pub struct Proposal {
 }
 
 // A proposal, or the refusal of the change.
-#[derive(Drop)]
+#[derive(Clone, Copy)]
 pub enum ProposalAnswer {
     Proposed(Proposal),
     Refused(Refusal),

@@ -1,6 +1,8 @@
 // Document 01, "Layout": what a code means, whether a field accepts it, and the code that a value is stored at, for any width,
 // start and step. No call faults, whatever i64 or f32 it is given. A call that takes a row asks that it is sound (`Sound` in
 // specs/Stored.antt), which every row of a template is, and `decode` that the code has no more bits than the row.
+#![tactic(auto)]
+
 use refusal::Refusal;
 
 mod decoding; // decoding.rt: what a code means
@@ -22,7 +24,7 @@ pub use tables::{greatest_value, least_value, scale_value, stored_code};
 // "A field's value is a whole number, a Single that carries its float,
 // or missing." Whole, Single and missing are document 01's terms. A
 // Single is an IEEE 754 number of 32 bits; a missing field has all ones.
-#[derive(Drop)]
+#[derive(Clone, Copy)]
 pub enum Value {
     Whole(i64),
     Single(f32),
@@ -30,7 +32,7 @@ pub enum Value {
 }
 
 // The progressions of the geometric fields.
-#[derive(Drop)]
+#[derive(Clone, Copy)]
 pub enum Scale {
     // Response times, in 10 ns.
     ResponseTime,
@@ -39,7 +41,7 @@ pub enum Scale {
 }
 
 // What a code means.
-#[derive(Drop)]
+#[derive(Clone, Copy)]
 pub enum Rule {
     // The code itself, from the least to the greatest.
     Plain(u64, u64),
@@ -51,7 +53,7 @@ pub enum Rule {
 }
 
 // A row of the table: the field's bits, its rule, and whether all ones is missing.
-#[derive(Drop)]
+#[derive(Clone, Copy)]
 pub struct Row {
     pub width: u64,
     pub rule: Rule,
@@ -59,7 +61,7 @@ pub struct Row {
 }
 
 // The value of a code; or 5 or 6.
-#[derive(Drop)]
+#[derive(Clone, Copy)]
 pub enum Decoded {
     Means(Value),
     Refused(Refusal),
@@ -67,21 +69,21 @@ pub enum Decoded {
 
 // Whether a field can hold a code, else 5 or 6; and
 // whether a pair may follow another, else 7 or 22.
-#[derive(Drop)]
+#[derive(Clone, Copy)]
 pub enum Judged {
     Valid,
     Refused(Refusal),
 }
 
 // The code that a value is stored at; or 9, 10 or 24.
-#[derive(Drop)]
+#[derive(Clone, Copy)]
 pub enum Encoded {
     Code(u64),
     Refused(Refusal),
 }
 
 // A Single in V/V as the nearest nV/V, or that it is outside −2 to 2 V/V.
-#[derive(Drop)]
+#[derive(Clone, Copy)]
 pub enum Rounded {
     To(i64),
     Outside,

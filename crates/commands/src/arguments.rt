@@ -21,14 +21,14 @@ pub fn kind_of(n: u64) -> u8
 }
 
 // A line's kind, and the length of its image at the start of `room`.
-#[derive(Drop)]
+#[derive(Clone, Copy)]
 pub struct Chip {
     pub kind: u8,
     pub length: usize,
 }
 
 // The chip of a line, or that its words are not valid.
-#[derive(Drop)]
+#[derive(Clone, Copy)]
 pub enum ChipRequest {
     Of(Chip),
     Unknown,
@@ -51,13 +51,13 @@ pub fn lent(line: &[u8], room: &mut [u8]) -> ChipRequest
 }
 
 // A line's kind, its image at the start of room, and its number.
-#[derive(Drop)]
+#[derive(Clone, Copy)]
 pub struct ChipNumber {
     pub chip: Chip,
     pub number: u64,
 }
 
-#[derive(Drop)]
+#[derive(Clone, Copy)]
 pub enum NumberRequest {
     Of(ChipNumber),
     Unknown,
@@ -77,13 +77,13 @@ pub fn number_request(line: &[u8], room: &mut [u8]) -> NumberRequest
 }
 
 // What a call that writes answers, and how many bytes at the start of a room were lent to it.
-#[derive(Drop)]
+#[derive(Clone, Copy)]
 pub struct WrittenFront {
     pub answer: Written,
     pub length: usize,
 }
 
-#[derive(Drop)]
+#[derive(Clone, Copy)]
 pub enum WriteReply {
     Is(WrittenFront),
     Unknown,

@@ -65,7 +65,7 @@ fn template_in(line: &[u8]) -> TemplateAnswer
 }
 
 // The kind, the buffer's length, the level and the template, words 1 to 4.
-#[derive(Drop)]
+#[derive(Clone, Copy)]
 struct Head {
     kind: u8,
     length: usize,
@@ -73,7 +73,7 @@ struct Head {
     template: Template,
 }
 
-#[derive(Drop)]
+#[derive(Clone, Copy)]
 enum Headed {
     Is(Head),
     Unknown,
@@ -103,7 +103,7 @@ fn head_of(line: &[u8]) -> Headed
 }
 
 // The values of the fields, and whether all their words are valid.
-#[derive(Drop)]
+#[derive(Clone, Copy)]
 struct Slots {
     taken: bool,
     fields: [Slot; 21],
@@ -155,7 +155,7 @@ fn flag_of(word: &[u8]) -> Number
 }
 
 // The sheet record, and whether its words are valid.
-#[derive(Drop)]
+#[derive(Clone, Copy)]
 struct Sheeted {
     taken: bool,
     sheet: Sheet,
@@ -232,7 +232,7 @@ fn curve_in(line: &[u8], end: u64) -> Drawn
 }
 
 // What a build answers, or that its words are not valid.
-#[derive(Drop)]
+#[derive(Clone, Copy)]
 pub enum BuildReply {
     Is(Written),
     Unknown,

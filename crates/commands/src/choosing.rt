@@ -4,7 +4,7 @@ ghost use Rattle.commands.specs.Command.{command_of, found, named, rows};
 
 use texts::equal;
 
-#[derive(Drop)]
+#[derive(Clone, Copy)]
 pub enum Command {
     Help,
     Distance,

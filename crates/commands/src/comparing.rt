@@ -8,7 +8,7 @@ use console_words::{Filled, front, front_figures, word};
 use listing::put;
 use recordings::ComparedAnswer;
 
-#[derive(Drop)]
+#[derive(Clone, Copy)]
 pub enum CompareReply {
     Is(ComparedAnswer),
     Unknown,

@@ -8,7 +8,7 @@ use conformity::ConformityAnswer;
 use console_words::{Filled, front, front_figures, word};
 use listing::{put, put_number};
 
-#[derive(Drop)]
+#[derive(Clone, Copy)]
 pub enum ConformReply {
     Is(ConformityAnswer),
     Unknown,

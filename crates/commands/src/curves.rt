@@ -8,13 +8,13 @@ use console_words::{Figure, Number, ValueWord, piece_at, piece_count};
 use templates::{Curve, Segment, Term};
 
 // A segment, and a term, of a list.
-#[derive(Drop)]
+#[derive(Clone, Copy)]
 enum SegmentItem {
     Is(Segment),
     Not,
 }
 
-#[derive(Drop)]
+#[derive(Clone, Copy)]
 enum TermItem {
     Is(Term),
     Not,
@@ -22,20 +22,20 @@ enum TermItem {
 
 // The segments of a list, the terms of a list, and the curve of
 // both, zeros after the last; and whether all words are valid.
-#[derive(Drop)]
+#[derive(Clone, Copy)]
 struct Segments {
     taken: bool,
     segments: [Segment; 20],
 }
 
-#[derive(Drop)]
+#[derive(Clone, Copy)]
 struct Terms {
     taken: bool,
     terms: [Term; 30],
 }
 
 // The curve of a build, and whether all its words are valid.
-#[derive(Drop)]
+#[derive(Clone, Copy)]
 pub struct Drawn {
     pub taken: bool,
     pub curve: Curve,

@@ -8,7 +8,7 @@ use console_words::{Filled, front_figures, word};
 use distance::DistanceAnswer;
 use listing::{put, put_number};
 
-#[derive(Drop)]
+#[derive(Clone, Copy)]
 pub enum DistanceReply {
     Is(DistanceAnswer),
     Unknown,

@@ -12,14 +12,14 @@ use listing::{put, put_number};
 use templates::Level;
 
 // A value for a field, and the writer's level.
-#[derive(Drop)]
+#[derive(Clone, Copy)]
 struct Edit {
     field: u64,
     value: Value,
     level: Level,
 }
 
-#[derive(Drop)]
+#[derive(Clone, Copy)]
 enum Edited {
     By(Edit),
     Unknown,
@@ -69,7 +69,7 @@ pub fn change(line: &[u8]) {
     printing::write_reply(reply, &room);
 }
 
-#[derive(Drop)]
+#[derive(Clone, Copy)]
 pub enum ProposeReply {
     Is(ProposalAnswer),
     Unknown,
@@ -117,7 +117,7 @@ pub fn propose(line: &[u8]) {
 }
 
 // The present code of a field, the new one, and the writer's level.
-#[derive(Drop)]
+#[derive(Clone, Copy)]
 struct Exchange {
     field: u64,
     present: u64,
@@ -125,7 +125,7 @@ struct Exchange {
     level: Level,
 }
 
-#[derive(Drop)]
+#[derive(Clone, Copy)]
 enum Exchanged {
     Of(Exchange),
     Unknown,

@@ -8,7 +8,7 @@ use console_words::front;
 use listing::{put, put_figure};
 use sheet::{CharacterAnswer, PairAnswer, SegmentAnswer, TermAnswer};
 
-#[derive(Drop)]
+#[derive(Clone, Copy)]
 pub enum PairReply {
     Is(PairAnswer),
     Unknown,
@@ -42,7 +42,7 @@ pub fn pair(line: &[u8]) {
     }
 }
 
-#[derive(Drop)]
+#[derive(Clone, Copy)]
 pub enum SegmentReply {
     Is(SegmentAnswer),
     Unknown,
@@ -80,7 +80,7 @@ pub fn segment(line: &[u8]) {
     }
 }
 
-#[derive(Drop)]
+#[derive(Clone, Copy)]
 pub enum TermReply {
     Is(TermAnswer),
     Unknown,
@@ -119,7 +119,7 @@ pub fn term(line: &[u8]) {
     }
 }
 
-#[derive(Drop)]
+#[derive(Clone, Copy)]
 pub enum CharacterReply {
     Is(CharacterAnswer),
     Unknown,

@@ -2,6 +2,8 @@
 // a line to standard output (docs/CONSOLE.md). A line that is no command, or longer than
 // 32 KiB, is answered `?`. No line causes a fault, and every call ends. Input and output
 // go through `io` and `libc`, whose contracts of C's read and write are assumed.
+#![tactic(auto)]
+
 mod arguments; // arguments.rt: the kind and the image of a line
 mod builds; // builds.rt: build
 mod choosing; // choosing.rt: which command a line is

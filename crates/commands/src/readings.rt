@@ -11,7 +11,7 @@ use reading::{Dash, ReadingAnswer};
 use texts::equal;
 
 // The dash that a word names, or none.
-#[derive(Drop)]
+#[derive(Clone, Copy)]
 pub enum Named {
     Is(Dash),
     Not,
@@ -30,7 +30,7 @@ fn dash_of(word: &[u8]) -> Named
     Named::Not
 }
 
-#[derive(Drop)]
+#[derive(Clone, Copy)]
 pub enum ReadingReply {
     Is(ReadingAnswer),
     Unknown,

@@ -10,7 +10,7 @@ use listing::{put, put_number};
 use memory::page_bytes;
 use sheet::{Checked, FieldAnswer, Summary};
 
-#[derive(Drop)]
+#[derive(Clone, Copy)]
 pub enum CheckReply {
     Is(Checked),
     Unknown,
@@ -105,7 +105,7 @@ pub fn page(line: &[u8]) {
 }
 
 // What a call that reads a field answers.
-#[derive(Drop)]
+#[derive(Clone, Copy)]
 pub enum FieldReply {
     Is(FieldAnswer),
     Unknown,

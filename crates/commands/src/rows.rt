@@ -9,7 +9,7 @@ use listing::{put, put_number};
 use writing::{Answer, NextRow};
 
 // The next row, and whether the line is a command.
-#[derive(Drop)]
+#[derive(Clone, Copy)]
 struct NextReply {
     known: bool,
     row: NextRow,

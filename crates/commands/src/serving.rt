@@ -9,7 +9,7 @@ use libc::STDIN_FILENO;
 const LONGEST: usize = 32_768;
 
 // A line that is being read: its bytes so far, and whether it is too long.
-#[derive(Drop)]
+#[derive(Clone, Copy)]
 struct Gathered {
     length: usize,
     long: bool,
@@ -73,7 +73,7 @@ fn gather(line: &mut [u8], before: Gathered, block: &[u8]) -> Gathered
 }
 
 // The line that is being read, and whether the input goes on.
-#[derive(Drop)]
+#[derive(Clone, Copy)]
 struct Turn {
     so_far: Gathered,
     more: bool,

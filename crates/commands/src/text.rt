@@ -8,7 +8,7 @@ use console_words::{Filled, Number, front, word};
 use texts::{CodeAnswer, Text, TextAnswer};
 
 // A text, and whether the line is a command.
-#[derive(Drop)]
+#[derive(Clone, Copy)]
 struct TextReply {
     known: bool,
     text: Text,
@@ -64,7 +64,7 @@ pub fn text(line: &[u8]) {
     print_text(text);
 }
 
-#[derive(Drop)]
+#[derive(Clone, Copy)]
 pub enum CodeReply {
     Is(CodeAnswer),
     Unknown,

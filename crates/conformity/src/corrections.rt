@@ -11,7 +11,7 @@ ghost use Rattle.conformity.specs.Steps.{Exact};
 use templates::Pair;
 
 // (above − below) / run.
-#[derive(Drop)]
+#[derive(Clone, Copy)]
 pub struct Corrected {
     pub above: u64,
     pub below: u64,

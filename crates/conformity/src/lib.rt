@@ -1,6 +1,8 @@
 // The conformity of a chip with its certificate: how far any reading of an image
 // can be from the line through a certificate's points, whoever wrote the image.
 // `conformity` has no `requires`, and for whatever it accepts, nothing overflows.
+#![tactic(auto)]
+
 mod comparing; // comparing.rt: the call
 mod corrections; // corrections.rt: the correction of a list at a position
 mod differences; // differences.rt: the greatest difference of two lists
@@ -13,7 +15,7 @@ use refusal::Refusal;
 // K and B, as in a distance: no reading of the image is further than B /
 // 2000 billionths of the span from the line through the points. Or the image
 // has a curve or a table of domain 1, and no straight table to compare.
-#[derive(Drop)]
+#[derive(Clone, Copy)]
 pub enum ConformityAnswer {
     Is(CertificateBound),
     NotStraight,

@@ -1,4 +1,6 @@
 // The bench console.
+#![tactic(auto)]
+
 fn main() {
     commands::serve();
 }

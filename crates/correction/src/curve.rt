@@ -7,7 +7,7 @@ ghost use Rattle.correction.specs.Powers.{no_powers, with_power, up_to_highest};
 
 // The coefficients of powers 0 to 5, 0 for an absent
 // one, and the number of powers up to the highest.
-#[derive(Drop)]
+#[derive(Clone, Copy)]
 pub struct Powers {
     pub coefficients: [f64; 6],
     pub count: u64,

@@ -11,7 +11,7 @@ use templates::Domain;
 // the numbers of points and of characters, and the end bit. Then the first template's
 // number, the domain of the points, and a curve's numbers of segments and terms.
 #[repr(C)]
-#[derive(Drop)]
+#[derive(Clone, Copy)]
 pub struct DartelmCheckAnswer {
     pub number: u8,
     pub place: u64,
@@ -27,7 +27,7 @@ pub struct DartelmCheckAnswer {
 
 // A field's value.
 #[repr(C)]
-#[derive(Drop)]
+#[derive(Clone, Copy)]
 pub struct DartelmFieldAnswer {
     pub number: u8,
     pub place: u64,
@@ -36,7 +36,7 @@ pub struct DartelmFieldAnswer {
 
 // The answer of a check, and the values of all fields.
 #[repr(C)]
-#[derive(Drop)]
+#[derive(Clone, Copy)]
 pub struct DartelmSheetAnswer {
     pub number: u8,
     pub place: u64,
@@ -52,7 +52,7 @@ pub struct DartelmSheetAnswer {
 
 // A calibration point and its deviation, in billionths of the span.
 #[repr(C)]
-#[derive(Drop)]
+#[derive(Clone, Copy)]
 pub struct DartelmPairAnswer {
     pub number: u8,
     pub place: u64,
@@ -62,7 +62,7 @@ pub struct DartelmPairAnswer {
 
 // A segment of a curve: its start in billionths of the span, and the number of its terms.
 #[repr(C)]
-#[derive(Drop)]
+#[derive(Clone, Copy)]
 pub struct DartelmSegmentAnswer {
     pub number: u8,
     pub place: u64,
@@ -73,7 +73,7 @@ pub struct DartelmSegmentAnswer {
 // A term of a curve: the power of the position, and its
 // coefficient. Position and correction are in per cent of the span.
 #[repr(C)]
-#[derive(Drop)]
+#[derive(Clone, Copy)]
 pub struct DartelmTermAnswer {
     pub number: u8,
     pub place: u64,
@@ -83,7 +83,7 @@ pub struct DartelmTermAnswer {
 
 // A character of the closing text.
 #[repr(C)]
-#[derive(Drop)]
+#[derive(Clone, Copy)]
 pub struct DartelmCharacterAnswer {
     pub number: u8,
     pub place: u64,
@@ -92,7 +92,7 @@ pub struct DartelmCharacterAnswer {
 
 // The answer of a build, a change, a commit or an index.
 #[repr(C)]
-#[derive(Drop)]
+#[derive(Clone, Copy)]
 pub struct DartelmWriteAnswer {
     pub number: u8,
     pub place: u64,
@@ -101,7 +101,7 @@ pub struct DartelmWriteAnswer {
 // What a field would become: the present code, the
 // code to be stored, and the value that it reads back.
 #[repr(C)]
-#[derive(Drop)]
+#[derive(Clone, Copy)]
 pub struct DartelmProposalAnswer {
     pub number: u8,
     pub place: u64,
@@ -112,7 +112,7 @@ pub struct DartelmProposalAnswer {
 
 // A reading: the fraction q in billionths of the span, and the physical figure.
 #[repr(C)]
-#[derive(Drop)]
+#[derive(Clone, Copy)]
 pub struct DartelmReadingAnswer {
     pub number: u8,
     pub place: u64,
@@ -122,7 +122,7 @@ pub struct DartelmReadingAnswer {
 
 // Two recordings: whether they agree, else the first fast tick that fails.
 #[repr(C)]
-#[derive(Drop)]
+#[derive(Clone, Copy)]
 pub struct DartelmComparedAnswer {
     pub number: u8,
     pub place: u64,
@@ -132,7 +132,7 @@ pub struct DartelmComparedAnswer {
 
 // The certificate distance of points: K, and the bound in 2000ths of a billionth of the span.
 #[repr(C)]
-#[derive(Drop)]
+#[derive(Clone, Copy)]
 pub struct DartelmDistanceAnswer {
     pub number: u8,
     pub place: u64,
@@ -143,7 +143,7 @@ pub struct DartelmDistanceAnswer {
 // The conformity of an image with points: K and the bound, as in a distance, and
 // whether there is a straight table to compare. Without one K and the bound are 0.
 #[repr(C)]
-#[derive(Drop)]
+#[derive(Clone, Copy)]
 pub struct DartelmConformityAnswer {
     pub number: u8,
     pub place: u64,
@@ -155,7 +155,7 @@ pub struct DartelmConformityAnswer {
 // The next row of an image that is written to a chip: whether nothing
 // more is to be written, else the row's offset and its bytes.
 #[repr(C)]
-#[derive(Drop)]
+#[derive(Clone, Copy)]
 pub struct DartelmRowAnswer {
     pub number: u8,
     pub place: u64,
@@ -166,7 +166,7 @@ pub struct DartelmRowAnswer {
 
 // The text of a code: its length, and the characters, then zeros.
 #[repr(C)]
-#[derive(Drop)]
+#[derive(Clone, Copy)]
 pub struct DartelmTextAnswer {
     pub number: u8,
     pub place: u64,
@@ -176,7 +176,7 @@ pub struct DartelmTextAnswer {
 
 // The code of a text.
 #[repr(C)]
-#[derive(Drop)]
+#[derive(Clone, Copy)]
 pub struct DartelmCodeAnswer {
     pub number: u8,
     pub place: u64,
@@ -185,7 +185,7 @@ pub struct DartelmCodeAnswer {
 
 // A page's stream bytes, 31 or none, then zeros. This is never refused.
 #[repr(C)]
-#[derive(Drop)]
+#[derive(Clone, Copy)]
 pub struct DartelmPageAnswer {
     pub count: u64,
     pub bytes: [u8; 31],

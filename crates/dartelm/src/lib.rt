@@ -1,5 +1,7 @@
 // Dartelm for firmware: the calls of `include/dartelm.h`. No call has a `requires`. A call returns
 // one struct by value; the only slices are lent: an image, a text, points, recordings, an index.
+#![tactic(auto)]
+
 ghost use Rattle.std.specs.Prelude.{◌≡◌, List, [], ℕ, pos};
 ghost use Rattle.refusal.specs.Written.{written_said, afterwards};
 ghost use Rattle.codes.specs.declared.Value.TheVariants.{Whole};

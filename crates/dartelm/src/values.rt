@@ -12,7 +12,7 @@ use templates::{Domain, Level, Template};
 // Missing if `is_missing` is yes, else a Single if `is_single` is,
 // else a whole number. A returned value has 0 in every other member.
 #[repr(C)]
-#[derive(Drop)]
+#[derive(Clone, Copy)]
 pub struct DartelmValue {
     pub whole: i64,
     pub single: f32,
@@ -27,7 +27,7 @@ pub struct DartelmValue {
 // - a byte that is ignored and returned as 0;
 // - whether the template is 32, a flag.
 #[repr(C)]
-#[derive(Drop)]
+#[derive(Clone, Copy)]
 pub struct DartelmFields {
     pub values: [DartelmValue; 21],
     pub end_bit: u8,

@@ -3,6 +3,8 @@
 // document 000's examples of ConRes, 7.4.5.3.3, of fields that no sheet here has: they go through
 // the rule that every stepped field has. The last lines are the refusals in words that `show` never
 // prints, since a check does not return them. The others are answers to lines of the console.
+#![tactic(auto)]
+
 ghost use Rattle.std.specs.Prelude.{◌<◌, ◌^◌};
 ghost use Rattle.codes.specs.Stored.{Sound};
 

@@ -18,7 +18,7 @@ use stream::{Cursor, Taken};
 use templates::{Layout, Template};
 
 // The row that decodes a field, or 5.
-#[derive(Drop)]
+#[derive(Clone, Copy)]
 enum RowAnswer {
     Is(Row),
     Refused(Refusal),

@@ -1,5 +1,7 @@
 // Document 01, "Layout" and "Turning down": what a sender's stream may hold, and where.
 // The format is in specs/; the code has its figures and the places that follow from them.
+#![tactic(auto)]
+
 mod locating; // locating.rt: the places of fields, pairs, segments and characters
 
 pub use locating::{

@@ -1,5 +1,7 @@
 // A sender's sheet printed to standard output, for a person. No contract can say what is written; what is printed of a value is
 // a function of its own, with an equation. A Single's decimal digits are computed in full in a lent slice and rounded once.
+#![tactic(auto)]
+
 mod digits; // digits.rt: digits in a slice, the least first
 mod lines; // lines.rt: a sheet line by line
 mod naming; // naming.rt: the fields' names and units

@@ -4,7 +4,7 @@ ghost use Rattle.listing.specs.Listing.{below, item_of, item_said, numbers_of};
 
 use sheet::{CharacterAnswer, FieldAnswer, PairAnswer, SegmentAnswer, Summary, TermAnswer};
 
-#[derive(Drop)]
+#[derive(Clone, Copy)]
 pub enum Part {
     Fields,
     Points,
@@ -14,14 +14,14 @@ pub enum Part {
 }
 
 // The numbers of a part's items: from the first to before the end.
-#[derive(Drop)]
+#[derive(Clone, Copy)]
 pub struct Numbers {
     pub first: u64,
     pub end: u64,
 }
 
 // What a read returned of an item.
-#[derive(Drop)]
+#[derive(Clone, Copy)]
 pub enum Item {
     Field(FieldAnswer),
     Point(PairAnswer),

@@ -6,7 +6,7 @@ ghost use Rattle.listing.specs.Rounding.{upward, Rounds, exact};
 use crate::digits::{any_below, raise, scale, wide};
 
 // The number n × 10^up.
-#[derive(Drop)]
+#[derive(Clone, Copy)]
 pub struct Rounded {
     pub n: u64,
     pub up: u64,

@@ -16,7 +16,7 @@ fn print_first_and_rest(text: &[u8]) {
 }
 
 // The position of the decimal point.
-#[derive(Drop)]
+#[derive(Clone, Copy)]
 enum Shape {
     // After the first digit, times a power of ten; and divided by one.
     Raised(u64),
@@ -107,7 +107,7 @@ fn print_scaled(m: u64, p: u64)
 }
 
 // A finite Single: its sign, and m × 2^p / 2^149.
-#[derive(Drop)]
+#[derive(Clone, Copy)]
 struct Scaled {
     negative: bool,
     m: u64,

@@ -50,7 +50,7 @@ fn print_text(field: u64, figure: i64) {
 }
 
 // How a field's value is shown: as text, as a figure with a name or a unit, as a Single with a unit, or as missing.
-#[derive(Drop)]
+#[derive(Clone, Copy)]
 pub enum Form {
     Text(u64, i64),
     Named(i64),

@@ -9,7 +9,7 @@ use crate::Sizes;
 use refusal::Refusal;
 
 // The sizes of an accepted kind and length, or the refusal.
-#[derive(Drop)]
+#[derive(Clone, Copy)]
 pub enum SizesAnswer {
     Are(Sizes),
     Refused(Refusal),

@@ -7,7 +7,7 @@ ghost use Rattle.memory.specs.Answers.{sums_said, WholeImage};
 use crate::{Sizes, SizesAnswer, kinds};
 
 // The page test of document 02, Note 1: good, wrong, or blank.
-#[derive(Drop)]
+#[derive(Clone, Copy)]
 enum PageTest {
     Good,
     Wrong,
@@ -15,7 +15,7 @@ enum PageTest {
 }
 
 // The sums of all pages: right, or the refusal's case.
-#[derive(Drop)]
+#[derive(Clone, Copy)]
 pub enum Sums {
     Right,
     // The first page that is not good.

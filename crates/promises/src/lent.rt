@@ -9,7 +9,7 @@ use codes::Value;
 use templates::Level;
 
 // What an alteration is made to, and by a writer of which level.
-#[derive(Drop)]
+#[derive(Clone, Copy)]
 pub struct Target {
     pub kind: u8,
     pub level: Level,
@@ -17,7 +17,7 @@ pub struct Target {
 }
 
 // What it writes: for sort 3, a commit, the new code in the place of the present one; for any other sort, a change, the value.
-#[derive(Drop)]
+#[derive(Clone, Copy)]
 pub struct Content {
     pub sort: u8,
     pub value: Value,

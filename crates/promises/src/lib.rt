@@ -1,5 +1,7 @@
 // What holds across calls: the demands of document 01, stated in specs/
 // and proved in proofs/; and the third demand on the calls themselves.
+#![tactic(auto)]
+
 mod certificate; // certificate.rt: from the points lent to the q returned
 mod lent; // lent.rt: changes and commits lent as slices
 
@@ -8,7 +10,7 @@ use reading::ReadingAnswer;
 use refusal::Written;
 
 // The answers of a build and of a reading, with changes and commits between them.
-#[derive(Drop)]
+#[derive(Clone, Copy)]
 pub struct Answers {
     pub built: Written,
     pub reading: ReadingAnswer,

@@ -9,14 +9,14 @@ use codes::{Rounded, Value};
 use refusal::Refusal;
 
 // e and f, in nV/V.
-#[derive(Drop)]
+#[derive(Clone, Copy)]
 pub struct Ends {
     pub least: i64,
     pub greatest: i64,
 }
 
 // The electrical ends, or 13 or 21.
-#[derive(Drop)]
+#[derive(Clone, Copy)]
 pub enum EndsAnswer {
     Are(Ends),
     Refused(Refusal),

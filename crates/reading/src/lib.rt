@@ -1,6 +1,8 @@
 // Document 01, "Reading", and document 02, Notes 7 to 11: a reading of a sender's
 // image. `take_reading` has no `requires`: it takes any kind, any slice, any i64.
 // Nothing is kept between calls, and every number comes from the lent image.
+#![tactic(auto)]
+
 mod dashes; // dashes.rt: how many points a dash takes
 mod ends; // ends.rt: the electrical ends of the span
 mod fraction; // fraction.rt: the fraction at a position
@@ -14,7 +16,7 @@ pub use taking::{reading_in, take_reading};
 
 // Dash is document 01's term: the display that a reading is taken for.
 // The large one takes every table, the small one at most 32 points.
-#[derive(Drop)]
+#[derive(Clone, Copy)]
 pub enum Dash {
     Large,
     Small,
@@ -22,14 +24,14 @@ pub enum Dash {
 
 // "A reading holds q and that float together": the fraction
 // q in billionths of the span, and the physical figure.
-#[derive(Drop)]
+#[derive(Clone, Copy)]
 pub struct Reading {
     pub fraction: i64,
     pub figure: f64,
 }
 
 // A reading, or its refusal.
-#[derive(Drop)]
+#[derive(Clone, Copy)]
 pub enum ReadingAnswer {
     Shows(Reading),
     Refused(Refusal),

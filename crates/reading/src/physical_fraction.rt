@@ -15,7 +15,7 @@ use sheet::{Opened, curve_in, segment_at, segment_end, term_at};
 use stream::Cursor;
 
 // The terms of a segment: the cursor at the segment, and their number.
-#[derive(Drop)]
+#[derive(Clone, Copy)]
 pub struct Run {
     pub cursor: Cursor,
     pub terms: u64,

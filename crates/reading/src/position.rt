@@ -6,7 +6,7 @@ ghost use Rattle.reading.specs.Steps.{Ready, Lies};
 use crate::span::Span;
 
 // How far an input is above e, how far below e, and f − e.
-#[derive(Drop)]
+#[derive(Clone, Copy)]
 pub struct Offset {
     pub above: u64,
     pub below: u64,

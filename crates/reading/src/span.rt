@@ -11,7 +11,7 @@ use refusal::Refusal;
 use sheet::{Opened, unscaled_in};
 
 // The ends of the span, fields 7, 8, 10 and 11, none of them missing.
-#[derive(Drop)]
+#[derive(Clone, Copy)]
 pub struct Span {
     pub low: f32,
     pub high: f32,
@@ -20,7 +20,7 @@ pub struct Span {
 }
 
 // The ends of the span, or 13 or 21.
-#[derive(Drop)]
+#[derive(Clone, Copy)]
 pub enum SpanAnswer {
     Is(Span),
     Refused(Refusal),

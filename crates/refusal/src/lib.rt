@@ -1,5 +1,6 @@
 // Document 01, "Turning down": the number and place that a refused call
 // returns, and the answer of a call that writes. No function has a `requires`.
+#![tactic(auto)]
 
 mod rows;
 
@@ -12,14 +13,14 @@ pub use rows::{
 
 // Why and where a call is refused. `number` is 1 to 26; `place` is document 01's term: a
 // bit of the stream, a page, a field, an index or a size, as the row of the number says.
-#[derive(Drop)]
+#[derive(Clone, Copy)]
 pub struct Refusal {
     pub number: u8,
     pub place: u64,
 }
 
 // The answer of a call that writes: it wrote its bytes, or it wrote nothing.
-#[derive(Drop)]
+#[derive(Clone, Copy)]
 pub enum Written {
     Done,
     Refused(Refusal),

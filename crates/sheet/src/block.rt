@@ -15,7 +15,7 @@ use stream::{Cursor, Taken};
 
 // What a check keeps of a calibration: the domain and the number of
 // points of a table, the numbers of segments and terms of a curve.
-#[derive(Drop)]
+#[derive(Clone, Copy)]
 pub struct Counts {
     pub domain: TableDomain,
     pub points: u64,
@@ -24,7 +24,7 @@ pub struct Counts {
 }
 
 // The counts of a calibration and the cursor after it, or the refusal.
-#[derive(Drop)]
+#[derive(Clone, Copy)]
 pub enum BlockStep {
     Found(Counts, Cursor),
     Refused(Refusal),

@@ -22,14 +22,14 @@ use stream::{Cursor, Taken};
 use templates::{CurveField, Earlier};
 
 // The exponent of the last term.
-#[derive(Drop)]
+#[derive(Clone, Copy)]
 pub enum EarlierStep {
     Behind(Earlier, Cursor),
     Refused(Refusal),
 }
 
 // The start of the last segment, and the terms so far.
-#[derive(Drop)]
+#[derive(Clone, Copy)]
 pub enum SegmentStep {
     Behind(Earlier, u64, Cursor),
     Refused(Refusal),

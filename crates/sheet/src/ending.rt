@@ -14,7 +14,7 @@ use stream::{Cursor, Taken};
 
 // The end bit, the number of characters, and the cursor
 // after the last one or after the zero that ends them.
-#[derive(Drop)]
+#[derive(Clone, Copy)]
 pub enum EndStep {
     Ended(bool, u64, Cursor),
     Refused(Refusal),

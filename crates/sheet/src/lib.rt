@@ -1,6 +1,8 @@
 // Document 01, "Layout" and "Turning down", and document 02, Notes 7 and 11:
 // check an image, and read a field, a pair, a character, a segment or a term.
 // No call of a dash has a `requires`: it takes any kind, any slice, any number.
+#![tactic(auto)]
+
 mod block; // block.rt: the block after the fields
 mod calls; // calls.rt: the calls of a dash
 mod curve_block; // curve_block.rt: the curve
@@ -21,7 +23,7 @@ use templates::{Domain, Template};
 pub use templates::{Pair, Segment, Term};
 
 // The domain of a calibration table, if there is one.
-#[derive(Drop)]
+#[derive(Clone, Copy)]
 pub enum TableDomain {
     NoTable,
     Is(Domain),
@@ -30,7 +32,7 @@ pub enum TableDomain {
 // What an accepted check returns: the bits up to the end ("a zero that ends the
 // text counted"), and the numbers of points and characters with the end bit. Then
 // the first block's template, the domain, and the numbers of segments and terms.
-#[derive(Drop)]
+#[derive(Clone, Copy)]
 pub struct Summary {
     pub bits: u64,
     pub points: u64,
@@ -43,38 +45,38 @@ pub struct Summary {
 }
 
 // The answer of a check.
-#[derive(Drop)]
+#[derive(Clone, Copy)]
 pub enum Checked {
     Accepted(Summary),
     Refused(Refusal),
 }
 
 // The answers of the reads.
-#[derive(Drop)]
+#[derive(Clone, Copy)]
 pub enum FieldAnswer {
     Holds(Value),
     Refused(Refusal),
 }
 
-#[derive(Drop)]
+#[derive(Clone, Copy)]
 pub enum PairAnswer {
     Holds(Pair),
     Refused(Refusal),
 }
 
-#[derive(Drop)]
+#[derive(Clone, Copy)]
 pub enum CharacterAnswer {
     Holds(u8),
     Refused(Refusal),
 }
 
-#[derive(Drop)]
+#[derive(Clone, Copy)]
 pub enum SegmentAnswer {
     Holds(Segment),
     Refused(Refusal),
 }
 
-#[derive(Drop)]
+#[derive(Clone, Copy)]
 pub enum TermAnswer {
     Holds(Term),
     Refused(Refusal),

@@ -18,7 +18,7 @@ use templates::{Layout, Template};
 
 // An accepted sheet: the sizes of its image, what its rows depend
 // on, the cursor after its fields, and the check's summary.
-#[derive(Drop)]
+#[derive(Clone, Copy)]
 pub struct Opened {
     pub sizes: Sizes,
     pub layout: Layout,
@@ -27,14 +27,14 @@ pub struct Opened {
 }
 
 // An opened sheet, or the check's refusal.
-#[derive(Drop)]
+#[derive(Clone, Copy)]
 pub enum OpenedAnswer {
     Sheet(Opened),
     Refused(Refusal),
 }
 
 // What a read finds by its index.
-#[derive(Drop)]
+#[derive(Clone, Copy)]
 pub enum Item {
     Pair,
     Character,

@@ -20,14 +20,14 @@ use stream::Cursor;
 use templates::{Codes, Domain, Previous};
 
 // The codes of a pair.
-#[derive(Drop)]
+#[derive(Clone, Copy)]
 pub enum CodesStep {
     Stand(Codes, Cursor),
     Refused(Refusal),
 }
 
 // The number of pairs, or of characters.
-#[derive(Drop)]
+#[derive(Clone, Copy)]
 pub enum CountStep {
     Counted(u64, Cursor),
     Refused(Refusal),

@@ -19,28 +19,28 @@ use stream::{Cursor, Field, Taken};
 use templates::{Layout, Template, TemplateAnswer};
 
 // A field's code.
-#[derive(Drop)]
+#[derive(Clone, Copy)]
 pub enum CodeStep {
     Code(u64, Cursor),
     Refused(Refusal),
 }
 
 // A code that has to be the expected one, and is.
-#[derive(Drop)]
+#[derive(Clone, Copy)]
 pub enum MarkStep {
     Behind(Cursor),
     Refused(Refusal),
 }
 
 // The latest choice after the fields.
-#[derive(Drop)]
+#[derive(Clone, Copy)]
 pub enum ChoiceStep {
     Chosen(u64, Cursor),
     Refused(Refusal),
 }
 
 // The template that the first block names.
-#[derive(Drop)]
+#[derive(Clone, Copy)]
 pub enum TemplateStep {
     Named(Template),
     Refused(Refusal),

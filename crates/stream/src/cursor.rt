@@ -11,33 +11,33 @@ use memory::Sizes;
 use refusal::Refusal;
 
 // A position in the stream: the number of its bit.
-#[derive(Drop)]
+#[derive(Clone, Copy)]
 pub struct Cursor {
     pub at: usize,
 }
 
 // A field of the stream, by its first bit.
-#[derive(Drop)]
+#[derive(Clone, Copy)]
 pub struct Field {
     pub at: usize,
 }
 
 // A field, and the cursor after it.
-#[derive(Drop)]
+#[derive(Clone, Copy)]
 pub struct Passed {
     pub field: Field,
     pub next: Cursor,
 }
 
 // The code of a field, and the cursor after it.
-#[derive(Drop)]
+#[derive(Clone, Copy)]
 pub struct Read {
     pub code: u64,
     pub next: Cursor,
 }
 
 // A field that may pass the stream's end.
-#[derive(Drop)]
+#[derive(Clone, Copy)]
 pub enum Taken {
     // The field's code, and the cursor after it.
     Field(u64, Cursor),

@@ -32,7 +32,7 @@ const MOST_OWN: u64 = 6;
 const MOST_TERMS: u64 = 30;
 
 // A field of a curve whose codes obey a rule of their own (24).
-#[derive(Drop)]
+#[derive(Clone, Copy)]
 pub enum CurveField {
     SegmentCount,
     Start,

@@ -1,5 +1,6 @@
 // Document 01, "Layout", and document 02, Notes 6, 7, 9 and 11: the fields of templates 33 and 32, in the order of the stream, with
 // their rows, marks and levels; and the fields and rules of a calibration table (template 40) and of a curve (template 41).
+#![tactic(auto)]
 
 mod blocks; // blocks.rt: the figures of templates 40 and 41
 mod calibration; // calibration.rt: the calibration table
@@ -33,7 +34,7 @@ pub use rows::{always, any};
 
 // Document 000's marks: ID, CAL, USR. A field belongs to the
 // transducer's identity, to its calibration, or to its user.
-#[derive(Drop)]
+#[derive(Clone, Copy)]
 pub enum Mark {
     Id,
     Cal,
@@ -41,7 +42,7 @@ pub enum Mark {
 }
 
 // A writer's level, the lowest first.
-#[derive(Drop)]
+#[derive(Clone, Copy)]
 pub enum Level {
     Owner,
     CalibrationRoom,
@@ -49,7 +50,7 @@ pub enum Level {
 }
 
 // The templates that the first block can name.
-#[derive(Drop)]
+#[derive(Clone, Copy)]
 pub enum Template {
     // Template 33.
     Bridge,
@@ -58,14 +59,14 @@ pub enum Template {
 }
 
 // What the rows of a sheet depend on: its template, and the code of the field that sets widths.
-#[derive(Drop)]
+#[derive(Clone, Copy)]
 pub struct Layout {
     pub template: Template,
     pub precision: u64,
 }
 
 // A calibration point and its deviation, in billionths of the span.
-#[derive(Drop)]
+#[derive(Clone, Copy)]
 pub struct Pair {
     pub point: i64,
     pub deviation: i64,
@@ -73,21 +74,21 @@ pub struct Pair {
 
 // What the deviations of a table are listed against: the
 // electrical figure, domain 0, or the physical one, domain 1.
-#[derive(Drop)]
+#[derive(Clone, Copy)]
 pub enum Domain {
     Electrical,
     Physical,
 }
 
 // The two codes of a pair: a point has 16 bits, a deviation 21.
-#[derive(Drop)]
+#[derive(Clone, Copy)]
 pub struct Codes {
     pub point: u16,
     pub deviation: u32,
 }
 
 // The codes of the pair before another, if there is one.
-#[derive(Drop)]
+#[derive(Clone, Copy)]
 pub enum Previous {
     Nothing,
     Pair(Codes),
@@ -95,7 +96,7 @@ pub enum Previous {
 
 // A curve's segment: its start in billionths of the span, and the number of its terms.
 #[repr(C)]
-#[derive(Drop)]
+#[derive(Clone, Copy)]
 pub struct Segment {
     pub start: i64,
     pub terms: u64,
@@ -103,7 +104,7 @@ pub struct Segment {
 
 // A term of a segment: the power of the argument, and its coefficient.
 #[repr(C)]
-#[derive(Drop)]
+#[derive(Clone, Copy)]
 pub struct Term {
     pub exponent: i64,
     pub coefficient: f32,
@@ -112,7 +113,7 @@ pub struct Term {
 // A curve: the number of its segments, the segments, and the terms
 // of all segments in order. Unused segments and terms are ignored.
 #[repr(C)]
-#[derive(Drop)]
+#[derive(Clone, Copy)]
 pub struct Curve {
     pub count: u64,
     pub segments: [Segment; 20],
@@ -120,14 +121,14 @@ pub struct Curve {
 }
 
 // The code of the start or exponent before another, if there is one.
-#[derive(Drop)]
+#[derive(Clone, Copy)]
 pub enum Earlier {
     Nothing,
     Code(u64),
 }
 
 // The template of a number, if there is one.
-#[derive(Drop)]
+#[derive(Clone, Copy)]
 pub enum TemplateAnswer {
     Is(Template),
     Unknown,

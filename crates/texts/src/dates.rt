@@ -5,7 +5,7 @@ ghost use Rattle.texts.specs.Dates.{leap as leap_year, days_of_year, days_before
 ghost use Rattle.texts.specs.Whose.{OnlyCode};
 
 // A day of the calendar.
-#[derive(Drop)]
+#[derive(Clone, Copy)]
 struct Date {
     year: u64,
     month: u64,

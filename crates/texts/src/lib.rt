@@ -1,4 +1,6 @@
 // Document 01, "Layout": letters and dates to text and back, by value. No call has a `requires`.
+#![tactic(auto)]
+
 ghost use Rattle.std.specs.Prelude.{◌≡◌};
 ghost use Rattle.refusal.specs.Outcome.{refused};
 ghost use Rattle.texts.specs.Text.{text_of, text_said, same, code_of, code_said};
@@ -10,21 +12,21 @@ mod letters; // letters.rt: letters and their text
 use refusal::Refusal;
 
 // The length of a code's text, or the refusal.
-#[derive(Drop)]
+#[derive(Clone, Copy)]
 pub enum TextAnswer {
     Length(u64),
     Refused(Refusal),
 }
 
 // The answer, and the characters beside it, since an enum holds no array. Zeros follow the text.
-#[derive(Drop)]
+#[derive(Clone, Copy)]
 pub struct Text {
     pub answer: TextAnswer,
     pub characters: [u8; 10],
 }
 
 // The code of a text, or the refusal.
-#[derive(Drop)]
+#[derive(Clone, Copy)]
 pub enum CodeAnswer {
     Code(u64),
     Refused(Refusal),

@@ -3,6 +3,8 @@
 // what to write; this crate makes one read, one step and one write at a time. No contract can
 // say what was read or written. That the descriptors are these, that a read's count is its own,
 // and that each line is written once, are four lines of this file, tested by `bin/tray-test`.
+#![tactic(auto)]
+
 ghost use Rattle.std.specs.Prelude.{◌≡◌, ◌≤◌, length};
 ghost use Rattle.tray_report.specs.Steps.{SoundState, SteppedOn, Reported};
 

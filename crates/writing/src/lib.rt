@@ -1,6 +1,8 @@
 // Writes an image to a chip one row of 8 bytes at a time, so that a chip pulled out
 // halfway is refused. `next_row` computes the next row from what the chip holds and
 // what it shall hold. Nothing is kept between calls, and `next_row` has no `requires`.
+#![tactic(auto)]
+
 ghost use Rattle.std.specs.Prelude.{◌≡◌, ◌+◌, ◌^◌, ◌<◌, ◌≤◌, not, ◌&&◌, length, ◌==◌, nat_lt};
 ghost use Rattle.refusal.specs.Outcome.{good, refused};
 ghost use Rattle.memory.specs.Image.{page_sum};
@@ -14,7 +16,7 @@ use refusal::Refusal;
 use sheet::Checked;
 
 // The chip holds the image, a row is to be written, or the call is refused.
-#[derive(Drop)]
+#[derive(Clone, Copy)]
 pub enum Answer {
     Done,
     Write,
@@ -22,7 +24,7 @@ pub enum Answer {
 }
 
 // With `Write`, the row's offset in the image and its bytes; else zeros.
-#[derive(Drop)]
+#[derive(Clone, Copy)]
 pub struct NextRow {
     pub answer: Answer,
     pub offset: usize,

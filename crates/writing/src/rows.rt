@@ -8,7 +8,7 @@ ghost use Rattle.writing.specs.Answers.{Fits, tally_to, tallied, behind_last};
 use memory::Sizes;
 
 // The rows that differ: their number, the last one, and the last one other than the check byte's.
-#[derive(Drop)]
+#[derive(Clone, Copy)]
 pub struct Tally {
     pub rows: usize,
     pub last: usize,

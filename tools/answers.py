@@ -1,0 +1,324 @@
+#!/usr/bin/env python3
+"""Turns a function's Proof.antt of an older Rattle (tie.close (tie.spec ..)) into Invariants.antt and Answers.antt.
+
+usage: tools/answers.py CRATE NAMES.JSON [FN ..]     at the top of the checkout
+
+NAMES.JSON is what `rt check --generated DIR --old-names` writes in the crate's folder. An answer that only says `search rules` is left
+out, since the check finds it; the others keep their terms, with paths by the names of today's goals. What is not understood is said.
+"""
+import json
+import os
+import re
+import sys
+
+HOLE = re.compile(r"^\(?λ [^.]*\.\s*search rules\)?$")
+DASH = lambda s: s.replace("_", "-")
+PLAIN = {"args", "requires", "ranges", "well_formed", "type_inv", "well-formed", "type-inv", "utf8"}
+
+
+def blocks(text):
+    """The file's top-level blocks: (head word, text)."""
+    out, now = [], []
+    for line in text.split("\n"):
+        if line and not line[0].isspace() and now and not continues(now, line):
+            out.append("\n".join(now).rstrip())
+            now = []
+        now.append(line)
+    out.append("\n".join(now).rstrip())
+    return [b for b in out if b.strip()]
+
+
+def continues(now, line):
+    if now and all(l.startswith("--") for l in now):
+        return True
+    last = [l for l in now if l.strip() and not l.startswith("--")]
+    if not last:
+        return False
+    if line.startswith("--") or line.startswith("use "):
+        return False
+    if line.startswith("unfolding "):
+        return True
+    name = head(last[0])
+    return name is not None and re.match(re.escape(name) + r"(?![\w'-])", line) is not None and not re.match(r"\S+\s*:", line)
+
+
+def head(line):
+    m = re.match(r"(?:(?:pub|abbrev|unfoldable)\s+)*(\S+)", line)
+    return m[1] if m else None
+
+
+def split_args(text):
+    """Splits the arguments of tie.spec, balanced."""
+    args, depth, now = [], 0, ""
+    for ch in text:
+        if ch in "([{":
+            depth += 1
+        if ch in ")]}":
+            depth -= 1
+            if depth < 0:
+                break
+        if ch.isspace() and depth == 0:
+            if now:
+                args.append(now)
+            now = ""
+        else:
+            now += ch
+    if now:
+        args.append(now)
+    return args
+
+
+class Fn:
+    def __init__(self, info, said):
+        self.info, self.said = info, said
+        self.parent = {p[0]: p[1] for p in info["places"]}
+        self.step = {p[0]: p[2] for p in info["places"]}
+        self.named = {p[0]: n for p, n in zip(info["places"], info["places_by_name"])}
+        self.callee = {p[0]: p[3] for p in info["places"]}
+
+    def find(self, place, step):
+        at = place
+        while at is not None:
+            old, new = self.step[at]
+            if DASH(old) == DASH(step) or DASH(new) == DASH(step):
+                return at
+            at = self.parent[at]
+        return None
+
+    def place(self, name):
+        for p in self.parent:
+            if DASH(p) == DASH(name) or DASH(self.named[p]) == DASH(name):
+                return p
+        return None
+
+    def turn(self, body, var, place, need):
+        """Paths of `body` by today's names; `var` stands at `place`."""
+        env = {var: place}
+        out, at = [], 0
+        # Aliases of places go.
+        while True:
+            m = None
+            for m in re.finditer(r"let (\w+[\w'₀-₉]*) = (\w+)((?:\.before)+) in[ \n]+", body):
+                if m[2] in env:
+                    break
+            else:
+                m = None
+            if m is None:
+                break
+            p = env[m[2]]
+            for _ in range(m[3].count(".before")):
+                p = self.parent.get(p) if p else None
+            if p is None:
+                self.said("no place for " + m[0].strip())
+                break
+            env[m[1]] = p
+            body = body[: m.start()] + body[m.end():]
+        names = "|".join(re.escape(v) for v in sorted(env, key=len, reverse=True))
+
+        def one(m):
+            p, comps = env[m[1]], m[2].split(".")[1:] if m[2] else []
+            while comps and comps[0] == "before":
+                p = self.parent.get(p)
+                comps = comps[1:]
+                if p is None:
+                    self.said("no place for " + m[0])
+                    return m[0]
+            if not comps:
+                if p == place and m[1] == var and not m[2]:
+                    return var
+                if need:
+                    return f"(goal.at.{need} {var}).{self.named[p]}"
+                ups, q = "", place
+                while q is not None and q != p:
+                    ups += ".before"
+                    q = self.parent[q]
+                return var + ups
+            first = comps[0]
+            if first in PLAIN:
+                comps[0] = first.replace("-", "_")
+                return ".".join([var] + comps)
+            q = self.find(p, first)
+            if q is None:
+                self.said(f"no step {first} at {p} for {m[0]}")
+                return m[0]
+            comps[0] = self.step[q][1]
+            comps = [c.replace("type-inv", "type_inv") for c in comps]
+            return ".".join([var] + comps)
+
+        return re.sub(r"(?<![\w.'-])(%s)((?:\.[\w'-]+)*)(?![\w'-])" % names, one, body)
+
+
+def lam(text):
+    """(binders, body) of a lambda in parentheses, or None."""
+    t = text.strip()
+    if t.startswith("(") and t.endswith(")"):
+        t = t[1:-1].strip()
+    m = re.match(r"λ ([^.]*)\.\s*(.*)$", t, re.S)
+    return (m[1].split(), m[2]) if m else None
+
+
+def convert(path, fn_path, crate, info, say):
+    text = open(path, encoding="utf-8").read()
+    fn = Fn(info, say)
+    bs = blocks(text)
+    uses = [b for b in bs if b.startswith("use ")]
+    heads = {}
+    rest = []
+    top = []
+    for b in bs:
+        if b.startswith("use "):
+            continue
+        lines = [l for l in b.split("\n") if not l.startswith("--")]
+        if not lines:
+            top.append(b)
+            continue
+        rest.append(b)
+        heads[head(lines[0])] = b
+    spec = [b for b in rest if "tie.close" in b]
+    if len(spec) != 1:
+        say("no tie.close")
+        return None
+    body = spec[0].split("tie.spec", 1)[1] if "tie.spec" in spec[0] else ""
+    args = split_args(body)
+    unfolding = re.search(r"^unfolding (.*)$", spec[0], re.M)
+    unfolding = unfolding[0] + "\n" if unfolding else ""
+    loops = info["loops"]
+    given = [a for a in args if re.match(r"(invariant|decreases)\b", a)]
+    args = [a for a in args if a not in given]
+    needs = info["needs"]
+    if len(args) != len(needs):
+        say(f"{len(args)} answers for {len(needs)} needs: {[n[0] for n in needs]} loops {json.dumps(loops)[:200]} settled {info['settled']}")
+    used, answers = set(), []
+    by_old = {DASH(o): i for i, (o, n) in enumerate(needs)}
+    for i, a in enumerate(args):
+        if a in heads:
+            b = heads[a]
+            used.add(a)
+            m = re.search(r": tie\.Need-(\S+)", b)
+            old = m[1] if m else None
+            k = i
+            if old:
+                for o in (old, re.sub(r"^(overflow|nonzero)-", "", old), old.replace("offset-bounds", "offset").replace("slice-bounds", "part").replace("bounds", "index")):
+                    if DASH(o) in by_old:
+                        k = by_old[DASH(o)]
+                        break
+                else:
+                    say(f"need {old} is not asked")
+                    if len(args) != len(needs):
+                        continue
+            lines = b.split("\n")
+            note = [l for l in lines if l.startswith("--")]
+            un = [l for l in lines if l.startswith("unfolding ")]
+            eq = [j for j, l in enumerate(lines) if re.match(re.escape(a) + r"\s+[^:]", l)]
+            if len(eq) != 1:
+                say(f"{a} has {len(eq)} equations")
+                continue
+            m = re.match(re.escape(a) + r"\s+([^=]*?)\s*=\s*(.*)$", "\n".join(lines[eq[0]:]), re.S)
+            binders, term = m[1].split(), m[2]
+        else:
+            got = lam(a)
+            if not got:
+                say(f"answer {i} is {a}")
+                continue
+            if HOLE.match(a):
+                continue
+            note, un = [], [unfolding.rstrip()] if unfolding else []
+            binders, term = got
+            k = i
+            if len(args) != len(needs):
+                say(f"answer {i} has no place: {a}")
+                continue
+        if k >= len(needs):
+            say(f"answer {i} is past the needs: {a}")
+            continue
+        new = needs[k][1]
+        place = info["asked_at"][k][0]
+        var = binders[0]
+        more = [x for x in binders[1:] if x not in ("κs", "_")]
+        if more:
+            say(f"{new} has more binders: {more}")
+        term = fn.turn(term, var, place, new)
+        answers.append((k, note, new, un, [var] + more, term))
+    # What is left: invariants, measures, lemmas.
+    inv, lemmas = [], []
+    for b in rest:
+        name = head([l for l in b.split("\n") if not l.startswith("--")][0])
+        if b in spec or name in used:
+            continue
+        if re.match(r"(invariant|decreases)\b", name):
+            inv.append(b)
+            continue
+        m = re.search(r"\((\w+) : tie\.([\w'-]+)([^)]*)\)", b)
+        if m:
+            p = fn.place(m[2])
+            if p is None:
+                say(f"no place {m[2]}")
+            else:
+                b = b[: m.start()] + f"({m[1]} : goal.{fn.named[p]})" + b[m.end():]
+                b = fn.turn(b, m[1], p, None)
+        lemmas.append(b)
+    answers.sort(key=lambda x: x[0])
+    return uses, top, inv, lemmas, answers, loops
+
+
+def use_lines(uses, body, dotted):
+    """The import lines that `body` still needs."""
+    out = []
+    for u in uses:
+        if re.search(r"\.(Statement|Tie)\b", u):
+            continue
+        m = re.match(r"use (\S+)\.\{(.*)\}$", u)
+        if not m:
+            out.append(u)
+            continue
+        kept = []
+        for it in m[2].split(", "):
+            name = it.split(" as ")[-1]
+            core = name.replace("◌", "")
+            token = re.escape(core)
+            if re.search(r"(?<![\w'-])%s(?![\w'-])" % token if re.match(r"[\w]", core) else token, body):
+                kept.append(it)
+        if kept:
+            out.append("use %s.{%s}" % (m[1], ", ".join(kept)))
+    return out
+
+
+def main():
+    crate, names = sys.argv[1], json.load(open(sys.argv[2], encoding="utf-8"))
+    only = sys.argv[3:]
+    root = f"crates/{crate}/proofs"
+    for folder, dirs, fs in sorted(os.walk(root)):
+        if "Proof.antt" not in fs:
+            continue
+        path = os.path.join(folder, "Proof.antt")
+        dotted = os.path.relpath(folder, root).replace("/", ".")
+        if only and dotted.split(".")[-1] not in only and dotted not in only:
+            continue
+        key = f"Rattle-{crate}-proofs.{dotted}.Lts"
+        say = lambda s, d=dotted: print(f"{d}: {s}")
+        if key not in names:
+            say("no names")
+            continue
+        got = convert(path, dotted, crate, names[key], say)
+        if got is None:
+            continue
+        uses, top, inv, lemmas, answers, loops = got
+        body = "\n\n".join(lemmas) + "\n"
+        for k, note, new, un, binders, term in answers:
+            body += "\n" + "".join(n + "\n" for n in note) + f"pub {new} : goal.{new}\n" + "".join(u + "\n" for u in un) + f"{new} {' '.join(binders)} ="
+            body += (" " + term.strip() if "\n" not in term.strip() else "\n    " + term.strip()) + "\n"
+        if inv:
+            say("loop: " + json.dumps(loops)[:300])
+            given = "\n\n".join(inv) + "\n"
+            lines = use_lines(uses, given, dotted) + [f"use Rattle.{crate}.proofs.{dotted}.Given as goal"]
+            with open(os.path.join(folder, "Invariants.antt"), "w", encoding="utf-8") as f:
+                f.write("\n".join(top + lines) + "\n\n" + given.replace("tie.", "goal."))
+        if answers or lemmas:
+            lines = use_lines(uses, body, dotted) + [f"use Rattle.{crate}.proofs.{dotted}.Goals as goal"]
+            with open(os.path.join(folder, "Answers.antt"), "w", encoding="utf-8") as f:
+                f.write("\n".join(([] if inv else top) + lines) + "\n\n" + body.strip("\n") + "\n")
+        os.makedirs(f"/tmp/old-proofs/{crate}/{dotted}", exist_ok=True)
+        os.replace(path, f"/tmp/old-proofs/{crate}/{dotted}/Proof.antt")
+
+
+main()
