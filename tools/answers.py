@@ -30,7 +30,7 @@ def blocks(text):
 
 def continues(now, line):
     if now and all(l.startswith("--") for l in now):
-        return True
+        return not line.startswith("use ")
     last = [l for l in now if l.strip() and not l.startswith("--")]
     if not last:
         return False
@@ -71,17 +71,48 @@ def split_args(text):
 class Fn:
     def __init__(self, info, said):
         self.info, self.said = info, said
+        self.imported = set()
         self.parent = {p[0]: p[1] for p in info["places"]}
         self.step = {p[0]: p[2] for p in info["places"]}
         self.named = {p[0]: n for p, n in zip(info["places"], info["places_by_name"])}
+        self.arms = {p[0]: a for p, a in zip(info["places"], info["arms"])}
+        self.facts = {p[0]: dict(p[4]) for p in info["places"]}
+        self.clauses = {p[0]: x and x["fields"] for p, x in zip(info["places"], info["clauses"])}
+        self.pre = info["pre"] and info["pre"]["fields"]
+        self.typed = {p[0]: y for p, y in zip(info["places"], info["typed"])}
         self.callee = {p[0]: p[3] for p in info["places"]}
 
     def find(self, place, step):
+        for exact in (True, False):
+            at = place
+            while at is not None:
+                old, new = self.step[at]
+                if DASH(old) == DASH(step) or not exact and DASH(new) == DASH(step):
+                    return at
+                at = self.parent[at]
+        return None
+
+    def arm(self, place, step, comps):
+        """The arm's field that a path of an older Rattle led to, and what is left of the path."""
         at = place
         while at is not None:
-            old, new = self.step[at]
-            if DASH(old) == DASH(step) or DASH(new) == DASH(step):
-                return at
+            best = None
+            for field, old, way in (self.arms[at] or (0, 0, []))[2]:
+                if DASH(old) == DASH(step) and comps[: len(way)] == way and not field.endswith("-own"):
+                    if way and (best is None or len(way) > len(best[1])):
+                        best = (field, way)
+            if best:
+                return [self.arms[at][0], best[0]] + comps[len(best[1]):]
+            at = self.parent[at]
+        return None
+
+    def known(self, place, step):
+        """The variable whose type a step of an older Rattle spoke of."""
+        at = place
+        while at is not None:
+            for var, s in self.typed[at]:
+                if DASH(s) == DASH(step):
+                    return var
             at = self.parent[at]
         return None
 
@@ -91,7 +122,7 @@ class Fn:
                 return p
         return None
 
-    def turn(self, body, var, place, need):
+    def turn(self, body, var, place, need, lemmas={}):
         """Paths of `body` by today's names; `var` stands at `place`."""
         env = {var: place}
         out, at = [], 0
@@ -107,26 +138,46 @@ class Fn:
                 break
             p = env[m[2]]
             for _ in range(m[3].count(".before")):
-                p = self.parent.get(p) if p else None
-            if p is None:
-                self.said("no place for " + m[0].strip())
-                break
+                p = self.parent.get(p) or "Start"
             env[m[1]] = p
             body = body[: m.start()] + body[m.end():]
+        # So do aliases of a contract's clauses.
+        if self.pre and len(self.pre) > 1:
+            for m in list(re.finditer(r"let (\w+) = (\w+)((?:\.before)*)\.requires in[ \n]+", body)):
+                if m[2] in env:
+                    body = body.replace(m[0], "", 1)
+                    body = re.sub(r"(?<![\w.'-])%s(?=\.[01])" % m[1], var + ".requires", body)
         names = "|".join(re.escape(v) for v in sorted(env, key=len, reverse=True))
+
+        # A lemma of a place is given that place.
+        def given(m):
+            p = lemmas[m[1]]
+            if p == place:
+                return f"{m[1]} {var}"
+            if need:
+                return f"{m[1]} (goal.at.{need} {var}).{self.named[p]}"
+            ups, q = "", place
+            while q is not None and q != p:
+                ups += ".before"
+                q = self.parent[q]
+            return f"{m[1]} §{ups}"
+
+        if lemmas:
+            who, var_of = "|".join(map(re.escape, lemmas)), f"(?:{names})"
+            body = re.sub(r"(?<![\w.'-])(%s) \(%s((?:\.before)*)\)" % (who, var_of), given, body)
+            body = re.sub(r"(?<![\w.'-])(%s) %s((?:\.before)*)(?![\w.'-])" % (who, var_of), given, body)
+            body = body.replace("§", "\0")
 
         def one(m):
             p, comps = env[m[1]], m[2].split(".")[1:] if m[2] else []
             while comps and comps[0] == "before":
-                p = self.parent.get(p)
+                p = self.parent.get(p) or "Start"
                 comps = comps[1:]
-                if p is None:
-                    self.said("no place for " + m[0])
-                    return m[0]
             if not comps:
                 if p == place and m[1] == var and not m[2]:
                     return var
                 if need:
+                    self.imported.add(self.named[p])
                     return f"(goal.at.{need} {var}).{self.named[p]}"
                 ups, q = "", place
                 while q is not None and q != p:
@@ -136,16 +187,115 @@ class Fn:
             first = comps[0]
             if first in PLAIN:
                 comps[0] = first.replace("-", "_")
+                if first == "requires" and self.pre and len(self.pre) > 1:
+                    named = by_clause(self.pre, comps[1:])
+                    if named is None:
+                        return "(" + ", ".join(f"{var}.requires.{f}" for f in self.pre) + ")"
+                    comps[1:] = named
                 return ".".join([var] + comps)
-            q = self.find(p, first)
+            q = self.find(place, first)
+            var_known = self.known(place, first)
+            if var_known and comps[1:2] == ["given"]:
+                return ".".join([var, "type_inv", var_known] + comps[2:])
+            in_arm = self.arm(place, first, comps[1:])
+            if in_arm:
+                return ".".join([var] + in_arm)
             if q is None:
                 self.said(f"no step {first} at {p} for {m[0]}")
                 return m[0]
             comps[0] = self.step[q][1]
+            if comps[1:2] == ["ensures"] and self.clauses[q]:
+                named = by_clause(self.clauses[q], comps[2:])
+                if named is None:
+                    return "(" + ", ".join(f"{var}.{comps[0]}.ensures.{f}" for f in self.clauses[q]) + ")"
+                comps[2:] = named
+            if len(comps) > 1 and comps[1] in self.facts[q]:
+                comps[1] = self.facts[q][comps[1]]
+            if comps[0].endswith("-1") or "given" in comps[1:2]:
+                self.said(f"look at {m[0]}: {'.'.join(comps)}")
             comps = [c.replace("type-inv", "type_inv") for c in comps]
             return ".".join([var] + comps)
 
-        return re.sub(r"(?<![\w.'-])(%s)((?:\.[\w'-]+)*)(?![\w'-])" % names, one, body)
+        return re.sub(r"(?<![\w.'-])(%s)((?:\.[\w'-]+)*)(?![\w'-])" % names, one, body).replace("\0", var)
+
+
+def by_variables(b, name, info, say):
+    """An invariant or a measure, as a function of the record of the live variables."""
+    for (names, vs), changed in zip(info["loops"], info["changed"]):
+        if DASH(name).split("-", 1)[1] == DASH(names[0]):
+            break
+    else:
+        say("no loop for " + name)
+        return b
+    new = name.split("-", 1)[0] + "-" + names[1]
+    lines = b.split("\n")
+    at = [j for j, l in enumerate(lines) if re.match(re.escape(name) + r"\s+[^:]", l)][0]
+    note = [l for l in lines[:at] if l.startswith("--")]
+    m = re.match(re.escape(name) + r"\s+([^=]*?)\s*=\s*(.*)$", "\n".join(lines[at:]), re.S)
+    params, body = m[1].split(), m[2]
+    wants = ["l.initial." + v if c else "l." + v for v, c in zip(vs, changed)] + ["l." + v for v, c in zip(vs, changed) if c]
+    if len(params) != len(wants):
+        say(f"{name} takes {params}, and the loop has {wants}")
+        return b
+    table = dict(zip(params, wants))
+    body = re.sub(r"(?<![\w.'-])(%s)(?![\w'₀-])" % "|".join(re.escape(p) for p in sorted(params, key=len, reverse=True)), lambda x: table[x[1]], body)
+    return "\n".join(note + [f"abbrev pub {new} : goal.{new}", f"{new} l =" + (" " if "\n" not in body else "\n    ") + body])
+
+
+def by_clause(fields, comps):
+    """A path into a tuple of clauses, by the clauses' names."""
+    n = len(fields)
+    if n == 1:
+        return [fields[0]] + comps
+    k = 0
+    while k < n - 1 and comps[:1] == ["1"]:
+        k, comps = k + 1, comps[1:]
+    if k == n - 1:
+        return [fields[k]] + comps
+    if comps[:1] == ["0"]:
+        return [fields[k]] + comps[1:]
+    return None
+
+
+def as_record(term, fields):
+    """The tuple that a term ends in, as a record of the clauses."""
+    t = term.rstrip()
+    if not t.endswith(")"):
+        return None
+    depth = 0
+    for i in range(len(t) - 1, -1, -1):
+        depth += t[i] in ")]}"
+        depth -= t[i] in "([{"
+        if depth == 0:
+            break
+    inner, parts, depth, now = t[i + 1:-1], [], 0, ""
+    for ch in inner:
+        depth += ch in "([{"
+        depth -= ch in ")]}"
+        if ch == "," and depth == 0:
+            parts.append(now)
+            now = ""
+        else:
+            now += ch
+    if now.strip():
+        parts.append(now)
+    parts = [x.strip() for x in parts]
+    n = len(fields)
+    if len(parts) < 2:
+        return None
+    while len(parts) < n and parts[-1].startswith("(") and parts[-1].endswith(")"):
+        more = as_record(parts[-1], ["", ""])
+        if more is None:
+            return None
+        a, b = more
+        parts = parts[:-1] + [a, b]
+    if len(parts) > n:
+        parts = parts[: n - 1] + ["(" + ", ".join(parts[n - 1:]) + ")"]
+    if fields == ["", ""]:
+        return parts
+    if len(parts) != n:
+        return None
+    return t[:i] + "(record { " + "; ".join(f"{f} = {x}" for f, x in zip(fields, parts)) + " })" if t[:i].strip() and not t[:i].rstrip().endswith("in") else t[:i] + "record { " + "; ".join(f"{f} = {x}" for f, x in zip(fields, parts)) + " }"
 
 
 def lam(text):
@@ -189,6 +339,16 @@ def convert(path, fn_path, crate, info, say):
     if len(args) != len(needs):
         say(f"{len(args)} answers for {len(needs)} needs: {[n[0] for n in needs]} loops {json.dumps(loops)[:200]} settled {info['settled']}")
     used, answers = set(), []
+    placed, imported = {}, set()
+    for name, b in heads.items():
+        m = re.search(r"^%s : \((\w+) : tie\.([\w'-]+)[^)]*\) →" % re.escape(name), b, re.M)
+        if m and not m[2].startswith("Need-"):
+            p = fn.place(m[2])
+            if p is None:
+                say(f"no place {m[2]}")
+            else:
+                placed[name] = p
+                imported.add(fn.named[p])
     by_old = {DASH(o): i for i, (o, n) in enumerate(needs)}
     for i, a in enumerate(args):
         if a in heads:
@@ -237,7 +397,15 @@ def convert(path, fn_path, crate, info, say):
         more = [x for x in binders[1:] if x not in ("κs", "_")]
         if more:
             say(f"{new} has more binders: {more}")
-        term = fn.turn(term, var, place, new)
+        term = fn.turn(term, var, place, new, placed)
+        term = re.sub(r"(?<![\w'-])to_z-of_z (?=\()", "to_z-of_z {w = w64} ", term)
+        fields = info["asked"].get(new)
+        if fields and len(fields) > 1 and "search rules" != term.strip():
+            got = as_record(term, fields)
+            if got is None:
+                say(f"{new} wants {fields}")
+            else:
+                term = got
         answers.append((k, note, new, un, [var] + more, term))
     # What is left: invariants, measures, lemmas.
     inv, lemmas = [], []
@@ -246,7 +414,7 @@ def convert(path, fn_path, crate, info, say):
         if b in spec or name in used:
             continue
         if re.match(r"(invariant|decreases)\b", name):
-            inv.append(b)
+            inv.append(by_variables(b, name, info, say))
             continue
         m = re.search(r"\((\w+) : tie\.([\w'-]+)([^)]*)\)", b)
         if m:
@@ -254,11 +422,12 @@ def convert(path, fn_path, crate, info, say):
             if p is None:
                 say(f"no place {m[2]}")
             else:
-                b = b[: m.start()] + f"({m[1]} : goal.{fn.named[p]})" + b[m.end():]
-                b = fn.turn(b, m[1], p, None)
+                b = b[: m.start()] + f"({m[1]} : {fn.named[p]})" + b[m.end():]
+                for v in set(re.findall(r"^%s (\w+)" % re.escape(name), b, re.M)) | {m[1]}:
+                    b = fn.turn(b, v, p, None, placed)
         lemmas.append(b)
     answers.sort(key=lambda x: x[0])
-    return uses, top, inv, lemmas, answers, loops
+    return uses, top, inv, lemmas, answers, loops, imported | fn.imported
 
 
 def use_lines(uses, body, dotted):
@@ -302,7 +471,7 @@ def main():
         got = convert(path, dotted, crate, names[key], say)
         if got is None:
             continue
-        uses, top, inv, lemmas, answers, loops = got
+        uses, top, inv, lemmas, answers, loops, imported = got
         body = "\n\n".join(lemmas) + "\n"
         for k, note, new, un, binders, term in answers:
             body += "\n" + "".join(n + "\n" for n in note) + f"pub {new} : goal.{new}\n" + "".join(u + "\n" for u in un) + f"{new} {' '.join(binders)} ="
@@ -312,9 +481,13 @@ def main():
             given = "\n\n".join(inv) + "\n"
             lines = use_lines(uses, given, dotted) + [f"use Rattle.{crate}.proofs.{dotted}.Given as goal"]
             with open(os.path.join(folder, "Invariants.antt"), "w", encoding="utf-8") as f:
-                f.write("\n".join(top + lines) + "\n\n" + given.replace("tie.", "goal."))
+                f.write("\n".join(top + lines) + "\n\n" + given)
         if answers or lemmas:
             lines = use_lines(uses, body, dotted) + [f"use Rattle.{crate}.proofs.{dotted}.Goals as goal"]
+            if imported:
+                lines.append("use Rattle.%s.proofs.%s.Goals.{%s}" % (crate, dotted, ", ".join(sorted(imported))))
+            if "{w = w64}" in body and not any(re.search(r"\bw64\b", l) for l in lines):
+                lines.insert(0, f"use mir.Syntax.{{w64}}")
             with open(os.path.join(folder, "Answers.antt"), "w", encoding="utf-8") as f:
                 f.write("\n".join(([] if inv else top) + lines) + "\n\n" + body.strip("\n") + "\n")
         os.makedirs(f"/tmp/old-proofs/{crate}/{dotted}", exist_ok=True)

@@ -20,7 +20,6 @@ pub use Rattle.integers.proofs.NearestLaws.{nearest-exact, nearest-half, nearest
 pub use Rattle.integers.proofs.PartLaws.{abs-parts, add_parts, dn-neg, is_false, le-lt_z, le_z-parts, lt-lt_z, lt_z-parts, mul-parts, nlt_z-parts, parts-≤ℤ, same, sub_is, sub_parts, sub-parts-ℤ, up_neg}
 pub use Rattle.integers.specs.{Nearest.Fraction, Nearest.◌over◌, Parts.InRange, Parts.dn, Parts.up}
 unfoldable pub use Rattle.integers.specs.Nearest.{nearest}
-pub use Rattle.codes.proofs.{Value.Laws.the_laws, Value.the_type}
 pub use Rattle.codes.specs.Rules.{Progression, all_ones, finite, meaning, outside, progression, scale_width, single_code, stepped_code, stepped_value, top_code, whole_code}
 pub use Rattle.codes.specs.Singles.{NanovoltsNearest, NanovoltsRise, NanovoltsWithin, exact, exact_nanovolts, signed}
 pub use Rattle.codes.specs.Stored.{GeometricBetween, GeometricByRatio, GeometricCovers, GeometricOwn, GeometricRises, Nearest, NearestUnit, ReadsBack, Real, Rising, Sound, SoundRule, SteppedNearest, SteppedRange}
@@ -30,3 +29,5 @@ pub use Rattle.codes.specs.declared.{Encoded.Encoded, Encoded.TheVariants.Code, 
 pub use Rattle.codes.specs.declared.{Scale.Scale, Scale.TheVariants.Current, Scale.TheVariants.ResponseTime, Value.Value, Value.TheVariants.Missing, Value.TheVariants.Single, Value.TheVariants.Whole}
 pub use Rattle.codes.specs.{Answers.encoded_said, Answers.judged_said, DirectCode.DirectCode, Tables.RisingList, Tables.TableOf, Units.billion, Unscaled.Unscaled, Validity.judge, Validity.ruled, Validity.single_ruled}
 unfoldable pub use Rattle.codes.specs.{Rules.decode, Rules.encode, Rules.geometric_value, Rules.goes_up, Rules.stored_at, Singles.nanovolts, Singles.outside_two, Stored.kept, Tables.listed}
+pub use Rattle.codes.proofs.Value.TheLaws.{the_laws}
+pub use Rattle.codes.specs.contracts.Value.{the_type}

@@ -1,0 +1,16 @@
+-- A code that its rule refuses may still mean missing.
+use Rattle.codes.proofs.Names.{ap, sym, ◌∙◌, decode, judged_said}
+use Rattle.codes.proofs.DecodeLaws.{stands-by-rule}
+use Rattle.codes.proofs.judging.judge.Goals as goal
+
+pub returns-then-is_missing : goal.returns-then-is_missing
+unfolding decode
+returns-then-is_missing c = rw (← c.is_missing.ensures, c.if-is_missing.true)
+
+pub returns-in-Valid : goal.returns-in-Valid
+unfolding decode
+returns-in-Valid c = let a = c.args in stands-by-rule a.row a.at a.code (ap judged_said (sym c.in-Valid.is) ∙ c.by_rule.ensures)
+
+pub returns-else-is_missing : goal.returns-else-is_missing
+unfolding decode
+returns-else-is_missing c = rw (← c.is_missing.ensures, c.if-is_missing.false) (ap judged_said (sym c.in-Refused.is) ∙ c.by_rule.ensures)
