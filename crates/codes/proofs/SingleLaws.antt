@@ -1,6 +1,6 @@
 -- Laws of the nearest nV/V of a Single: at most half a nV/V
 -- away, rising with the Single, and the range of −2 to 2 V/V.
-use Rattle.codes.proofs.Names.{◌≡◌, refl, ap, true, false, not, [], ◌∷◌, map, ℕ, ◌+◌, ◌*◌, ◌≤◌, ◌<◌, arith, count_trailing_zeros, ℤ, pos, negsuc, neg_ℤ, ◌-ℤ◌, ◌*ℤ◌, lt_z, Float, nan, inf, fin, binary32, of_bits, of_fields}
+use Rattle.codes.proofs.Names.{◌≡◌, refl, ap, true, false, not, [], ◌∷◌, map, ℕ, ◌+◌, ◌*◌, ◌<◌, arith, count_trailing_zeros, ℤ, pos, negsuc, neg_ℤ, ◌-ℤ◌, ◌*ℤ◌, lt_z, Float, nan, inf, fin, binary32, of_bits, of_fields}
 use Rattle.codes.proofs.Names.{odd, down_pos, up, dn, Fraction, ◌over◌, nearest, sub-parts-ℤ, mul-parts, le_z-parts, lt_z-parts, nlt_z-parts, parts-≤ℤ, is_false, nearest-high, nearest-half, nearest-rises-parts}
 use Rattle.codes.proofs.Names.{nearest-exact, neither, finite, outside, billion, Nearest, exact, outside_two, exact_nanovolts, nanovolts, NanovoltsNearest, NanovoltsRise, NanovoltsWithin}
 use Rattle.codes.proofs.StepLaws.{small, smaller}

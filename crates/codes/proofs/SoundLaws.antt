@@ -1,5 +1,5 @@
 -- What a sound row is under the rule that it has.
-use Rattle.codes.proofs.Names.{◌≡◌, subst, ℕ, ◌-◌, ◌^◌, ◌≤◌, ◌<◌, lt_of_le_of_lt, le-add_right, Rule, Plain, Row, Sound, SoundRule}
+use Rattle.codes.proofs.Names.{◌≡◌, subst, ℕ, ◌^◌, ◌≤◌, ◌<◌, lt_of_le_of_lt, le-add_right, Rule, Plain, Row, Sound, SoundRule}
 use Rattle.codes.proofs.CodeLaws.{below-2^32}
 
 -- What soundness of a row says for its rule.

@@ -1,4 +1,4 @@
-use Rattle.memory.proofs.Names.{rules, ◌≡◌, sym, ap, ◌∙◌, Bool, ◌&&◌, suc, ◌-◌, arith, add-one, length, get_or, drop, drop-cons, drop-length, eq-eqb, ne_eqb, all_ff}
+use Rattle.memory.proofs.Names.{rules, ◌≡◌, sym, ap, ◌∙◌, Bool, ◌&&◌, suc, arith, add-one, length, get_or, drop, drop-cons, drop-length, eq-eqb, ne_eqb, all_ff}
 use Rattle.memory.proofs.pages.all_ff.Goals as goal
 
 pub returns-then-bytes-i : goal.returns-then-bytes-i

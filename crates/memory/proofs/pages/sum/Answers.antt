@@ -1,4 +1,4 @@
-use Rattle.memory.proofs.Names.{◌≡◌, ap, ◌+◌, ◌-◌, arith, add-one, length, get_or, drop, drop-cons, drop-length, total}
+use Rattle.memory.proofs.Names.{◌≡◌, ap, ◌+◌, arith, add-one, length, get_or, drop, drop-cons, drop-length, total}
 use Rattle.memory.proofs.pages.sum.Goals as goal
 
 pub loop-i-preserved : goal.loop-i-preserved

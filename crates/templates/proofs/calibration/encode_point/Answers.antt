@@ -1,0 +1,6 @@
+use Rattle.templates.proofs.Names.{to_z-of_z, encode}
+use Rattle.templates.proofs.calibration.encode_point.Goals as goal
+
+pub returns : goal.returns
+unfolding encode
+returns c = rw (to_z-of_z c.ranges.figure) at c.nearest_step.ensures
