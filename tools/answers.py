@@ -83,6 +83,7 @@ class Fn:
         self.callee = {p[0]: p[3] for p in info["places"]}
 
     def find(self, place, step):
+        step = step[:-4] if step.endswith("_lem") else step
         for exact in (True, False):
             at = place
             while at is not None:
@@ -200,6 +201,9 @@ class Fn:
                 if there != place and need:
                     self.imported.add(self.named[there])
                     at = f"(goal.at.{need} {var}).{self.named[there]}"
+                q = place
+                while there != place and not need and q is not None and q != there:
+                    at, q = at + ".before", self.parent[q]
                 return ".".join([at, "type_inv", var_known] + comps[2:])
             in_arm = self.arm(place, first, comps[1:])
             if not in_arm and comps[1:2] == ["rest"]:
@@ -225,7 +229,11 @@ class Fn:
             comps = [c.replace("type-inv", "type_inv") for c in comps]
             return ".".join([var] + comps)
 
-        return re.sub(r"(?<![\w.'-])(%s)((?:\.[\w'-]+)*)(?![\w'-])" % names, one, body).replace("\0", var)
+        body = re.sub(r"(?<![\w.'-])(?!(?<=\{)\w+ =)(%s)((?:\.[\w'-]+)*)(?![\w'-])" % names, one, body).replace("\0", var)
+        for old, new in self.info["args"]:
+            if old.startswith("."):
+                body = body.replace(var + old.replace(" ", ""), var + new.replace(" ", ""))
+        return body
 
 
 def by_variables(b, name, info, say):
