@@ -1,3 +1,4 @@
+use borrow.Enum.Refused.{opened}
 use Rattle.reading.proofs.Names.{rules, sym, ap, ◌∙◌, arith, w64, to_z-of_z, refused, said_of, span-listed, span-unscaled, ends_said}
 use Rattle.reading.proofs.Opening.{bridge}
 use Rattle.reading.proofs.Spans.{no-low, no-high, by-ends}
@@ -7,7 +8,7 @@ pub unscaled_in-requires : goal.unscaled_in-requires
 unscaled_in-requires c = record { held = (search rules, search rules, span-listed _ (omega arith)); unscaled = (span-unscaled _ (bridge _ c.requires.1)).0 }
 
 pub returns-in_default : goal.returns-in_default
-returns-in_default c = λ kind x h. ap refused c.no_span.ensures ∙ no-low h c.requires.1 (c.unscaled_in.ensures kind x h) c.in_default.in_default-own.keys2
+returns-in_default c = λ kind x h. ap refused c.no_span.ensures ∙ no-low h c.requires.1 (c.unscaled_in.ensures kind x h) (opened c.in_default.in_default-own.keys2)
 
 pub unscaled_in-requires-2 : goal.unscaled_in-requires-2
 unscaled_in-requires-2 c = record { held = (search rules, search rules, span-listed _ (omega arith)); unscaled = (span-unscaled _ (bridge _ c.requires.1)).1 }
@@ -16,7 +17,7 @@ pub returns-in_default-unscaled_in : goal.returns-in_default-unscaled_in
 returns-in_default-unscaled_in c =
     λ kind x h.
     ap refused c.no_span-in_default-unscaled_in.ensures
-    ∙ no-high h c.requires.1 (sym (c.unscaled_in.ensures kind x h) ∙ c.in-Single.is) (c.unscaled_in-2.ensures kind x h) c.in_default-unscaled_in.in_default-unscaled_in-own.keys2
+    ∙ no-high h c.requires.1 (sym (c.unscaled_in.ensures kind x h) ∙ c.in-Single.is) (c.unscaled_in-2.ensures kind x h) (opened c.in_default-unscaled_in.in_default-unscaled_in-own.keys2)
 
 pub unscaled_in-requires-3 : goal.unscaled_in-requires-3
 unscaled_in-requires-3 c = record { held = (search rules, search rules, span-listed _ (omega arith)); unscaled = (span-unscaled _ (bridge _ c.requires.1)).2 }
