@@ -5,7 +5,7 @@ from . import mir
 from .hints import Small
 from .mir import Unknown
 from .statements import wrapped
-from .types import ident
+from .types import base
 
 
 def reached(functions, roots):
@@ -47,18 +47,6 @@ def needed(parts, text):
                 used |= set(re.findall(r'\bdm_\w+', parts[n][0]))
 
 
-def foreign(program, fn):
-    """A function of an extern "C" block: POSIX's read or write, nothing else."""
-    symbol, signs = fn.body[0].symbol, fn.body[0].signs
-    types = [x.type for x in fn.locals[:fn.params + 1]]
-    right = [('Int', 64), ('Int', 32), ('Slice', ('Int', 8))]
-    if symbol not in ('read', 'write') or signs != ['Signed', 'Signed', 'Unsigned'] or types != right:
-        raise Unknown(f'the foreign function {fn.name}')
-    slice_ = program.types.c(('Slice', ('Int', 8)))
-    return (f'uint64_t {ident(fn.name)}(uint32_t descriptor, {slice_} bytes)',
-            ['{', f'    return (uint64_t)(int64_t){symbol}((int)descriptor, bytes.at, (size_t)bytes.length);', '}'])
-
-
 class File:
     """What a file has: its types, tables and functions, without those of the file that it includes."""
 
@@ -72,16 +60,15 @@ class File:
         for t in sorted({t for n in self.own for t in program.functions[n].shapes if self.is_used(n, t)}, key=self.type_order):
             program.types.c(('Named', t))
         for n in self.own:
-            fn = program.functions[n]
-            is_foreign = fn.body and isinstance(fn.body[0], mir.Foreign)
-            self.texts[n] = foreign(program, fn) if is_foreign else program.text(n)
+            self.texts[n] = program.text(n)
         self.lengths = dict(below.lengths if below else {})
         self.lengths.update({n: sum(line.count(';') for line in self.texts[n][1]) for n in self.own})
         small = Small(program.functions, self.lengths)
         for n in self.own:
             if n not in program.exported:
                 head, lines = self.texts[n]
-                self.texts[n] = (f"{'DM_SMALL' if n in small else 'static'} {head}", lines)
+                is_small = n in small and not program.is_by_hand(n)
+                self.texts[n] = (f"{'DM_SMALL' if is_small else 'static'} {head}", lines)
         self.declared = [d for d in program.types.declared if not below or d not in below.declared_so_far]
         self.declared_so_far = list(program.types.declared)
         self.tables = [k for k in program.tables if not below or k not in below.tables]
@@ -90,11 +77,14 @@ class File:
         return any(mentions(local.type, t) for local in self.program.functions[name].locals)
 
     def order(self, name):
-        source = self.program.sources.functions.get(name)
+        source = self.source(name)
         return (source.order if source else (99, name.split('::')[0], '', 0), name)
 
+    def source(self, name):
+        return self.program.sources.functions.get(self.program.functions[name].symbol)
+
     def type_order(self, name):
-        source = self.program.sources.types.get(name)
+        source = self.program.sources.types.get(base(name))
         return (source.order if source else (99, '', '', 0), name)
 
     def lines(self, prelude):
@@ -102,14 +92,15 @@ class File:
         code = []
         file = None
         for name in self.own:
-            source = self.program.sources.functions.get(name)
+            source = self.source(name)
             shown = source.file if source else 'the kit'
             if shown != file:
                 file = shown
                 code += [f'/* ---- {file} ---- */', '']
             head, lines = self.texts[name]
-            if source and source.comment:
-                code += commented(source.comment)
+            comment = (source.comment if source else []) + ['By hand (portable/outer.c).'] * self.program.is_by_hand(name)
+            if comment:
+                code += commented(comment)
             code += wrapped(head) + lines + ['']
         heads = [x for n in self.own if n not in self.program.exported for x in wrapped(self.texts[n][0] + ';')]
         text = '\n'.join(code)

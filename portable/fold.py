@@ -54,11 +54,12 @@ def stores_to(fn, local):
 
 
 def only_read(fn, is_large):
-    """A local in memory that is stored to once, from constants, becomes a table; one that is stored to once, from a value that
-    does not change, becomes that value."""
-    fn.tables, fn.copies = {}, {}
+    """A local in memory that is stored to once, from constants, becomes a table, as a constant in memory is; one that is stored to
+    once, from a value that does not change, becomes that value."""
+    fn.tables, fn.copies = dict(fn.statics), {}
+    lent_once(fn)
     for local, home in enumerate(fn.locals):
-        wanted = local > fn.params and (home.in_memory or is_large(home.type))
+        wanted = local > fn.params and local not in fn.statics and (home.in_memory or is_large(home.type))
         stores = stores_to(fn, local) if wanted else []
         if len(stores) != 1 or stores[0].place.steps or not pointers_only_read(fn, local):
             continue
@@ -72,6 +73,31 @@ def only_read(fn, is_large):
         remove(fn.body, stores[0])
     if fn.copies:
         each_place(fn.body, lambda p: through(fn.copies, p))
+
+
+def lent_once(fn):
+    """A reference that is stored to once, from the address of a constant in memory, becomes that address."""
+    lent = {}
+    for s in mir.statements(fn.body):
+        to = stored(s)
+        if to is not None and isinstance(s.value, AddrOf) and s.value.place.base in fn.statics and not fn.locals[to].in_memory \
+                and len(stores_to(fn, to)) == 1:
+            lent[to] = s
+    for s in lent.values():
+        remove(fn.body, s)
+
+    def place(p):
+        if p.base not in lent:
+            return p
+        of = lent[p.base].value
+        is_whole = p.steps and p.steps[0] == ('Deref', fn.locals[of.place.base].type)
+        return Place(of.place.base, p.steps[1:]) if is_whole else Place(AddrOf(of.place), p.steps)
+
+    def leaf(e):
+        return AddrOf(lent[e.place.base].value.place) if isinstance(e, Copy) and e.place.base in lent and not e.place.steps else None
+    if lent:
+        for s in mir.statements(fn.body):
+            mir.replace_in(s, place, leaf)
 
 
 def steady(fn, value):
@@ -164,10 +190,6 @@ def size_of(e):
     return sum(1 for _ in mir.values(e)) - (len(e.args) // 2 if isinstance(e, CallOf) else 0)
 
 
-def is_zero_sized(t):
-    return t == ('Unit',)
-
-
 class Folding:
     """A temporary is a local that the source does not name. Where it is stored to and then read once, in the same list of
     statements and with nothing in between that its value depends on, the value goes where it is read."""
@@ -224,11 +246,10 @@ class Folding:
     # a statement that stores to a temporary waits for its reader
     def keep(self, out, pending, s):
         t = stored(s)
-        if t is None:
+        if t is None and not self.stores_nothing(s):
             out.append(s)
             return
-        kind = self.fn.locals[t].type
-        if is_zero_sized(kind) or (t not in s.live_after and not self.fn.locals[t].in_memory):
+        if self.stores_nothing(s) or (t not in s.live_after and not self.fn.locals[t].in_memory):
             if isinstance(s.value, CallOf) or Reads(self.fn, s.value).calls:
                 s.place = None
                 out.append(s)
@@ -239,6 +260,11 @@ class Folding:
             out.append(s)
             return
         pending[t] = s.value
+
+    def stores_nothing(self, s):
+        """Whether a store is of a value of no bytes."""
+        return isinstance(s, Assign) and s.place is not None and isinstance(s.place.base, int) \
+            and self.types.of_place(self.fn.locals[s.place.base].type, s.place.steps) == ('Unit',)
 
     def flush(self, out, pending, t):
         s = Assign(Place(t, ()), pending.pop(t))

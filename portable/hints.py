@@ -59,7 +59,7 @@ def is_parameter(fn, e):
 
 def is_met(fn, loop, test):
     """Whether a counter that is less than its bound is one that is not equal to it: it starts from a value, the bound is the same
-    value and a small number (a sum that fits, `op2Chk`), both are stored to once before the loop, and a turn adds 1 at most once."""
+    value and a small number (a sum that fits, `op2_chk`), both are stored to once before the loop, and a turn adds 1 at most once."""
     if not (isinstance(test, Op2) and test.op == 'Lt' and test.sign == 'Unsigned' and all(is_local(fn, x) for x in (test.x, test.y))):
         return False
     counter, bound = test.x.place.base, test.y.place.base

@@ -39,7 +39,7 @@ class Layout:
         return up(self.align(t), max([begin] + [self.end(begin, fields) for fields in lists]))
 
     def end(self, e, fields):
-        """`endOf`: where the last of these fields ends, if what stands before them ends at e."""
+        """`end_of`: where the last of these fields ends, if what stands before them ends at e."""
         for f in fields:
             e = up(self.align(f), e) + self.size(f)
         return e

@@ -4,8 +4,10 @@ import hashlib
 import os
 import sys
 
+from .by_hand import ByHand
 from .declared import Declared
 from .files import File
+from .forms import Instance
 from .header import Unreadable
 from .mir import Unknown
 from .program import Program
@@ -48,27 +50,44 @@ def library(file, prelude, kit, listed):
     return joined([first], *([x] for x in prelude[1:]), types, tables, heads, code)
 
 
-def program(name, file, main, prelude, kit, listed):
+def program(name, file, by_hand, prelude, kit, listed):
     prelude, types, tables, heads, code = file.lines(prelude)
-    first = head(f'The program {name}.', kit, listed) + '#define DARTELM_COMPILE_FAST\n#include "dartelm.c"\n#include <unistd.h>'
-    last = ['int main(void)', '{', f'    {ident(main)}();', '    return 0;', '}']
-    return joined([first], *([x] for x in prelude), types, tables, heads, code, last)
+    includes = '\n'.join(by_hand.includes)
+    first = head(f'The program {name}.', kit, listed) + f'#define DARTELM_COMPILE_FAST\n#include "dartelm.c"\n{includes}'
+    main = f'{name}::main'
+    return joined([first], *([x] for x in prelude), types, tables, heads, code, [by_hand.head(main)] + by_hand.lines(main))
 
 
 def made(home, programs=PROGRAMS):
     """The files by their names."""
-    proved = Proved(home, ['dartelm'])
-    mains = {name: proved.program(name) for name in programs}
-    whole = Program(proved.functions, Declared(home), proved.sources)
+    header, by_hand = Declared(home), ByHand()
+    proved = Proved(home, ['dartelm', *programs])
+    proved.read([Instance(f'dartelm::{name}') for name in header.calls])
+    starts = {name: started(name, proved, by_hand) for name in programs}
+    whole = Program(proved.functions, header, proved.sources, by_hand)
     listed = sums(home, proved.crates)
     with open(os.path.join(os.path.dirname(__file__), 'prelude.c'), encoding='utf-8') as f:
         prelude = f.read()
     below = File(whole, list(whole.exported))
     out = {'dartelm.c': library(below, prelude, proved.kit, listed)}
-    for name, start in mains.items():
-        out[f'{name}.c'] = program(name, File(whole, [start], below), start, prelude, proved.kit, listed)
+    for name, start in starts.items():
+        out[f'{name}.c'] = program(name, File(whole, start, below), by_hand, prelude, proved.kit, listed)
     out['sources.sha256'] = listed
     return out
+
+
+def started(name, proved, by_hand):
+    """What the main function of a program calls, which C has by hand."""
+    found = []
+    proved.inside(name)
+    for called in by_hand.calls(f'{name}::main'):
+        symbols = [x for below in proved.listed[name][1] for x in proved.inside(below) if ident(x) == called]
+        if len(symbols) != 1:
+            raise Unknown(f'{name}::main is by hand (portable/outer.c) and calls {called}')
+        found.append(proved.at_standard(symbols[0]))
+    proved.read(found, by_hand.functions)
+    by_hand.meet(f'{name}::main', proved.sources)
+    return [x.name for x in found]
 
 
 def differing(files, folder):

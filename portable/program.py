@@ -12,14 +12,16 @@ from .values import Spot
 
 
 class Program:
-    def __init__(self, functions, header, sources):
-        self.functions, self.header, self.sources = functions, header, sources
+    def __init__(self, functions, header, sources, by_hand=None):
+        self.functions, self.header, self.sources, self.by_hand = functions, header, sources, by_hand
         self.exported = {f'dartelm::{name}': call for name, call in header.calls.items()}
         self.types = Types(header, sources)
         self.lent_of, self.tables = {}, {}
+        self.instances = {}    # of each symbol: how many
         for fn in functions.values():
             self.types.learn(fn.shapes)
             fn.named = self.named(fn)
+            self.instances[fn.symbol] = self.instances.get(fn.symbol, 0) + 1
         for name in self.exported:
             if name not in functions:
                 raise Unknown(f'the header has {name}, which is in no library')
@@ -30,12 +32,14 @@ class Program:
     # ---- names
 
     def c_name(self, name):
-        return name.split('::')[-1] if name in self.exported else ident(name)
+        """Its path; of an instance with its arguments only where there is another one."""
+        symbol = self.functions[name].symbol
+        return name.split('::')[-1] if name in self.exported else ident(symbol if self.instances[symbol] == 1 else name)
 
     def named(self, fn):
         """The source's names of locals: parameters, copies of parameters in memory, and what is bound, in that order. They are
         taken only where they fit: what a pattern binds is a variant's field, and each is stored to behind the one before it."""
-        source = self.sources.functions.get(fn.name)
+        source = self.sources.functions.get(fn.symbol)
         if source is None or len(source.params) != fn.params:
             return {}
         names = {i + 1: x for i, x in enumerate(source.params)}
@@ -81,7 +85,7 @@ class Program:
         t, numbers = fn.locals[local].type, fn.tables[local]
         key = (t, numbers)
         if key not in self.tables:
-            own = self.sources.tables.get(numbers) or f'{ident(fn.name)[3:]}_v{local}'
+            own = self.sources.tables.get(numbers) or f'{self.c_name(fn.name)[3:]}_v{local}'
             self.tables[key] = f'dm_table_{own}'
         return self.tables[key]
 
@@ -117,9 +121,23 @@ class Program:
         result = 'void' if fn.locals[0].type == ('Unit',) else self.types.c(fn.locals[0].type)
         return f"{result} {self.c_name(fn.name)}({', '.join(params) or 'void'})".replace('* dm_', '*dm_')
 
+    def is_by_hand(self, name):
+        return bool(self.by_hand) and self.functions[name].symbol in self.by_hand.functions
+
+    def text_by_hand(self, fn):
+        self.by_hand.meet(fn.symbol, self.sources)
+        writer = Statements(self, fn)
+        self.parameters(fn, writer)
+        head, own = self.signature(fn, writer), self.by_hand.head(fn.symbol)
+        if own != head:
+            raise Unknown(f'{fn.symbol} is by hand (portable/outer.c) as {own}, and its head is {head}')
+        return head, self.by_hand.lines(fn.symbol)
+
     def text(self, name):
         """(its head, without the word that its linkage has, its lines)"""
         fn = self.functions[name]
+        if self.is_by_hand(name):
+            return self.text_by_hand(fn)
         self.fold(fn)
         live(fn, fn.body, set())
         fn.returned = {s.value.place.base for s in mir.statements(fn.body)

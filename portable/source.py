@@ -48,6 +48,7 @@ class Named:
     comment: list = field(default_factory=list)
     params: list = field(default_factory=list)
     bindings: list = field(default_factory=list)
+    text: str = ''    # of a function: its head and its body, without its contract
 
 
 def bindings_of(body):
@@ -79,7 +80,7 @@ class Sources:
                         self.file((level, crate, path), '::'.join([crate] + inside), f'{shown}/{path}', f.read())
 
     def file(self, order, module, shown, text):
-        comments = comments_above(text)
+        comments, whole = comments_above(text), text
         text = re.sub(r'"(?:[^"\\]|\\[^"]|\\")*"|\'(?:[^\'\\\n]|\\.)\'|//.*', lambda m: re.sub(r'[^\n]', ' ', m[0]), text)
         impls = [(m[1], m.end(), closing(text, m.end())) for m in re.finditer(r'\bimpl\b[^{;]*?(\w+)\s*(?:<[^>]*>\s*)?\{', text)]
         for m in re.finditer(r'\b(struct|enum|fn|const)\s+(\w+)\s*(?:<[^>]*>\s*)?([{(:])', text):
@@ -93,8 +94,10 @@ class Sources:
             end = closing(text, m.end())
             within = text[m.end():end - 1]
             if kind == 'fn':
+                body = self.body(text, end)
                 self.functions[full] = Named(shown, at, comments.get(text.count('\n', 0, m.start()), []),
-                                             [name_of(x) for x in listed(within)], self.bound(text, end))
+                                             [name_of(x) for x in listed(within)], bound(text[body[0]:body[1]]),
+                                             uncommented(whole[m.start():body[2]] + whole[body[0] - 1:body[1]]))
                 continue
             self.types[full] = Named(shown, at, comments.get(text.count('\n', 0, m.start()), []))
             if kind == 'struct' and start == '{':
@@ -102,21 +105,32 @@ class Sources:
             elif kind == 'enum':
                 self.variants[full] = [variant(x) for x in listed(within)]
 
-    def bound(self, text, end):
-        """The bindings of the body that follows a function's parameters and its contract."""
+    @staticmethod
+    def body(text, end):
+        """Where the body begins and ends that follows a function's parameters and its contract, and where its result's type ends."""
         head = re.compile(r'[^{;]*\{').match(text, end)
-        while head and re.search(r'\b(requires|ensures|decreases)\b', head[0]):
+        result = None
+        while head and (clause := re.search(r'\b(requires|ensures|decreases)\b', head[0])):
+            result = result or head.start() + clause.start()
             head = re.compile(r'[^{;]*\{').match(text, closing(text, head.end()))
         if not head:
-            return []
-        body = text[head.end():closing(text, head.end())]
-        return bindings_of(re.sub(r'\b(?:invariant|decreases)\s*\{[^{}]*\}', '', body))
+            return end, end, end
+        return head.end(), closing(text, head.end()), result or head.end() - 1
 
     def table(self, text, at, own):
         m = re.compile(r'\s*\[[^]]*\]\s*=\s*\[([^]]*)\]').match(text, at)
         numbers = [x.strip().replace('_', '') for x in m[1].split(',') if x.strip()] if m else []
         if numbers and all(x.isdigit() for x in numbers):
             self.tables[tuple(int(x) for x in numbers)] = own
+
+
+def bound(body):
+    return bindings_of(re.sub(r'\b(?:invariant|decreases)\s*\{[^{}]*\}', '', body))
+
+
+def uncommented(text):
+    """A text of Rattle in one line, without its comments."""
+    return ' '.join(re.sub(r'("(?:[^"\\]|\\.)*")|//.*', lambda m: m[1] or ' ', text).split())
 
 
 def variant(item):

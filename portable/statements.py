@@ -1,4 +1,4 @@
-"""Statements of MIR as C: `execIn` of the kit's logic/Prog/Machine.antt, form by form."""
+"""Statements of MIR as C: `code` of the kit's logic/Prog/Machine.antt, form by form."""
 import re
 
 from . import mir
@@ -390,6 +390,8 @@ class Statements(Values):
         return value.text if value.type == ('Unit',) else f'(void){value.text}'
 
     def store(self, at, e):
+        if at.type == ('Unit',):
+            return
         value = self.as_type(e, at.type)
         if at.array or value.array:
             if self.declared is not None:

@@ -8,7 +8,12 @@ SHORT = {'uint8_t': 'u8', 'uint16_t': 'u16', 'uint32_t': 'u32', 'uint64_t': 'u64
 
 
 def ident(path):
-    return 'dm_' + re.sub(r'[^A-Za-z0-9]+', '_', path)
+    return 'dm_' + re.sub(r'[^A-Za-z0-9]+', '_', path).strip('_')
+
+
+def base(name):
+    """A type's name in the source, without its arguments."""
+    return name.split('<')[0]
 
 
 class Types:
@@ -80,44 +85,58 @@ class Types:
             self.say(own + ' ', self.sized(own, t))
             return own
         own = ident(name)
-        comment = self.sources.types[name].comment if name in self.sources.types else []
+        comment = self.sources.types[base(name)].comment if base(name) in self.sources.types else []
         comment = [f"/* {' '.join(comment)} */"] if comment else []
         if kind == 'Fields':
-            inside = [f'    {self.member(p, f)}' for f, p in zip(self.field_names(name), parts)]
+            inside = [f'    {self.member(p, f)}' for f, p in zip(self.field_names(name), parts) if p != ('Unit',)]
             self.say(own, comment + [f'typedef struct {{'] + inside + [f'}} {own};'] + self.sized(own, t))
             return own
         names = self.variant_names(name)
         tags = [f'    {own}_{v} = {n}{"," if n + 1 < len(names) else ""}' for n, (v, _) in enumerate(names)]
         lines = comment + ['enum {'] + tags + ['};']
-        if not any(parts):
+        if self.is_bare(t):
             self.say(own, lines + [f'typedef uint8_t {own};'])
             return own
-        inside = [f"    struct {{ uint8_t tag; {' '.join(self.member(p, f) for f, p in zip(fields, ps))} }} {v};"
-                  for (v, fields), ps in zip(names, parts) if ps]
+        held = [(v, ' '.join(self.member(p, f) for f, p in zip(fields, ps) if p != ('Unit',))) for (v, fields), ps in zip(names, parts)]
+        inside = [f'    struct {{ uint8_t tag; {members} }} {v};' for v, members in held if members]
         self.say(own, lines + ['typedef union {', '    uint8_t tag;'] + inside + [f'}} {own};'] + self.sized(own, t))
         return own
 
     def member(self, t, name):
-        if t == ('Unit',):
-            raise Unknown('a field of type ()')
         return f'{self.c(t)} {name};'.replace('* ', '*')
 
     def sized(self, name, t):
         return [] if self.layout.has_pointer(t) else [f'DM_SIZE({name}, {self.layout.size(t)});']
 
     def is_bare(self, t):
-        """Whether an enum has no variant with fields: it is its tag."""
+        """Whether an enum has no variant with fields of any bytes: it is its tag."""
         kind, parts = self.shapes[t[1]]
-        return kind == 'Variants' and not any(parts)
+        return kind == 'Variants' and all(p == ('Unit',) for ps in parts for p in ps)
+
+    def of_place(self, t, steps):
+        """The type of the value at a place, from that of what it begins at."""
+        variant = None
+        for kind, of in steps:
+            if kind == 'Deref':
+                t = of
+            elif kind == 'Variant':
+                variant = of
+            elif t[0] == 'Slice':
+                t = (('Ref', True, t[1]), ('Int', 64))[of]
+            elif t[0] == 'Named' and variant is None:
+                t = self.shapes[t[1]][1][of]
+            elif t[0] == 'Named':
+                t, variant = (('Int', 8), *self.shapes[t[1]][1][variant])[of], None
+        return t
 
     def field_names(self, name):
         parts = self.shapes[name][1]
-        known = self.sources.fields.get(name, [])
+        known = self.sources.fields.get(base(name), [])
         return known if len(known) == len(parts) and len(set(known)) == len(known) else [f'f{i}' for i in range(len(parts))]
 
     def variant_names(self, name):
         parts = self.shapes[name][1]
-        known = self.sources.variants.get(name, [])
+        known = self.sources.variants.get(base(name), [])
         if [len(fields) for _, fields in known] == [len(p) for p in parts]:
             return known
         return [(f'V{n}', [f'f{i + 1}' for i in range(len(p))]) for n, p in enumerate(parts)]

@@ -2,7 +2,7 @@
 
 Integers are unsigned (`vint w n`: "its bits, as a number below 2 ^ bits w"). What is narrower than 32 bits is operated on as
 uint32_t and narrowed after, so that C promotes nothing to a signed type. That a sum fits, that a divisor is not 0 and that a
-shift is below the width is proved (`op2Chk`), so that C's result is the machine's."""
+shift is below the width is proved (`op2_chk`), so that C's result is the machine's."""
 import re
 
 from . import mir
@@ -14,7 +14,7 @@ LIMITS = {'*': (PRODUCT, UNARY, PRODUCT), '/': (UNARY, UNARY, PRODUCT), '%': (UN
           '+': (SUM, PRODUCT, SUM), '-': (SUM, PRODUCT, SUM), '<': (SUM, SUM, OTHER), '<=': (SUM, SUM, OTHER),
           '>': (SUM, SUM, OTHER), '>=': (SUM, SUM, OTHER), '==': (SUM, SUM, OTHER), '!=': (SUM, SUM, OTHER)}
 ARITHMETIC = {'Add': '+', 'Sub': '-', 'Mul': '*', 'Div': '/', 'Rem': '%', 'And': '&', 'Or': '|', 'Xor': '^',
-              'Shl': '<<', 'Shr': '>>'}
+              'Shl': '<<', 'Shr': '>>', 'WrapAdd': '+', 'WrapSub': '-', 'WrapMul': '*'}
 COMPARED = {'Eq': '==', 'Ne': '!=', 'Lt': '<', 'Le': '<='}
 NEGATED = {'==': '!=', '!=': '==', '<': '>=', '<=': '>'}
 FLOATS = {32: 'float', 64: 'double'}
@@ -62,7 +62,7 @@ class Values:
     # ---- places
 
     def spot(self, place):
-        """`resolveM`: a place is its base and then step after step."""
+        """`resolve`, `walk`: a place is its base and then step after step."""
         steps = list(place.steps)
         if isinstance(place.base, int):
             at = self.spots[place.base]
@@ -296,8 +296,9 @@ class Values:
         raise Unknown(f'an operation: {e.op} {e.sign} of {x.type}')
 
     def arithmetic(self, sign, e, x, y):
-        """`op2Val`: a sum, difference or product fits, read as unsigned or as signed (`op2Chk`), and in two's complement both have
-        the same bits; `shl`: (a * 2 ^ b) % 2 ^ bits w; `shr`, `div`, `rem`: of the numbers."""
+        """`op2_val`: a sum, difference or product fits, read as unsigned or as signed (`op2_chk`), and in two's complement both have
+        the same bits; `wrap_add` and so on: "of two integers of one width, modulo 2 ^ the width"; `shl`: (a * 2 ^ b) % 2 ^ bits w;
+        `shr`, `div`, `rem`: of the numbers."""
         width = x.type[1]
         if isinstance(e.x, mir.Int) and (sign in ('<<', '>>') or isinstance(e.y, mir.Int)):
             x = Value(f'(uint{max(width, 32)}_t){e.x.value}', UNARY, x.type)
@@ -318,7 +319,7 @@ class Values:
 
     @staticmethod
     def signed(e, x):
-        """`toZ`: the bits, read in two's complement."""
+        """`to_z`: the bits, read in two's complement."""
         width = x.type[1]
         if isinstance(e, mir.Int):
             number = e.value - 2 ** width if e.value >= 2 ** (width - 1) else e.value
@@ -328,7 +329,7 @@ class Values:
         return Value(f'(int{width}_t){x.within(UNARY)}', UNARY, x.type)
 
     def float2(self, op, x, y):
-        """`Ieee.add` and so on: rounded once, to nearest, ties to even. A comparison with a NaN is false, but for `floatNe`."""
+        """`Ieee.add` and so on: rounded once, to nearest, ties to even. A comparison with a NaN is false, but for `float_ne`."""
         if op in COMPARED:
             return Value(*binary(COMPARED[op], x, y), ('Bool',))
         if op not in ('Add', 'Sub', 'Mul', 'Div'):
@@ -367,7 +368,7 @@ class Values:
 
     @staticmethod
     def cast(args, x):
-        """`cast`: the number, read by the first sign, in the bits that have it under the second: it fits (`op1Chk`)."""
+        """`cast`: the number, read by the first sign, in the bits that have it under the second: it fits (`op1_chk`)."""
         sign, _, width = args
         if x.type == ('Int', width):
             return x
