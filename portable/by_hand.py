@@ -3,6 +3,7 @@ where that has changed, or its head in C, the translation stops."""
 import os
 import re
 
+from .forms import DECLARED
 from .mir import Unknown
 
 PATH = os.path.join(os.path.dirname(__file__), 'outer.c')
@@ -17,14 +18,16 @@ class ByHand:
         self.includes = [x for x in parts[0].splitlines() if x.startswith('#include')]
         self.functions, self.sources = {}, {}
         for part in parts[1:]:
-            m = re.fullmatch(r'/\* ([\w:]+)\n((?: \*.*\n)*) \*/\n(.*)', part.strip('\n'), re.S)
+            m = re.fullmatch(r'/\* ([\w:+]+)((?:\n \*.*)*) \*/\n(.*)', part.strip('\n'), re.S)
             if not m:
                 raise Unknown(f'a part of outer.c: {part[:60]}')
-            self.sources[m[1]] = ' '.join(line.removeprefix(' *').strip() for line in m[2].splitlines())
+            self.sources[m[1]] = ' '.join(' '.join(line.strip().removeprefix('*') for line in m[2].splitlines()).split())
             self.functions[m[1]] = m[3].splitlines()
 
     def meet(self, symbol, sources):
-        """That the function in Rattle is the one that outer.c has above the one in C."""
+        """That the function in Rattle is the one that outer.c has above the one in C; a method that a trait declares has no body."""
+        if symbol.endswith(DECLARED):
+            return
         source = sources.functions.get(symbol)
         if source is None or source.text != self.sources[symbol]:
             raise Unknown(f'{symbol} is by hand (portable/outer.c), in place of another function than {source and source.text}')

@@ -2,6 +2,7 @@
 import re
 
 from . import mir
+from .forms import DECLARED
 from .hints import Small
 from .mir import Unknown
 from .statements import wrapped
@@ -81,7 +82,7 @@ class File:
         return (source.order if source else (99, name.split('::')[0], '', 0), name)
 
     def source(self, name):
-        return self.program.sources.functions.get(self.program.functions[name].symbol)
+        return self.program.sources.functions.get(self.program.functions[name].symbol.removesuffix(DECLARED))
 
     def type_order(self, name):
         source = self.program.sources.types.get(base(name))

@@ -1,9 +1,10 @@
 """From MIR to statements that a reader follows: temporaries go where they are used, tables of constants stand once, and what is
 only read is not copied. Nothing else is moved, and no call or store changes its order with another."""
 from . import mir
+from .inline import stores_nothing, without_blocks, without_dead, without_empty
 from .live import Reads, derefs, live, reads_of, stored
 from .mir import AddrOf, Aggregate, Assign, Block, Bool, CallOf, Copy, Exit, Float, If, Int, Loop, Op2, Place, Repeat, Return
-from .mir import SliceOf, Switch, Tag
+from .mir import SliceOf, Switch, Tag, Unit
 
 # A value of more parts than this stays a variable of its own.
 LARGEST = 12
@@ -44,6 +45,18 @@ def pointers_only_read(fn, local):
     return True
 
 
+def is_idle(fn):
+    """Whether a function gives `()` and does nothing else."""
+    return bool(fn.body) and all(isinstance(s, Return) or (stored(s) == 0 and isinstance(s.value, Unit)) for s in fn.body)
+
+
+def without_calls(body, names):
+    body[:] = [s for s in body if not (isinstance(s, Assign) and isinstance(s.value, CallOf) and s.value.name in names)]
+    for s in body:
+        for inner in mir.bodies(s):
+            without_calls(inner, names)
+
+
 def inside_loop(body, s):
     return any(s in mir.statements(x.body) for x in mir.statements(body) if isinstance(x, Loop))
 
@@ -59,7 +72,7 @@ def only_read(fn, is_large):
     fn.tables, fn.copies = dict(fn.statics), {}
     lent_once(fn)
     for local, home in enumerate(fn.locals):
-        wanted = local > fn.params and local not in fn.statics and (home.in_memory or is_large(home.type))
+        wanted = local > fn.params and local not in fn.statics and (home.in_memory or is_large(home.type) or local >= fn.own)
         stores = stores_to(fn, local) if wanted else []
         if len(stores) != 1 or stores[0].place.steps or not pointers_only_read(fn, local):
             continue
@@ -246,10 +259,11 @@ class Folding:
     # a statement that stores to a temporary waits for its reader
     def keep(self, out, pending, s):
         t = stored(s)
-        if t is None and not self.stores_nothing(s):
+        nothing = stores_nothing(self.fn, self.types, s)
+        if t is None and not nothing:
             out.append(s)
             return
-        if self.stores_nothing(s) or (t not in s.live_after and not self.fn.locals[t].in_memory):
+        if nothing or (t not in s.live_after and not self.fn.locals[t].in_memory):
             if isinstance(s.value, CallOf) or Reads(self.fn, s.value).calls:
                 s.place = None
                 out.append(s)
@@ -260,11 +274,6 @@ class Folding:
             out.append(s)
             return
         pending[t] = s.value
-
-    def stores_nothing(self, s):
-        """Whether a store is of a value of no bytes."""
-        return isinstance(s, Assign) and s.place is not None and isinstance(s.place.base, int) \
-            and self.types.of_place(self.fn.locals[s.place.base].type, s.place.steps) == ('Unit',)
 
     def flush(self, out, pending, t):
         s = Assign(Place(t, ()), pending.pop(t))
@@ -354,8 +363,11 @@ def replaced_local(e, t, value):
     return mir.replaced(e, place, lambda x: value if isinstance(x, Copy) and x.place.base == t and not x.place.steps else None)
 
 
-def prepare(fn, is_large):
+def prepare(fn, types, is_large):
     """Once for each function, before any is folded: what a callee only reads is known then."""
+    without_blocks(fn.body)
     only_read(fn, is_large)
+    without_dead(fn, types, live)
+    without_empty(fn.body)
     set_returns(fn)
     sink_returns(fn, fn.body)

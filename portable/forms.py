@@ -15,6 +15,9 @@ PLAIN = ('And', 'Or', 'Xor', 'Shl', 'Eq', 'Ne', 'Offset', 'WrapAdd', 'WrapSub', 
 SIGNED = ('Add', 'Sub', 'Mul', 'Div', 'Rem', 'Shr', 'Lt', 'Le')
 ON_ONE = {'Not': 0, 'Cast': 3, 'FloatNeg': 0, 'FloatToFloat': 1, 'FloatToBits': 0, 'FloatFromBits': 1, 'IntToFloat': 2}
 
+# What stands behind the name of a method that a trait declares: it has no body of its own.
+DECLARED = '+decl'
+
 
 def only(d):
     if not isinstance(d, dict) or len(d) != 1:
@@ -212,7 +215,9 @@ class Reading:
         if k == 'Op2':
             op, sign = (v[0], None) if isinstance(v[0], str) else only(v[0])
             if (op in PLAIN and sign is None) or (op in SIGNED and sign in ('Unsigned', 'Signed')):
-                return Op2(op, sign, self.operand(v[1]), self.operand(v[2]))
+                x, y = self.operand(v[1]), self.operand(v[2])
+                # What has the size of one byte is counted as bytes are.
+                return x if op == 'Mul' and 'SizeOf' in v[2] and y.value == 1 else Op2(op, sign, x, y)
             raise Unknown(f'an operation: {op}')
         if k == 'Op1':
             op, args = (v[0], ()) if isinstance(v[0], str) else only(v[0])
@@ -313,10 +318,13 @@ def function_of(instance, fn, impls):
 
 
 def signature_of(instance, fn):
-    """A function that C has by hand: its head, with nothing inside."""
+    """A function that C has by hand: its head, with nothing inside. A result that says no more than whether there was an error is
+    left out: no function here may read it."""
     try:
         reading = Reading(instance, fn, {})
         locals_ = [Local(reading.type(x['ty']), False) for x in fn['locals'][:fn['params'] + 1]]
+        if locals_[0].type[0] == 'Named' and locals_[0].type[1].startswith('core::result::Result<unit, '):
+            locals_[0].type = ('Unit',)
         return Function(instance.name, fn['params'], locals_, [], reading.shapes, {}, instance.symbol)
     except Unknown as e:
         raise Unknown(f'{instance.name}: {e}') from None

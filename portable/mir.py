@@ -159,6 +159,7 @@ class Function:
 
     def __post_init__(self):
         self.symbol = self.symbol or self.name
+        self.own = len(self.locals)    # what stands behind these is of functions that were put where they are called
 
 
 # ---- looking through a tree

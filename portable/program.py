@@ -2,7 +2,9 @@
 import re
 
 from . import fold, mir
+from .forms import DECLARED
 from .hints import stored_by_bytes
+from .inline import inlined
 from .live import derefs, live
 from .mir import Unknown
 from .source import plain
@@ -17,6 +19,8 @@ class Program:
         self.exported = {f'dartelm::{name}': call for name, call in header.calls.items()}
         self.types = Types(header, sources)
         self.lent_of, self.tables = {}, {}
+        self.without_idle()
+        inlined(functions, self.is_kit)
         self.instances = {}    # of each symbol: how many
         for fn in functions.values():
             self.types.learn(fn.shapes)
@@ -27,19 +31,28 @@ class Program:
                 raise Unknown(f'the header has {name}, which is in no library')
             header.meet(functions[name], self.types.shapes)
         for fn in functions.values():
-            fold.prepare(fn, self.is_large)
+            fold.prepare(fn, self.types, self.is_large)
+
+    def without_idle(self):
+        """Leaves out the calls of functions that do nothing, as what drops a value that has nothing to give back."""
+        idle = set()
+        while more := {name for name, fn in self.functions.items() if name not in idle and fold.is_idle(fn)}:
+            idle |= more
+            for fn in self.functions.values():
+                fold.without_calls(fn.body, idle)
 
     # ---- names
 
     def c_name(self, name):
         """Its path; of an instance with its arguments only where there is another one."""
         symbol = self.functions[name].symbol
-        return name.split('::')[-1] if name in self.exported else ident(symbol if self.instances[symbol] == 1 else name)
+        own = symbol if self.instances[symbol] == 1 else name
+        return name.split('::')[-1] if name in self.exported else ident(own.replace(DECLARED, ''))
 
     def named(self, fn):
         """The source's names of locals: parameters, copies of parameters in memory, and what is bound, in that order. They are
         taken only where they fit: what a pattern binds is a variant's field, and each is stored to behind the one before it."""
-        source = self.sources.functions.get(fn.symbol)
+        source = self.sources.functions.get(fn.symbol.removesuffix(DECLARED))
         if source is None or len(source.params) != fn.params:
             return {}
         names = {i + 1: x for i, x in enumerate(source.params)}
@@ -121,12 +134,16 @@ class Program:
         result = 'void' if fn.locals[0].type == ('Unit',) else self.types.c(fn.locals[0].type)
         return f"{result} {self.c_name(fn.name)}({', '.join(params) or 'void'})".replace('* dm_', '*dm_')
 
+    def is_kit(self, name):
+        """Whether a function is the kit's, and not by hand."""
+        return self.functions[name].symbol.split('::')[0] in self.sources.kit and not self.is_by_hand(name)
+
     def is_by_hand(self, name):
         return bool(self.by_hand) and self.functions[name].symbol in self.by_hand.functions
 
     def text_by_hand(self, fn):
         self.by_hand.meet(fn.symbol, self.sources)
-        writer = Statements(self, fn)
+        fn.returned, writer = set(), Statements(self, fn)
         self.parameters(fn, writer)
         head, own = self.signature(fn, writer), self.by_hand.head(fn.symbol)
         if own != head:

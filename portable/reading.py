@@ -5,15 +5,15 @@ import re
 import subprocess
 import sys
 
-from .forms import Dict, Instance, function_of, signature_of
+from .forms import DECLARED, Dict, Instance, function_of, signature_of
 from .mir import Unknown
 from .source import Sources
 
 # The toolchains whose MIR is known here (`rt version`).
 KITS = ('rattle-kit-13f logic dac8208d650f15bf',)
 
-# What a program's reader and writer are here: standard input and standard output, which C does not pass on.
-STANDARD = {'std::io::traits::Read': 'standard input', 'std::io::traits::Write': 'standard output'}
+# The traits of a program's reader and writer, which are standard input and standard output here. C does not pass them on.
+STANDARD = ('std::io::traits::Read', 'std::io::traits::Write')
 
 
 def ran(*words, folder=None):
@@ -108,6 +108,7 @@ class Proved:
         if not self.is_new(rlib, own):
             print(f'portable: rt lib in crates/{name}', file=sys.stderr)
             ran('rt', 'lib', folder=own)
+            os.utime(os.path.join(rlib, 'toolchain'))
         return rlib
 
     def static(self, name, own, below):
@@ -148,10 +149,18 @@ class Proved:
             todo += calls.values()
 
     def at_standard(self, symbol):
-        """A function over a reader and a writer, at standard input and standard output: types of no bytes, and dictionaries that no
-        function may look into, since what reads or writes is by hand."""
-        generics = self.found(symbol)['generics']
+        """A function over a reader and a writer, at standard input and standard output: types of no bytes, and dictionaries whose
+        methods are those that the trait declares, which are by hand."""
+        generics, dicts = self.found(symbol)['generics'], []
         for bound in generics['bounds']:
             if bound['of'] not in STANDARD:
                 raise Unknown(f"{symbol} asks for {bound['of']}")
-        return Instance(symbol, (('Unit',),) * len(generics['types']), tuple(Dict(STANDARD[b['of']], (), ()) for b in generics['bounds']))
+            self.impls[bound['of']] = self.declared(bound['of'])
+            dicts.append(Dict(bound['of'], (('Unit',),), ()))
+        return Instance(symbol, (('Unit',),) * len(generics['types']), tuple(dicts))
+
+    def declared(self, trait):
+        """The methods that a trait declares, in its order."""
+        of = {x['generics']['method_of']['Trait'][1]: name for name, x in self.inside(trait.split('::')[0]).items()
+              if name.endswith(DECLARED) and x['generics']['method_of']['Trait'][0] == trait}
+        return [of[n] for n in range(len(of))]

@@ -23,6 +23,17 @@ def closing(text, at):
     return at
 
 
+def behind_generics(text, at):
+    """The place behind the type parameters that begin there, if any do."""
+    depth = 0
+    while text[at:at + 1] == '<' or depth:
+        depth += (text[at] == '<') - (text[at] == '>' and text[at - 1] != '-')
+        at += 1
+    while text[at:at + 1].isspace():
+        at += 1
+    return at
+
+
 def listed(text):
     """NAME: TYPE, .. at the top level of a text; ghost ones left out."""
     out, depth, item = [], 0, ''
@@ -69,8 +80,11 @@ class Sources:
 
     def __init__(self):
         self.functions, self.fields, self.variants, self.tables, self.types = {}, {}, {}, {}, {}
+        self.kit = set()    # the crates of the kit
 
     def crate(self, level, crate, folder, shown):
+        if shown.startswith('the kit'):
+            self.kit.add(crate)
         for base, _, files in os.walk(folder):
             for file in sorted(files):
                 path = os.path.relpath(os.path.join(base, file), folder)
@@ -82,17 +96,21 @@ class Sources:
     def file(self, order, module, shown, text):
         comments, whole = comments_above(text), text
         text = re.sub(r'"(?:[^"\\]|\\[^"]|\\")*"|\'(?:[^\'\\\n]|\\.)\'|//.*', lambda m: re.sub(r'[^\n]', ' ', m[0]), text)
-        impls = [(m[1], m.end(), closing(text, m.end())) for m in re.finditer(r'\bimpl\b[^{;]*?(\w+)\s*(?:<[^>]*>\s*)?\{', text)]
-        for m in re.finditer(r'\b(struct|enum|fn|const)\s+(\w+)\s*(?:<[^>]*>\s*)?([{(:])', text):
-            kind, own, start = m.groups()
+        impls = [(block(m[1], m[2]), m.end(), closing(text, m.end())) for m in re.finditer(r'\b(impl|trait)\b([^{;()]*)\{', text)]
+        for m in re.finditer(r'\b(struct|enum|fn|const)\s+(\w+)\s*', text):
+            kind, own = m.groups()
+            head = behind_generics(text, m.end())
+            start = text[head:head + 1]
+            if start not in ('{', '(', ':'):
+                continue
             inside = [name for name, a, b in impls if a <= m.start() < b]
             full = '::'.join([module] + inside + [own])
             at = (*order, m.start())
             if kind == 'const':
-                self.table(text, m.end(), own)
+                self.table(text, head + 1, own)
                 continue
-            end = closing(text, m.end())
-            within = text[m.end():end - 1]
+            end = closing(text, head + 1)
+            within = text[head + 1:end - 1]
             if kind == 'fn':
                 body = self.body(text, end)
                 self.functions[full] = Named(shown, at, comments.get(text.count('\n', 0, m.start()), []),
@@ -122,6 +140,15 @@ class Sources:
         numbers = [x.strip().replace('_', '') for x in m[1].split(',') if x.strip()] if m else []
         if numbers and all(x.isdigit() for x in numbers):
             self.tables[tuple(int(x) for x in numbers)] = own
+
+
+def block(kind, head):
+    """The name that the functions of an `impl` or a `trait` stand under: of an impl of a trait the type's and then the trait's."""
+    while (shorter := re.sub(r'<[^<>]*>', ' ', head.replace('->', '  '))) != head:
+        head = shorter
+    head = re.sub(r'\[\s*(\w+)\s*\]\s*$', r'slice+\1', re.split(r'\bwhere\b', head)[0])
+    words = [re.findall(r'[\w+]+', part) for part in re.split(r'\bfor\b', head.split(':')[0] if kind == 'trait' else head)]
+    return ''.join(part[0 if kind == 'trait' else -1] for part in reversed(words) if part)
 
 
 def bound(body):

@@ -393,6 +393,8 @@ class Statements(Values):
         if at.type == ('Unit',):
             return
         value = self.as_type(e, at.type)
+        if value.type == ('Unit',):
+            raise Unknown(f'{self.fn.name} reads a result that is by hand (portable/outer.c), and left out there')
         if at.array or value.array:
             if self.declared is not None:
                 self.say(f'{self.types.c(at.type)} {at.text};')

@@ -65,6 +65,8 @@ class Values:
         """`resolve`, `walk`: a place is its base and then step after step."""
         steps = list(place.steps)
         if isinstance(place.base, int):
+            if place.base not in self.spots:
+                raise Unknown(f'{self.fn.name} reads the address of what has no bytes')
             at = self.spots[place.base]
         elif steps and steps[0][0] == 'Deref':
             at = self.pointed(place.base, steps.pop(0)[1])
