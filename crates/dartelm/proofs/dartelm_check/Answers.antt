@@ -11,6 +11,5 @@ returns-in-Refused c = answers (struct_by check_answer numbers no_numbers) check
 
 pub returns-in-Accepted : goal.returns-in-Accepted
 returns-in-Accepted c =
-    let g = c.summary-1.given in
-    rw (end-byte g.0.0.end_bit, c.template_number.ensures, c.domain_number.ensures)
-    (answers (struct_by check_answer numbers no_numbers) check_said c.check.ensures g.1)
+    rw (end-byte c.in-Accepted.summary.end_bit, c.template_number.ensures, c.domain_number.ensures)
+    (answers (struct_by check_answer numbers no_numbers) check_said c.check.ensures c.in-Accepted.is)
