@@ -83,6 +83,7 @@ class Fn:
         self.callee = {p[0]: p[3] for p in info["places"]}
 
     def find(self, place, step):
+        step = step[:-4] if step.endswith("_lem") else step
         for exact in (True, False):
             at = place
             while at is not None:
@@ -107,14 +108,14 @@ class Fn:
         return None
 
     def known(self, place, step):
-        """The variable whose type a step of an older Rattle spoke of."""
+        """The variable whose type a step of an older Rattle spoke of, and the nearest place that knows it."""
         at = place
         while at is not None:
             for var, s in self.typed[at]:
                 if DASH(s) == DASH(step):
-                    return var
+                    return var, at
             at = self.parent[at]
-        return None
+        return None, None
 
     def place(self, name):
         for p in self.parent:
@@ -194,10 +195,19 @@ class Fn:
                     comps[1:] = named
                 return ".".join([var] + comps)
             q = self.find(place, first)
-            var_known = self.known(place, first)
+            var_known, there = self.known(place, first)
             if var_known and comps[1:2] == ["given"]:
-                return ".".join([var, "type_inv", var_known] + comps[2:])
+                at = var
+                if there != place and need:
+                    self.imported.add(self.named[there])
+                    at = f"(goal.at.{need} {var}).{self.named[there]}"
+                q = place
+                while there != place and not need and q is not None and q != there:
+                    at, q = at + ".before", self.parent[q]
+                return ".".join([at, "type_inv", var_known] + comps[2:])
             in_arm = self.arm(place, first, comps[1:])
+            if not in_arm and comps[1:2] == ["rest"]:
+                return ".".join([var, "in_default", "in_default-own"] + comps[1:])
             if in_arm:
                 return ".".join([var] + in_arm)
             if q is None:
@@ -211,12 +221,19 @@ class Fn:
                 comps[2:] = named
             if len(comps) > 1 and comps[1] in self.facts[q]:
                 comps[1] = self.facts[q][comps[1]]
+            if comps[1:2] == ["auto"] and comps[2:3] and comps[2].isdigit():
+                self.said(f"look at {m[0]}: {'.'.join(comps)}")
+                comps[2] = "image"
             if comps[0].endswith("-1") or "given" in comps[1:2]:
                 self.said(f"look at {m[0]}: {'.'.join(comps)}")
             comps = [c.replace("type-inv", "type_inv") for c in comps]
             return ".".join([var] + comps)
 
-        return re.sub(r"(?<![\w.'-])(%s)((?:\.[\w'-]+)*)(?![\w'-])" % names, one, body).replace("\0", var)
+        body = re.sub(r"(?<![\w.'-])(?!(?<=\{)\w+ =)(%s)((?:\.[\w'-]+)*)(?![\w'-])" % names, one, body).replace("\0", var)
+        for old, new in self.info["args"]:
+            if old.startswith("."):
+                body = body.replace(var + old.replace(" ", ""), var + new.replace(" ", ""))
+        return body
 
 
 def by_variables(b, name, info, say):
@@ -341,7 +358,7 @@ def convert(path, fn_path, crate, info, say):
     used, answers = set(), []
     placed, imported = {}, set()
     for name, b in heads.items():
-        m = re.search(r"^%s : \((\w+) : tie\.([\w'-]+)[^)]*\) →" % re.escape(name), b, re.M)
+        m = re.search(r"^(?:abbrev )?%s : \((\w+) : tie\.([\w'-]+)[^)]*\) →" % re.escape(name), b, re.M) or re.search(r"^(?:abbrev )?%s : ()tie\.([\w'-]+) →" % re.escape(name), b, re.M)
         if m and not m[2].startswith("Need-"):
             p = fn.place(m[2])
             if p is None:
@@ -381,6 +398,8 @@ def convert(path, fn_path, crate, info, say):
                 say(f"answer {i} is {a}")
                 continue
             if HOLE.match(a):
+                if unfolding and i < len(needs) and len(args) == len(needs) and needs[i][1].startswith("returns"):
+                    answers.append((i, [], needs[i][1], [unfolding.rstrip()], ["c"], "search rules"))
                 continue
             note, un = [], [unfolding.rstrip()] if unfolding else []
             binders, term = got
@@ -392,6 +411,8 @@ def convert(path, fn_path, crate, info, say):
             say(f"answer {i} is past the needs: {a}")
             continue
         new = needs[k][1]
+        if new.startswith("shape_of"):
+            continue
         place = info["asked_at"][k][0]
         var = binders[0]
         more = [x for x in binders[1:] if x not in ("κs", "_")]
@@ -416,14 +437,14 @@ def convert(path, fn_path, crate, info, say):
         if re.match(r"(invariant|decreases)\b", name):
             inv.append(by_variables(b, name, info, say))
             continue
-        m = re.search(r"\((\w+) : tie\.([\w'-]+)([^)]*)\)", b)
+        m = re.search(r"\((\w+) : tie\.([\w'-]+)([^)]*)\)", b) or re.search(r": ()tie\.([\w'-]+)() →", b)
         if m:
             p = fn.place(m[2])
             if p is None:
                 say(f"no place {m[2]}")
             else:
-                b = b[: m.start()] + f"({m[1]} : {fn.named[p]})" + b[m.end():]
-                for v in set(re.findall(r"^%s (\w+)" % re.escape(name), b, re.M)) | {m[1]}:
+                b = b[: m.start()] + (f"({m[1]} : {fn.named[p]})" if m[1] else f": {fn.named[p]} →") + b[m.end():]
+                for v in (set(re.findall(r"^%s (\w+)" % re.escape(name), b, re.M)) | {m[1]}) - {""}:
                     b = fn.turn(b, v, p, None, placed)
         lemmas.append(b)
     answers.sort(key=lambda x: x[0])
