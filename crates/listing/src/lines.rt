@@ -107,15 +107,9 @@ fn print_item(out: &mut impl Write, template: Template, number: u64, item: Item)
 fn print_part(out: &mut impl Write, kind: u8, image: &[u8], summary: Summary, part: Part) {
     let template = summary.template;
     let numbers = parts::numbers_of(part, summary);
-    let mut number = numbers.first;
-    while number < numbers.end {
-        print_item(
-            out,
-            template,
-            number,
-            parts::item_of(kind, image, part, number),
-        );
-        number += 1;
+    for number in numbers.first..numbers.end {
+        let item = parts::item_of(kind, image, part, number);
+        print_item(out, template, number, item);
     }
 }
 

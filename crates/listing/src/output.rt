@@ -47,10 +47,8 @@ pub fn put_from(out: &mut impl Write, text: &[u8], from: usize) {
 
 // Prints this many zeros.
 pub fn put_zeros(out: &mut impl Write, count: u64) {
-    let mut left = count;
-    while 0 < left {
+    for _ in 0..count {
         put(out, b"0");
-        left -= 1;
     }
 }
 
