@@ -107,6 +107,9 @@ class Fn:
                         best = (field, way)
             if best:
                 return [self.arms[at][0], best[0]] + comps[len(best[1]):]
+            for field, old, way in (self.arms[at] or (0, 0, []))[2]:
+                if DASH(old) == DASH(step) and not way and field.endswith("-own") and comps[:1] == ["given"]:
+                    return [self.arms[at][0], field] + comps
             at = self.parent[at]
         return None
 
@@ -128,6 +131,8 @@ class Fn:
 
     def turn(self, body, var, place, need, lemmas={}):
         """Paths of `body` by today's names; `var` stands at `place`."""
+        body = body.replace("«open»", "open")
+        body = re.sub(r"λ (\w+)\. \1(?=\.)", lambda m: f"λ {m[1]}\1. {m[1]}\1", body)
         env = {var: place}
         out, at = [], 0
         # Aliases of places go.
@@ -213,6 +218,12 @@ class Fn:
             in_arm = self.arm(place, first, comps[1:])
             if not in_arm and comps[1:2] == ["rest"]:
                 return ".".join([var, "in_default", "in_default-own"] + comps[1:])
+            if not in_arm and comps[1:2] and re.match(r"keys\d+$", comps[1]) and q:
+                at = place
+                while at is not None and not (self.arms[at] and DASH(self.step[at][0]) == DASH(first)):
+                    at = self.parent[at]
+                if at:
+                    return ".".join([var, self.arms[at][0], self.arms[at][0] + "-own"] + comps[1:])
             if in_arm:
                 return ".".join([var] + in_arm)
             if q is None:
@@ -245,7 +256,7 @@ class Fn:
             comps = [c.replace("type-inv", "type_inv") for c in comps]
             return ".".join([var] + comps)
 
-        body = re.sub(r"(?<![\w.'-])(?!(?<=\{)\w+ =)(%s)((?:\.[\w'-]+)*)(?![\w'-])" % names, one, body).replace("\0", var)
+        body = re.sub(r"(?<![\w.'-])(?!(?<=\{)\w+ =)(%s)((?:\.[\w'-]+)*)(?![\w'-])" % names, one, body).replace("\0", var).replace("\1", "")
         body = re.sub(r"(?<![\w'-])((?!%s\.)[\w'₀-₉]+)\.ranges(?![\w'-])" % re.escape(var), lambda m: m[0] if m[1] in env else m[1] + ".fits", body)
         body = re.sub(r"(?<!\.\w)\)\.ranges(?![\w'-])", ").fits", body)
         for old, new in self.info["args"]:
@@ -274,6 +285,9 @@ def by_variables(b, name, info, say):
         return b
     table = dict(zip(params, wants))
     body = re.sub(r"(?<![\w.'-])(%s)(?![\w'₀-])" % "|".join(re.escape(p) for p in sorted(params, key=len, reverse=True)), lambda x: table[x[1]], body)
+    # A signed variable is its value.
+    body = body.replace("(to_z w64 l.", "(l.").replace("to_z w64 l.", "l.")
+    body = re.sub(r"\((l\.[\w.]+)\)", r"\1", body)
     return "\n".join(note + [f"abbrev pub {new} : goal.{new}", f"{new} l =" + (" " if "\n" not in body else "\n    ") + body])
 
 

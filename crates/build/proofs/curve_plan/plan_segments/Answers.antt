@@ -11,7 +11,7 @@ pub loop-i-init : goal.loop-i-init
 loop-i-init c =
     let curve = c.args.curve in
     let kept : length c.put_head.new.codes ≡ length c.args.codes.now = omega (arith, c.put_head.auto) in
-    ((few-segments curve.count c.requires.0).1, simp length-map at c.well_formed.0.1.1.1.0.1.0.1, simp length-map at c.well_formed.0.1.1.1.1.0.1.0.1, rw (kept, c.put_head.ensures) (done_none curve.count curve.segments curve.terms c.requires.0 c.requires.1 c.requires.2))
+    ((few-segments curve.count c.requires.0).1, c.well_formed.0.1.1.1.0.1.0.1, c.well_formed.0.1.1.1.1.0.1.0.1, rw (kept, c.put_head.ensures) (done_none curve.count curve.segments curve.terms c.requires.0 c.requires.1 c.requires.2))
 
 pub offset_bounds-segments-i : goal.offset_bounds-segments-i
 offset_bounds-segments-i c = omega arith
