@@ -1,4 +1,4 @@
-use Rattle.listing.proofs.Names.{◌≡◌, refl, sym, ◌-◌, arith, lt-ltb}
+use Rattle.listing.proofs.Names.{◌≡◌, refl, sym, arith, lt-ltb}
 use Rattle.listing.proofs.RoundLaws.{some_below, still-none}
 use Rattle.listing.proofs.digits.any_below.Goals as goal
 

@@ -1,4 +1,4 @@
-use Rattle.listing.proofs.Names.{refl, ◌-◌, arith}
+use Rattle.listing.proofs.Names.{refl, arith}
 use Rattle.listing.proofs.DigitLaws.{product_small, turn, turned}
 use Rattle.listing.proofs.digits.scale.Goals as goal
 

@@ -1,5 +1,5 @@
 -- The loop's invariant: n is the number of the digits from `at` on.
-use Rattle.listing.proofs.Names.{◌≡◌, ◌-◌, ◌<◌, ◌≤◌, length, drop, number}
+use Rattle.listing.proofs.Names.{◌≡◌, ◌<◌, ◌≤◌, length, drop, number}
 use Rattle.listing.proofs.rounding.highest.Given as goal
 
 abbrev pub invariant-loop-at : goal.invariant-loop-at
