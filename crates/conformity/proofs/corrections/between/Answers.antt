@@ -12,9 +12,9 @@ left : (c : After-gap-left) → let a = c.args in pos c.gap-left.result ≡ a.be
 left c =
     told-gap {a = c.args.behind.point} (sfits_of c.type_inv.behind.0.1) c.ranges.p c.gap-left.ensures
 
-distances : (c : After-gap-left) → let a = c.args in Gaps a.p a.before a.behind c.gap-past.result c.gap-left.result
-distances c =
-    gaps c.args.p c.args.before c.args.behind c.requires (past c.before.before) (left c)
+distances : (c : After-gap-left) → let a = c.args in pos c.gap-past.result ≡ a.p -ℤ a.before.point → Gaps a.p a.before a.behind c.gap-past.result c.gap-left.result
+distances c first =
+    gaps c.args.p c.args.before c.args.behind c.requires first (left c)
 
 pub gap-past-requires : goal.gap-past-requires
 gap-past-requires c = told-≤ (sfits_of c.type_inv.before.0.1) c.ranges.p (less c.args.before.point c.args.p c.requires.past)
@@ -27,7 +27,7 @@ weighed-requires c =
     record {
       first = omega (arith, c.plus.ensures.0, s.0, t.0);
       second = omega (arith, c.plus-2.ensures.0, s.0, t.0);
-      run = (distances (goal.at.weighed-requires c).After-gap-left).run.1;
+      run = (distances (goal.at.weighed-requires c).After-gap-left (past (goal.at.weighed-requires c).After-gap-past)).run.1;
     }
 
 pub weighed-requires-2 : goal.weighed-requires-2
@@ -38,11 +38,11 @@ weighed-requires-2 c =
     record {
       first = omega (arith, c.minus.ensures.0, s.1, t.1);
       second = omega (arith, c.minus-2.ensures.0, s.1, t.1);
-      run = (distances (goal.at.weighed-requires-2 c).After-gap-left).run.1;
+      run = (distances (goal.at.weighed-requires-2 c).After-gap-left (past (goal.at.weighed-requires-2 c).After-gap-past)).run.1;
     }
 
 pub overflow_add-result : goal.overflow_add-result
-overflow_add-result c = omega (arith, (distances (goal.at.overflow_add-result c).After-gap-left).run)
+overflow_add-result c = omega (arith, (distances (goal.at.overflow_add-result c).After-gap-left (past (goal.at.overflow_add-result c).After-gap-past)).run)
 
 pub returns : goal.returns
 returns c =
