@@ -1,4 +1,4 @@
-use Rattle.commands.proofs.Names.{◌-◌, ◌∙◌, refl, sym, rules, length, come_said}
+use Rattle.commands.proofs.Names.{◌∙◌, refl, sym, rules, length, come_said}
 use Rattle.commands.proofs.GatherLaws.{after-end, gather-on}
 use Rattle.commands.proofs.serving.gather.Goals as goal
 
