@@ -115,13 +115,19 @@ class File:
         return self.prelude, types, tables, heads, code
 
     def types_for(self, text):
-        """Declarations; of the functions that make a slice those that are used."""
-        out = []
-        for name, lines in self.declared:
-            if name.startswith('dm_slice_') and not re.search(rf'\b{name}_of\b', text):
+        """The declarations of the types that are used; of the functions that make a slice those that are."""
+        used = set(re.findall(r'\bdm_\w+', text))
+        kept = []
+        for name, lines in reversed(self.declared):
+            if name.startswith('dm_slice_') and f'{name}_of' not in used:
                 lines = lines[:1]
-            out += lines + ([''] if lines else [])
-        return out
+            tags = set(re.findall(r'^    (\w+) = ', '\n'.join(lines), re.M))
+            if name.startswith('dm_') and name not in used and not tags & used:
+                self.declared_so_far.remove((name, next(x for own, x in self.declared if own == name)))
+                continue
+            used |= set(re.findall(r'\bdm_\w+', '\n'.join(lines)))
+            kept.append(lines)
+        return [line for lines in reversed(kept) for line in lines + ([''] if lines else [])]
 
 
 def mentions(t, name):

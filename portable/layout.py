@@ -1,5 +1,7 @@
 """How a value lies in memory: `align` and `size` of the kit's logic/Prog/Memory.antt, clause by clause."""
 
+from .mir import Unknown
+
 
 def up(k, e):
     """`up k e`: e to the next multiple of k."""
@@ -12,6 +14,8 @@ class Layout:
 
     def fields(self, t):
         """The fields of each variant, and where they begin: a struct has one, from 0; an enum's stand behind its tag's byte."""
+        if not self.shapes.get(t[1]):
+            raise Unknown(f'the shape of {t[1]}')
         kind, parts = self.shapes[t[1]]
         return ([parts], 0) if kind == 'Fields' else (parts, 1)
 

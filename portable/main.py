@@ -70,8 +70,13 @@ def made(home, programs=PROGRAMS):
         prelude = f.read()
     below = File(whole, list(whole.exported))
     out = {'dartelm.c': library(below, prelude, proved.kit, listed)}
+    used = set()
     for name, start in starts.items():
-        out[f'{name}.c'] = program(name, File(whole, start, below), by_hand, prelude, proved.kit, listed)
+        file = File(whole, start, below)
+        out[f'{name}.c'] = program(name, file, by_hand, prelude, proved.kit, listed)
+        used |= {f'{name}::main', *(whole.functions[n].symbol for n in file.own)}
+    if programs == PROGRAMS and (idle := set(by_hand.functions) - used):
+        raise Unknown(f"no program calls what is by hand (portable/outer.c): {', '.join(sorted(idle))}")
     out['sources.sha256'] = listed
     return out
 

@@ -193,7 +193,7 @@ class Values:
         if text:
             return text
         text, index, const = self.base_and_index(e, element)
-        if index is not None:
+        if index is not None and index.text != '0u':
             text = f'{text} + {index.within(PRODUCT)}'
         return f'({self.types.pointer(element)}){self.grouped(text)}' if const else text
 

@@ -49,16 +49,6 @@ typedef union {
 } dm_core_result_Result_u64_std_io_io_error_Error;
 DM_SIZE(dm_core_result_Result_u64_std_io_io_error_Error, 96);
 
-enum {
-    dm_core_result_Result_unit_std_io_io_error_Error_Ok = 0,
-    dm_core_result_Result_unit_std_io_io_error_Error_Err = 1
-};
-typedef union {
-    uint8_t tag;
-    struct { uint8_t tag; dm_std_io_io_error_Error value; } Err;
-} dm_core_result_Result_unit_std_io_io_error_Error;
-DM_SIZE(dm_core_result_Result_unit_std_io_io_error_Error, 96);
-
 /* A field's value in the sheet record: a struct can't hold an array of enums, but it can hold one of structs with an enum. */
 typedef struct {
     dm_codes_Value value;
@@ -1524,7 +1514,7 @@ DM_SMALL dm_slice_u8 dm_console_words_parts_front(dm_slice_u8 bytes, uint64_t co
     if (bytes.length < count) {
         return bytes;
     }
-    return dm_slice_u8_of(bytes.at + 0u, count - 0u);
+    return dm_slice_u8_of(bytes.at, count - 0u);
 }
 
 /* The first figures of a buffer, or all of them if it has fewer. */
@@ -1533,7 +1523,7 @@ DM_SMALL dm_slice_u64 dm_console_words_parts_front_figures(dm_slice_u64 figures,
     if (figures.length < count) {
         return figures;
     }
-    return dm_slice_u64_of(figures.at + 0u, count - 0u);
+    return dm_slice_u64_of(figures.at, count - 0u);
 }
 
 /* ---- crates/console_words/src/values.rt ---- */

@@ -1092,10 +1092,6 @@ DM_SIZE(dartelm_value, 16);
 
 DM_SIZE(dartelm_fields, 344);
 
-typedef struct {
-    dm_core_slots_Slots_u8 f0;
-} dm_core_slots_Slots_u8_unit_unit;
-
 typedef struct { uint8_t *at; uint64_t length; } dm_slice_u8;
 static inline dm_slice_u8 dm_slice_u8_of(uint8_t *at, uint64_t length)
 {
@@ -1894,7 +1890,7 @@ DM_SMALL void dm_core_slice_edits_slice_T_copy_from_slice(dm_slice_u8 self, dm_s
     v22.ptr = v6.at;
     v22.len = v6.length;
     dm_core_slots_Slots_u8 v35 = v22;
-    dm_core_ptr_copy_drop_copy_bits(src.at, (uint8_t *)v35.ptr + 0u, src.length);
+    dm_core_ptr_copy_drop_copy_bits(src.at, (uint8_t *)v35.ptr, src.length);
     return;
 }
 
