@@ -9,7 +9,7 @@ from .declared import Declared
 from .files import File
 from .forms import Instance
 from .header import Unreadable
-from .mir import Unknown
+from .mir import Failed, Unknown
 from .program import Program
 from .reading import Proved
 from .types import ident
@@ -114,8 +114,8 @@ def main(words, home):
     folder = os.path.join(home, 'portable/c')
     try:
         files = made(home)
-    except (Unknown, Unreadable) as unknown:
-        print(f'portable: not known here: {unknown}', file=sys.stderr)
+    except (Unknown, Unreadable, Failed) as stopped:
+        print(f"portable: {'' if isinstance(stopped, Failed) else 'not known here: '}{stopped}", file=sys.stderr)
         return 3
     if words:
         for name in differing(files, folder):

@@ -12,6 +12,10 @@ class Unknown(Exception):
     """A form, a type or a toolchain that this translator does not know."""
 
 
+class Failed(Exception):
+    """A command of the toolchain that failed, as where a crate is not proved."""
+
+
 # ---- the tree of a function
 
 @dataclass(eq=False)

@@ -6,7 +6,7 @@ import subprocess
 import sys
 
 from .forms import DECLARED, Dict, Instance, function_of, signature_of
-from .mir import Unknown
+from .mir import Failed, Unknown
 from .source import Sources
 
 # The toolchains whose MIR is known here (`rt version`).
@@ -19,7 +19,7 @@ STANDARD = ('std::io::traits::Read', 'std::io::traits::Write')
 def ran(*words, folder=None):
     done = subprocess.run(words, cwd=folder, capture_output=True, text=True, check=False)
     if done.returncode:
-        raise Unknown(f"{' '.join(words)[:200]}: {(done.stderr + done.stdout).strip()[-300:]}")
+        raise Failed(f"{' '.join(words)[:80]} in {folder or '.'}: {(done.stderr + done.stdout).strip()[-400:]}")
     return done.stdout
 
 
