@@ -56,6 +56,10 @@ class File:
         before = below.functions if below else set()
         names = [n for n in reached(program.functions, roots) if n not in before]
         self.own = sorted(names, key=self.order)
+        self.named = dict(below.named if below else {})
+        for n in self.own:
+            if self.named.setdefault(program.c_name(n), n) != n:
+                raise Unknown(f'two functions that are {program.c_name(n)} in C: {n}, {self.named[program.c_name(n)]}')
         self.functions = before | set(names)
         self.texts = {}
         for t in sorted({t for n in self.own for t in program.functions[n].shapes if self.is_used(n, t)}, key=self.type_order):

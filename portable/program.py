@@ -74,7 +74,7 @@ class Program:
         return names
 
     def local_name(self, fn, local):
-        if local == 0 or (local not in fn.named and local in fn.returned):
+        if local == 0 or (local not in fn.named and local in fn.returned and local > fn.params):
             return 'result'
         return plain(fn.named[local]) if local in fn.named and re.fullmatch(r'[a-z]\w*', fn.named[local]) else f'v{local}'
 

@@ -8,6 +8,9 @@ SHORT = {'uint8_t': 'u8', 'uint16_t': 'u16', 'uint32_t': 'u32', 'uint64_t': 'u64
 
 
 def ident(path):
+    """C's name of a path, which may have types in it."""
+    for said, word in ((r'\([_,]*\)', 'tuple'), ('&mut ', 'mut_'), ('&', 'ref_'), (r'\[([^\[\];]*); ', r'array_\1_'), (r'\[', 'slice_')):
+        path = re.sub(said, word, path)
     return 'dm_' + re.sub(r'[^A-Za-z0-9]+', '_', path).strip('_')
 
 
@@ -20,7 +23,8 @@ class Types:
     def __init__(self, header, sources):
         self.header, self.sources, self.shapes = header, sources, {}
         self.layout = Layout(self.shapes)
-        self.names, self.declared = {}, []    # C's name of each type; (name, lines) in an order that C takes
+        self.names, self.named_so = {}, {}    # C's name of each type, and the declared type that has a name
+        self.declared = []    # (name, lines) in an order that C takes
 
     def learn(self, shapes):
         for name, shape in shapes.items():
@@ -31,6 +35,8 @@ class Types:
         """The C type of a MIR type; what it needs is declared before it."""
         if t not in self.names:
             self.names[t] = self.make(t)
+            if t[0] == 'Named' and self.named_so.setdefault(self.names[t], t) != t:
+                raise Unknown(f'two types that are {self.names[t]} in C: {t[1]}, {self.named_so[self.names[t]][1]}')
         return self.names[t]
 
     def make(self, t):
