@@ -1,5 +1,5 @@
 -- Laws of the greatest difference: it suffices, no smaller number does, and it is attained.
-use Rattle.conformity.proofs.Names.{◌≡◌, refl, subst, List, [], ◌∷◌, ◌⊎◌, inl, inr, ℕ, max, ◌+◌, ◌*◌, ◌≤◌, ◌<◌, mul-le-mul_right, mul-pos, dec_le, arith, ℤ, pos, nat_abs, ◌+ℤ◌, ◌-ℤ◌, ◌*ℤ◌, ◌over◌, nearest, Pair}
+use Rattle.conformity.proofs.Names.{◌≡◌, refl, subst, List, [], ◌∷◌, ◌⊎◌, inl, inr, ℕ, max, ◌*◌, ◌≤◌, ◌<◌, mul-le-mul_right, mul-pos, dec_le, arith, ℤ, pos, nat_abs, ◌+ℤ◌, ◌-ℤ◌, ◌*ℤ◌, ◌over◌, nearest, Pair}
 use Rattle.conformity.proofs.Names.{Rises, Slopes, Conforms, AtPoints, WithinOf, correction, deviation, certificate_line, correction-some, conforms-within, ceiling-meets, ceiling-least, difference_at, greatest_over}
 use Rattle.conformity.proofs.Names.{greatest_difference, Attains, AtSome, ceiling-tight}
 

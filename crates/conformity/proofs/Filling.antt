@@ -1,6 +1,6 @@
 -- Laws of writing the pairs of a sheet into an array of points by turns.
 use Rattle.conformity.proofs.Names.{◌≡◌, ap₂, ◌∙◌, subst, List, ℕ, ◌+◌, ◌*◌, ◌≤◌, ◌<◌, dec_le, arith, ℤ, pos, length, get_or, take, set, length-set, length-map, length-take-le, get_or-set_same, get_or-set_other}
-use Rattle.conformity.proofs.Names.{get_or-take, ext_get_or, Pair, no_pair, pairs_lent, pair_at, pairs-length, Calibration, bare, table, curve, Contents, pairs_in, pair_in, points, CalibrationAt, Opened, Opens, points-are}
+use Rattle.conformity.proofs.Names.{get_or-take, ext_get_or, Pair, no_pair, pairs_lent, pair_at, pairs-length, Calibration, bare, table, curve, Contents, pairs_in, pair_in, CalibrationAt, Opened, Opens, points-are}
 use Rattle.conformity.proofs.Names.{holding}
 use Rattle.conformity.proofs.Exacts.{pair-lent}
 

@@ -1,5 +1,5 @@
 -- Laws of conformity in the order of its rows, and of the straight table.
-use Rattle.conformity.proofs.Names.{◌≡◌, refl, sym, ap₂, ◌∙◌, true, false, true≢false, List, map, Option, none, some, ℕ, arith, eqb, eqb→eq, is_true, ℤ, length, length-map, Refusal, good, refused, wrong_block}
+use Rattle.conformity.proofs.Names.{◌≡◌, refl, sym, ap₂, ◌∙◌, true, false, true≢false, List, map, Option, none, some, ℕ, arith, eqb→eq, is_true, ℤ, length, length-map, Refusal, good, refused, wrong_block}
 use Rattle.conformity.proofs.Names.{good-same, good-bind, passed, Pair, Electrical, Physical, Calibration, bare, table, curve, Contents, contents, pairs_in, pair_in, segments_in, segment_in, points, first_selector}
 use Rattle.conformity.proofs.Names.{CalibrationAt, pairs_lent, Opened, domain_in, Opens, segments-are, domain-is, holding, CertificateBound, distance, is_resistance, compared_with, straight_table, compared, conformity}
 use Rattle.conformity.proofs.Names.{is_straight}

@@ -1,5 +1,5 @@
 -- Proof that a sheet of a parameter's type is `Lendable`.
-use Rattle.promises.proofs.Names.{subst, List, [], ◌∷◌, map, length-map, Val, shadow, each, tells, Value, Real, the_laws, lent-real, Slot, Sheet, AllReal, Lendable}
+use Rattle.promises.proofs.Names.{subst, List, [], ◌∷◌, Val, shadow, each, tells, Value, Real, the_laws, lent-real, Slot, Sheet, AllReal, Lendable}
 use denote.Laws.{Is}
 use denote.Enum.Declared as enum
 use denote.Struct.Declared as struct

@@ -29,8 +29,7 @@ upward-requires c =
     (z.some, z.run, apart-most c.apart.ensures (omega (arith, above (goal.at.upward-requires c).After-plus, z.below)) (omega (arith, below (goal.at.upward-requires c).After-minus, z.above)))
 
 pub returns : goal.returns
-returns c =
-    (
-      λ e h. c.upward.ensures.0 ∙ exact-difference c.args.s e c.args.c h c.plus.result c.minus.result c.apart.result (told-up c.ranges.s c.plus.ensures) (told-dn c.ranges.s c.minus.ensures) c.apart.ensures,
-      c.upward.ensures.1,
-    )
+returns c = (
+  λ e h. c.upward.ensures.0 ∙ exact-difference c.args.s e c.args.c h c.plus.result c.minus.result c.apart.result (told-up c.ranges.s c.plus.ensures) (told-dn c.ranges.s c.minus.ensures) c.apart.ensures,
+  c.upward.ensures.1,
+)

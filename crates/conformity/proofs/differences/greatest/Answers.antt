@@ -1,4 +1,4 @@
-use Rattle.conformity.proofs.Names.{◌≡◌, refl, ◌∙◌, ◌-◌, ◌/◌, ◌<◌, rules, arith, length, w64, SFits, to_z-of_z, pairs_lent, pair_at, difference_at}
+use Rattle.conformity.proofs.Names.{◌≡◌, refl, ◌∙◌, ◌/◌, ◌<◌, rules, arith, length, w64, SFits, to_z-of_z, pairs_lent, pair_at, difference_at}
 use Rattle.conformity.proofs.Exacts.{deviation-at}
 use Rattle.conformity.proofs.Greatest.{greatest-end, greatest-next, own-at, follows_on}
 use Rattle.conformity.proofs.differences.greatest.Goals as goal

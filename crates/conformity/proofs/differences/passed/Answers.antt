@@ -1,4 +1,4 @@
-use Rattle.conformity.proofs.Names.{◌*◌, ◌-◌, rules, arith, pos, get_or, w64, SFits, to_z-of_z}
+use Rattle.conformity.proofs.Names.{◌*◌, rules, arith, pos, get_or, w64, SFits, to_z-of_z}
 use Rattle.conformity.proofs.Exacts.{passed-stops, passed-all, passed-one}
 use Rattle.conformity.proofs.differences.passed.Goals as goal
 

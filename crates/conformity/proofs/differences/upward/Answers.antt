@@ -15,8 +15,7 @@ pub overflow_add-result : goal.overflow_add-result
 overflow_add-result c = omega (arith, c.ceiling.ensures, whole-small c.args.num c.args.run c.requires.0 (2 ^ 33) c.requires.2, rest-up-small c.args.num c.args.run c.requires.0)
 
 pub returns : goal.returns
-returns c =
-    (
-      rw c.ceiling.ensures (parts_up c.args.num c.args.run c.requires.0),
-      omega (arith, c.ceiling.ensures, whole-small c.args.num c.args.run c.requires.0 (2 ^ 33) c.requires.2, rest-up-small c.args.num c.args.run c.requires.0),
-    )
+returns c = (
+  rw c.ceiling.ensures (parts_up c.args.num c.args.run c.requires.0),
+  omega (arith, c.ceiling.ensures, whole-small c.args.num c.args.run c.requires.0 (2 ^ 33) c.requires.2, rest-up-small c.args.num c.args.run c.requires.0),
+)

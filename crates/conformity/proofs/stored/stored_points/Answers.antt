@@ -1,4 +1,4 @@
-use Rattle.conformity.proofs.Names.{◌≡◌, refl, subst, ◌+◌, ◌*◌, ◌-◌, ◌<◌, sfits_of, arith, length, length-set, w64, to_z-of_z, points, points-are}
+use Rattle.conformity.proofs.Names.{◌≡◌, refl, subst, ◌+◌, ◌*◌, ◌<◌, sfits_of, arith, length, length-set, w64, to_z-of_z, points, points-are}
 use Rattle.conformity.proofs.Filling.{points-few, Filled, filled_next, filled-all}
 use Rattle.conformity.proofs.stored.stored_points.Goals as goal
 use Rattle.conformity.proofs.stored.stored_points.Goals.{After-struct_told-1, In-loop-i}
@@ -46,10 +46,9 @@ loop-i-preserved c =
     )
 
 pub returns : goal.returns
-returns c =
-    (
-      c.loop-i.invariant.1,
-      λ kind x h.
-          let n : c.loop-i.i ≡ length (points x) = omega (arith, c.loop-i-test.false, c.loop-i.invariant.0, points-are h) in
-          filled-all c.loop-i.room (points x) (omega (arith, c.loop-i.invariant.1, points-are h, points-few h)) (subst (Filled c.loop-i.room (points x)) n (c.loop-i.invariant.2 kind x h)),
-    )
+returns c = (
+  c.loop-i.invariant.1,
+  λ kind x h.
+      let n : c.loop-i.i ≡ length (points x) = omega (arith, c.loop-i-test.false, c.loop-i.invariant.0, points-are h) in
+      filled-all c.loop-i.room (points x) (omega (arith, c.loop-i.invariant.1, points-are h, points-few h)) (subst (Filled c.loop-i.room (points x)) n (c.loop-i.invariant.2 kind x h)),
+)

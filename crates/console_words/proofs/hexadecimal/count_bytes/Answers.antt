@@ -1,4 +1,4 @@
-use Rattle.console_words.proofs.Names.{sym, ◌∙◌, ◌-◌, arith, lt-ltb, le-ltb, drop_of_length-le}
+use Rattle.console_words.proofs.Names.{sym, ◌∙◌, arith, lt-ltb, le-ltb, drop_of_length-le}
 use Rattle.console_words.proofs.FilledLaws.{count-start, count-on, count-end, count-stop, count-full}
 use Rattle.console_words.proofs.HexLaws.{bytes-minus, bytes-empty, bytes-paired}
 use Rattle.console_words.proofs.hexadecimal.count_bytes.Goals as goal

@@ -1,4 +1,4 @@
-use Rattle.console_words.proofs.Names.{sym, ◌∙◌, ◌-◌, arith, lt-ltb, le-ltb, drop_of_length-le}
+use Rattle.console_words.proofs.Names.{sym, ◌∙◌, arith, lt-ltb, le-ltb, drop_of_length-le}
 use Rattle.console_words.proofs.FilledLaws.{fill_start, fill_on, fill_end, fill_stop, fill-full}
 use Rattle.console_words.proofs.HexLaws.{bytes-minus, bytes-empty, bytes-paired}
 use Rattle.console_words.proofs.hexadecimal.put_bytes.Goals as goal

@@ -1,4 +1,4 @@
-use Rattle.console_words.proofs.Names.{map, Option, some, ℕ, ◌-◌, arith, drop_of_length-le, length-map, spelt}
+use Rattle.console_words.proofs.Names.{map, Option, some, ℕ, arith, drop_of_length-le, length-map, spelt}
 use Rattle.console_words.proofs.FilledLaws.{fill_start, fill_on, fill_end, filled-short, begun-filled, drop-some}
 use Rattle.console_words.proofs.hexadecimal.spell.Goals as goal
 

@@ -1,4 +1,4 @@
-use Rattle.console_words.proofs.Names.{refl, sym, ◌∙◌, ◌-◌, arith}
+use Rattle.console_words.proofs.Names.{refl, sym, ◌∙◌, arith}
 use Rattle.console_words.proofs.FilledLaws.{count-start, count-on, count-end, count-stop, count-full}
 use Rattle.console_words.proofs.ListLaws.{list-minus, list-start, list-some, list-stop, list-last, list_on}
 use Rattle.console_words.proofs.numbers.count_figures.Goals as goal

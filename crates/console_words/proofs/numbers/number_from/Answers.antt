@@ -1,4 +1,4 @@
-use Rattle.console_words.proofs.Names.{◌∙◌, ◌-◌, rules}
+use Rattle.console_words.proofs.Names.{◌∙◌, rules}
 use Rattle.console_words.proofs.FigureLaws.{number-starts, number-none, number-on, number-stop, number-end}
 use Rattle.console_words.proofs.numbers.number_from.Goals as goal
 

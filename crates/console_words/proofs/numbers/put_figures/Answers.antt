@@ -1,4 +1,4 @@
-use Rattle.console_words.proofs.Names.{refl, sym, ◌∙◌, ◌-◌, arith, length-set, w64, to_z-of_z, rules}
+use Rattle.console_words.proofs.Names.{refl, sym, ◌∙◌, arith, length-set, w64, to_z-of_z, rules}
 use Rattle.console_words.proofs.FilledLaws.{fill_start, fill_on, fill_end, fill_stop, fill-full}
 use Rattle.console_words.proofs.ListLaws.{list-minus, list-start, list-some, list-stop, list-last, list_on}
 use Rattle.console_words.proofs.numbers.put_figures.Goals as goal

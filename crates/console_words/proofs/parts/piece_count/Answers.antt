@@ -4,7 +4,7 @@ use Rattle.console_words.proofs.parts.piece_count.Goals as goal
 use Rattle.console_words.proofs.parts.piece_count.Goals.{then-line-at, else-line-at}
 
 pub loop-at-preserved : goal.loop-at-preserved
-loop-at-preserved c = 
+loop-at-preserved c =
     elim c.if-line-at.branch [
       | then-line-at w ↦ omega (arith, count-separator c.args.separator c.args.line.now _ c.loop-at-test.true w.if-line-at.true)
       | else-line-at w ↦ omega (arith, count-other c.args.separator c.args.line.now _ c.loop-at-test.true w.if-line-at.false)

@@ -1,4 +1,4 @@
-use Rattle.console_words.proofs.Names.{refl, sym, ◌∙◌, ◌-◌}
+use Rattle.console_words.proofs.Names.{refl, sym, ◌∙◌}
 use Rattle.console_words.proofs.WordLaws.{reach-on, reach-stop, reach-end}
 use Rattle.console_words.proofs.parts.reach.Goals as goal
 

@@ -1,4 +1,4 @@
-use Rattle.recordings.proofs.Names.{◌≡◌, true, false, ◌-◌, not-true, not-false, arith, length, refreshes, right, refresh_at}
+use Rattle.recordings.proofs.Names.{◌≡◌, true, false, not-true, not-false, arith, length, refreshes, right, refresh_at}
 use Rattle.recordings.proofs.Ticks.{six-times, turn-fails, turn-next, turn_end}
 use Rattle.recordings.proofs.comparing.compare_ticks.Goals as goal
 
