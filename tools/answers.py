@@ -36,6 +36,8 @@ def continues(now, line):
         return False
     if line.startswith("--") or line.startswith("use "):
         return False
+    if line[0] in ")}]":
+        return True
     if line.startswith("unfolding "):
         return True
     name = head(last[0])
@@ -83,6 +85,8 @@ class Fn:
         self.callee = {p[0]: p[3] for p in info["places"]}
 
     def find(self, place, step):
+        step = step[:-4] if step.endswith("_lem") else step
+        step = step[:1].lower() + step[1:]
         for exact in (True, False):
             at = place
             while at is not None:
@@ -103,18 +107,21 @@ class Fn:
                         best = (field, way)
             if best:
                 return [self.arms[at][0], best[0]] + comps[len(best[1]):]
+            for field, old, way in (self.arms[at] or (0, 0, []))[2]:
+                if DASH(old) == DASH(step) and not way and field.endswith("-own") and comps[:1] == ["given"]:
+                    return [self.arms[at][0], field] + comps
             at = self.parent[at]
         return None
 
     def known(self, place, step):
-        """The variable whose type a step of an older Rattle spoke of."""
+        """The variable whose type a step of an older Rattle spoke of, and the nearest place that knows it."""
         at = place
         while at is not None:
             for var, s in self.typed[at]:
                 if DASH(s) == DASH(step):
-                    return var
+                    return var, at
             at = self.parent[at]
-        return None
+        return None, None
 
     def place(self, name):
         for p in self.parent:
@@ -124,6 +131,8 @@ class Fn:
 
     def turn(self, body, var, place, need, lemmas={}):
         """Paths of `body` by today's names; `var` stands at `place`."""
+        body = body.replace("«open»", "open")
+        body = re.sub(r"λ (\w+)\. \1(?=\.)", lambda m: f"λ {m[1]}\1. {m[1]}\1", body)
         env = {var: place}
         out, at = [], 0
         # Aliases of places go.
@@ -187,6 +196,8 @@ class Fn:
             first = comps[0]
             if first in PLAIN:
                 comps[0] = first.replace("-", "_")
+                if first in ("args", "ranges") and len(comps) > 1:
+                    comps[1] = comps[1].replace("-", "_")
                 if first == "requires" and self.pre and len(self.pre) > 1:
                     named = by_clause(self.pre, comps[1:])
                     if named is None:
@@ -194,10 +205,25 @@ class Fn:
                     comps[1:] = named
                 return ".".join([var] + comps)
             q = self.find(place, first)
-            var_known = self.known(place, first)
+            var_known, there = self.known(place, first)
             if var_known and comps[1:2] == ["given"]:
-                return ".".join([var, "type_inv", var_known] + comps[2:])
+                at = var
+                if there != place and need:
+                    self.imported.add(self.named[there])
+                    at = f"(goal.at.{need} {var}).{self.named[there]}"
+                q = place
+                while there != place and not need and q is not None and q != there:
+                    at, q = at + ".before", self.parent[q]
+                return ".".join([at, "type_inv", var_known] + comps[2:])
             in_arm = self.arm(place, first, comps[1:])
+            if not in_arm and comps[1:2] == ["rest"]:
+                return ".".join([var, "in_default", "in_default-own"] + comps[1:])
+            if not in_arm and comps[1:2] and re.match(r"keys\d+$", comps[1]) and q:
+                at = place
+                while at is not None and not (self.arms[at] and DASH(self.step[at][0]) == DASH(first)):
+                    at = self.parent[at]
+                if at:
+                    return ".".join([var, self.arms[at][0], self.arms[at][0] + "-own"] + comps[1:])
             if in_arm:
                 return ".".join([var] + in_arm)
             if q is None:
@@ -211,12 +237,32 @@ class Fn:
                 comps[2:] = named
             if len(comps) > 1 and comps[1] in self.facts[q]:
                 comps[1] = self.facts[q][comps[1]]
+            if comps[1:2] == ["new"] and comps[2:3] and comps[2] in "01":
+                rest, k = comps[2:], 0
+                while rest[:1] == ["1"]:
+                    rest, k = rest[1:], k + 1
+                params = self.info["params"].get(self.callee[q]) or []
+                if rest[:1] == ["0"] and k < len(params):
+                    comps[2:] = [params[k]] + rest[1:]
+                else:
+                    self.said(f"look at {m[0]}: {'.'.join(comps)}")
+            if comps[1:2] == ["new"] and len(comps) > 2:
+                comps[2] = comps[2].replace("-", "_")
+            if comps[1:2] == ["auto"] and comps[2:3] and comps[2].isdigit():
+                self.said(f"look at {m[0]}: {'.'.join(comps)}")
+                comps[2] = "image"
             if comps[0].endswith("-1") or "given" in comps[1:2]:
                 self.said(f"look at {m[0]}: {'.'.join(comps)}")
             comps = [c.replace("type-inv", "type_inv") for c in comps]
             return ".".join([var] + comps)
 
-        return re.sub(r"(?<![\w.'-])(%s)((?:\.[\w'-]+)*)(?![\w'-])" % names, one, body).replace("\0", var)
+        body = re.sub(r"(?<![\w.'-])(?!(?<=\{)\w+ =)(%s)((?:\.[\w'-]+)*)(?![\w'-])" % names, one, body).replace("\0", var).replace("\1", "")
+        body = re.sub(r"(?<![\w'-])((?!%s\.)[\w'₀-₉]+)\.ranges(?![\w'-])" % re.escape(var), lambda m: m[0] if m[1] in env else m[1] + ".fits", body)
+        body = re.sub(r"(?<!\.\w)\)\.ranges(?![\w'-])", ").fits", body)
+        for old, new in self.info["args"]:
+            if old.startswith("."):
+                body = body.replace(var + old.replace(" ", ""), var + new.replace(" ", ""))
+        return body
 
 
 def by_variables(b, name, info, say):
@@ -239,6 +285,9 @@ def by_variables(b, name, info, say):
         return b
     table = dict(zip(params, wants))
     body = re.sub(r"(?<![\w.'-])(%s)(?![\w'₀-])" % "|".join(re.escape(p) for p in sorted(params, key=len, reverse=True)), lambda x: table[x[1]], body)
+    # A signed variable is its value.
+    body = body.replace("(to_z w64 l.", "(l.").replace("to_z w64 l.", "l.")
+    body = re.sub(r"\((l\.[\w.]+)\)", r"\1", body)
     return "\n".join(note + [f"abbrev pub {new} : goal.{new}", f"{new} l =" + (" " if "\n" not in body else "\n    ") + body])
 
 
@@ -307,6 +356,27 @@ def lam(text):
     return (m[1].split(), m[2]) if m else None
 
 
+def aligned(args, needs, heads):
+    """The answers without those of goals that are settled now: only answers that say nothing are left out."""
+    def asks(a):
+        if a in heads:
+            m = re.search(r": tie\.Need-(\S+)", heads[a])
+            return m and "requires" in m[1]
+        got = lam(a)
+        return bool(got and "κs" in got[0])
+
+    best = {(0, 0): []}
+    for i in range(len(args)):
+        for j in range(len(needs) + 1):
+            if (i, j) not in best:
+                continue
+            if HOLE.match(args[i]) or re.match(r"^\(?λ c\. (omega arith|search rules)\)?$", args[i]):
+                best.setdefault((i + 1, j), best[i, j])
+            if j < len(needs) and asks(args[i]) == ("requires" in needs[j]) and (not HOLE.match(args[i]) or True):
+                best.setdefault((i + 1, j + 1), best[i, j] + [args[i]])
+    return best.get((len(args), len(needs)))
+
+
 def convert(path, fn_path, crate, info, say):
     text = open(path, encoding="utf-8").read()
     fn = Fn(info, say)
@@ -333,15 +403,27 @@ def convert(path, fn_path, crate, info, say):
     unfolding = re.search(r"^unfolding (.*)$", spec[0], re.M)
     unfolding = unfolding[0] + "\n" if unfolding else ""
     loops = info["loops"]
-    given = [a for a in args if re.match(r"(invariant|decreases)\b", a)]
-    args = [a for a in args if a not in given]
+    given, args = args[: 2 * len(loops)], args[2 * len(loops):]
+    written = []
+    for i, a in enumerate(given):
+        if a not in heads:
+            name = ("invariant-" if i % 2 == 0 else "decreases-") + loops[i // 2][0][0]
+            got = lam(a)
+            if got:
+                written.append(f"abbrev {name} : goal\n{name} {' '.join(got[0])} = {got[1]}")
+                rest.append(written[-1])
+                heads[name] = written[-1]
+            else:
+                say(f"given {i} is {a}")
     needs = info["needs"]
+    if len(args) > len(needs):
+        args = aligned(args, [n[0] for n in needs], heads) or args
     if len(args) != len(needs):
         say(f"{len(args)} answers for {len(needs)} needs: {[n[0] for n in needs]} loops {json.dumps(loops)[:200]} settled {info['settled']}")
-    used, answers = set(), []
+    used, answers, needs_of = set(), [], {}
     placed, imported = {}, set()
     for name, b in heads.items():
-        m = re.search(r"^%s : \((\w+) : tie\.([\w'-]+)[^)]*\) →" % re.escape(name), b, re.M)
+        m = re.search(r"^(?:abbrev )?%s : \((\w+) : tie\.([\w'-]+)[^)]*\) →" % re.escape(name), b, re.M) or re.search(r"^(?:abbrev )?%s : ()tie\.([\w'-]+) →" % re.escape(name), b, re.M)
         if m and not m[2].startswith("Need-"):
             p = fn.place(m[2])
             if p is None:
@@ -381,6 +463,8 @@ def convert(path, fn_path, crate, info, say):
                 say(f"answer {i} is {a}")
                 continue
             if HOLE.match(a):
+                if unfolding and i < len(needs) and len(args) == len(needs) and needs[i][1].startswith("returns"):
+                    answers.append((i, [], needs[i][1], [unfolding.rstrip()], ["c"], "search rules"))
                 continue
             note, un = [], [unfolding.rstrip()] if unfolding else []
             binders, term = got
@@ -392,16 +476,22 @@ def convert(path, fn_path, crate, info, say):
             say(f"answer {i} is past the needs: {a}")
             continue
         new = needs[k][1]
+        if new.startswith("shape_of"):
+            continue
         place = info["asked_at"][k][0]
         var = binders[0]
         more = [x for x in binders[1:] if x not in ("κs", "_")]
-        if more:
+        if a in heads:
+            needs_of[a] = new
+        if more and more != ["e"]:
             say(f"{new} has more binders: {more}")
         term = fn.turn(term, var, place, new, placed)
         term = re.sub(r"(?<![\w'-])to_z-of_z (?=\()", "to_z-of_z {w = w64} ", term)
-        fields = info["asked"].get(new)
+        fields = info["asked"].get(needs[k][0]) or info["asked"].get(new)
         if fields and len(fields) > 1 and "search rules" != term.strip():
             got = as_record(term, fields)
+            if got is None and len(fields) == 2 and not re.match(r"(let|rw|simp|omega|search|grind|record|λ)\b", term.strip()):
+                got = "record { %s = (%s).0; %s = (%s).1 }" % (fields[0], term.strip(), fields[1], term.strip())
             if got is None:
                 say(f"{new} wants {fields}")
             else:
@@ -416,17 +506,34 @@ def convert(path, fn_path, crate, info, say):
         if re.match(r"(invariant|decreases)\b", name):
             inv.append(by_variables(b, name, info, say))
             continue
-        m = re.search(r"\((\w+) : tie\.([\w'-]+)([^)]*)\)", b)
+        m = re.search(r"\((\w+) : tie\.([\w'-]+)([^)]*)\)", b) or re.search(r": ()tie\.([\w'-]+)() →", b)
         if m:
             p = fn.place(m[2])
             if p is None:
                 say(f"no place {m[2]}")
             else:
-                b = b[: m.start()] + f"({m[1]} : {fn.named[p]})" + b[m.end():]
-                for v in set(re.findall(r"^%s (\w+)" % re.escape(name), b, re.M)) | {m[1]}:
+                b = b[: m.start()] + (f"({m[1]} : {fn.named[p]})" if m[1] else f": {fn.named[p]} →") + b[m.end():]
+                for v in (set(re.findall(r"^%s (\w+)" % re.escape(name), b, re.M)) | {m[1]}) - {""}:
                     b = fn.turn(b, v, p, None, placed)
         lemmas.append(b)
+    # An answer that names another stands below it.
     answers.sort(key=lambda x: x[0])
+    olds = {a: needs_of[a] for a in needs_of}
+    def renamed(term):
+        for old, new in olds.items():
+            term = re.sub(r"(?<![\w.'-])%s(?= \(?c\b)" % re.escape(old), new, term)
+        return term
+    answers = [(k, note, new, un, bs, renamed(term)) for k, note, new, un, bs, term in answers]
+    done, order = set(), []
+    while answers:
+        names_left = {a[2] for a in answers}
+        for a in answers:
+            cites = {n for n in names_left if n != a[2] and re.search(r"(?<![\w.'-])%s (?=\(?c\b)" % re.escape(n), a[5])}
+            if not cites:
+                break
+        answers.remove(a)
+        order.append(a)
+    answers = order
     return uses, top, inv, lemmas, answers, loops, imported | fn.imported
 
 

@@ -12,6 +12,7 @@ ghost use Rattle.dartelm.specs.Calls.{reading_call, compare_call, distance_call,
 ghost use Rattle.dartelm.specs.Sheets.{sheet_call};
 
 mod answers; // answers.rt: the structs that calls return
+mod copying; // copying.rt: bytes at the start of an array
 mod sheets; // sheets.rt: all fields of an opened sheet
 mod values; // values.rt: a field's value by flags, and the values of a sheet
 
@@ -24,6 +25,7 @@ use answers::{
 };
 use change::ProposalAnswer;
 use conformity::ConformityAnswer;
+use copying::copy;
 use distance::DistanceAnswer;
 use reading::ReadingAnswer;
 use recordings::ComparedAnswer;
@@ -530,7 +532,7 @@ pub extern "C" fn dartelm_text(field: u64, code: u64) -> DartelmTextAnswer
         },
         TextAnswer::Length(length) => {
             let mut characters = [0; 11];
-            bytes::copy(&shown, &mut characters);
+            copy(&shown, &mut characters);
             DartelmTextAnswer {
                 number: 0,
                 place: 0,
@@ -567,6 +569,6 @@ pub extern "C" fn dartelm_page(kind: u8, image: &[u8], page: u64) -> DartelmPage
 {
     let part = memory::page_bytes(kind, image, page);
     let mut bytes = [0; 31];
-    let count = bytes::copy(part, &mut bytes) as u64;
+    let count = copy(part, &mut bytes) as u64;
     DartelmPageAnswer { count, bytes }
 }

@@ -42,7 +42,7 @@ module _ (S : ℕ) (domain : Domain) (before : Option Codes) (at : ℕ) where
       let a = field-pieces S cal_point (λ x. field_of cal_deviation >>= following domain before x) at ps p l in
       let b = field-pieces S cal_deviation (following domain before a.first) (at + 16) a.behind p a.parses in
       let (u, f, m) = given-pieces S (follows domain before a.first.at _) _ _ b.behind p b.parses in
-      let (z, e) = ends-pieces S (paired a.first b.first) _ b.behind p m in
+      let (z, e) = ends-pieces S (paired a.first b.first) 0 b.behind p m in
       subst (λ (q : FoundPair). (ps ≡ found_pair_pieces q) × PairAt domain before at q) e (
         a.split ∙ ap (λ q. piece_of a.first ∷ q) (b.split ∙ ap (λ q. piece_of b.first ∷ q) z),
         record {
@@ -258,7 +258,7 @@ module _ (S at : ℕ) where
           let h = parses-halves S (block_at at) after_block (at + 2) ps c m in
           let (f, k) = block-pieces h.first h.middle h.front in
           let (rs, g, j) = fixed-pieces S 2 3 (wrong_block _) (ends h.middle) _ h.second c h.back in
-          let (z, i) = ends-pieces S h.middle _ rs c j in
+          let (z, i) = ends-pieces S h.middle 0 rs c j in
           subst (λ (d : Calibration). (p ∷ ps ≡ calibration_pieces d ++ (piece 2 3 ∷ [])) × CalibrationAt at d) i (
             ap₂ (λ q r. q ∷ r) (selector 0 (eqb-true p.code 0 e)) (sym h.joined)
                 ∙ ap₂ (λ q r. q ++ r) f (g ∙ ap (λ q. piece 2 3 ∷ q) z),

@@ -36,7 +36,7 @@ module _ (S : ℕ) (row : Row) (rule : ℕ → Bool) (at : ℕ) where
       let w = field-pieces S row (taken_by rule) at ps x l in
       let y : Found = w.first in
       let (t, m) = refuse-pieces S (wrong_curve y.at) (not (rule y.code)) (ends y) _ w.behind x w.parses in
-      let (z, e) = ends-pieces S y _ w.behind x m in
+      let (z, e) = ends-pieces S y 0 w.behind x m in
       subst (λ (y : Found). (ps ≡ piece_of y ∷ []) × RuledAt row rule at y) e
       (w.split ∙ ap (λ q. piece_of y ∷ q) z, record { field = w.field; taken = not-false (rule y.code) t })
 
@@ -91,7 +91,7 @@ module _ (S : ℕ) (before : Option ℕ) (at : ℕ) where
   term-pieces ps t l =
       let a = ruled-pieces S exponent (rises before) at with_coefficient ps t l in
       let b = field-pieces S coefficient (λ c. ends (term a.first c)) (at + 7) a.behind t a.parses in
-      let (z, e) = ends-pieces S (term a.first b.first) _ b.behind t b.parses in
+      let (z, e) = ends-pieces S (term a.first b.first) 0 b.behind t b.parses in
       subst (λ (u : FoundTerm). (ps ≡ term_pieces u) × TermAt before at u) e (
         a.split ∙ ap (λ q. piece_of a.first ∷ q) (b.split ∙ ap (λ q. piece_of b.first ∷ q) z),
         record { exponent = a.stands; coefficient = b.field },

@@ -205,7 +205,7 @@ pub made-pieces : {A B : Type 0} (S : ℕ) (m : Format A) (g : A → B) (at : �
     Parses S (m >>= λ x. ends (g x)) at ps b → (a : A) × (g a ≡ b) × Parses S m at ps a
 made-pieces S m g at ps b l =
     let h = parses-halves S m (λ x. ends (g x)) at ps b l in
-    let (z, e) = ends-pieces S (g h.middle) _ h.second b h.back in
+    let (z, e) = ends-pieces S (g h.middle) 0 h.second b h.back in
     let f : h.first ≡ ps = sym (append-nil h.first) ∙ ap (λ q. h.first ++ q) (sym z) ∙ h.joined in
     (h.middle, e, subst (λ q. Parses S m at q h.middle) f h.front)
 

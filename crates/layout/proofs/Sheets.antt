@@ -16,7 +16,7 @@ module _ (S at : ℕ) where
 
   named-pieces : (n : ℕ) (o : Option Template) → template_of n ≡ o → (ps : List Piece) (t : Template) → Parses S (named at o) (at + 2 + 8) ps t →
       (ps ≡ []) × (n ≡ number_of t)
-  named-pieces n (some u) e ps t l = let (z, f) = ends-pieces S u _ ps t l in (z, known-number n t (e ∙ ap some f))
+  named-pieces n (some u) e ps t l = let (z, f) = ends-pieces S u 0 ps t l in (z, known-number n t (e ∙ ap some f))
   named-pieces n none e ps t l = absurd l
 
   block-pieces : (ps : List Piece) (t : Template) → Parses S first_block at ps t → ps ≡ block_pieces (number_of t)

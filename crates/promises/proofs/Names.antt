@@ -34,7 +34,8 @@ pub use Rattle.memory.specs.{Bits.Bytes, Bits.bit, Bits.field_at, Bits.put_at, P
 unfoldable pub use Rattle.memory.specs.Image.{blank_from, image_of, image_sizes, page_test, stream_of, sums_from}
 pub use Rattle.stream.proofs.Mending.{mended-check}
 pub use Rattle.codes.proofs.StoredLaws.{reads-back, stepped-nearest, stored-again}
-pub use Rattle.codes.proofs.{ScaleLaws.values-rise, SingleValues.bits-value, SingleValues.size, StepLaws.code-rises, StoringLaws.geometric-by-ratio, StoringLaws.no_less, Value.Laws.the_laws}
+pub use Rattle.codes.proofs.{ScaleLaws.values-rise, SingleValues.bits-value, SingleValues.size, StepLaws.code-rises, StoringLaws.geometric-by-ratio, StoringLaws.no_less}
+pub use Rattle.codes.proofs.Value.TheLaws.{the_laws}
 pub use Rattle.codes.specs.Rules.{all_ones, finite, meaning, outside, progression, single_code, stepped_code, stepped_value, top_code, whole_code}
 pub use Rattle.codes.specs.declared.Rule.{Rule, TheVariants.Geometric, TheVariants.Plain, TheVariants.Single as Ieee, TheVariants.Stepped}
 pub use Rattle.codes.specs.declared.{Row.Row, Scale.Scale, Value.Value, Value.TheVariants.Missing, Value.TheVariants.Single, Value.TheVariants.Whole}

@@ -15,7 +15,8 @@ pub use Rattle.refusal.specs.{Rows.end_outside, Rows.no_span, Rows.not_finite, R
 pub use Rattle.integers.proofs.PartLaws.{abs-parts, add_parts, dn-neg, is_false, is_true, le-le_z, le-lt_z, le_z-parts, lt-le_z, lt-lt_z, lt_z-parts, mul-parts, nle_z-parts, nlt_z-parts, parts-<ℤ, parts-≤ℤ, sub_is, sub-parts-ℤ}
 pub use Rattle.integers.proofs.PartLaws.{up_neg}
 pub use Rattle.integers.specs.{Nearest.◌over◌, Nearest.nearest, Parts.dn, Parts.up}
-pub use Rattle.codes.proofs.{FloatLaws.no_nan, SingleLaws.nanovolts-within, Value.the_type}
+pub use Rattle.codes.proofs.{FloatLaws.no_nan, SingleLaws.nanovolts-within}
+pub use Rattle.codes.specs.contracts.Value.{the_type}
 pub use Rattle.codes.specs.declared.{Row.Row, Rule.TheVariants.Single as Ieee, Rule.TheVariants.Stepped, Value.Value, Value.TheVariants.Missing, Value.TheVariants.Single, Value.TheVariants.Whole}
 pub use Rattle.codes.specs.{Answers.rounded_said, Rules.all_ones, Rules.finite, Rules.meaning, Rules.stepped_value, Rules.top_code, Units.billion}
 unfoldable pub use Rattle.codes.specs.Rules.{decode}

@@ -2,6 +2,7 @@ use Rattle.stream.proofs.Names.{le_refl, arith}
 use Rattle.stream.proofs.Runs.{side-byte, side-eight, side-run, side-over}
 use Rattle.stream.proofs.Laying.{word_lt, append-near, append-over}
 use Rattle.stream.proofs.bitfields.append.Goals as goal
+use Rattle.stream.proofs.bitfields.append.Goals.{After-checks_before-checks}
 
 pub checks_before-checks-requires : goal.checks_before-checks-requires
 checks_before-checks-requires c = omega arith
@@ -30,15 +31,12 @@ overflow_add-i c = omega arith
 pub lay_eight-requires : goal.lay_eight-requires
 lay_eight-requires c = omega arith
 
-pub shape_of-image-then-i-edge : goal.shape_of-image-then-i-edge
-shape_of-image-then-i-edge c = c.lay_eight.auto.0
-
 pub returns-then-i-edge : goal.returns-then-i-edge
 returns-then-i-edge c =
     let a = c.args in
     let p = c.requires.in_stream.0 in
     let k = c.checks_before-checks.ensures in
-    append-near a.sizes a.image.now p.whole.long (λ i. (c.type_inv.image i).fits) _ a.at a.width a.code _ p.most c.requires.in_stream.1 c.requires.image_bound
+    append-near a.sizes a.image.now p.whole.long (λ i. ((goal.at.returns-then-i-edge c).After-checks_before-checks.type_inv.image i).fits) _ a.at a.width a.code _ p.most c.requires.in_stream.1 c.requires.image_bound
     (side-byte _ p k) c.wide.ensures.0 _ (side-eight _ p k c.if-i-edge.true) c.lay_eight.ensures
 
 pub overflow_add-from-2 : goal.overflow_add-from-2
@@ -64,7 +62,7 @@ with_check-requires c =
     let a = c.args in
     let p = c.requires.in_stream.0 in
     let k = c.checks_before-checks.ensures in (
-      word_lt a.sizes a.image.now p.whole.long (λ i. (c.type_inv.image i).fits) _ a.at a.width a.code _ p.most c.requires.in_stream.1 c.requires.image_bound
+      word_lt a.sizes a.image.now p.whole.long (λ i. ((goal.at.with_check-requires c).After-checks_before-checks.type_inv.image i).fits) _ a.at a.width a.code _ p.most c.requires.in_stream.1 c.requires.image_bound
           (side-byte _ p k) c.wide.ensures.0 56 (le_refl 56),
       omega arith,
       c.wide-check.ensures.1,
@@ -73,23 +71,17 @@ with_check-requires c =
 pub lay_eight-requires-then-from-image : goal.lay_eight-requires-then-from-image
 lay_eight-requires-then-from-image c = omega arith
 
-pub shape_of-image-then-from-image : goal.shape_of-image-then-from-image
-shape_of-image-then-from-image c = c.lay_eight-then-from-image.auto.0
-
 pub returns-then-from-image : goal.returns-then-from-image
 returns-then-from-image c =
     let a = c.args in
     let p = c.requires.in_stream.0 in
     let k = c.checks_before-checks.ensures in
-    append-over a.sizes a.image.now p.whole.long (λ i. (c.type_inv.image i).fits) _ a.at a.width a.code _ p.most c.requires.in_stream.1 c.requires.image_bound
+    append-over a.sizes a.image.now p.whole.long (λ i. ((goal.at.returns-then-from-image c).After-checks_before-checks.type_inv.image i).fits) _ a.at a.width a.code _ p.most c.requires.in_stream.1 c.requires.image_bound
     (side-byte _ p k) c.wide.ensures.0 _ _ _ _ (omega arith) (omega arith) c.if-from-image.true
     (side-run _ p k) (side-over _ p k c.if-i-edge.false c.if-from-image.true) c.wide-check.ensures.0 c.with_check.ensures c.lay_eight-then-from-image.ensures
 
 pub put-requires : goal.put-requires
 put-requires c = c.requires.in_stream
-
-pub shape_of-image : goal.shape_of-image
-shape_of-image c = c.put.auto.1.0
 
 pub returns : goal.returns
 returns c = c.put.ensures

@@ -1,6 +1,7 @@
 use Rattle.stream.proofs.Names.{lit<}
 use Rattle.stream.proofs.Runs.{eight-in, eight_fits, joined}
 use Rattle.stream.proofs.bitfields.eight.Goals as goal
+use Rattle.stream.proofs.bitfields.eight.Goals.{After-shared_slice_known-1}
 
 pub wide-requires : goal.wide-requires
 wide-requires c = tt
@@ -70,7 +71,7 @@ wide-requires-8 c = tt
 
 pub returns : goal.returns
 returns c =
-    joined c.args.image.now (λ i. (c.type_inv.image i).fits) c.args.from _ _ _ _ _ _ _ _ c.requires
+    joined c.args.image.now (λ i. ((goal.at.returns c).After-shared_slice_known-1.type_inv.image i).fits) c.args.from _ _ _ _ _ _ _ _ c.requires
     c.wide.ensures.0
     c.wide-2.ensures.0
     c.wide-3.ensures.0

@@ -2,6 +2,7 @@ use Rattle.stream.proofs.Names.{lit<, length-set}
 use Rattle.stream.proofs.Runs.{eight-in, eight_fits}
 use Rattle.stream.proofs.Laying.{laid_word}
 use Rattle.stream.proofs.bitfields.lay_eight.Goals as goal
+use Rattle.stream.proofs.bitfields.lay_eight.Goals.{After-slice_known-1}
 
 pub byte-requires : goal.byte-requires
 byte-requires c = tt
@@ -69,14 +70,11 @@ overflow_add-image-7 c = eight_fits _ 7 _ c.requires c.well_formed.0.0 (lit< tt)
 pub bounds-image-from-8 : goal.bounds-image-from-8
 bounds-image-from-8 c = simp length-set (eight-in _ 7 _ c.requires (lit< tt))
 
-pub shape_of-image : goal.shape_of-image
-shape_of-image c = simp length-set
-
 pub returns : goal.returns
 returns c =
     let a = c.args in
     laid_word a.image.now a.from a.word _ _ _ _ _ _ _ _
-    (λ i. (c.type_inv.image i).fits)
+    (λ i. ((goal.at.returns c).After-slice_known-1.type_inv.image i).fits)
     c.requires
     c.ranges.word.fits
     c.byte.ensures

@@ -17,9 +17,6 @@ replaced-requires c = omega arith
 pub lay_eight-requires : goal.lay_eight-requires
 lay_eight-requires c = omega arith
 
-pub shape_of-image : goal.shape_of-image
-shape_of-image c = c.lay_eight.auto.0
-
 pub returns : goal.returns
 returns c =
     let a = c.args in

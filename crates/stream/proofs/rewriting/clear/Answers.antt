@@ -15,9 +15,6 @@ loop-i-preserved c =
     let l = c.loop-i in
     (omega arith, (simp length-set l.invariant.1.0, ap (λ x. set x l.i 0) l.invariant.1.1 ∙ fill_more l.i 0 _ (omega arith)))
 
-pub shape_of-image : goal.shape_of-image
-shape_of-image c = c.loop-i.invariant.1.0
-
 pub returns : goal.returns
 returns c =
     let l = c.loop-i in

@@ -21,8 +21,5 @@ loop-page-preserved c =
     let l = c.loop-page in
     (omega arith, (omega (arith, c.seal.auto), rw c.seal.ensures (sealed-more c.args.sizes l.page c.loop-page-test.true l.invariant.1.1)))
 
-pub shape_of-image : goal.shape_of-image
-shape_of-image c = c.loop-page.invariant.1.0
-
 pub returns : goal.returns
 returns c = sealed-all c.args.sizes c.loop-page.page c.loop-page-test.false c.loop-page.invariant.1.1

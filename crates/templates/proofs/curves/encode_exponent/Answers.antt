@@ -3,7 +3,7 @@ use Rattle.templates.proofs.CurveLaws.{below-zero, above-five, between, follows-
 use Rattle.templates.proofs.curves.encode_exponent.Goals as goal
 use Rattle.templates.proofs.curves.encode_exponent.Goals.{After-exponent_follows, After-plus, Start}
 
-abbrev before : tie.Start → Option ℤ
+abbrev before : Start → Option ℤ
 before s = tenths_before (earlier_said s.args.before)
 
 code : (c : After-exponent_follows) → 64 + 2 * c.plus.result ≡ 64 + 2 * up c.args.exponent

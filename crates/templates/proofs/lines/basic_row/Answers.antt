@@ -20,4 +20,4 @@ returns-in-4 c layout = rw c.in-4.is c.any-in-4.ensures
 
 pub returns-in_default : goal.returns-in_default
 unfolding basic lines_of
-returns-in_default c layout = let last : c.args.field ≡ 5 = omega (arith, past 1 4 c.requires.0 c.in_default.rest) in rw last c.any-in_default.ensures
+returns-in_default c layout = let last : c.args.field ≡ 5 = omega (arith, past 1 4 c.requires.0 c.in_default.in_default-own.rest) in rw last c.any-in_default.ensures

@@ -88,4 +88,4 @@ returns-in-21 c = rw c.in-21.is ((λ p. omega arith), omega arith)
 
 pub returns-in_default : goal.returns-in_default
 unfolding basic template33 lines_of
-returns-in_default c = let last : c.args.field ≡ 22 = omega (arith, past 1 21 c.requires.0 c.in_default.rest) in rw last ((λ p. omega arith), omega arith)
+returns-in_default c = let last : c.args.field ≡ 22 = omega (arith, past 1 21 c.requires.0 c.in_default.in_default-own.rest) in rw last ((λ p. omega arith), omega arith)

@@ -64,4 +64,4 @@ returns-in-20 c = rw c.in-20.is c.any-in-20.ensures
 
 pub returns-in_default : goal.returns-in_default
 unfolding basic template33 lines_of
-returns-in_default c = let last : c.args.field ≡ 21 = omega (arith, past 6 15 c.requires.0 c.in_default.rest) in rw last c.any-in_default.ensures
+returns-in_default c = let last : c.args.field ≡ 21 = omega (arith, past 6 15 c.requires.0 c.in_default.in_default-own.rest) in rw last c.any-in_default.ensures

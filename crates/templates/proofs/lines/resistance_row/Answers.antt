@@ -56,4 +56,4 @@ returns-in-18 c = rw c.in-18.is c.any-in-18.ensures
 
 pub returns-in_default : goal.returns-in_default
 unfolding basic template32 lines_of
-returns-in_default c = let last : c.args.field ≡ 19 = omega (arith, past 6 13 c.requires.0 c.in_default.rest) in rw last c.any-in_default.ensures
+returns-in_default c = let last : c.args.field ≡ 19 = omega (arith, past 6 13 c.requires.0 c.in_default.in_default-own.rest) in rw last c.any-in_default.ensures

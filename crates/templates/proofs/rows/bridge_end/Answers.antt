@@ -9,4 +9,4 @@ pub returns-in-1 : goal.returns-in-1
 returns-in-1 c = rw c.in-1.is c.optional-in-1.ensures
 
 pub returns-in_default : goal.returns-in_default
-returns-in_default c = c.optional-in_default.ensures ∙ bridge-single c.args.precision c.in_default.rest
+returns-in_default c = c.optional-in_default.ensures ∙ bridge-single c.args.precision c.in_default.in_default-own.rest

@@ -12,4 +12,4 @@ pub returns-in-2 : goal.returns-in-2
 returns-in-2 c = rw c.in-2.is c.optional-in-2.ensures
 
 pub returns-in_default : goal.returns-in_default
-returns-in_default c = c.optional-in_default.ensures ∙ resistance-single c.args.precision c.in_default.rest
+returns-in_default c = c.optional-in_default.ensures ∙ resistance-single c.args.precision c.in_default.in_default-own.rest

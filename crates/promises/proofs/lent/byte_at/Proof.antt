@@ -1,9 +1,0 @@
-use Rattle.promises.proofs.Names.{arith, rules}
-use Rattle.promises.proofs.LentLaws.{behind}
-use Rattle.promises.proofs.lent.byte_at.Statement.{statement}
-use Rattle.promises.proofs.lent.byte_at.Tie as tie
-
-pub byte-at-spec : {M : Type 1} → statement M
-byte-at-spec =
-    tie.close
-    (tie.spec (λ c. search rules) (λ c. search rules) (λ c. let a = c.before.args in behind a.bytes.now a.i 0 (omega arith)))

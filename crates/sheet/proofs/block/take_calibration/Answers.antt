@@ -1,0 +1,27 @@
+use Rattle.sheet.proofs.Names.{ap, ◌∙◌, refused, stream_in}
+use Rattle.sheet.proofs.Steps.{got, past}
+use Rattle.sheet.proofs.BlockSteps.{selector-past, selects-block, selects-end, selects-none}
+use Rattle.sheet.proofs.block.take_calibration.Goals as goal
+
+pub returns-then-selector-eq0 : goal.returns-then-selector-eq0
+returns-then-selector-eq0 c =
+    let a = c.args in
+    let e = got a.sizes a.image.now a.cursor.at 2 _ c.take.ensures c.in-Field.is in
+    c.take_only_block.ensures ∙ selects-block (stream_in a.sizes a.image.now) a.cursor.at e c.if-selector-eq0.true
+
+pub returns-then-selector-eq3 : goal.returns-then-selector-eq3
+returns-then-selector-eq3 c =
+    let a = c.args in
+    let e = got a.sizes a.image.now a.cursor.at 2 _ c.take.ensures c.in-Field.is in
+    selects-end (stream_in a.sizes a.image.now) a.cursor.at e c.if-selector-eq0.false c.if-selector-eq3.true
+
+pub returns-in-Refused : goal.returns-in-Refused
+returns-in-Refused c =
+    let a = c.args in
+    selector-past (stream_in a.sizes a.image.now) a.cursor.at (past a.sizes a.image.now a.cursor.at 2 _ c.take.ensures c.in-Refused.is)
+
+pub returns-else-selector-eq3 : goal.returns-else-selector-eq3
+returns-else-selector-eq3 c =
+    let a = c.args in
+    let e = got a.sizes a.image.now a.cursor.at 2 _ c.take.ensures c.in-Field.is in
+    ap refused c.wrong_block.ensures ∙ selects-none (stream_in a.sizes a.image.now) a.cursor.at e c.if-selector-eq0.false c.if-selector-eq3.false
