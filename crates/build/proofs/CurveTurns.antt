@@ -1,7 +1,7 @@
 -- Laws of the loop over a curve, segment by segment and term by term.
 use Rattle.build.proofs.Names.{◌≡◌, refl, sym, ap, ap₂, subst, ◌∙◌, Bool, true, false, not, List, [], ◌∷◌, ◌++◌, map, append_assoc, append-nil, Option, none, some, ℕ, suc, ◌+◌, ◌-◌, ◌*◌, ◌≤◌, ◌<◌, add-one, arith}
 use Rattle.build.proofs.Names.{leb-true, not-false, leb, ℤ, pos, ◌*ℤ◌, lt_z, length, take, drop, get_or, set, length-set, drop_of_length-le, drop-cons, drop-drop, get_or-take, length-take-le, Refusal, Outcome, good}
-use Rattle.build.proofs.Names.{refused, ◌>>=◌, ◌>>◌, wrong_curve, good-bind, good-same, no_value_lem, passed, both, bind-good, bind-refused, Piece, piece, needed, needed-append, Whole, Single, Segment, Term}
+use Rattle.build.proofs.Names.{refused, ◌>>=◌, wrong_curve, good-bind, good-same, no_value_lem, passed, both, bind-good, bind-refused, Piece, piece, needed, needed-append, Whole, Single, Segment, Term}
 use Rattle.build.proofs.Names.{Curve, encode, segment_start, term_count, exponent, coefficient, is_segment_count, is_exponent, exponent_follows, exponent_code, tenths_of, below-zero, above-five, between, exponent-coded}
 use Rattle.build.proofs.Names.{CodedField, Are, NotPlanned, start_code, term_pieces, segment_pieces, curve_pieces, Fitting, Fit, field_piece, first_codes, bit_string, block_head, BlockPlanned, coded, segment_fields, term_fields}
 use Rattle.build.proofs.Names.{block_pieces, whole_curve}

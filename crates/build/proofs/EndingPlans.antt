@@ -1,5 +1,5 @@
 -- Laws of the ending: the end bit and the text.
-use Rattle.build.proofs.Names.{◌≡◌, Bool, false, not, ◌&&◌, ◌||◌, List, [], ◌∷◌, ℕ, zero, suc, ◌-◌, ◌<◌, arith, eqb, ltb, length, get_or, ltb-false, eqb-false, good, wrong_sort, out_of_range, passed, not-refused}
+use Rattle.build.proofs.Names.{◌≡◌, Bool, false, not, ◌&&◌, ◌||◌, List, [], ◌∷◌, ℕ, zero, suc, ◌<◌, arith, eqb, ltb, length, get_or, ltb-false, eqb-false, good, wrong_sort, out_of_range, passed, not-refused}
 use Rattle.build.proofs.Names.{neither, Characters, unfit, ending_tested}
 
 -- ---- the characters

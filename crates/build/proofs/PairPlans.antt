@@ -1,5 +1,5 @@
 -- Laws of the plan of calibration pairs: its parts.
-use Rattle.build.proofs.Names.{◌≡◌, refl, subst, List, [], ◌∷◌, ◌++◌, Option, none, some, ℕ, suc, ◌+◌, ◌/◌, arith, ℤ, length, good, good-same, good-bind, good-then, Piece, piece, Whole, Pair}
+use Rattle.build.proofs.Names.{◌≡◌, refl, subst, List, [], ◌∷◌, ◌++◌, Option, none, some, ℕ, suc, ◌/◌, arith, ℤ, length, good, good-same, good-bind, good-then, Piece, piece, Whole, Pair}
 use Rattle.build.proofs.Names.{Codes, Domain, encode, domain_code, cal_point, cal_deviation, follows, block_pieces, pairs_lent, codes_for, pair_codes, pair_pieces, table_pieces}
 
 -- ---- the lent points

@@ -1,7 +1,7 @@
 -- Laws of the loop over the text, character by character.
 use Rattle.build.proofs.Names.{◌≡◌, refl, sym, ap, ap₂, ◌∙◌, true, false, ◌||◌, List, [], ◌∷◌, ◌++◌, map, ℕ, zero, suc, ◌+◌, ◌-◌, ◌*◌, ◌^◌, ◌≤◌, ◌<◌, lt_of_lt_of_le, add-one, arith, lt-ltb, le-ltb, eq-eqb}
 use Rattle.build.proofs.Names.{ne_eqb, eqb, ltb, length, take, drop, get_or, length-map, get_or-map, take-append-drop, drop_of_length-le, pow_mono, slice, slice-cons, drop-cons, drop-append-le, length-take-le}
-use Rattle.build.proofs.Names.{Outcome, good, refused, ◌>>◌, refuse◌if◌, wrong_sort, out_of_range, Piece, piece, pack, needed, pack-lt, unfit, ending_tested}
+use Rattle.build.proofs.Names.{Outcome, good, refused, refuse◌if◌, wrong_sort, out_of_range, Piece, piece, pack, needed, pack-lt, unfit, ending_tested}
 use Rattle.memory.proofs.PieceLaws.{Fit}
 
 module _ (text : List ℕ) (i : ℕ) (h : i < length text) where

@@ -1,5 +1,5 @@
 -- Laws of the parts of a change: the code computes those of its definition.
-use Rattle.change.proofs.Names.{◌≡◌, refl, sym, ap, ap₂, ◌∙◌, subst, Bool, true, false, not, ◌||◌, List, ℕ, ◌-◌, ◌^◌, ◌≤◌, ◌<◌, arith, eqb, ltb, length, eqb-false, ltb-false, eq-eqb, ne_eqb, lt-ltb, le-ltb}
+use Rattle.change.proofs.Names.{◌≡◌, refl, sym, ap, ap₂, ◌∙◌, subst, Bool, true, false, not, ◌||◌, List, ℕ, ◌^◌, ◌≤◌, ◌<◌, arith, eqb, ltb, length, eqb-false, ltb-false, eq-eqb, ne_eqb, lt-ltb, le-ltb}
 use Rattle.change.proofs.Names.{Refusal, Outcome, good, refused, ◌>>◌, ◌>>=◌, refuse◌if◌, no_such, changed_alone, level_too_low, passed, neither, good-then, bind-good, bind-refused, then-good, then-refused, Sizes}
 use Rattle.change.proofs.Names.{put_at, SumsRight, stream_number, image_of, InStream, sizes-chip, sums-right, Value, Template, Layout, Row, Level, encode, Real, last_field, line_of, row_of, may_write, row-sound}
 use Rattle.change.proofs.Names.{reads-back, Contents, stream_in, field, layout_of, field_place, row_is, at-is, width_is, fields-count, field-at, accepted-at, Valid, field-stands, Opened, Opens, layout_is, held_whole}

@@ -15,6 +15,7 @@ use build::{Sheet, Slot};
 use codes::Value;
 use console_words::{Filled, LevelWord, Number, ValueWord, front, front_figures, word};
 use refusal::Written;
+use std::io::Write;
 use templates::{Level, Template, TemplateAnswer};
 use texts::equal;
 
@@ -342,10 +343,10 @@ fn build_reply(line: &[u8], room: &mut [u8], text: &mut [u8], points: &mut [i64]
 
 // Answers `build`: the words before the values, the sheet
 // record, the text, and the domain and the points or a curve.
-pub fn build(line: &[u8]) {
+pub fn build(out: &mut impl Write, line: &[u8]) {
     let mut room = [0u8; ROOM];
     let mut text = [0u8; ROOM];
     let mut points = [0i64; ROOM];
     let reply = build_reply(line, &mut room, &mut text, &mut points);
-    printing::write_reply(reply, &room);
+    printing::write_reply(out, reply, &room);
 }

@@ -7,6 +7,7 @@ use crate::{arguments, printing};
 use console_words::{Filled, front, front_figures, word};
 use listing::put;
 use recordings::ComparedAnswer;
+use std::io::Write;
 
 #[derive(Clone, Copy)]
 pub enum CompareReply {
@@ -33,24 +34,24 @@ fn compare_reply(line: &[u8], room: &mut [u8], slow: &mut [i64], fast: &mut [i64
     CompareReply::Is(recordings::compare(chip.kind, image, slow, fast))
 }
 
-fn print_compared(answer: ComparedAnswer) {
+fn print_compared(out: &mut impl Write, answer: ComparedAnswer) {
     match answer {
-        ComparedAnswer::Agree => put(b"agree\n"),
+        ComparedAnswer::Agree => put(out, b"agree\n"),
         ComparedAnswer::Tick(tick) => {
-            put(b"tick ");
-            printing::number(tick);
+            put(out, b"tick ");
+            printing::number(out, tick);
         }
-        ComparedAnswer::Refused(r) => printing::refused(r),
+        ComparedAnswer::Refused(r) => printing::refused(out, r),
     }
 }
 
 // Answers `compare`: the kind, the image and the recordings, words 1 to 4.
-pub fn compare(line: &[u8]) {
+pub fn compare(out: &mut impl Write, line: &[u8]) {
     let mut room = [0u8; ROOM];
     let mut slow = [0i64; ROOM];
     let mut fast = [0i64; ROOM];
     match compare_reply(line, &mut room, &mut slow, &mut fast) {
-        CompareReply::Is(answer) => print_compared(answer),
-        CompareReply::Unknown => printing::unknown(),
+        CompareReply::Is(answer) => print_compared(out, answer),
+        CompareReply::Unknown => printing::unknown(out),
     }
 }

@@ -7,6 +7,7 @@ use crate::{arguments, printing};
 use conformity::ConformityAnswer;
 use console_words::{Filled, front, front_figures, word};
 use listing::{put, put_number};
+use std::io::Write;
 
 #[derive(Clone, Copy)]
 pub enum ConformReply {
@@ -29,24 +30,24 @@ fn conform_reply(line: &[u8], room: &mut [u8], points: &mut [i64]) -> ConformRep
     ConformReply::Is(conformity::conformity(chip.kind, image, points))
 }
 
-fn print_conformity(answer: ConformityAnswer) {
+fn print_conformity(out: &mut impl Write, answer: ConformityAnswer) {
     match answer {
         ConformityAnswer::Is(found) => {
-            put_number(found.slope);
-            put(b" ");
-            printing::number(found.bound);
+            put_number(out, found.slope);
+            put(out, b" ");
+            printing::number(out, found.bound);
         }
-        ConformityAnswer::NotStraight => put(b"none\n"),
-        ConformityAnswer::Refused(r) => printing::refused(r),
+        ConformityAnswer::NotStraight => put(out, b"none\n"),
+        ConformityAnswer::Refused(r) => printing::refused(out, r),
     }
 }
 
 // Answers `conform`: the kind, the image and the points, words 1 to 3.
-pub fn conform(line: &[u8]) {
+pub fn conform(out: &mut impl Write, line: &[u8]) {
     let mut room = [0u8; ROOM];
     let mut points = [0i64; ROOM];
     match conform_reply(line, &mut room, &mut points) {
-        ConformReply::Is(answer) => print_conformity(answer),
-        ConformReply::Unknown => printing::unknown(),
+        ConformReply::Is(answer) => print_conformity(out, answer),
+        ConformReply::Unknown => printing::unknown(out),
     }
 }

@@ -5,6 +5,7 @@ use crate::{
     readings, reads, rows, text,
 };
 use listing::put;
+use std::io::Write;
 
 const HELP: [u8; 1061] = *b"check KIND IMAGE\n\
     page KIND IMAGE PAGE\n\
@@ -35,30 +36,30 @@ const HELP: [u8; 1061] = *b"check KIND IMAGE\n\
     TERMS exponent,3f800000,.. or -; SLOW and FAST input,fraction,.. or -; a refusal is: no NUMBER PLACE\n";
 
 // Answers a line.
-pub fn answer(line: &[u8]) {
+pub fn answer(out: &mut impl Write, line: &[u8]) {
     match choosing::command_of(line) {
-        Command::Help => put(&HELP),
-        Command::Distance => distances::distance(line),
-        Command::Text => text::text(line),
-        Command::Code => text::code(line),
-        Command::Check => reads::check(line),
-        Command::Show => reads::show(line),
-        Command::Page => reads::page(line),
-        Command::Field => reads::field(line),
-        Command::Pair => items::pair(line),
-        Command::Segment => items::segment(line),
-        Command::Term => items::term(line),
-        Command::Char => items::character(line),
-        Command::Index => indexes::index(line),
-        Command::Next => rows::next(line),
-        Command::Conform => conformities::conform(line),
-        Command::Fetch => indexes::fetch(line),
-        Command::Reading => readings::reading(line),
-        Command::Compare => comparing::compare(line),
-        Command::Change => edits::change(line),
-        Command::Propose => edits::propose(line),
-        Command::Commit => edits::commit(line),
-        Command::Build => builds::build(line),
-        Command::Unknown => printing::unknown(),
+        Command::Help => put(out, &HELP),
+        Command::Distance => distances::distance(out, line),
+        Command::Text => text::text(out, line),
+        Command::Code => text::code(out, line),
+        Command::Check => reads::check(out, line),
+        Command::Show => reads::show(out, line),
+        Command::Page => reads::page(out, line),
+        Command::Field => reads::field(out, line),
+        Command::Pair => items::pair(out, line),
+        Command::Segment => items::segment(out, line),
+        Command::Term => items::term(out, line),
+        Command::Char => items::character(out, line),
+        Command::Index => indexes::index(out, line),
+        Command::Next => rows::next(out, line),
+        Command::Conform => conformities::conform(out, line),
+        Command::Fetch => indexes::fetch(out, line),
+        Command::Reading => readings::reading(out, line),
+        Command::Compare => comparing::compare(out, line),
+        Command::Change => edits::change(out, line),
+        Command::Propose => edits::propose(out, line),
+        Command::Commit => edits::commit(out, line),
+        Command::Build => builds::build(out, line),
+        Command::Unknown => printing::unknown(out),
     }
 }

@@ -7,6 +7,7 @@ use crate::printing;
 use console_words::{Filled, front_figures, word};
 use distance::DistanceAnswer;
 use listing::{put, put_number};
+use std::io::Write;
 
 #[derive(Clone, Copy)]
 pub enum DistanceReply {
@@ -24,22 +25,22 @@ fn distance_reply(line: &[u8], points: &mut [i64]) -> DistanceReply
     DistanceReply::Is(distance::distance(front_figures(points, figures)))
 }
 
-fn print_distance(answer: DistanceAnswer) {
+fn print_distance(out: &mut impl Write, answer: DistanceAnswer) {
     match answer {
         DistanceAnswer::Is(found) => {
-            put_number(found.slope);
-            put(b" ");
-            printing::number(found.bound);
+            put_number(out, found.slope);
+            put(out, b" ");
+            printing::number(out, found.bound);
         }
-        DistanceAnswer::Refused(r) => printing::refused(r),
+        DistanceAnswer::Refused(r) => printing::refused(out, r),
     }
 }
 
 // Answers `distance`: the points, word 1.
-pub fn distance(line: &[u8]) {
+pub fn distance(out: &mut impl Write, line: &[u8]) {
     let mut points = [0i64; ROOM];
     match distance_reply(line, &mut points) {
-        DistanceReply::Is(answer) => print_distance(answer),
-        DistanceReply::Unknown => printing::unknown(),
+        DistanceReply::Is(answer) => print_distance(out, answer),
+        DistanceReply::Unknown => printing::unknown(out),
     }
 }

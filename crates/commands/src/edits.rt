@@ -9,6 +9,7 @@ use change::{Proposal, ProposalAnswer};
 use codes::Value;
 use console_words::{LevelWord, Number, ValueWord, front, word};
 use listing::{put, put_number};
+use std::io::Write;
 use templates::Level;
 
 // A value for a field, and the writer's level.
@@ -63,10 +64,10 @@ fn change_reply(line: &[u8], room: &mut [u8]) -> WriteReply
 }
 
 // Answers `change`: the kind, the image, the field, the value and the level, words 1 to 5.
-pub fn change(line: &[u8]) {
+pub fn change(out: &mut impl Write, line: &[u8]) {
     let mut room = [0u8; ROOM];
     let reply = change_reply(line, &mut room);
-    printing::write_reply(reply, &room);
+    printing::write_reply(out, reply, &room);
 }
 
 #[derive(Clone, Copy)]
@@ -91,28 +92,28 @@ fn propose_reply(line: &[u8], room: &mut [u8]) -> ProposeReply
     ProposeReply::Is(change::propose(chip.kind, image, level, edit.field, value))
 }
 
-fn proposed(proposal: Proposal) {
+fn proposed(out: &mut impl Write, proposal: Proposal) {
     let back = proposal.value;
-    put_number(proposal.present);
-    put(b" ");
-    put_number(proposal.new);
-    put(b" ");
-    printing::value(back);
+    put_number(out, proposal.present);
+    put(out, b" ");
+    put_number(out, proposal.new);
+    put(out, b" ");
+    printing::value(out, back);
 }
 
-fn print_proposal(answer: ProposalAnswer) {
+fn print_proposal(out: &mut impl Write, answer: ProposalAnswer) {
     match answer {
-        ProposalAnswer::Proposed(proposal) => proposed(proposal),
-        ProposalAnswer::Refused(r) => printing::refused(r),
+        ProposalAnswer::Proposed(proposal) => proposed(out, proposal),
+        ProposalAnswer::Refused(r) => printing::refused(out, r),
     }
 }
 
 // Answers `propose`: the kind, the image, the field, the value and the level, words 1 to 5.
-pub fn propose(line: &[u8]) {
+pub fn propose(out: &mut impl Write, line: &[u8]) {
     let mut room = [0u8; ROOM];
     match propose_reply(line, &mut room) {
-        ProposeReply::Is(answer) => print_proposal(answer),
-        ProposeReply::Unknown => printing::unknown(),
+        ProposeReply::Is(answer) => print_proposal(out, answer),
+        ProposeReply::Unknown => printing::unknown(out),
     }
 }
 
@@ -180,8 +181,8 @@ fn commit_reply(line: &[u8], room: &mut [u8]) -> WriteReply
 }
 
 // Answers `commit`: the kind, the image, the field, the two codes and the level, words 1 to 6.
-pub fn commit(line: &[u8]) {
+pub fn commit(out: &mut impl Write, line: &[u8]) {
     let mut room = [0u8; ROOM];
     let reply = commit_reply(line, &mut room);
-    printing::write_reply(reply, &room);
+    printing::write_reply(out, reply, &room);
 }

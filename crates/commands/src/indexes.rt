@@ -6,6 +6,7 @@ use crate::arguments::{ChipRequest, ROOM, WriteReply, WrittenFront};
 use crate::reads::FieldReply;
 use crate::{arguments, printing};
 use console_words::{Filled, Number, front, word};
+use std::io::Write;
 
 // The index of the image in the buffer, words 1 to 3.
 fn index_reply(line: &[u8], room: &mut [u8], buffer: &mut [u8]) -> WriteReply
@@ -23,11 +24,11 @@ fn index_reply(line: &[u8], room: &mut [u8], buffer: &mut [u8]) -> WriteReply
 }
 
 // Answers `index`: the kind, the image and the buffer, words 1 to 3.
-pub fn index(line: &[u8]) {
+pub fn index(out: &mut impl Write, line: &[u8]) {
     let mut room = [0u8; ROOM];
     let mut buffer = [0u8; ROOM];
     let reply = index_reply(line, &mut room, &mut buffer);
-    printing::write_reply(reply, &buffer);
+    printing::write_reply(out, reply, &buffer);
 }
 
 // The field fetched from the image by the index's bytes, words 1 to 4.
@@ -49,8 +50,8 @@ fn fetch_reply(line: &[u8], room: &mut [u8], buffer: &mut [u8]) -> FieldReply
 }
 
 // Answers `fetch`: the kind, the image, the index's bytes and the field, words 1 to 4.
-pub fn fetch(line: &[u8]) {
+pub fn fetch(out: &mut impl Write, line: &[u8]) {
     let mut room = [0u8; ROOM];
     let mut buffer = [0u8; ROOM];
-    printing::field_reply(fetch_reply(line, &mut room, &mut buffer));
+    printing::field_reply(out, fetch_reply(line, &mut room, &mut buffer));
 }

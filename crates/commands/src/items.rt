@@ -7,6 +7,7 @@ use crate::{arguments, printing};
 use console_words::front;
 use listing::{put, put_figure};
 use sheet::{CharacterAnswer, PairAnswer, SegmentAnswer, TermAnswer};
+use std::io::Write;
 
 #[derive(Clone, Copy)]
 pub enum PairReply {
@@ -26,19 +27,19 @@ fn pair_reply(line: &[u8], room: &mut [u8]) -> PairReply
     PairReply::Is(sheet::read_pair(chip.kind, image, request.number))
 }
 
-fn print_pair(answer: PairAnswer) {
+fn print_pair(out: &mut impl Write, answer: PairAnswer) {
     match answer {
-        PairAnswer::Holds(pair) => printing::figures(pair.point, pair.deviation),
-        PairAnswer::Refused(r) => printing::refused(r),
+        PairAnswer::Holds(pair) => printing::figures(out, pair.point, pair.deviation),
+        PairAnswer::Refused(r) => printing::refused(out, r),
     }
 }
 
 // Answers `pair`: the kind, the image and the index, words 1 to 3.
-pub fn pair(line: &[u8]) {
+pub fn pair(out: &mut impl Write, line: &[u8]) {
     let mut room = [0u8; ROOM];
     match pair_reply(line, &mut room) {
-        PairReply::Is(answer) => print_pair(answer),
-        PairReply::Unknown => printing::unknown(),
+        PairReply::Is(answer) => print_pair(out, answer),
+        PairReply::Unknown => printing::unknown(out),
     }
 }
 
@@ -60,23 +61,23 @@ fn segment_reply(line: &[u8], room: &mut [u8]) -> SegmentReply
     SegmentReply::Is(sheet::read_segment(chip.kind, image, request.number))
 }
 
-fn print_segment(answer: SegmentAnswer) {
+fn print_segment(out: &mut impl Write, answer: SegmentAnswer) {
     match answer {
         SegmentAnswer::Holds(segment) => {
-            put_figure(segment.start);
-            put(b" ");
-            printing::number(segment.terms);
+            put_figure(out, segment.start);
+            put(out, b" ");
+            printing::number(out, segment.terms);
         }
-        SegmentAnswer::Refused(r) => printing::refused(r),
+        SegmentAnswer::Refused(r) => printing::refused(out, r),
     }
 }
 
 // Answers `segment`: the kind, the image and the index, words 1 to 3.
-pub fn segment(line: &[u8]) {
+pub fn segment(out: &mut impl Write, line: &[u8]) {
     let mut room = [0u8; ROOM];
     match segment_reply(line, &mut room) {
-        SegmentReply::Is(answer) => print_segment(answer),
-        SegmentReply::Unknown => printing::unknown(),
+        SegmentReply::Is(answer) => print_segment(out, answer),
+        SegmentReply::Unknown => printing::unknown(out),
     }
 }
 
@@ -98,24 +99,24 @@ fn term_reply(line: &[u8], room: &mut [u8]) -> TermReply
     TermReply::Is(sheet::read_term(chip.kind, image, request.number))
 }
 
-fn print_term(answer: TermAnswer) {
+fn print_term(out: &mut impl Write, answer: TermAnswer) {
     match answer {
         TermAnswer::Holds(term) => {
-            put_figure(term.exponent);
-            put(b" ");
-            printing::single(term.coefficient);
-            printing::end();
+            put_figure(out, term.exponent);
+            put(out, b" ");
+            printing::single(out, term.coefficient);
+            printing::end(out);
         }
-        TermAnswer::Refused(r) => printing::refused(r),
+        TermAnswer::Refused(r) => printing::refused(out, r),
     }
 }
 
 // Answers `term`: the kind, the image and the index, words 1 to 3.
-pub fn term(line: &[u8]) {
+pub fn term(out: &mut impl Write, line: &[u8]) {
     let mut room = [0u8; ROOM];
     match term_reply(line, &mut room) {
-        TermReply::Is(answer) => print_term(answer),
-        TermReply::Unknown => printing::unknown(),
+        TermReply::Is(answer) => print_term(out, answer),
+        TermReply::Unknown => printing::unknown(out),
     }
 }
 
@@ -137,18 +138,18 @@ fn character_reply(line: &[u8], room: &mut [u8]) -> CharacterReply
     CharacterReply::Is(sheet::read_character(chip.kind, image, request.number))
 }
 
-fn print_character(answer: CharacterAnswer) {
+fn print_character(out: &mut impl Write, answer: CharacterAnswer) {
     match answer {
-        CharacterAnswer::Holds(b) => printing::number(b as u64),
-        CharacterAnswer::Refused(r) => printing::refused(r),
+        CharacterAnswer::Holds(b) => printing::number(out, b as u64),
+        CharacterAnswer::Refused(r) => printing::refused(out, r),
     }
 }
 
 // Answers `char`: the kind, the image and the index, words 1 to 3.
-pub fn character(line: &[u8]) {
+pub fn character(out: &mut impl Write, line: &[u8]) {
     let mut room = [0u8; ROOM];
     match character_reply(line, &mut room) {
-        CharacterReply::Is(answer) => print_character(answer),
-        CharacterReply::Unknown => printing::unknown(),
+        CharacterReply::Is(answer) => print_character(out, answer),
+        CharacterReply::Unknown => printing::unknown(out),
     }
 }

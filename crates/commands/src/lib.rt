@@ -1,7 +1,6 @@
-// The commands of the warranty bench: one command a line from standard input, one answer
-// a line to standard output (docs/CONSOLE.md). A line that is no command, or longer than
-// 32 KiB, is answered `?`. No line causes a fault, and every call ends. Input and output
-// go through `io` and `libc`, whose contracts of C's read and write are assumed.
+// The commands of the warranty bench: one command a line from a reader, one answer a line
+// to a writer (docs/CONSOLE.md). A line that is no command, or longer than 32 KiB, is
+// answered `?`. No line causes a fault, and every call ends.
 #![tactic(auto)]
 
 mod arguments; // arguments.rt: the kind and the image of a line

@@ -3,131 +3,133 @@ use crate::arguments::{ROOM, WriteReply};
 use crate::reads::FieldReply;
 use codes::Value;
 use console_words::Filled;
-use libc::STDOUT_FILENO;
 use listing::{put, put_figure, put_number};
 use refusal::{Refusal, Written};
 use sheet::{FieldAnswer, TableDomain};
+use std::io::Write;
 
 // The most bytes that an answer prints: any buffer that a line can lend.
 const LARGEST: usize = ROOM;
 
 // Prints bytes in hexadecimal, `-` for none.
-pub fn bytes(bytes: &[u8]) {
+pub fn bytes(out: &mut impl Write, bytes: &[u8]) {
     let mut digits = [0u8; 2 * LARGEST];
     match console_words::spell(bytes, &mut digits) {
-        Filled::To(count) => put(console_words::front(&digits, count)),
+        Filled::To(count) => put(out, console_words::front(&digits, count)),
         Filled::Not => {}
     }
 }
 
 // Ends an answer with a newline.
-pub fn end() {
-    put(b"\n");
+pub fn end(out: &mut impl Write) {
+    put(out, b"\n");
 }
 
 // Answers a line that is no command.
-pub fn unknown() {
-    put(b"?\n");
+pub fn unknown(out: &mut impl Write) {
+    put(out, b"?\n");
 }
 
 // Answers a number.
-pub fn number(n: u64) {
-    put_number(n);
-    end();
+pub fn number(out: &mut impl Write, n: u64) {
+    put_number(out, n);
+    end(out);
 }
 
 // Answers two figures.
-pub fn figures(a: i64, b: i64) {
-    put_figure(a);
-    put(b" ");
-    put_figure(b);
-    end();
+pub fn figures(out: &mut impl Write, a: i64, b: i64) {
+    put_figure(out, a);
+    put(out, b" ");
+    put_figure(out, b);
+    end(out);
 }
 
 // Answers a refusal: its number and its place.
-pub fn refused(r: Refusal) {
-    put(b"no ");
-    put_number(r.number as u64);
-    put(b" ");
-    number(r.place);
+pub fn refused(out: &mut impl Write, r: Refusal) {
+    put(out, b"no ");
+    put_number(out, r.number as u64);
+    put(out, b" ");
+    number(out, r.place);
 }
 
 // Prints the bits of a float in hexadecimal; NaN,
 // which no sheet holds and no reading shows, as `nan`.
-pub fn single(x: f32) {
+pub fn single(out: &mut impl Write, x: f32) {
     if x != x {
-        return put(b"nan");
+        return put(out, b"nan");
     }
-    io::print_hex(STDOUT_FILENO, f32::to_bits(x) as u64, 8);
+    let bits = f32::to_bits(x);
+    let _ = write!(out, "{bits:08x}");
 }
 
 // Prints the bits of a double in hexadecimal; NaN as `nan`.
-pub fn double(x: f64) {
+pub fn double(out: &mut impl Write, x: f64) {
     if x != x {
-        return put(b"nan");
+        return put(out, b"nan");
     }
-    io::print_hex(STDOUT_FILENO, f64::to_bits(x), 16);
+    let bits = f64::to_bits(x);
+    let _ = write!(out, "{bits:016x}");
 }
 
 // Prints a table's domain, `-` without a table.
-pub fn domain(table: TableDomain) {
+pub fn domain(out: &mut impl Write, table: TableDomain) {
     match table {
-        TableDomain::NoTable => put(b"-"),
-        TableDomain::Is(domain) => put_number(templates::domain_code(domain)),
+        TableDomain::NoTable => put(out, b"-"),
+        TableDomain::Is(domain) => put_number(out, templates::domain_code(domain)),
     }
 }
 
 // Answers a field's value.
-pub fn value(v: Value) {
+pub fn value(out: &mut impl Write, v: Value) {
     match v {
         Value::Whole(z) => {
-            put(b"w");
-            put_figure(z);
+            put(out, b"w");
+            put_figure(out, z);
         }
         Value::Single(x) => {
-            put(b"s");
-            single(x);
+            put(out, b"s");
+            single(out, x);
         }
-        Value::Missing => put(b"m"),
+        Value::Missing => put(out, b"m"),
     }
-    end();
+    end(out);
 }
 
 // Prints a field's value, or the refusal.
-fn field(answer: FieldAnswer) {
+fn field(out: &mut impl Write, answer: FieldAnswer) {
     match answer {
-        FieldAnswer::Holds(v) => value(v),
-        FieldAnswer::Refused(r) => refused(r),
+        FieldAnswer::Holds(v) => value(out, v),
+        FieldAnswer::Refused(r) => refused(out, r),
     }
 }
 
 // The same of a line, which may be no command.
-pub fn field_reply(reply: FieldReply) {
+pub fn field_reply(out: &mut impl Write, reply: FieldReply) {
     match reply {
-        FieldReply::Is(answer) => field(answer),
-        FieldReply::Unknown => unknown(),
+        FieldReply::Is(answer) => field(out, answer),
+        FieldReply::Unknown => unknown(out),
     }
 }
 
 // Answers a lent buffer after a call, or the refusal.
-fn written(answer: Written, buffer: &[u8]) {
+fn written(out: &mut impl Write, answer: Written, buffer: &[u8]) {
     match answer {
         Written::Done => {
-            put(b"ok ");
-            bytes(buffer);
-            end();
+            put(out, b"ok ");
+            bytes(out, buffer);
+            end(out);
         }
-        Written::Refused(r) => refused(r),
+        Written::Refused(r) => refused(out, r),
     }
 }
 
 // The same of a room's first bytes.
-pub fn write_reply(reply: WriteReply, room: &[u8]) {
+pub fn write_reply(out: &mut impl Write, reply: WriteReply, room: &[u8]) {
     match reply {
         WriteReply::Is(front) => {
             let answer = front.answer;
-            written(answer, console_words::front(room, front.length));
+            written(out, answer, console_words::front(room, front.length));
         }
-        WriteReply::Unknown => unknown(),
+        WriteReply::Unknown => unknown(out),
     }
 }

@@ -8,6 +8,7 @@ use crate::{arguments, printing};
 use console_words::{Figure, front, word};
 use listing::{put, put_figure};
 use reading::{Dash, ReadingAnswer};
+use std::io::Write;
 use texts::equal;
 
 // The dash that a word names, or none.
@@ -53,23 +54,23 @@ fn reading_reply(line: &[u8], room: &mut [u8]) -> ReadingReply
     ReadingReply::Is(reading::take_reading(chip.kind, image, input, dash))
 }
 
-fn print_reading(answer: ReadingAnswer) {
+fn print_reading(out: &mut impl Write, answer: ReadingAnswer) {
     match answer {
         ReadingAnswer::Shows(reading) => {
-            put_figure(reading.fraction);
-            put(b" ");
-            printing::double(reading.figure);
-            printing::end();
+            put_figure(out, reading.fraction);
+            put(out, b" ");
+            printing::double(out, reading.figure);
+            printing::end(out);
         }
-        ReadingAnswer::Refused(r) => printing::refused(r),
+        ReadingAnswer::Refused(r) => printing::refused(out, r),
     }
 }
 
 // Answers `reading`: the kind, the image, the input and the dash, words 1 to 4.
-pub fn reading(line: &[u8]) {
+pub fn reading(out: &mut impl Write, line: &[u8]) {
     let mut room = [0u8; ROOM];
     match reading_reply(line, &mut room) {
-        ReadingReply::Is(answer) => print_reading(answer),
-        ReadingReply::Unknown => printing::unknown(),
+        ReadingReply::Is(answer) => print_reading(out, answer),
+        ReadingReply::Unknown => printing::unknown(out),
     }
 }

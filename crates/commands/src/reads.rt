@@ -9,6 +9,7 @@ use console_words::{Filled, front};
 use listing::{put, put_number};
 use memory::page_bytes;
 use sheet::{Checked, FieldAnswer, Summary};
+use std::io::Write;
 
 #[derive(Clone, Copy)]
 pub enum CheckReply {
@@ -27,51 +28,51 @@ fn check_reply(line: &[u8], room: &mut [u8]) -> CheckReply
     CheckReply::Is(sheet::check(chip.kind, image))
 }
 
-fn accepted(summary: Summary) {
-    put(b"ok ");
-    put_number(summary.bits);
-    put(b" ");
-    put_number(summary.points);
+fn accepted(out: &mut impl Write, summary: Summary) {
+    put(out, b"ok ");
+    put_number(out, summary.bits);
+    put(out, b" ");
+    put_number(out, summary.points);
     if summary.end_bit {
-        put(b" 1 ");
+        put(out, b" 1 ");
     } else {
-        put(b" 0 ");
+        put(out, b" 0 ");
     }
-    put_number(summary.characters);
-    put(b" ");
+    put_number(out, summary.characters);
+    put(out, b" ");
     let template = summary.template;
-    put_number(templates::template_number(template));
-    put(b" ");
+    put_number(out, templates::template_number(template));
+    put(out, b" ");
     let domain = summary.domain;
-    printing::domain(domain);
-    put(b" ");
-    put_number(summary.segments);
-    put(b" ");
-    printing::number(summary.terms);
+    printing::domain(out, domain);
+    put(out, b" ");
+    put_number(out, summary.segments);
+    put(out, b" ");
+    printing::number(out, summary.terms);
 }
 
-fn print_check(answer: Checked) {
+fn print_check(out: &mut impl Write, answer: Checked) {
     match answer {
-        Checked::Accepted(summary) => accepted(summary),
-        Checked::Refused(r) => printing::refused(r),
+        Checked::Accepted(summary) => accepted(out, summary),
+        Checked::Refused(r) => printing::refused(out, r),
     }
 }
 
 // Answers `check`: the kind and the image, words 1 and 2.
-pub fn check(line: &[u8]) {
+pub fn check(out: &mut impl Write, line: &[u8]) {
     let mut room = [0u8; ROOM];
     match check_reply(line, &mut room) {
-        CheckReply::Is(answer) => print_check(answer),
-        CheckReply::Unknown => printing::unknown(),
+        CheckReply::Is(answer) => print_check(out, answer),
+        CheckReply::Unknown => printing::unknown(out),
     }
 }
 
 // Answers `show`: the kind and the image, words 1 and 2.
-pub fn show(line: &[u8]) {
+pub fn show(out: &mut impl Write, line: &[u8]) {
     let mut room = [0u8; ROOM];
     match arguments::lent(line, &mut room) {
-        ChipRequest::Of(chip) => listing::show(chip.kind, front(&room, chip.length)),
-        ChipRequest::Unknown => printing::unknown(),
+        ChipRequest::Of(chip) => listing::show(out, chip.kind, front(&room, chip.length)),
+        ChipRequest::Unknown => printing::unknown(out),
     }
 }
 
@@ -92,15 +93,15 @@ fn page_reply(line: &[u8], room: &mut [u8], digits: &mut [u8]) -> Filled
 }
 
 // Answers `page`: the kind, the image and the page, words 1 to 3.
-pub fn page(line: &[u8]) {
+pub fn page(out: &mut impl Write, line: &[u8]) {
     let mut room = [0u8; ROOM];
     let mut digits = [0u8; PAGE_DIGITS];
     match page_reply(line, &mut room, &mut digits) {
         Filled::To(count) => {
-            put(front(&digits, count));
-            printing::end();
+            put(out, front(&digits, count));
+            printing::end(out);
         }
-        Filled::Not => printing::unknown(),
+        Filled::Not => printing::unknown(out),
     }
 }
 
@@ -124,7 +125,7 @@ fn field_reply(line: &[u8], room: &mut [u8]) -> FieldReply
 }
 
 // Answers `field`: the kind, the image and the field, words 1 to 3.
-pub fn field(line: &[u8]) {
+pub fn field(out: &mut impl Write, line: &[u8]) {
     let mut room = [0u8; ROOM];
-    printing::field_reply(field_reply(line, &mut room));
+    printing::field_reply(out, field_reply(line, &mut room));
 }

@@ -6,6 +6,7 @@ use crate::arguments::{ChipRequest, ROOM};
 use crate::{arguments, printing};
 use console_words::{Filled, front, word};
 use listing::{put, put_number};
+use std::io::Write;
 use writing::{Answer, NextRow};
 
 // The next row, and whether the line is a command.
@@ -46,29 +47,29 @@ fn next_reply(line: &[u8], room: &mut [u8], image: &mut [u8]) -> NextReply
     }
 }
 
-fn print_row(next: NextRow) {
+fn print_row(out: &mut impl Write, next: NextRow) {
     let answer = next.answer;
     let bytes = next.bytes;
     match answer {
-        Answer::Done => put(b"done\n"),
+        Answer::Done => put(out, b"done\n"),
         Answer::Write => {
-            put_number(next.offset as u64);
-            put(b" ");
-            printing::bytes(&bytes);
-            printing::end();
+            put_number(out, next.offset as u64);
+            put(out, b" ");
+            printing::bytes(out, &bytes);
+            printing::end(out);
         }
-        Answer::Refused(r) => printing::refused(r),
+        Answer::Refused(r) => printing::refused(out, r),
     }
 }
 
 // Answers `next`: the kind, what the chip holds and the image to be written, words 1 to 3.
-pub fn next(line: &[u8]) {
+pub fn next(out: &mut impl Write, line: &[u8]) {
     let mut room = [0u8; ROOM];
     let mut image = [0u8; ROOM];
     let reply = next_reply(line, &mut room, &mut image);
     if !reply.known {
-        return printing::unknown();
+        return printing::unknown(out);
     }
     let row = reply.row;
-    print_row(row);
+    print_row(out, row);
 }

@@ -1,12 +1,15 @@
-// Lines from standard input, each answered on standard output.
+// Lines, each answered as soon as it has come.
 ghost use Rattle.std.specs.Prelude.{◌≡◌, length};
 ghost use Rattle.commands.specs.Gathering.{begun, come_said, more, next, after};
 
 use crate::{dispatch, printing};
-use libc::STDIN_FILENO;
+use std::io::{Read, Write};
 
 // The longest line.
 const LONGEST: usize = 32_768;
+
+// The most bytes of a read.
+const BLOCK: usize = 65_536;
 
 // A line that is being read: its bytes so far, and whether it is too long.
 #[derive(Clone, Copy)]
@@ -26,11 +29,11 @@ fn nothing() -> Gathered
 }
 
 // Answers a line.
-fn finish(line: &[u8], so_far: Gathered) {
+fn finish(out: &mut impl Write, line: &[u8], so_far: Gathered) {
     if so_far.long {
-        return printing::unknown();
+        return printing::unknown(out);
     }
-    dispatch::answer(console_words::front(line, so_far.length));
+    dispatch::answer(out, console_words::front(line, so_far.length));
 }
 
 // One more byte of a line, kept if there is room.
@@ -49,71 +52,49 @@ fn kept(line: &mut [u8], so_far: Gathered, b: u8) -> Gathered
 }
 
 // One more byte: a newline ends the line, which is then answered.
-fn step(line: &mut [u8], so_far: Gathered, b: u8) -> Gathered
+fn step(out: &mut impl Write, line: &mut [u8], so_far: Gathered, b: u8) -> Gathered
     ensures { come_said line.new result ≡ next (length line.old) (come_said line.old so_far) b }
 {
     if b == b'\n' {
-        finish(line, so_far);
+        finish(out, line, so_far);
         return nothing();
     }
     kept(line, so_far, b)
 }
 
 // A block of bytes, in order.
-fn gather(line: &mut [u8], before: Gathered, block: &[u8]) -> Gathered
+fn gather(out: &mut impl Write, line: &mut [u8], before: Gathered, block: &[u8]) -> Gathered
     ensures { come_said line.new result ≡ after (length line.old) (come_said line.old before) block.now }
 {
     let mut so_far = before;
     let mut at = 0;
     while at < block.len() {
-        so_far = step(line, so_far, block[at]);
+        so_far = step(out, line, so_far, block[at]);
         at += 1;
     }
     so_far
 }
 
-// The line that is being read, and whether the input goes on.
-#[derive(Clone, Copy)]
-struct Turn {
-    so_far: Gathered,
-    more: bool,
-}
-
-// Reads a block, and answers the lines that end in it.
-fn next_block(line: &mut [u8], so_far: Gathered) -> Turn {
-    let mut block = io::large_buffer();
-    let n = io::count(libc::read(STDIN_FILENO, &mut block), &block);
-    if n == 0 {
-        return Turn {
-            so_far,
-            more: false,
-        };
+// Answers the lines of a reader until it ends or a read fails; what a block
+// gave is written before the next is read. A proved loop has to end.
+fn serve_lines(input: &mut impl Read, out: &mut impl Write, line: &mut [u8]) {
+    let mut block = [0u8; BLOCK];
+    let mut so_far = nothing();
+    for _ in 0..u64::MAX {
+        let _ = out.flush();
+        let n = input.read(&mut block).unwrap_or(0);
+        if n == 0 {
+            break;
+        }
+        so_far = gather(out, line, so_far, &block[..n]);
     }
-    let so_far = gather(line, so_far, &block[..n]);
-    Turn { so_far, more: true }
-}
-
-// Answers lines until the input ends. A proved loop has to end,
-// so it counts its turns down from a number that no run uses up.
-fn serve_lines(line: &mut [u8]) {
-    let mut now = Turn {
-        so_far: nothing(),
-        more: true,
-    };
-    let mut turns = u64::MAX;
-    while turns > 0 && now.more {
-        let so_far = now.so_far;
-        now = next_block(line, so_far);
-        turns -= 1;
-    }
-    let last = now.so_far;
-    if last.length > 0 {
-        finish(line, last);
+    if so_far.length > 0 {
+        finish(out, line, so_far);
     }
 }
 
-// Answers every line of standard input, to its end.
-pub fn serve() {
+// Answers every line of a reader, to its end.
+pub fn serve(input: &mut impl Read, out: &mut impl Write) {
     let mut line = [0u8; LONGEST];
-    serve_lines(&mut line);
+    serve_lines(input, out, &mut line);
 }

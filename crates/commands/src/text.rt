@@ -5,6 +5,7 @@ ghost use Rattle.commands.specs.Replies.{text_reply, text_reply_said, code_reply
 use crate::arguments::ROOM;
 use crate::printing;
 use console_words::{Filled, Number, front, word};
+use std::io::Write;
 use texts::{CodeAnswer, Text, TextAnswer};
 
 // A text, and whether the line is a command.
@@ -42,26 +43,26 @@ fn text_reply(line: &[u8]) -> TextReply
     }
 }
 
-fn print_text(text: Text) {
+fn print_text(out: &mut impl Write, text: Text) {
     let answer = text.answer;
     let characters = text.characters;
     match answer {
         TextAnswer::Length(n) => {
-            printing::bytes(front(&characters, n as usize));
-            printing::end();
+            printing::bytes(out, front(&characters, n as usize));
+            printing::end(out);
         }
-        TextAnswer::Refused(r) => printing::refused(r),
+        TextAnswer::Refused(r) => printing::refused(out, r),
     }
 }
 
 // Answers `text`: the field and the code, words 1 and 2.
-pub fn text(line: &[u8]) {
+pub fn text(out: &mut impl Write, line: &[u8]) {
     let reply = text_reply(line);
     if !reply.known {
-        return printing::unknown();
+        return printing::unknown(out);
     }
     let text = reply.text;
-    print_text(text);
+    print_text(out, text);
 }
 
 #[derive(Clone, Copy)]
@@ -83,18 +84,18 @@ fn code_reply(line: &[u8], room: &mut [u8]) -> CodeReply
     CodeReply::Is(texts::code_of(field, front(room, length)))
 }
 
-fn print_code(answer: CodeAnswer) {
+fn print_code(out: &mut impl Write, answer: CodeAnswer) {
     match answer {
-        CodeAnswer::Code(code) => printing::number(code),
-        CodeAnswer::Refused(r) => printing::refused(r),
+        CodeAnswer::Code(code) => printing::number(out, code),
+        CodeAnswer::Refused(r) => printing::refused(out, r),
     }
 }
 
 // Answers `code`: the field and the text, words 1 and 2.
-pub fn code(line: &[u8]) {
+pub fn code(out: &mut impl Write, line: &[u8]) {
     let mut room = [0u8; ROOM];
     match code_reply(line, &mut room) {
-        CodeReply::Is(answer) => print_code(answer),
-        CodeReply::Unknown => printing::unknown(),
+        CodeReply::Is(answer) => print_code(out, answer),
+        CodeReply::Unknown => printing::unknown(out),
     }
 }

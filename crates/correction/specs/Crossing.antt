@@ -1,6 +1,6 @@
 -- Document 02, Note 9: the fraction from a table by physical point. Its
 -- definition, a computed form, and "there is one crossing and no second".
-use Rattle.std.specs.Prelude.{◌≡◌, ◌+◌, ◌-◌, ◌*◌, cond, ◌↔◌, List, [], ◌∷◌, ℤ, pos, ◌+ℤ◌, ◌-ℤ◌, ◌*ℤ◌, ◌≤ℤ◌, ◌<ℤ◌, int_le, unsigned_abs}
+use Rattle.std.specs.Prelude.{◌≡◌, ◌*◌, cond, ◌↔◌, List, [], ◌∷◌, ℤ, pos, ◌+ℤ◌, ◌-ℤ◌, ◌*ℤ◌, ◌≤ℤ◌, ◌<ℤ◌, int_le, unsigned_abs}
 use Rattle.integers.specs.Ceiling.{ceiling}
 use Rattle.integers.specs.Nearest.{Fraction}
 use Rattle.templates.specs.declared.Pair.{Pair}

@@ -1,5 +1,5 @@
 -- Laws of a returned sheet that is passed again, and of the kind of an image's length.
-use Rattle.dartelm.proofs.Names.{◌≡◌, refl, ap, ◌∙◌, Bool, true, false, not, List, [], ◌∷◌, map, map-append, ℕ, zero, suc, ◌-◌, ◌<◌, arith, ℤ, pos, Float, eqb, replicate, length-map, eqb-true, good, ◌>>◌}
+use Rattle.dartelm.proofs.Names.{◌≡◌, refl, ap, ◌∙◌, Bool, true, false, not, List, [], ◌∷◌, map, map-append, ℕ, zero, suc, ◌<◌, arith, ℤ, pos, Float, eqb, replicate, length-map, eqb-true, good, ◌>>◌}
 use Rattle.dartelm.proofs.Names.{refuse◌if◌, wrong_image, Sizes, image_sizes, Value, Whole, Single, Missing, Template, Bridge, Resistance, number_of, slot, SplitValues, sheet_lent, split-sheet, end_code, Domain}
 use Rattle.dartelm.proofs.Names.{Options, DartelmFields, yes, level_of, template_by, options_of, template_flag, value_of, by_flags, no_value, slot_of, sheet_of, kind_of, SheetAgain}
 

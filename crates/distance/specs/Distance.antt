@@ -1,6 +1,6 @@
 -- Document 01, demand 3: the certificate distance, known from the points
 -- alone. Order: 16, then each pair as a build in domain 0 refuses it.
-use Rattle.std.specs.Prelude.{List, [], ◌∷◌, ℕ, max, ◌+◌, ◌*◌, ◌-◌, ℤ, nat_abs, ◌-ℤ◌}
+use Rattle.std.specs.Prelude.{List, [], ◌∷◌, ℕ, max, ◌+◌, ◌*◌, ℤ, nat_abs, ◌-ℤ◌}
 use Rattle.integers.specs.Ceiling.{ceiling}
 use Rattle.refusal.specs.Outcome.{Outcome, good, refused, ◌>>◌}
 use Rattle.templates.specs.declared.Pair.{Pair}

@@ -10,30 +10,32 @@ ghost use Rattle.codes.specs.Stored.{Sound};
 
 use codes::{Decoded, Row, Rule, Value};
 use listing::{put, put_figure};
+use std::io;
+use std::io::{BufWriter, Write};
 
-fn print_value(v: Value) {
+fn print_value(out: &mut impl Write, v: Value) {
     match v {
         Value::Whole(z) => {
-            put_figure(z);
-            put(b"\n");
+            put_figure(out, z);
+            put(out, b"\n");
         }
         Value::Single(_) => {}
-        Value::Missing => put(b"missing\n"),
+        Value::Missing => put(out, b"missing\n"),
     }
 }
 
-fn print_meaning(decoded: Decoded) {
+fn print_meaning(out: &mut impl Write, decoded: Decoded) {
     match decoded {
-        Decoded::Means(value) => print_value(value),
+        Decoded::Means(value) => print_value(out, value),
         Decoded::Refused(_) => {}
     }
 }
 
 // Prints the value of a code in a stepped row.
-fn print_code(row: Row, code: u64)
+fn print_code(out: &mut impl Write, row: Row, code: u64)
     requires { Sound row × (code < 2 ^ row.width) }
 {
-    print_meaning(codes::decode(row, 0, code));
+    print_meaning(out, codes::decode(row, 0, code));
 }
 
 // %TempCoef: 9 bits, start -0.5, step 0.002; in thousandths.
@@ -58,30 +60,32 @@ const GRANULAR: Row = Row {
 };
 
 // Prints the rows that calls other than a check return.
-fn print_rows() {
-    listing::refused(refusal::no_such(22));
-    listing::refused(refusal::wrong_sort(13));
-    listing::refused(refusal::out_of_range(15));
-    listing::refused(refusal::too_long(320));
-    listing::refused(refusal::changed_alone(9));
-    listing::refused(refusal::no_span(11));
-    listing::refused(refusal::outside_span());
-    listing::refused(refusal::wrong_list(3));
-    listing::refused(refusal::short_index(84));
-    listing::refused(refusal::other_code(20));
-    listing::refused(refusal::level_too_low(13));
-    listing::refused(refusal::end_outside(10));
-    listing::refused(refusal::too_many_points(33));
-    listing::refused(refusal::wrong_ticks(29));
+fn print_rows(out: &mut impl Write) {
+    listing::refused(out, refusal::no_such(22));
+    listing::refused(out, refusal::wrong_sort(13));
+    listing::refused(out, refusal::out_of_range(15));
+    listing::refused(out, refusal::too_long(320));
+    listing::refused(out, refusal::changed_alone(9));
+    listing::refused(out, refusal::no_span(11));
+    listing::refused(out, refusal::outside_span());
+    listing::refused(out, refusal::wrong_list(3));
+    listing::refused(out, refusal::short_index(84));
+    listing::refused(out, refusal::other_code(20));
+    listing::refused(out, refusal::level_too_low(13));
+    listing::refused(out, refusal::end_outside(10));
+    listing::refused(out, refusal::too_many_points(33));
+    listing::refused(out, refusal::wrong_ticks(29));
 }
 
-fn main() {
-    print_code(TEMPERATURE_COEFFICIENT, 8);
-    print_code(TEMPERATURE_COEFFICIENT, 510);
-    print_code(SIGNED_INTEGER, 0);
-    print_code(SIGNED_INTEGER, 254);
-    print_code(SIGNED_INTEGER, 255);
-    print_code(GRANULAR, 20_000_000);
-    commands::serve();
-    print_rows();
+fn main(rt: HostRuntime) -> io::Result<()> {
+    let mut out = BufWriter::new(rt.alloc(), rt.stdout())?;
+    print_code(&mut out, TEMPERATURE_COEFFICIENT, 8);
+    print_code(&mut out, TEMPERATURE_COEFFICIENT, 510);
+    print_code(&mut out, SIGNED_INTEGER, 0);
+    print_code(&mut out, SIGNED_INTEGER, 254);
+    print_code(&mut out, SIGNED_INTEGER, 255);
+    print_code(&mut out, GRANULAR, 20_000_000);
+    commands::serve(&mut rt.stdin(), &mut out);
+    print_rows(&mut out);
+    Ok(())
 }

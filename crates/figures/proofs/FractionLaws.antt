@@ -1,5 +1,5 @@
 -- Laws of the physical figure of two Singles and any fraction: near the exact one.
-use Rattle.figures.proofs.Names.{◌≡◌, refl, ap, ◌∙◌, subst, Bool, true, false, ℕ, zero, suc, ◌+◌, ◌*◌, ◌^◌, ◌≤◌, mul-zero, arith, lit≤, ℤ, pos, negsuc, nat_abs, ◌+ℤ◌, ◌-ℤ◌, ◌*ℤ◌, Float, binary64, unlike, add, sub}
+use Rattle.figures.proofs.Names.{◌≡◌, refl, ap, ◌∙◌, subst, Bool, true, false, ℕ, zero, suc, ◌+◌, ◌*◌, ◌^◌, ◌≤◌, mul-zero, arith, lit≤, pos, negsuc, nat_abs, ◌+ℤ◌, ◌-ℤ◌, ◌*ℤ◌, Float, binary64, unlike, add, sub}
 use Rattle.figures.proofs.Names.{mul, HasValue, physical_figure, signed, End, NearFraction, FigureNearFraction}
 use Rattle.figures.proofs.Signed.{plus, minus}
 use Rattle.figures.proofs.Operations.{Sized, in-units}

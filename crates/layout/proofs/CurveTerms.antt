@@ -1,7 +1,7 @@
 -- Laws of the terms of an accepted curve: exponents are whole numbers
 -- up to 5 that rise inside a segment, coefficients are finite.
 use Rattle.layout.proofs.Names.{◌≡◌, ap, ◌∙◌, sym, subst, true, not, List, [], ◌∷◌, map, Option, none, some, ℕ, suc, ◌+◌, ◌/◌, ◌≤◌, ◌<◌, arith, eqb, ℤ, pos, nat_abs, ◌*ℤ◌, binary32, of_bits, not-false, good}
-use Rattle.layout.proofs.Names.{outside_table, not_finite, good-same, passed, needed, Term, all_ones, finite, decode, least_exponent, exponent, coefficient, is_exponent, tenths_of, tenths_before, stepped-whole, power}
+use Rattle.layout.proofs.Names.{outside_table, not_finite, good-same, passed, needed, Term, all_ones, finite, decode, least_exponent, coefficient, is_exponent, tenths_of, tenths_before, stepped-whole, power}
 use Rattle.layout.proofs.Names.{follows-some, power-is, power-back, power-rises, Found, FoundTerm, figure, float, term_in}
 use Rattle.refusal.specs.Outcome.{◌>>◌, refuse◌if◌}
 use Rattle.codes.specs.declared.Value.TheVariants.{Single}

@@ -1,5 +1,5 @@
 -- Laws of curves: what the format allows as terms, segments and a curve, and their pieces.
-use Rattle.layout.proofs.Names.{◌≡◌, refl, sym, ap, ap₂, ◌∙◌, subst, Bool, true, false, not, List, [], ◌∷◌, ◌++◌, Option, none, some, ℕ, ◌+◌, ◌*◌, ◌≤◌, arith, ltb, leb, pos, length, length-append, not-false}
+use Rattle.layout.proofs.Names.{◌≡◌, refl, sym, ap, ap₂, ◌∙◌, subst, Bool, true, false, not, List, [], ◌∷◌, ◌++◌, Option, none, ℕ, ◌+◌, ◌*◌, ◌≤◌, arith, ltb, leb, pos, length, length-append, not-false}
 use Rattle.layout.proofs.Names.{le-leb, leb-true, wrong_curve, too_many_terms, both, Piece, piece, needed, needed-append, Whole, Row, curve_domain, segment_count, segment_start, term_count, exponent, coefficient}
 use Rattle.layout.proofs.Names.{is_segment_count, is_term_count, most_terms, start_follows, tenths_of, tenths_before, exponent_follows, plain-bounds, Format, ends, ◌>>=◌, ◌>>◌, reject◌if◌, Found, FoundTerm, FoundSegment}
 use Rattle.layout.proofs.Names.{Calibration, curve, Passed, field_of, ruled_of, term_of, behind_term, terms_of, segment_of, behind_segment, nothing_passed, segments_of, curve_of, all_terms}

@@ -1,6 +1,6 @@
 -- Laws of fields inside the stream: judging them at their
 -- places in order gives what parsing them line by line does.
-use Rattle.layout.proofs.Names.{◌≡◌, refl, sym, ap, ap₂, ◌∙◌, subst, Bool, false, not, cond, List, [], ◌∷◌, ◌++◌, ℕ, zero, suc, ◌+◌, ◌-◌, ◌*◌, ◌/◌, ◌%◌, ◌≤◌, ◌<◌, arith, eqb, length, take, drop, get_or, high, low}
+use Rattle.layout.proofs.Names.{◌≡◌, refl, sym, ap, ap₂, ◌∙◌, subst, Bool, false, not, cond, List, [], ◌∷◌, ◌++◌, ℕ, zero, suc, ◌+◌, ◌*◌, ◌/◌, ◌%◌, ◌≤◌, ◌<◌, arith, eqb, length, take, drop, get_or, high, low}
 use Rattle.layout.proofs.Names.{le-ltb, eq-eqb, ne_eqb, Refusal, Outcome, good, refused, past_end, wrong_block, said_of, then-good, then-refused, bind_assoc, field_at, field_lt, field-add, Value, Row, Judged, Valid}
 use Rattle.layout.proofs.Names.{Refused, Template, Bridge, Resistance, TemplateAnswer, Is, Unknown, Layout, judged_said, template_said, decode, judge, Open, Line, chose, basic, template33, template32, template_lines}
 use Rattle.layout.proofs.Names.{template_of, lines_of, last_field, line_of, row_of, bits_before, row_open, Format, ends, ◌>>=◌, bits, given, reject◌if◌, Stream, Parsed, parse, Found, field_of, fields_of, selector_of}

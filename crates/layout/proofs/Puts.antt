@@ -1,6 +1,6 @@
 -- Laws of a sheet with another code in one field:
 -- the format still allows it, and one piece differs.
-use Rattle.layout.proofs.Names.{◌≡◌, refl, sym, ap, ◌∙◌, subst, subst₂, List, [], ◌∷◌, ◌++◌, map, append_assoc, ℕ, zero, suc, ◌+◌, ◌-◌, ◌^◌, ◌≤◌, ◌<◌, zero-add, arith, dec_lt, length, get_or, set, length-append}
+use Rattle.layout.proofs.Names.{◌≡◌, refl, sym, ap, ◌∙◌, subst, subst₂, List, [], ◌∷◌, ◌++◌, map, append_assoc, ℕ, zero, suc, ◌-◌, ◌^◌, ◌≤◌, ◌<◌, zero-add, arith, dec_lt, length, get_or, set, length-append}
 use Rattle.layout.proofs.Names.{good, Piece, piece, needed, put_at, Fit, Holds, needed-append, holds-put, Value, decode, Line, basic, template_lines, number_of, lines_of, no_line, Stream, Found, Contents, nothing}
 use Rattle.layout.proofs.Names.{block_pieces}
 use Rattle.layout.proofs.Fields.{piece_of, recoded, Laid, laid-length, Keeps, laid-put, laid-split}

@@ -1,7 +1,7 @@
 -- Laws of a calibration table as fields of 37 bits,
 -- one for each pair: valid pairs that rise are parsed.
 use Rattle.layout.proofs.Names.{◌≡◌, refl, sym, ap, ◌∙◌, Option, none, some, ℕ, ◌+◌, ◌*◌, ◌/◌, ◌%◌, ◌^◌, ◌≤◌, ◌<◌, arith, lt-leb, le-ltb, ℤ, pos, high, low, good, field_at, field_lt, field-add, Whole, Stepped}
-use Rattle.layout.proofs.Names.{Codes, Domain, Electrical, Physical, all_ones, top_code, stepped_value, decode, always, D, R, least_deviation, cal_point, cal_deviation, codes_of, follows, sum-climbs, ◌>>=◌, ◌>>◌, Stream}
+use Rattle.layout.proofs.Names.{Codes, Domain, Electrical, Physical, all_ones, top_code, stepped_value, decode, always, D, R, least_deviation, cal_point, cal_deviation, codes_of, follows, sum-climbs, ◌>>=◌, Stream}
 use Rattle.layout.proofs.Names.{parse, FoundPair, field_of, pair_of, pair_bits, sum_above}
 use Rattle.layout.proofs.Calibrations.{following}
 use Rattle.layout.proofs.Formats.{parsed, parse-next}

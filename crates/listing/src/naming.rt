@@ -1,6 +1,7 @@
 // The fields' names, from document 000 (Basic TEDS, template 33 with
 // its table A.10, template 32 with its table A.9), and their units.
 use crate::output::put_entry;
+use std::io::Write;
 use templates::Template;
 
 // Row f describes field f of every template: `name; unit of a whole
@@ -47,36 +48,37 @@ const RESISTANCE: [u8; 270] = *b"minimum electrical value; ohm; ohm\n\
     measurement location ID";
 
 // Prints a column of a field's row.
-fn print_column(template: Template, field: u64, column: u64) {
+fn print_column(out: &mut impl Write, template: Template, field: u64, column: u64) {
     if field < OWN {
-        return put_entry(&COMMON, field, column);
+        return put_entry(out, &COMMON, field, column);
     }
     match template {
-        Template::Bridge => put_entry(&BRIDGE, field - OWN, column),
-        Template::Resistance => put_entry(&RESISTANCE, field - OWN, column),
+        Template::Bridge => put_entry(out, &BRIDGE, field - OWN, column),
+        Template::Resistance => put_entry(out, &RESISTANCE, field - OWN, column),
     }
 }
 
 // Prints the name of a field, counted from 1.
-pub fn print_name(template: Template, field: u64) {
-    print_column(template, field, 0);
+pub fn print_name(out: &mut impl Write, template: Template, field: u64) {
+    print_column(out, template, field, 0);
 }
 
 // Prints the unit of a field's whole number.
-pub fn print_unit(template: Template, field: u64) {
-    print_column(template, field, 1);
+pub fn print_unit(out: &mut impl Write, template: Template, field: u64) {
+    print_column(out, template, field, 1);
 }
 
 // Prints the unit of a field's Single.
-pub fn print_single_unit(template: Template, field: u64) {
-    print_column(template, field, 2);
+pub fn print_single_unit(out: &mut impl Write, template: Template, field: u64) {
+    print_column(out, template, field, 2);
 }
 
 // Prints the name of a code of field 12: a bridge type, or a mapping method.
-pub fn print_case(template: Template, code: u64) {
+pub fn print_case(out: &mut impl Write, template: Template, code: u64) {
     match template {
-        Template::Bridge => put_entry(b" (quarter)\n (half)\n (full)", code, 0),
+        Template::Bridge => put_entry(out, b" (quarter)\n (half)\n (full)", code, 0),
         Template::Resistance => put_entry(
+            out,
             b" (linear)\n (inverse m/(x+b))\n (inverse b+m/x)\n (inverse 1/(b+m/x))",
             code,
             0,

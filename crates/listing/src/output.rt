@@ -1,13 +1,13 @@
-// Standard output. A write that fails is not reported: the person sees that the text stops.
+// Output. A write that fails is not reported: the person sees that the text stops.
 ghost use Rattle.std.specs.Prelude.{◌≡◌};
 ghost use Rattle.listing.specs.Tables.{entry_of};
 
 use integers::{minus, plus};
-use libc::STDOUT_FILENO;
+use std::io::Write;
 
 // Prints bytes.
-pub fn put(text: &[u8]) {
-    io::write_all(STDOUT_FILENO, text);
+pub fn put(out: &mut impl Write, text: &[u8]) {
+    let _ = out.write_all(text);
 }
 
 // The entry of a table in this row and column, from 0: rows are
@@ -19,52 +19,49 @@ fn entry(table: &[u8], row: u64, column: u64) -> &[u8]
 }
 
 // Prints an entry of a table.
-pub fn put_entry(table: &[u8], row: u64, column: u64) {
-    put(entry(table, row, column));
+pub fn put_entry(out: &mut impl Write, table: &[u8], row: u64, column: u64) {
+    put(out, entry(table, row, column));
 }
 
 // Prints a number.
-pub fn put_number(n: u64) {
-    io::print_decimal(STDOUT_FILENO, n);
+pub fn put_number(out: &mut impl Write, n: u64) {
+    let _ = write!(out, "{n}");
 }
 
 // Prints a number, with a minus sign if it is negative.
-pub fn put_figure(z: i64) {
+pub fn put_figure(out: &mut impl Write, z: i64) {
     if z < 0 {
-        put(b"-");
-        put_number(minus(z));
+        put(out, b"-");
+        put_number(out, minus(z));
         return;
     }
-    put_number(plus(z));
+    put_number(out, plus(z));
 }
 
 // Prints the bytes of a text from an index on; none past its end.
-pub fn put_from(text: &[u8], from: usize) {
+pub fn put_from(out: &mut impl Write, text: &[u8], from: usize) {
     if from <= text.len() {
-        put(&text[from..]);
+        put(out, &text[from..]);
     }
 }
 
 // Prints this many zeros.
-pub fn put_zeros(count: u64) {
-    let mut left = count;
-    while 0 < left {
-        put(b"0");
-        left -= 1;
+pub fn put_zeros(out: &mut impl Write, count: u64) {
+    for _ in 0..count {
+        put(out, b"0");
     }
 }
 
 // Prints a character of the closing text: itself if it
 // is printable, else \x and two hexadecimal digits.
-pub fn put_character(c: u8) {
+pub fn put_character(out: &mut impl Write, c: u8) {
     match c {
         32..=126 => {
             let one = [c];
-            put(&one);
+            put(out, &one);
         }
         _ => {
-            put(b"\\x");
-            io::print_hex(STDOUT_FILENO, c as u64, 2);
+            let _ = write!(out, "\\x{c:02x}");
         }
     }
 }

@@ -1,6 +1,7 @@
 // Document 01, "Turning down", and the notes of document 02: a refusal in words.
 use crate::output::{put, put_entry, put_number};
 use refusal::Refusal;
+use std::io::Write;
 
 // Row n describes refusal n: `kind of place;meaning`, or
 // `place` if the kind varies. 0 and 15 are not refusals.
@@ -33,15 +34,15 @@ const ROWS: [u8; 1337] = *b"place;no row of the table\n\
     ticks;the fast recording has not six for each slow one, or a list is odd";
 
 // Prints a refusal's number, place and meaning, on a line.
-pub fn refused(r: Refusal) {
+pub fn refused(out: &mut impl Write, r: Refusal) {
     let row = r.number as u64;
-    put(b"refused: ");
-    put_number(row);
-    put(b" at ");
-    put_entry(&ROWS, row, 0);
-    put(b" ");
-    put_number(r.place);
-    put(b": ");
-    put_entry(&ROWS, row, 1);
-    put(b"\n");
+    put(out, b"refused: ");
+    put_number(out, row);
+    put(out, b" at ");
+    put_entry(out, &ROWS, row, 0);
+    put(out, b" ");
+    put_number(out, r.place);
+    put(out, b": ");
+    put_entry(out, &ROWS, row, 1);
+    put(out, b"\n");
 }

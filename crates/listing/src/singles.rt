@@ -5,13 +5,14 @@ ghost use Rattle.listing.specs.Singles.{Shapes, Scales};
 
 use crate::output::{put, put_from, put_number, put_zeros};
 use crate::rounding::{decimal_of, less, shortest};
+use std::io::Write;
 
 // Prints the first digit, and the others after a point.
-fn print_first_and_rest(text: &[u8]) {
-    put(console_words::front(text, 1));
+fn print_first_and_rest(out: &mut impl Write, text: &[u8]) {
+    put(out, console_words::front(text, 1));
     if 1 < text.len() {
-        put(b".");
-        put_from(text, 1);
+        put(out, b".");
+        put_from(out, text, 1);
     }
 }
 
@@ -53,57 +54,57 @@ fn shape_of(count: u64, up: u64, point: u64) -> Shape
     Shape::Behind(noughts)
 }
 
-fn print_digits(text: &[u8], up: u64, point: u64)
+fn print_digits(out: &mut impl Write, text: &[u8], up: u64, point: u64)
     requires { (up ≤ 20_000_000) × (point < 1000) }
 {
     match shape_of(text.len() as u64, up, point) {
         Shape::Raised(power) => {
-            print_first_and_rest(text);
-            put(b"e");
-            put_number(power);
+            print_first_and_rest(out, text);
+            put(out, b"e");
+            put_number(out, power);
         }
         Shape::Lowered(power) => {
-            print_first_and_rest(text);
-            put(b"e-");
-            put_number(power);
+            print_first_and_rest(out, text);
+            put(out, b"e-");
+            put_number(out, power);
         }
         Shape::Whole(noughts) => {
-            put(text);
-            put_zeros(noughts);
+            put(out, text);
+            put_zeros(out, noughts);
         }
         Shape::Split(whole) => {
-            put(console_words::front(text, whole as usize));
-            put(b".");
-            put_from(text, whole as usize);
+            put(out, console_words::front(text, whole as usize));
+            put(out, b".");
+            put_from(out, text, whole as usize);
         }
         Shape::Behind(noughts) => {
-            put(b"0.");
-            put_zeros(noughts);
-            put(text);
+            put(out, b"0.");
+            put_zeros(out, noughts);
+            put(out, text);
         }
     }
 }
 
 // Prints the digits of n × 10^up, with the decimal point this many places up.
-fn print_number(n: u64, up: u64, point: u64)
+fn print_number(out: &mut impl Write, n: u64, up: u64, point: u64)
     requires { (up ≤ 20_000_000) × (point < 1000) }
 {
     let mut text = [0u8; 20];
     let count = io::decimal(n, &mut text);
-    print_digits(&text[..count], up, point);
+    print_digits(out, &text[..count], up, point);
 }
 
 // Prints m × 2^p / 2^149.
-fn print_scaled(m: u64, p: u64)
+fn print_scaled(out: &mut impl Write, m: u64, p: u64)
     requires { (m < 16_777_216) × (p < 256) }
 {
     if m == 0 {
-        put(b"0");
+        put(out, b"0");
         return;
     }
     let mut digits = [0u8; 144];
     let x = shortest(decimal_of(&mut digits, m, p));
-    print_number(x.n, x.up, less(149, p));
+    print_number(out, x.n, x.up, less(149, p));
 }
 
 // A finite Single: its sign, and m × 2^p / 2^149.
@@ -137,26 +138,26 @@ fn scaled_of(bits: u32) -> Scaled
 }
 
 // Prints a Single from its bits.
-fn print_bits(bits: u32) {
+fn print_bits(out: &mut impl Write, bits: u32) {
     if 0x7f80_0000 <= bits % 0x8000_0000 {
         if 0x8000_0000 <= bits {
-            put(b"-");
+            put(out, b"-");
         }
-        return put(b"infinity");
+        return put(out, b"infinity");
     }
     let x = scaled_of(bits);
     if x.negative {
-        put(b"-");
+        put(out, b"-");
     }
-    print_scaled(x.m, x.p);
+    print_scaled(out, x.m, x.p);
 }
 
 // Prints a Single, with up to seven digits; plain from
 // 0.00001 to below 10,000,000,000, else with a power of ten.
-pub fn print_single(x: f32) {
+pub fn print_single(out: &mut impl Write, x: f32) {
     if x != x {
-        put(b"NaN");
+        put(out, b"NaN");
         return;
     }
-    print_bits(f32::to_bits(x));
+    print_bits(out, f32::to_bits(x));
 }

@@ -7,6 +7,7 @@ use crate::output::{put, put_figure};
 use crate::singles::print_single;
 use codes::Value;
 use integers::plus;
+use std::io::Write;
 use templates::Template;
 use texts::TextAnswer;
 
@@ -39,13 +40,13 @@ fn text_field(template: Template, field: u64) -> u64
 }
 
 // Prints the text of a code of field 3, 18 or 19, or the code itself if it has none.
-fn print_text(field: u64, figure: i64) {
+fn print_text(out: &mut impl Write, field: u64, figure: i64) {
     let text = texts::text_of(field, plus(figure));
     let answer = text.answer;
     let characters = text.characters;
     match answer {
-        TextAnswer::Length(count) => put(console_words::front(&characters, count as usize)),
-        TextAnswer::Refused(_) => put_figure(figure),
+        TextAnswer::Length(count) => put(out, console_words::front(&characters, count as usize)),
+        TextAnswer::Refused(_) => put_figure(out, figure),
     }
 }
 
@@ -80,21 +81,21 @@ fn form_of(template: Template, field: u64, value: Value) -> Form
 }
 
 // Prints the value of a field.
-pub fn print_value(template: Template, field: u64, value: Value) {
+pub fn print_value(out: &mut impl Write, template: Template, field: u64, value: Value) {
     match form_of(template, field, value) {
-        Form::Text(requested, figure) => print_text(requested, figure),
+        Form::Text(requested, figure) => print_text(out, requested, figure),
         Form::Named(figure) => {
-            put_figure(figure);
-            print_case(template, plus(figure));
+            put_figure(out, figure);
+            print_case(out, template, plus(figure));
         }
         Form::Figure(figure) => {
-            put_figure(figure);
-            print_unit(template, field);
+            put_figure(out, figure);
+            print_unit(out, template, field);
         }
         Form::Single(x) => {
-            print_single(x);
-            print_single_unit(template, field);
+            print_single(out, x);
+            print_single_unit(out, template, field);
         }
-        Form::Missing => put(b"missing"),
+        Form::Missing => put(out, b"missing"),
     }
 }

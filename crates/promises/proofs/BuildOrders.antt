@@ -1,5 +1,5 @@
 -- Laws of the rows of a build, with a points list or a curve, and of the distance.
-use Rattle.promises.proofs.Names.{◌≡◌, refl, Bool, not, ◌||◌, ◌&&◌, List, [], ◌∷◌, Option, none, some, ℕ, suc, ◌+◌, ◌%◌, arith, eqb, ltb, leb, ℤ, pos, ◌*ℤ◌, length, take, drop, le_z, Outcome, good, refused, ◌>>=◌}
+use Rattle.promises.proofs.Names.{◌≡◌, refl, Bool, not, ◌||◌, ◌&&◌, List, [], ◌∷◌, Option, none, some, ℕ, suc, ◌+◌, ◌%◌, arith, eqb, ltb, leb, ℤ, pos, ◌*ℤ◌, length, take, drop, le_z, Outcome, good, refused}
 use Rattle.promises.proofs.Names.{◌>>◌, wrong_sort, out_of_range, too_long, wrong_list, not_rising, sums_not_rising, wrong_curve, too_many_terms, By, build_order, curve_order, distance_order, Among, by-among, by-bind, by-then}
 use Rattle.promises.proofs.Names.{by-test, by_last, image_sizes, stream_bits, needed, Value, Whole, Single, Row, Pair, Codes, Domain, Electrical, Segment, Term, Curve, Stepped, top_code, stepped_value, stepped_code}
 use Rattle.promises.proofs.Names.{outside, encode, Line, chose, basic, template_lines, ending, D, R, least_deviation, cal_point, cal_deviation, is_physical, stored_sum, follows, segment_start, exponent, coefficient}

@@ -1,6 +1,6 @@
 -- Laws of conformity: the answer holds for every reading, is at most what is known
 -- beforehand, is changed by no alteration, and is no greater than necessary.
-use Rattle.promises.proofs.Names.{◌≡◌, refl, sym, ap, ◌∙◌, subst, false, List, [], ◌∷◌, map, none, some, ℕ, ◌+◌, ◌*◌, ◌<◌, arith, ℤ, pos, nat_abs, ◌+ℤ◌, ◌-ℤ◌, ◌*ℤ◌, ◌<ℤ◌, sub-parts-ℤ, abs-parts, lt_z-parts, Outcome}
+use Rattle.promises.proofs.Names.{◌≡◌, refl, sym, ap, ◌∙◌, subst, false, List, [], ◌∷◌, map, none, some, ℕ, ◌+◌, ◌*◌, arith, ℤ, pos, nat_abs, ◌+ℤ◌, ◌-ℤ◌, ◌*ℤ◌, ◌<ℤ◌, sub-parts-ℤ, abs-parts, lt_z-parts, Outcome}
 use Rattle.promises.proofs.Names.{good, refused, good-same, Bytes, pack, image-bytes, Domain, Electrical, Physical, Pair, D, R, billion, Calibration, bare, table, curve, Contents, contents, pair_in, pairs_in}
 use Rattle.promises.proofs.Names.{points, segment_in, segments_in, contents-accepted, CalibrationAt, Is, domain_in, Sheet, pairs_lent, listed, build, Rises, Slopes, WithinOf, deviation, certificate_line}
 use Rattle.promises.proofs.Names.{close-conforms, CertificateBound, distance, by_slope, told-by, least-slope, no-slope, taking, is_resistance, least, greatest, position, calibration-table, shown, by-deviation}

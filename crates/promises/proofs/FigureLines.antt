@@ -1,5 +1,5 @@
 -- Laws of the figure near the certificate line.
-use Rattle.promises.proofs.Names.{◌≡◌, ap, List, [], ◌∷◌, map, some, ℕ, ◌+◌, ◌*◌, ◌≤◌, le_refl, arith, ℤ, Fraction, good, D, R, last_field, span-listed, Calibration, bare, table, curve, Contents, contents}
+use Rattle.promises.proofs.Names.{◌≡◌, ap, List, [], ◌∷◌, map, ℕ, ◌+◌, ◌*◌, ◌≤◌, le_refl, arith, ℤ, Fraction, good, D, R, last_field, span-listed, Calibration, bare, table, curve, Contents, contents}
 use Rattle.promises.proofs.Names.{segment_in, segments_in, contents-accepted, CalibrationAt, accepted-reads, Dash, Reading, take_reading, shown, figure-near-line, StraysAtMost, altered, NoCurve, low, high, single}
 use Rattle.promises.proofs.Names.{low_in, high_in, FigureStraysAtMost, CertificateFigure}
 use Rattle.promises.proofs.Distance.{certificate-distance}

@@ -1,6 +1,6 @@
 -- Laws of row 11: the bits that a build needs.
 use Rattle.promises.proofs.Names.{◌≡◌, refl, sym, ap, ap₂, ◌∙◌, Bool, true, false, cond, List, [], ◌∷◌, ◌++◌, map, Option, none_before, some, ℕ, zero, suc, ◌+◌, ◌-◌, ◌≤◌, arith, leb, pos, length, drop, length-map}
-use Rattle.promises.proofs.Names.{length-append, length-take-le, lt-ltb, leb-true, good, ◌>>=◌, out_of_range, good-same, good-bind, passed, both, Piece, piece, needed, needed-append, Whole, Plain, Template, Bridge}
+use Rattle.promises.proofs.Names.{length-append, length-take-le, lt-ltb, leb-true, good, out_of_range, good-same, good-bind, passed, both, Piece, piece, needed, needed-append, Whole, Plain, Template, Bridge}
 use Rattle.promises.proofs.Names.{Resistance, outside, encode, always, bridge_precision, resistance_precision, Line, chose, basic, template33, template32, template_lines, lines_of, number_of, bits_before, Segment, Term}
 use Rattle.promises.proofs.Names.{pair_in, pairs_in, segments_in, segment_in, all_terms, term_in, block_bits, field_place, behind_fields, table_bits, curve_bits, block_pieces, end_code, Steady, basic-settled, template-steady}
 use Rattle.promises.proofs.Names.{bits-append, calibration-needed, text-needed, Sheet, lent, template_in, line_pieces, pairs_lent, segment_pieces, Table, listed, by_curve, behind_pieces, segments-planned, block-planned}

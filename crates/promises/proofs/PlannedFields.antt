@@ -1,6 +1,6 @@
 -- Laws of fields, for any lines: the format allows what
 -- a build plans, and parsed fields are planned again.
-use Rattle.promises.proofs.Names.{◌≡◌, refl, sym, ap, ◌∙◌, subst, List, [], ◌∷◌, ◌++◌, map, ℕ, suc, ◌+◌, ◌-◌, arith, length, get_or, good, ◌>>=◌, good-same, good-bind, Piece, piece, Value, Missing, Row, encode}
+use Rattle.promises.proofs.Names.{◌≡◌, refl, sym, ap, ◌∙◌, subst, List, [], ◌∷◌, ◌++◌, map, ℕ, suc, ◌+◌, arith, length, get_or, good, good-same, good-bind, Piece, piece, Value, Missing, Row, encode}
 use Rattle.promises.proofs.Names.{kept, Real, AllSound, Line, chose, rows_of, reads-back, stored-again, Found, piece_of, found, row_is, Laid, Slot, Sheet, slot, lent, line_pieces}
 
 -- The rows are sound at every choice.

@@ -1,6 +1,6 @@
 -- Laws of calibration pairs: the format allows what
 -- a build plans, and parsed pairs are planned again.
-use Rattle.promises.proofs.Names.{◌≡◌, refl, sym, ap, ap₂, ◌∙◌, subst, List, [], ◌∷◌, ◌++◌, map, Option, none, some, ℕ, suc, ◌+◌, ◌≤◌, arith, length, length-map, ℤ, good, ◌>>=◌, ◌>>◌, Piece, piece, Value, Whole}
+use Rattle.promises.proofs.Names.{◌≡◌, refl, sym, ap, ap₂, ◌∙◌, subst, List, [], ◌∷◌, ◌++◌, map, Option, none, some, ℕ, suc, ◌+◌, ◌≤◌, arith, length, length-map, ℤ, good, Piece, piece, Value, Whole}
 use Rattle.promises.proofs.Names.{Pair, Codes, Domain, encode, kept, domain_code, cal_point, cal_deviation, point-sound, deviation-sound, stepped-whole, follows-anywhere, reads-back, stored-again, FoundPair}
 use Rattle.promises.proofs.Names.{Calibration, bare, table, curve, paired, codes_in, figure, pair_in, pairs_in, segments_in, block_pieces, found, width_is, PairAt, found_pairs_pieces, PairsAt, calibration_pieces}
 use Rattle.promises.proofs.Names.{CalibrationAt, domain_in, codes_for, pair_codes, pair_pieces, table_pieces, codes-planned, PairPlanned, no-pair, pairs-planned, no_table, table-planned, kept_pair, domain_lent, InDomain}

@@ -1,5 +1,5 @@
 -- Laws of a Single in nV/V from its own bits.
-use Rattle.promises.proofs.Names.{◌≡◌, refl, ap, ◌∙◌, Bool, true, false, ℕ, zero, suc, ◌+◌, ◌*◌, ◌^◌, ◌<◌, mul-one, arith, ℤ, pos, neg_ℤ, ◌*ℤ◌, pow_pos, Float, nan, inf, fin, binary32, of_bits, above, below}
+use Rattle.promises.proofs.Names.{◌≡◌, refl, ap, ◌∙◌, Bool, true, false, ℕ, zero, suc, ◌+◌, ◌*◌, ◌^◌, ◌<◌, mul-one, arith, pos, neg_ℤ, ◌*ℤ◌, pow_pos, Float, nan, inf, fin, binary32, of_bits, above, below}
 use Rattle.promises.proofs.Names.{HasValue, down_pos, up, dn, Fraction, ◌over◌, nearest, same, up_neg, dn-neg, mul-parts, nearest-rises-parts, billion, signed, nanovolts, size, bits-value, is_negative}
 use Rattle.promises.proofs.Names.{exponent_field, digits, units_of, NanovoltsOfBits}
 

@@ -1,6 +1,6 @@
 -- Proof of demand 2: written and read again.
 use Rattle.promises.proofs.Names.{◌≡◌, refl, sym, ap, ap₂, ◌∙◌, subst, Bool, true, false, ◌&&◌, cond, List, [], ◌∷◌, ◌++◌, map, ℕ, zero, suc, ◌+◌, ◌-◌, ◌^◌, ◌≤◌, ◌<◌, lt_of_lt_of_le, arith, leb, ltb, length}
-use Rattle.promises.proofs.Names.{pow_mono, leb-true, ltb-false, good, ◌>>=◌, too_long, good-same, good-bind, passed, Sizes, image_sizes, stream_bits, image_of, Piece, pack, needed, Holds, pack-lt, holds-pack}
+use Rattle.promises.proofs.Names.{pow_mono, leb-true, ltb-false, good, too_long, good-same, good-bind, passed, Sizes, image_sizes, stream_bits, image_of, Piece, pack, needed, Holds, pack-lt, holds-pack}
 use Rattle.promises.proofs.Names.{last-most, kept, Real, Found, Contents, sheet_of, contents, parses-fit, zero_if, zero-needed, zero-pack, Formed, sheet_pieces, sheet-needed, sheet-parses, fields-count, fields-rows}
 use Rattle.promises.proofs.Names.{written-contents, Slot, Sheet, Table, plan, built_in, build_with, AllReal, Lendable, LendableTable, kept_all, SameSheet, WrittenAndReadAgain, ZeroEndsText}
 use Rattle.promises.proofs.PlannedFields.{KeptFrom, value_at, Slots, slots-all, slot-first, slots-others}

@@ -1,7 +1,7 @@
 -- Document 01, "Edges": the small proved set of starred cases, "one table,
 -- one statement over it". Beside it, under their own names: an example that
 -- document 000 prints, and cases that meet the hypotheses of demand 3.
-use Rattle.std.specs.Prelude.{◌≡◌, false, List, [], ◌∷◌, ◌++◌, map, ℕ, ◌+◌, replicate, ℤ, pos, neg_ℤ}
+use Rattle.std.specs.Prelude.{◌≡◌, false, List, [], ◌∷◌, ◌++◌, map, ℕ, replicate, ℤ, pos, neg_ℤ}
 use Rattle.std.specs.Float.{binary32, binary64}
 use Rattle.std.specs.Float.Ieee.{of_int, of_bits}
 use Rattle.refusal.specs.declared.Refusal.{Refusal}

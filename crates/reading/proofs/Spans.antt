@@ -1,5 +1,5 @@
 -- Laws of the span: rows 13 and 21 in their order, and what its ends are then.
-use Rattle.reading.proofs.Names.{◌≡◌, refl, sym, ap, ◌∙◌, subst, Bool, true, false, ⊎_elim, List, [], ◌∷◌, ℕ, arith, ℤ, Float, le_z, ◌<ℤ◌, tag_of, OneOf, nle_z-parts, parts-<ℤ, is_false, Outcome, good, refused, ◌>>◌}
+use Rattle.reading.proofs.Names.{◌≡◌, refl, sym, ap, ◌∙◌, subst, Bool, true, false, ⊎_elim, List, [], ◌∷◌, ℕ, arith, Float, le_z, ◌<ℤ◌, tag_of, OneOf, nle_z-parts, parts-<ℤ, is_false, Outcome, good, refused, ◌>>◌}
 use Rattle.reading.proofs.Names.{◌>>=◌, refuse◌if◌, no_span, end_outside, good-same, good-then, passed, the_type, Value, Whole, Single, Missing, Layout, Contents, field, Opened, Opens, layout_is, Ends, Span}
 use Rattle.reading.proofs.Names.{is_resistance, electrical_figure, least_of, greatest_of, float, is_missing, is_outside, refuse_first, span_of, ends_of, Ready}
 use Rattle.reading.proofs.Opening.{Floated, electrical-small, floated-real, opened-low, opened-high, opened-least, opened-greatest}

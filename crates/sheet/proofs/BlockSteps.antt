@@ -1,5 +1,5 @@
 -- Laws of the check of the part after the fields: one block and the last selector.
-use Rattle.sheet.proofs.Names.{◌≡◌, refl, sym, ap, ap₂, ◌∙◌, Bool, not, cond, ℕ, eqb, eq-eqb, ne_eqb, Refusal, good, refused, wrong_block, said_of, Cursor, Format, ends, stops, ◌>>=◌, ◌>>◌, bits, reject◌if◌}
+use Rattle.sheet.proofs.Names.{◌≡◌, refl, sym, ap, ap₂, ◌∙◌, Bool, not, cond, ℕ, eqb, eq-eqb, ne_eqb, Refusal, good, refused, wrong_block, said_of, Cursor, Format, ends, stops, ◌>>◌, bits, reject◌if◌}
 use Rattle.sheet.proofs.Names.{Stream, parse, Calibration, bare, selector_of, table_of, curve_of, block_of, block_at, calibration_of, parsed, parse-next, parse-refused, NotThere, MarkStep, Behind, NoMark, Counts}
 use Rattle.sheet.proofs.Names.{BlockStep, FoundBlock, NoBlock, keeping, counts_of, mark_of, only_block, behind, mark_said, block_said}
 use Rattle.sheet.proofs.Steps.{keep-next, keep-refused, keep-made}

@@ -1,6 +1,6 @@
 -- Laws of the reads of an accepted image, and of their refusals.
-use Rattle.sheet.proofs.Names.{◌≡◌, List, ◌⊎◌, ⊎_elim, ℕ, ◌≤◌, ◌<◌, arith, length, get_or, eq-eqb, ne_eqb, lt-ltb, le-ltb, le-leb, lt-leb, Refusal, good, refused, no_such, no_pair, no_segment, no_term, last_field}
-use Rattle.sheet.proofs.Names.{Contents, contents, field, points, fields-count, contents-accepted, summary, check, indexed, read_field, read_pair, read_character, read_segment, read_term, ReadsEach, ReadsNone}
+use Rattle.sheet.proofs.Names.{◌≡◌, List, ⊎_elim, ℕ, ◌≤◌, ◌<◌, arith, length, get_or, eq-eqb, ne_eqb, lt-ltb, le-ltb, le-leb, lt-leb, Refusal, good, refused, no_such, no_pair, no_segment, no_term, last_field}
+use Rattle.sheet.proofs.Names.{Contents, contents, points, fields-count, contents-accepted, summary, check, indexed, read_field, read_pair, read_character, read_segment, read_term, ReadsEach, ReadsNone}
 use Rattle.layout.specs.Image.{segments as segments_of, terms as terms_of}
 
 -- The item of an index, and an index past the last.

@@ -1,6 +1,5 @@
 -- Only inner contracts need this: fields whose every code is accepted.
 use Rattle.std.specs.Prelude.{ℕ, ◌≤◌, ◌<◌}
-use Rattle.refusal.specs.Outcome.{◌>>◌}
 use Rattle.templates.specs.declared.Template.{Template}
 use Rattle.templates.specs.Lines.{line_of}
 use Rattle.codes.specs.Validity.{Open}

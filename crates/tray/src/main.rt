@@ -1,6 +1,6 @@
 // The tray report (docs/TRAY.md): a tray on standard input, its report on standard output.
 #![tactic(auto)]
 
-fn main() {
-    tray_run::report_tray();
+fn main(rt: HostRuntime) {
+    tray_run::report_tray(&mut rt.stdin(), &mut rt.stdout());
 }

@@ -1,26 +1,19 @@
 -- Laws of a line, piece by piece.
-use Rattle.tray_report.proofs.Names.{◌≡◌, refl, sym, ap, ap₂, ◌∙◌, List, [], ◌++◌, append_assoc, ℕ, zero, suc, ◌+◌, ◌-◌, ◌≤◌, sub-zero, arith, mid_of, post_of, put_mid, same_len_mid, length, take, drop, replicate}
-use Rattle.tray_report.proofs.Names.{length-append, length-replicate, take-append-drop, take_at, drop_at, take-length, drop-append-le, drop-drop, length-take-le, Line, bytes_in, Reads, TextOfLine, Put, Room}
+use Rattle.tray_report.proofs.Names.{◌≡◌, refl, sym, ap, ap₂, ◌∙◌, List, [], ◌++◌, append_assoc, ℕ, zero, suc, ◌+◌, ◌-◌, ◌≤◌, sub-zero, arith, drop_put, mid_len, post_of, put_mid, same_len_mid, length, take, drop, replicate}
+use Rattle.tray_report.proofs.Names.{length-append, length-replicate, take-append-drop, take_at, drop-drop, length-take-le, Line, bytes_in, Reads, TextOfLine, Put, Room}
 use Rattle.tray_report.proofs.Names.{Longer}
 
--- A text copied to the end of a buffer's first bytes, over the k bytes after them.
-pub put_as : (before text new : List ℕ) (at k n : ℕ) → at ≤ length before → length text ≤ length (mid_of at k before) → n ≡ length text →
-    new ≡ take (length text) text ++ drop (length text) (mid_of at k before) → length new ≡ length (mid_of at k before) →
-    Put before at text (put_mid at k before new) (at + n)
-put_as before text new at k n l w i e m =
-    let mid = mid_of at k before in
-    let post = post_of at k before in
-    let rest = drop (length text) mid ++ post in
-    let front : length (take at before ++ text) ≡ at + length text = length-append (take at before) text ∙ ap (λ (j : ℕ). j + length text) (length-take-le at before l) in
-    let is : put_mid at k before new ≡ (take at before ++ text) ++ rest =
-    rw (e, take-length text, append_assoc text, append_assoc (take at before) text) in
-    let left : drop (at + length text) before ≡ rest =
-    sym (drop-drop (length text) at before) ∙ ap (drop (length text)) (sym (take-append-drop k (drop at before))) ∙ drop-append-le (length text) mid post w in
+-- A text put over as many bytes after a buffer's first bytes.
+pub put_as : (before text new : List ℕ) (at end : ℕ) → end ≤ length before → end ≡ at + length text → new ≡ text → Put before at text (put_mid at (end - at) before new) end
+put_as before text new at end l w e =
+    let long : length text ≡ end - at = omega arith in
+    let front : length (take at before ++ text) ≡ end = length-append (take at before) text ∙ ap (λ (j : ℕ). j + length text) (length-take-le at before (omega arith)) ∙ sym w in
+    let is : put_mid at (end - at) before new ≡ (take at before ++ text) ++ post_of at (end - at) before = rw e (sym (append_assoc (take at before) text (post_of at (end - at) before))) in
     record {
-      long = same_len_mid at k before new m;
-      ends = ap (λ (j : ℕ). at + j) i;
-      is = rw (i, is) (take_at (take at before ++ text) rest (at + length text) front);
-      rest = rw (i, is, left) (drop_at (take at before ++ text) rest (at + length text) front);
+      long = same_len_mid at (end - at) before new (ap length e ∙ long ∙ sym (mid_len at end before l));
+      ends = w;
+      is = rw is (take_at (take at before ++ text) (post_of at (end - at) before) end front);
+      rest = drop_put at end before new (omega arith) l (ap length e ∙ long);
     }
 
 zeros-less : (n m : ℕ) → drop n (replicate {A = ℕ} m 0) ≡ replicate (m - n) 0

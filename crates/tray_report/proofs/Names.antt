@@ -6,8 +6,8 @@ pub use native.Mathlib.{Decide.dec_lt, Nat.pow-le-pow_right, Nat.pow-suc, Nat.su
 pub use lib.ListN.{drop, get_or, length, length-append, length-replicate, length-take, replicate, take, take-append-drop}
 pub use lib.{Dec.eqb, Dec.ltb, Seq.drop-append-le, Seq.drop_at, Seq.drop-drop, Seq.length-take-le, Seq.take_all, Seq.take_at, Seq.take-length}
 pub use borrow.Author.{Rules.rules, Tests.eq-eqb, Tests.eqb-true, Tests.le-ltb, Tests.lt-ltb, Tests.ltb-true, Tests.ne_eqb, Tests.not-false}
-pub use borrow.Rule.Slice.PartMut.{mid_len, mid_of, post_of, put_mid, same_len_mid}
-pub use Rattle.io.specs.{Digits.Fewest, Digits.digits, Digits.glyph}
+pub use borrow.Rule.Slice.PartMut.{drop_put, mid_len, post_of, put_mid, same_len_mid}
+pub use Rattle.io.specs.{Digits.IsDigitCount, Digits.last_digits, Digits.hex_digit_ascii}
 pub use Rattle.refusal.proofs.Outcomes.{both, good-bind, good-same, no_value_lem, passed}
 pub use Rattle.refusal.specs.{Outcome.Outcome, Outcome.good, Outcome.refused, Rows.wrong_image, declared.Refusal.Refusal}
 pub use Rattle.memory.{proofs.Chips.sizes-chip, proofs.Chips.sizes-kind, specs.Answers.sizes_said, specs.Image.image_bytes, specs.Image.sizes_of, specs.declared.Sizes.Sizes}

@@ -1,4 +1,5 @@
 -- What the proofs of this crate take from the kit, from the crates below and from its own definitions.
+pub use Prim.Native.Nat.{◌-◌, ◌≤◌}
 pub use mathlib.Core.Path.{◌∙◌, ◌≡◌, sym}
 pub use native.Mathlib.Omega.{arith}
 pub use lib.ListN.{length}

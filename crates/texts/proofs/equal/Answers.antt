@@ -1,4 +1,4 @@
-use Rattle.texts.proofs.Names.{refl, sym, ap, ◌∙◌, ◌-◌, arith, length, rules}
+use Rattle.texts.proofs.Names.{refl, sym, ap, ◌∙◌, arith, length, rules}
 use Rattle.texts.proofs.Same.{not_same, same-on, same_stop, same_end}
 use Rattle.texts.proofs.equal.Goals as goal
 

@@ -1,4 +1,4 @@
-use Rattle.build.proofs.Names.{sym, ap, ◌∙◌, ⊎_elim, ◌-◌, rules, w64, to_z-of_z, Whole}
+use Rattle.build.proofs.Names.{sym, ap, ◌∙◌, rules, w64, to_z-of_z, Whole}
 use Rattle.build.proofs.Splitting.{split-none, spread-whole, spread-single, spread-missing, split-all}
 use Rattle.build.proofs.building.split_values.Goals as goal
 use Rattle.build.proofs.building.split_values.Goals.{in-Whole, in-Single, in-Missing}

@@ -1,4 +1,4 @@
-use Rattle.build.proofs.Names.{◌≡◌, sym, ◌-◌, arith, length, length-map, said_of, two_said}
+use Rattle.build.proofs.Names.{◌≡◌, sym, arith, length, said_of, two_said}
 use Rattle.build.proofs.Coding.{packed-long}
 use Rattle.build.proofs.SegmentPlans.{segment-few}
 use Rattle.build.proofs.CurveTurns.{few-segments, done_none, done-own, own-begun, own_open, own-closed, segment-down, segment-turn, term-down, term-turn, done_all}

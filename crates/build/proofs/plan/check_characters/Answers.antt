@@ -1,4 +1,4 @@
-use Rattle.build.proofs.Names.{refl, sym, ◌∙◌, ◌-◌, rules, arith}
+use Rattle.build.proofs.Names.{refl, sym, ◌∙◌, rules, arith}
 use Rattle.build.proofs.TextTurns.{unfit-zero, unfit-above, unfit-next, unfit-end}
 use Rattle.build.proofs.plan.check_characters.Goals as goal
 

@@ -1,4 +1,4 @@
-use Rattle.build.proofs.Names.{sym, ◌∙◌, ◌-◌, rules, arith, said_of, previous_said, codes_said}
+use Rattle.build.proofs.Names.{sym, ◌∙◌, rules, arith, said_of, previous_said, codes_said}
 use Rattle.build.proofs.PairTurns.{table-tested, test-refused, test-next, test-end}
 use Rattle.build.proofs.plan.check_points.Goals as goal
 

@@ -1,4 +1,4 @@
-use Rattle.build.proofs.Names.{◌-◌, arith, last_field, last-most, front-most}
+use Rattle.build.proofs.Names.{arith, last-most, front-most}
 use Rattle.build.proofs.Coding.{quick-asked, quick-here, coded-at, coded-up, stopped}
 use Rattle.build.proofs.plan.code_back.Goals as goal
 
@@ -38,8 +38,7 @@ pub loop-j-smaller : goal.loop-j-smaller
 loop-j-smaller c = omega arith
 
 pub loop-j-preserved : goal.loop-j-preserved
-loop-j-preserved c =
-    (
+loop-j-preserved c = (
   omega (arith, c.loop-j-test.true),
   coded-at (c.code_field.ensures.done _ c.in-Next.is) (omega (arith, c.last_field.ensures)),
 )

@@ -1,4 +1,4 @@
-use Rattle.build.proofs.Names.{◌-◌, arith, basic-most}
+use Rattle.build.proofs.Names.{arith, basic-most}
 use Rattle.build.proofs.Coding.{quick-asked, quick-here, coded-at, stopped}
 use Rattle.build.proofs.plan.code_basic.Goals as goal
 

@@ -1,4 +1,4 @@
-use Rattle.build.proofs.Names.{◌-◌, arith, front-most}
+use Rattle.build.proofs.Names.{arith, front-most}
 use Rattle.build.proofs.Coding.{quick-asked, quick-here, coded-up, stopped}
 use Rattle.build.proofs.plan.code_front.Goals as goal
 

@@ -1,4 +1,4 @@
-use Rattle.build.proofs.Names.{◌-◌, arith, last_field, front-most}
+use Rattle.build.proofs.Names.{arith, front-most}
 use Rattle.build.proofs.Coding.{coded-at, stopped}
 use Rattle.build.proofs.plan.code_own.Goals as goal
 

@@ -1,4 +1,4 @@
-use Rattle.build.proofs.Names.{◌≡◌, refl, sym, ◌∙◌, ◌+◌, ◌/◌, ◌-◌, ◌<◌, arith, length, good, said_of, domain-most, previous_said, pair_codes, codes_said, pair_at}
+use Rattle.build.proofs.Names.{◌≡◌, refl, sym, ◌∙◌, ◌+◌, ◌/◌, ◌<◌, arith, length, good, said_of, domain-most, previous_said, pair_codes, codes_said, pair_at}
 use Rattle.build.proofs.Coding.{packed-long, packed-set}
 use Rattle.build.proofs.PairPlans.{pair-planned}
 use Rattle.build.proofs.PairTurns.{pair_fits, some-points, points_none, points-down, points-next, points-all, points-empty}

@@ -1,4 +1,4 @@
-use Rattle.build.proofs.Names.{◌≡◌, refl, ◌∷◌, map, ◌+◌, ◌-◌, ◌%◌, ◌^◌, arith, bit_and, and_mask, get_or, slice, field_piece, unpack, unpacked, Fitting}
+use Rattle.build.proofs.Names.{◌≡◌, refl, ◌∷◌, map, ◌+◌, ◌%◌, ◌^◌, arith, bit_and, and_mask, get_or, slice, field_piece, unpack, unpacked, Fitting}
 use Rattle.build.proofs.Coding.{packed-left, packed-fits, packed-long, fields-end}
 use Rattle.build.proofs.Filling.{gathering-none, gathering-ready, gathering-put, gather, gather-next, filled}
 use Rattle.build.proofs.write.lay_codes.Goals as goal

@@ -1,4 +1,4 @@
-use Rattle.build.proofs.Names.{refl, ◌-◌, rules, arith}
+use Rattle.build.proofs.Names.{refl, rules, arith}
 use Rattle.build.proofs.Filling.{filling-none, joined-inside, joined-more, filled}
 use Rattle.build.proofs.TextTurns.{chars, chars-bits, chars-fit, chars-left, chars-lt, chars-end}
 use Rattle.build.proofs.write.lay_text.Goals as goal

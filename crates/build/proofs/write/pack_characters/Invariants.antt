@@ -1,4 +1,4 @@
-use Rattle.build.proofs.Names.{◌≡◌, ◌-◌, ◌≤◌, pack}
+use Rattle.build.proofs.Names.{◌≡◌, ◌≤◌, pack}
 use Rattle.build.proofs.TextTurns.{chars}
 use Rattle.build.proofs.write.pack_characters.Given as goal
 

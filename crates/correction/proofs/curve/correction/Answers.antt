@@ -1,4 +1,4 @@
-use Rattle.correction.proofs.Names.{◌≡◌, ◌-◌, arith, length, nested}
+use Rattle.correction.proofs.Names.{◌≡◌, arith, length, nested}
 use Rattle.correction.proofs.NestedLaws.{nested-first, nested-turn, nested-end, zero_is}
 use Rattle.correction.proofs.curve.correction.Goals as goal
 

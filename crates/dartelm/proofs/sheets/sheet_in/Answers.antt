@@ -1,4 +1,4 @@
-use Rattle.dartelm.proofs.Names.{ℕ, ◌-◌, ◌≡◌, sym, ap, ◌∙◌, List, length, arith, Opened, Contents, Opens, template_flag, by_flags, end-byte, Layout, last_field, last-most}
+use Rattle.dartelm.proofs.Names.{ℕ, ◌≡◌, sym, ap, ◌∙◌, List, length, arith, Opened, Contents, Opens, template_flag, end-byte, Layout, last_field, last-most}
 use Rattle.dartelm.proofs.Names.{fields-count, layout_is, holding}
 use Rattle.dartelm.proofs.SheetReads.{one_more, all_told}
 use Rattle.dartelm.proofs.sheets.sheet_in.Goals as goal
@@ -20,13 +20,12 @@ pub bounds-values-at : goal.bounds-values-at
 bounds-values-at c = omega (arith, c.last_field-count.ensures, last-most c.args.sheet.layout.template)
 
 pub loop-at-preserved : goal.loop-at-preserved
-loop-at-preserved c =
-    (
-      omega arith,
-      λ k x h.
-          one_more x c.loop-at.at _ _ _ (omega (arith, c.last_field-count.ensures, last-most c.args.sheet.layout.template))
-          (omega (arith, counted h c.last_field-count.ensures)) (c.loop-at.invariant.1 k x h) (c.value_in.ensures k x h) c.by_flags.ensures,
-    )
+loop-at-preserved c = (
+  omega arith,
+  λ k x h.
+      one_more x c.loop-at.at _ _ _ (omega (arith, c.last_field-count.ensures, last-most c.args.sheet.layout.template))
+      (omega (arith, counted h c.last_field-count.ensures)) (c.loop-at.invariant.1 k x h) (c.value_in.ensures k x h) c.by_flags.ensures,
+)
 
 pub returns : goal.returns
 returns c =

@@ -1,4 +1,4 @@
-use Rattle.dartelm.proofs.Names.{◌≡◌, refl, sym, ap, ◌∙◌, ⊎_elim, List, [], ◌∷◌, map, ℕ, zero, suc, ◌-◌, ◌<◌, arith, rules, eq-eqb, ne_eqb, length, get_or, length-map, w64, to_z-of_z, Whole, Single, Missing}
+use Rattle.dartelm.proofs.Names.{◌≡◌, refl, sym, ap, ◌∙◌, List, [], ◌∷◌, map, ℕ, zero, suc, ◌<◌, arith, rules, eq-eqb, ne_eqb, length, get_or, length-map, w64, to_z-of_z, Whole, Single, Missing}
 use Rattle.dartelm.proofs.Names.{split-none, spread-whole, spread-single, spread-missing, split-all, DartelmValue, value_of, no_value, slot_of}
 use Rattle.dartelm.proofs.values.split_values.Goals as goal
 use Rattle.dartelm.proofs.values.split_values.Goals.{then-value-ne0, else-value-ne0+then-value-ne0-2, else-value-ne0+else-value-ne0-2}

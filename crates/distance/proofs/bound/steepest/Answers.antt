@@ -1,4 +1,4 @@
-use Rattle.distance.proofs.Names.{◌+◌, ◌/◌, ◌-◌, ◌≤◌, ◌<◌, rules, arith, length}
+use Rattle.distance.proofs.Names.{◌+◌, ◌/◌, ◌≤◌, ◌<◌, rules, arith, length}
 use Rattle.distance.proofs.Slopes.{step-at, slopes-next, slopes-end}
 use Rattle.distance.proofs.bound.steepest.Goals as goal
 

@@ -1,4 +1,4 @@
-use Rattle.index.proofs.Names.{rules, refl, sym, ap, ◌∙◌, ◌-◌, add-one, arith, good, refused, line_of}
+use Rattle.index.proofs.Names.{rules, refl, sym, ap, ◌∙◌, add-one, arith, good, refused, line_of}
 use Rattle.index.proofs.FetchLaws.{length_found, length-next, length_none}
 use Rattle.index.proofs.fetching.row_of_length.Goals as goal
 

@@ -1,4 +1,4 @@
-use Rattle.index.proofs.Names.{rules, ◌≡◌, refl, ap, ◌∙◌, ℕ, ◌+◌, ◌-◌, ◌<◌, arith, length, Bridge, basic, layout_at, place-few, basic-most, last-most, entry_bytes, laid}
+use Rattle.index.proofs.Names.{rules, ◌≡◌, refl, ap, ◌∙◌, ℕ, ◌+◌, ◌<◌, arith, length, Bridge, basic, layout_at, place-few, basic-most, last-most, entry_bytes, laid}
 use Rattle.index.proofs.Names.{first_entries}
 use Rattle.index.proofs.Laying.{first_more}
 use Rattle.index.proofs.EntryLaws.{none_before, field_next, basic-entry}

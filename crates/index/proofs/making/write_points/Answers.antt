@@ -1,4 +1,4 @@
-use Rattle.index.proofs.Names.{rules, ◌≡◌, refl, sym, ap, ◌∙◌, ℕ, ◌-◌, arith, end-few, entry_bytes, laid, first_entries}
+use Rattle.index.proofs.Names.{rules, ◌≡◌, refl, sym, ap, ◌∙◌, ℕ, arith, end-few, entry_bytes, laid, first_entries}
 use Rattle.index.proofs.Laying.{first_more}
 use Rattle.index.proofs.EntryLaws.{pair-entry}
 use Rattle.index.proofs.making.write_points.Goals as goal
@@ -7,8 +7,7 @@ pub locate_pair-requires : goal.locate_pair-requires
 locate_pair-requires c = (omega (arith, c.requires.at_value.0, end-few c.args.layout), omega arith)
 
 pub loop-i-init : goal.loop-i-init
-loop-i-init c =
-    (
+loop-i-init c = (
   omega arith,
   omega (arith, c.last_field-i.ensures),
   refl,

@@ -1,4 +1,4 @@
-use Rattle.index.proofs.Names.{◌-◌, arith, Resistance, last-most, layout_at}
+use Rattle.index.proofs.Names.{arith, Resistance, last-most, layout_at}
 use Rattle.index.proofs.OwnEntries.{own-begun, own-ended, own-few, own-next}
 use Rattle.index.proofs.making.write_resistance.Goals as goal
 

@@ -1,4 +1,4 @@
-use Rattle.promises.proofs.Names.{refl, ◌-◌, arith, rules, to_z-of_z}
+use Rattle.promises.proofs.Names.{refl, arith, rules, to_z-of_z}
 use Rattle.promises.proofs.LentLaws.{one_more, all-of-them}
 use Rattle.promises.proofs.Lending.{sheet-lendable}
 use Rattle.promises.proofs.Calling.{answered}

@@ -1,4 +1,4 @@
-use Rattle.reading.proofs.Names.{sfits_of, ◌-◌, arith, w64, SFits, to_z-of_z, points, search-all, search-left, search-right, search-done, points-are}
+use Rattle.reading.proofs.Names.{sfits_of, arith, w64, SFits, to_z-of_z, points, search-all, search-left, search-right, search-done, points-are}
 use Rattle.reading.proofs.Opening.{opened-figures}
 use Rattle.reading.proofs.fraction.pairs_before.Goals as goal
 

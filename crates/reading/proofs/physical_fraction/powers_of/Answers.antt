@@ -1,4 +1,4 @@
-use Rattle.reading.proofs.Names.{rules, ◌≡◌, refl, ◌∙◌, subst, [], ◌∷◌, ◌-◌, arith, pos, nat_abs, w64, SFits, to_z-of_z, stream_in, no_powers, with_term, few-powers}
+use Rattle.reading.proofs.Names.{rules, ◌≡◌, refl, ◌∙◌, subst, [], ◌∷◌, arith, pos, nat_abs, w64, SFits, to_z-of_z, stream_in, no_powers, with_term, few-powers}
 use Rattle.reading.proofs.Terms.{all_left, one-taken, none_left}
 use Rattle.reading.proofs.physical_fraction.powers_of.Goals as goal
 use Rattle.reading.proofs.physical_fraction.powers_of.Goals.{After-struct_told-1, After-with-powers}

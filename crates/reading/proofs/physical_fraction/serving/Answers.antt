@@ -70,9 +70,8 @@ loop-left-preserved c =
     )
 
 pub returns : goal.returns
-returns c =
-    (
-      omega (arith, c.loop-left.invariant.0, few (goal.at.returns c).After-curve_in-cursor),
-      c.loop-left.invariant.1,
-      λ kind x h. rw (to_z-of_z c.ranges.p) at (served-last _ _ (segments_in x.calibration) (c.loop-left.invariant.2 _ (curve-is (goal.at.returns c).After-curve_in-cursor kind x h) (counted h)) c.loop-left-test.false),
-    )
+returns c = (
+  omega (arith, c.loop-left.invariant.0, few (goal.at.returns c).After-curve_in-cursor),
+  c.loop-left.invariant.1,
+  λ kind x h. rw (to_z-of_z c.ranges.p) at (served-last _ _ (segments_in x.calibration) (c.loop-left.invariant.2 _ (curve-is (goal.at.returns c).After-curve_in-cursor kind x h) (counted h)) c.loop-left-test.false),
+)

@@ -1,5 +1,5 @@
 -- The loop's invariant: the last segment read serves among those read.
-use Rattle.reading.proofs.Names.{◌≡◌, List, ◌+◌, ◌-◌, ◌*◌, ◌^◌, ◌≤◌, ◌<◌, length, FoundSegment, stream_in}
+use Rattle.reading.proofs.Names.{◌≡◌, List, ◌+◌, ◌*◌, ◌^◌, ◌≤◌, ◌<◌, length, FoundSegment, stream_in}
 use Rattle.reading.proofs.Names.{CurveStands}
 use Rattle.reading.proofs.Serving.{Walked}
 use Rattle.reading.proofs.physical_fraction.serving.Given as goal

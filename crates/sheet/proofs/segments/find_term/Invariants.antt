@@ -1,4 +1,4 @@
-use Rattle.sheet.proofs.Names.{◌≡◌, ◌+◌, ◌-◌, ◌*◌, ◌≤◌, stream_in, term_place}
+use Rattle.sheet.proofs.Names.{◌≡◌, ◌+◌, ◌*◌, ◌≤◌, stream_in, term_place}
 use Rattle.sheet.proofs.segments.find_term.Given as goal
 
 abbrev pub invariant-loop-left : goal.invariant-loop-left

@@ -1,4 +1,4 @@
-use Rattle.sheet.proofs.Names.{◌≡◌, ◌+◌, ◌-◌, ◌*◌, ◌≤◌, stream_in, behind_segments}
+use Rattle.sheet.proofs.Names.{◌≡◌, ◌+◌, ◌*◌, ◌≤◌, stream_in, behind_segments}
 use Rattle.sheet.proofs.segments.pass_segments.Given as goal
 
 abbrev pub invariant-loop-left : goal.invariant-loop-left

@@ -1,4 +1,4 @@
-use Rattle.sheet.proofs.Names.{rules, ◌≡◌, refl, ap, ◌∙◌, true, false, ⊎_elim, ℕ, ◌+◌, ◌*◌, arith, and_mask, mask_lt, stream_in, pair_bits, not-physical, behind}
+use Rattle.sheet.proofs.Names.{rules, ◌≡◌, refl, ap, ◌∙◌, true, false, ℕ, ◌+◌, ◌*◌, arith, and_mask, mask_lt, stream_in, pair_bits, not-physical, behind}
 use Rattle.sheet.proofs.TableSteps.{risen-start, risen-next, risen-done}
 use Rattle.sheet.proofs.table.all_rise.Goals as goal
 use Rattle.sheet.proofs.table.all_rise.Goals.{in-Physical+else-sum-floor, in_default}

@@ -1,4 +1,4 @@
-use Rattle.sheet.proofs.Names.{◌-◌, ◌+◌, arith, length, Bridge, Valid, Turned, basic, last-most, stream_in, judged, layout_at, basic-most}
+use Rattle.sheet.proofs.Names.{◌+◌, arith, length, Bridge, Valid, Turned, basic, last-most, stream_in, judged, layout_at, basic-most}
 use Rattle.sheet.proofs.WalkSteps.{BasicJudgedUpTo, basic-start, basic-turn, judged-all, Turn, basic-stood}
 use Rattle.sheet.proofs.walk.judge_basic.Goals as goal
 use Rattle.sheet.proofs.walk.judge_basic.Goals.{After-basic_row-row}

@@ -31,9 +31,8 @@ returns-then-image-sizes c =
     )
 
 pub returns : goal.returns
-returns c =
-    (
-      own-stands c.requires (layout_at c.args.template c.code-precision.result) (precise (goal.at.returns c).After-code-precision) _ c.judge_own.ensures c.in_default.is
-          c.fields_end-end.ensures (omega (arith, c.if-image-sizes.false, c.requires.whole.long)),
-      c.fields_end-end.ensures,
-    )
+returns c = (
+  own-stands c.requires (layout_at c.args.template c.code-precision.result) (precise (goal.at.returns c).After-code-precision) _ c.judge_own.ensures c.in_default.is
+      c.fields_end-end.ensures (omega (arith, c.if-image-sizes.false, c.requires.whole.long)),
+  c.fields_end-end.ensures,
+)

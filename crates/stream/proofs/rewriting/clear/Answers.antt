@@ -1,4 +1,4 @@
-use Rattle.stream.proofs.Names.{◌≡◌, refl, ap, ◌∙◌, append-nil, ◌-◌, arith, length, set, replicate, length-set, drop-length, fill_none, fill_more, rules}
+use Rattle.stream.proofs.Names.{◌≡◌, refl, ap, ◌∙◌, append-nil, arith, length, set, replicate, length-set, drop-length, fill_none, fill_more, rules}
 use Rattle.stream.proofs.rewriting.clear.Goals as goal
 
 pub loop-i-init : goal.loop-i-init

@@ -1,4 +1,4 @@
-use Rattle.stream.proofs.Names.{refl, rules, arith, ◌-◌}
+use Rattle.stream.proofs.Names.{refl, rules, arith}
 use Rattle.stream.proofs.SealAll.{sealed-none, sealed-more, sealed-all}
 use Rattle.stream.proofs.rewriting.seal_pages.Goals as goal
 

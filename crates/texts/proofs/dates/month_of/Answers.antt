@@ -1,4 +1,4 @@
-use Rattle.texts.proofs.Names.{sym, arith, rules, days_before_month}
+use Rattle.texts.proofs.Names.{sym, arith, rules}
 use Rattle.texts.proofs.Finding.{month-turn}
 use Rattle.texts.proofs.dates.month_of.Goals as goal
 

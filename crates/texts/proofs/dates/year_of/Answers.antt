@@ -1,4 +1,4 @@
-use Rattle.texts.proofs.Names.{◌-◌, arith, rules, days_of_years}
+use Rattle.texts.proofs.Names.{arith, rules, days_of_years}
 use Rattle.texts.proofs.Finding.{year-near}
 use Rattle.texts.proofs.dates.year_of.Goals as goal
 

@@ -1,4 +1,4 @@
-use Rattle.texts.proofs.Names.{sym, ◌∙◌, ◌-◌, arith, below_more, rules}
+use Rattle.texts.proofs.Names.{sym, ◌∙◌, arith, below_more, rules}
 use Rattle.texts.proofs.Alphabet.{distinct}
 use Rattle.texts.proofs.letters.letter_code.Goals as goal
 

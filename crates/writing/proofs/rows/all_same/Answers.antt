@@ -1,4 +1,4 @@
-use Rattle.writing.proofs.Names.{sym, ap, ◌∙◌, not, ◌-◌, ◌/◌, arith, length, differs, below_more}
+use Rattle.writing.proofs.Names.{sym, ap, ◌∙◌, not, ◌/◌, arith, length, differs, below_more}
 use Rattle.writing.proofs.CodeLaws.{some-differs, none_differ}
 use Rattle.writing.proofs.rows.all_same.Goals as goal
 

@@ -1,5 +1,5 @@
 -- The loop's invariant: no row from row r on differs.
-use Rattle.writing.proofs.Names.{◌≡◌, false, ℕ, ◌-◌, ◌/◌, ◌≤◌, ◌<◌, length, differs, raised}
+use Rattle.writing.proofs.Names.{◌≡◌, false, ℕ, ◌/◌, ◌≤◌, ◌<◌, length, differs, raised}
 use Rattle.writing.proofs.rows.behind_last.Given as goal
 
 abbrev pub invariant-loop-r : goal.invariant-loop-r

@@ -1,4 +1,4 @@
-use Rattle.writing.proofs.Names.{sym, ap, ◌∙◌, ℕ, ◌+◌, ◌-◌, ◌*◌, arith, same, raised}
+use Rattle.writing.proofs.Names.{sym, ap, ◌∙◌, ℕ, ◌+◌, ◌*◌, arith, same, raised}
 use Rattle.writing.proofs.CodeLaws.{same_turn, same_stop, same_end, same_out}
 use Rattle.writing.proofs.rows.same_raised.Goals as goal
 

@@ -1,4 +1,4 @@
-use Rattle.writing.proofs.Names.{ap, ⊎_elim, ℕ, ◌+◌, ◌-◌, ◌*◌, arith, same}
+use Rattle.writing.proofs.Names.{ap, ℕ, ◌+◌, ◌*◌, arith, same}
 use Rattle.writing.proofs.CodeLaws.{alike-stop, alike-turn, alike_end}
 use Rattle.writing.proofs.rows.same_row.Goals as goal
 use Rattle.writing.proofs.rows.same_row.Goals.{then-present-i, else-present-i}

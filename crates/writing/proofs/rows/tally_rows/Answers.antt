@@ -1,4 +1,4 @@
-use Rattle.writing.proofs.Names.{rows, check_row, differs, ◌≡◌, refl, ap, ◌∙◌, ◌-◌, ◌/◌, arith, tally_to}
+use Rattle.writing.proofs.Names.{rows, check_row, differs, ◌≡◌, refl, ap, ◌∙◌, ◌/◌, arith, tally_to}
 use Rattle.writing.proofs.CodeLaws.{count-le, tally-more}
 use Rattle.writing.proofs.rows.tally_rows.Goals as goal
 

@@ -1,4 +1,4 @@
-use Rattle.writing.proofs.Names.{rows, ◌≡◌, ◌-◌, ◌≤◌, tally_to}
+use Rattle.writing.proofs.Names.{◌≡◌, ◌-◌, ◌≤◌, tally_to}
 use Rattle.writing.proofs.rows.tally_rows.Given as goal
 
 abbrev pub invariant-loop-i : goal.invariant-loop-i

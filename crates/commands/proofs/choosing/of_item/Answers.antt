@@ -1,0 +1,14 @@
+use Rattle.commands.proofs.Names.{sym, ◌∙◌}
+use Rattle.commands.proofs.choosing.of_item.Goals as goal
+
+pub returns-then-equal : goal.returns-then-equal
+returns-then-equal c = rw (sym c.equal.ensures ∙ c.if-equal.true)
+
+pub returns-then-equal-2 : goal.returns-then-equal-2
+returns-then-equal-2 c = rw (sym c.equal.ensures ∙ c.if-equal.false, sym c.equal-2.ensures ∙ c.if-equal-2.true)
+
+pub returns-then-equal-3 : goal.returns-then-equal-3
+returns-then-equal-3 c = rw (sym c.equal.ensures ∙ c.if-equal.false, sym c.equal-2.ensures ∙ c.if-equal-2.false, sym c.equal-3.ensures ∙ c.if-equal-3.true)
+
+pub returns : goal.returns
+returns c = rw (sym c.equal.ensures ∙ c.if-equal.false, sym c.equal-2.ensures ∙ c.if-equal-2.false, sym c.equal-3.ensures ∙ c.if-equal-3.false) c.of_list.ensures
