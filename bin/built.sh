@@ -92,43 +92,48 @@ help() {
     exit 0
 }
 
-# How many crates have to be proved for a crate: itself and those below it. The kit's own have no line.
+# The crates that a program stands on, and the program, in the order in which they are proved. The kit's own have no line.
 crates_of() {
     awk -v wanted="$1" -F '[: ]+' '
         !/^#/ { below[$1] = ""; for (i = 2; i <= NF; i++) below[$1] = below[$1] " " $i }
-        function count(one, parts, n, i) {
-            if (!(one in below) || one in seen) return 0
+        function list(one, parts, n, i) {
+            if (!(one in below) || one in seen) return
             seen[one]
             n = split(below[one], parts, " ")
-            for (i = 1; i <= n; i++) total += count(parts[i])
-            return 1
+            for (i = 1; i <= n; i++) list(parts[i])
+            print one
         }
-        END { total += count(wanted); print total }' "$home/crates.txt"
+        END { list(wanted) }' "$home/crates.txt"
 }
 
-# Tells each crate as it is proved, and keeps all that is said.
+# Tells each crate as it is proved, with its place among them, and keeps all that is said.
 told() {
-    local line count=0 total
-    total="$(crates_of "$name")"
+    local line crate='' place crates
+    mapfile -t crates < <(crates_of "$name")
     while IFS= read -r line; do
         printf '%s\n' "$line" >> "$1"
-        [[ $line =~ rt:\ ([a-z_]+)\ proved ]] || continue
-        count=$((count + 1))
-        echo "$name: proved $count of $total: ${BASH_REMATCH[1]}" >&2
+        if [[ $line =~ ^fn\ ([a-z0-9_]+):: ]]; then
+            crate="${BASH_REMATCH[1]}"
+        elif [[ $line == logic=proved* ]]; then
+            for place in "${!crates[@]}"; do
+                [ "${crates[place]}" != "$crate" ] || echo "$name: proved $((place + 1)) of ${#crates[@]}: $crate" >&2
+            done
+        fi
     done
 }
 
-# The program gets the time when its building began, so that a source that is edited meanwhile is newer. Where the program is
-# gone its crate's stamp goes too, which would say that there is nothing to do.
+# `rt run` proves what is not proved yet and leaves the program in the crate's out/; its input is empty here. The program gets the time
+# when its building began, so that a source that is edited meanwhile is newer.
 build() {
-    local began log status
+    local began log status new="$native.new"
     command -v rt > /dev/null || fail 'it has to be built, and there is no rt (the Rattle toolchain) on the path'
     echo "$name: proving and building it, which can take some minutes" >&2
-    [ -x "$native" ] || rm -f "$home/target/stamp/$name"
     began="$(mktemp)" && log="$(mktemp)" || fail "there is no room for a temporary file in ${TMPDIR:-/tmp}"
-    { cd "$home" && rt check "$name" < /dev/null 2>&1; } | told "$log"
+    { cd "$home/crates/$name" && rt run < /dev/null 2>&1; } | told "$log"
     status=${PIPESTATUS[0]}
-    [ "$status" -eq 0 ] && touch -r "$began" "$native" 2>> "$log"
+    [ "$status" -ne 0 ] || {
+        mkdir -p "${native%/*}" && cp "$home/crates/$name/out/$name" "$new" && touch -r "$began" "$new" && mv -f "$new" "$native"
+    } 2>> "$log"
     status=$((status + $?))
     [ "$status" -eq 0 ] || tail -n 20 "$log" >&2
     rm -f "$began" "$log"

@@ -8,7 +8,7 @@ DEFINED = r"^\s*(?:pub |abbrev |unfoldable |record |data )*{}(?= :|\s*\(|\s*\{{|
 # Names in backquotes, then their file or files in brackets: `a`, `b` (crate/specs/File) or (crate/specs/File, Other).
 NAMED = re.compile(r"((?:`[^`]+`(?:, )?)+) \(((?:[\w-]+/)+[\w./-]+(?:, [\w./-]+)*)\)")
 # The crates, in the order of crates.txt.
-NAMES = re.findall(r"^(\w+):", (ROOT / "crates.txt").read_text(), re.M)
+NAMES = re.findall(r"^(\w+)(?: staticlib)?:", (ROOT / "crates.txt").read_text(), re.M)
 
 
 def named(text):

@@ -4,7 +4,7 @@
  * billionths of the span. Prints the distance that no reading exceeds, at any input, and that a chip built from these points
  * could have; that there is no straight table to compare; or the refusal's number and place.
  *
- *     rt staticlib dartelm
+ *     bin/archive
  *     cc -Iinclude examples/conformity.c target/staticlib/libdartelm.a -o target/conformity
  */
 #include <errno.h>

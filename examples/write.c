@@ -3,7 +3,7 @@
  * The chip is a file with its bytes. Prints each row as it is written, and done once the chip holds the image. With WRITES it stops
  * after so many, as if the chip were pulled, with status 9; called again it goes on from what is there.
  *
- *     rt staticlib dartelm
+ *     bin/archive
  *     cc -Iinclude examples/write.c target/staticlib/libdartelm.a -o target/write
  */
 #include <inttypes.h>

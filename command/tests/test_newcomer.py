@@ -10,12 +10,14 @@ from dartelm.command.image import from_stream
 from support import sample, sample_bytes
 
 RT = """#!/bin/sh
-for crate in refusal memory words; do echo "   rt: $crate proved (unchanged since it was last proved)"; done
-echo "rt: $2 proved"
-mkdir -p target/bin
-printf '#!/bin/sh\\ncat\\n' > "target/bin/$2"
-chmod +x "target/bin/$2"
-echo "rt: ok, 4 crates proved"
+for crate in refusal memory words console; do
+    echo "fn $crate::one: proved"
+    echo "fn $crate::part::two: proved"
+    echo "logic=proved functions=2"
+done >&2
+mkdir -p out
+printf '#!/bin/sh\\ncat\\n' > "out/$(basename "$PWD")"
+chmod +x out/*
 """
 
 
@@ -31,6 +33,7 @@ class Newcomer(support.Case):
         """A home that has nothing built, and an rt of its own."""
         os.mkdir(self.path("path"))
         shutil.copytree(os.path.join(support.HOME, "bin"), self.path("home/bin"))
+        os.makedirs(self.path("home/crates/console"))
         self.file("home/crates.txt", "# crates\nrefusal:\nmemory: refusal\nwords: memory refusal\nconsole: words libc io\nother: words\n")
         with open(self.path("path/rt"), "w", encoding="ascii") as file:
             file.write(rt)
@@ -50,10 +53,10 @@ class Newcomer(support.Case):
         self.assertEqual(again.stderr, "")
 
     def test_what_cannot_be_built(self):
-        env = self.home("#!/bin/sh\necho 'rt: memory proved'\necho 'rt: words: a fact fails'\nexit 1\n")
+        env = self.home("#!/bin/sh\necho 'fn memory::sum: proved'\necho logic=proved\necho 'rt: words: a fact fails'\nexit 1\n")
         done = subprocess.run([self.path("home/bin/console"), "help"], capture_output=True, text=True, env=env, check=False)
         self.assertEqual(done.returncode, 3)
-        for part in ("console: proved 1 of 4: memory\n", "rt: words: a fact fails\n", "console: it cannot be built\n"):
+        for part in ("console: proved 2 of 4: memory\n", "rt: words: a fact fails\n", "console: it cannot be built\n"):
             self.assertIn(part, done.stderr)
         self.assertEqual([name for name in os.listdir(self.room) if name.startswith("tmp")], [])
 
