@@ -10,7 +10,7 @@ distances : (c : After-gap-left) → let a = c.args in Gaps a.p a.before a.behin
 distances c =
     gaps c.args.p c.args.before c.args.behind c.requires
     (told-gap {b = c.args.before.point} c.ranges.p (sfits_of c.type_inv.before.0.1) c.gap-past.ensures)
-    (told-gap {a = c.args.behind.point} (sfits_of c.type_inv.behind.0.1) c.ranges.p c.gap-left.ensures)
+    (told-gap {a = c.args.behind.point} (sfits_of c.struct_told-2-1.given.0.1) c.ranges.p c.gap-left.ensures)
 
 pub gap-past-requires : goal.gap-past-requires
 gap-past-requires c = told-≤ (sfits_of c.type_inv.before.0.1) c.ranges.p (less c.args.before.point c.args.p c.requires.past)
