@@ -1,6 +1,7 @@
 /* The outermost layer of the programs, by hand: what reads a block and writes bytes, and what writes by a format. Above each function
  * stands the one of Rattle that it is in place of, without its contract; of a method that a trait declares, its name. A reader is
  * standard input here and a writer standard output, and neither is passed on. A write that fails is not reported, as there. */
+#include <errno.h>
 #include <inttypes.h>
 #include <stdio.h>
 #include <unistd.h>
@@ -23,13 +24,19 @@ static dm_core_result_Result_u64_std_io_io_error_Error dm_std_io_traits_Read_rea
 /* std::io::traits::Write::write_all+decl */
 static void dm_std_io_traits_Write_write_all(dm_slice_u8 buf)
 {
-    fwrite(buf.at, 1, (size_t)buf.length, stdout);
+    uint64_t done = 0;
+    while (done < buf.length) {
+        ssize_t count = write(STDOUT_FILENO, buf.at + done, (size_t)(buf.length - done));
+        if (count > 0)
+            done += (uint64_t)count;
+        else if (count == 0 || errno != EINTR)
+            return;
+    }
 }
 
 /* std::io::traits::Write::flush+decl */
 static void dm_std_io_traits_Write_flush(void)
 {
-    fflush(stdout);
 }
 
 /* listing::output::put_number
@@ -38,7 +45,9 @@ static void dm_std_io_traits_Write_flush(void)
  * } */
 static void dm_listing_output_put_number(uint64_t n)
 {
-    printf("%" PRIu64, n);
+    char text[24];
+    snprintf(text, sizeof text, "%" PRIu64, n);
+    dm_std_io_traits_Write_write_all(dm_slice_u8_of((uint8_t *)text, strlen(text)));
 }
 
 /* listing::output::put_character
@@ -55,11 +64,14 @@ static void dm_listing_output_put_number(uint64_t n)
  * } */
 static void dm_listing_output_put_character(uint8_t c)
 {
+    char text[8];
     if (c >= 32 && c <= 126) {
-        putchar(c);
+        text[0] = (char)c;
+        text[1] = 0;
     } else {
-        printf("\\x%02x", (unsigned)c);
+        snprintf(text, sizeof text, "\\x%02x", (unsigned)c);
     }
+    dm_std_io_traits_Write_write_all(dm_slice_u8_of((uint8_t *)text, strlen(text)));
 }
 
 /* commands::printing::single
@@ -72,11 +84,10 @@ static void dm_listing_output_put_character(uint8_t c)
  * } */
 static void dm_commands_printing_single(float x)
 {
-    if (x != x) {
-        fputs("nan", stdout);
-    } else {
-        printf("%08" PRIx32, dm_float_bits(x));
-    }
+    char text[24] = "nan";
+    if (x == x)
+        snprintf(text, sizeof text, "%08" PRIx32, dm_float_bits(x));
+    dm_std_io_traits_Write_write_all(dm_slice_u8_of((uint8_t *)text, strlen(text)));
 }
 
 /* commands::printing::double
@@ -89,18 +100,15 @@ static void dm_commands_printing_single(float x)
  * } */
 static void dm_commands_printing_double(double x)
 {
-    if (x != x) {
-        fputs("nan", stdout);
-    } else {
-        printf("%016" PRIx64, dm_double_bits(x));
-    }
+    char text[24] = "nan";
+    if (x == x)
+        snprintf(text, sizeof text, "%016" PRIx64, dm_double_bits(x));
+    dm_std_io_traits_Write_write_all(dm_slice_u8_of((uint8_t *)text, strlen(text)));
 }
 
 /* console::main
- * fn main(rt: HostRuntime) -> io::Result<()> {
- *     let mut out = BufWriter::new(rt.alloc(), rt.stdout())?;
- *     commands::serve(&mut rt.stdin(), &mut out);
- *     Ok(())
+ * fn main(rt: HostRuntime) {
+ *     commands::serve(&mut rt.stdin(), &mut rt.stdout());
  * } */
 int main(void)
 {

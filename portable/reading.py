@@ -113,7 +113,7 @@ class Proved:
 
     def static(self, name, own, below):
         """A static library leaves no MIR: it is proved as a library, over what `rt check` kept of it."""
-        rlib = os.path.join(self.home, 'target/portable/rlib', f'{name}.rlib')
+        rlib = os.path.join(own, 'out/rlib', f'{name}.rlib')
         if self.is_new(rlib, own) and all(os.path.getmtime(self.rlib(d)) <= os.path.getmtime(rlib) for d in below if d in self.listed):
             return rlib
         print(f'portable: proving crates/{name} as a library', file=sys.stderr)

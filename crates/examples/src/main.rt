@@ -10,8 +10,7 @@ ghost use Rattle.codes.specs.Stored.{Sound};
 
 use codes::{Decoded, Row, Rule, Value};
 use listing::{put, put_figure};
-use std::io;
-use std::io::{BufWriter, Write};
+use std::io::Write;
 
 fn print_value(out: &mut impl Write, v: Value) {
     match v {
@@ -77,8 +76,8 @@ fn print_rows(out: &mut impl Write) {
     listing::refused(out, refusal::wrong_ticks(29));
 }
 
-fn main(rt: HostRuntime) -> io::Result<()> {
-    let mut out = BufWriter::new(rt.alloc(), rt.stdout())?;
+fn main(rt: HostRuntime) {
+    let mut out = rt.stdout();
     print_code(&mut out, TEMPERATURE_COEFFICIENT, 8);
     print_code(&mut out, TEMPERATURE_COEFFICIENT, 510);
     print_code(&mut out, SIGNED_INTEGER, 0);
@@ -87,5 +86,4 @@ fn main(rt: HostRuntime) -> io::Result<()> {
     print_code(&mut out, GRANULAR, 20_000_000);
     commands::serve(&mut rt.stdin(), &mut out);
     print_rows(&mut out);
-    Ok(())
 }
