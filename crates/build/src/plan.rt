@@ -349,7 +349,8 @@ fn check_characters(field: u64, text: &[u8]) -> Judged
     let mut i: usize = 0;
     while i < text.len() {
         let c = text[i];
-        if c == 0 {
+        let is_zero = c == 0;
+        if is_zero {
             return Judged::Refused(refusal::out_of_range(field));
         }
         if 127 < c {

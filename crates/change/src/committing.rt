@@ -35,7 +35,8 @@ fn may_follow(row: Row, stands: u64, field: u64, present: u64, new: u64) -> Judg
     requires { Sound row }
     ensures { judged_said result ≡ may_follow row stands field present new }
 {
-    if stands != present {
+    let is_other = stands != present;
+    if is_other {
         return Judged::Refused(refusal::other_code(field));
     }
     if !may_stand(row, new) {
