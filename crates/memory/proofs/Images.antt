@@ -1,6 +1,6 @@
 -- Laws of the image of a stream: it has that stream and right sums, and no other image has them.
 use Rattle.memory.proofs.Names.{◌≡◌, refl, sym, ap, ap₂, ◌∙◌, List, [], ◌∷◌, ◌++◌, ℕ, zero, suc, ◌+◌, ◌-◌, ◌*◌, ◌%◌, ◌^◌, ◌<◌, zero-add, mod-eq_of_lt, arith, length, take, drop, get_or, length-append, length-drop}
-use Rattle.memory.proofs.Names.{take-append-drop, length-take-le, take_at, drop_at, drop-drop, take-add, get_or-drop, good, Sizes, Bytes, number, bytes_of, bit, image_bytes, stream_bytes, stream_bits, page_at, total}
+use Rattle.memory.proofs.Names.{take-append-drop, length-take-le, take_at, drop_at, drop-drop, take-add, get_or-drop, Ok, Sizes, Bytes, number, bytes_of, bit, image_bytes, stream_bytes, stream_bits, page_at, total}
 use Rattle.memory.proofs.Names.{SumsRight, sums, check_byte, pages_stream, stream_of, stream_number, pages_of, with_right, image_of}
 use Rattle.memory.proofs.Chips.{Chip}
 use Rattle.memory.proofs.Digits.{bytes_take, bytes_drop, bytes-append, bytes-of, bytes-length, number-bytes}
@@ -145,7 +145,7 @@ module _ (z : Sizes) (N : ℕ) where
 
 -- The page test accepts the image if bit 64 of its stream
 -- is 0. That bit is in the first page of every chip.
-pub image-passes : (z : Sizes) (bytes : ℕ) → Chip z bytes → (N : ℕ) → N < 2 ^ stream_bits z → bit N 64 ≡ 0 → sums z (image_of z N) ≡ good tt
+pub image-passes : (z : Sizes) (bytes : ℕ) → Chip z bytes → (N : ℕ) → N < 2 ^ stream_bits z → bit N 64 ≡ 0 → sums z (image_of z N) ≡ Ok tt
 image-passes z bytes chip N small e =
     right-sums z (image_of z N) (image-length z N) chip.paged (image-sums z N)
     (unblank-bit z (image_of z N) (image-length z N) (image-bytes z N) chip.paged 8 chip.few (omega arith) (ap (λ (n : ℕ). bit n 64) (image-number-lt z N small) ∙ e))

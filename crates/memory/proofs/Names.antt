@@ -8,10 +8,11 @@ pub use lib.Seq.{drop_at, drop-cons, drop-drop, drop-length, drop-set-lt, ext_ge
 pub use lib.{Arith.digits_lt, Arith.lt_of_le-ne, Dec.eqb, Pow.field, Pow.high, Pow.low, Pow.mod-mod-pow, Pow.mod-pow-add, Pow.pow-add, Pow.pow_pos, Pow.shr_lt, Pow.shr-shr, Pow.split}
 pub use borrow.Author.{Rules.rules, Tests.eq-eqb, Tests.eqb-true, Tests.le-ltb, Tests.lt-ltb, Tests.ne_eqb, Tests.not-false, Tests.not-true}
 pub use Rattle.refusal.proofs.Outcomes.{Other, bind-good, both, chosen, good-bind, good-same, no_value_lem, other-then, passed}
-pub use Rattle.refusal.specs.{Outcome.◌>>◌, Outcome.good, Outcome.refuse◌if◌, Outcome.refused, Rows.blank_chip, Rows.wrong_image, Rows.wrong_sum, declared.Refusal.Refusal}
+pub use Rattle.refusal.specs.{Outcome.◌>>◌, Outcome.Ok, Outcome.refuse◌if◌, Outcome.Err, declared.Refusal.TheVariants.BlankChip, declared.Refusal.TheVariants.WrongImage, declared.Refusal.TheVariants.WrongSum, declared.Refusal.Refusal}
 pub use Rattle.memory.specs.declared.pages.PageTest.TheVariants.{Blank, Good, Wrong}
-pub use Rattle.memory.specs.declared.{Sizes.Sizes, kinds.SizesAnswer.SizesAnswer, kinds.SizesAnswer.TheVariants.Are, kinds.SizesAnswer.TheVariants.Refused}
-pub use Rattle.memory.specs.{Answers.WholeImage, Answers.sizes_said, Answers.stream_index, Bits.Bytes, Bits.bit, Bits.bytes_of, Bits.field_at, Bits.number, Bits.put_at, Image.SumsRight, Image.all_ff, Image.blank_page}
+pub use Rattle.memory.specs.declared.{Sizes.Sizes}
+pub use Rattle.memory.specs.{Answers.WholeImage, Answers.stream_index, Bits.Bytes, Bits.bit, Bits.bytes_of, Bits.field_at, Bits.number, Bits.put_at, Image.SumsRight, Image.all_ff, Image.blank_page}
 pub use Rattle.memory.specs.{Image.check_byte, Image.covered, Image.image_bytes, Image.is_good, Image.page, Image.page_at, Image.page_sum, Image.pages_of, Image.pages_stream, Image.part_of, Image.sizes_of, Image.stream_bits}
 pub use Rattle.memory.specs.{Image.stream_bytes, Image.stream_number, Image.sums, Image.total, Image.with_right, Laid.pages_with, Laid.put_in, Pieces.Piece, Pieces.needed, Pieces.pack, Pieces.piece}
 unfoldable pub use Rattle.memory.specs.{Image.blank_from, Image.image_of, Image.image_sizes, Image.page_bytes, Image.page_test, Image.stream_of, Image.sums_from, Laid.sealed, Laid.with_stream}
+pub use Rattle.refusal.specs.Outcome.{Outcome}

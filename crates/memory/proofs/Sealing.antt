@@ -1,5 +1,5 @@
 -- Laws of an image in which one page's check byte was made right.
-use Rattle.memory.proofs.Names.{◌≡◌, sym, ap, ap₂, ◌∙◌, List, ℕ, ◌+◌, ◌%◌, ◌<◌, zero-add, arith, length, get_or, set, length-set, get_or-set_same, get_or-set_other, Sizes, Bytes, number, image_bytes, page_at, total}
+use Rattle.memory.proofs.Names.{◌≡◌, sym, ap, ap₂, ◌∙◌, List, ℕ, ◌+◌, ◌-◌, ◌%◌, ◌<◌, zero-add, arith, length, get_or, set, length-set, get_or-set_same, get_or-set_other, Sizes, Bytes, number, image_bytes, page_at, total}
 use Rattle.memory.proofs.Names.{page_sum, check_byte, stream_of, stream_number, sealed}
 use Rattle.memory.proofs.Digits.{bytes-set}
 use Rattle.memory.proofs.Streams.{stream-check}
@@ -51,6 +51,7 @@ module _ (z : Sizes) (image : List ℕ) (whole : length image ≡ image_bytes z)
       (ap (λ (x : List ℕ). stream_part z x q) seal-stream)
 
   -- The byte that the code stores: the check byte less the page's sum, modulo 256.
-  pub seal-code : Bytes image → (b : ℕ) → b < 256 → (b + page_sum z image p) % 256 ≡ get_or image (page_at z p) 0 → set image (page_at z p) b ≡ sealed z image p
-  seal-code hb b h e =
-      ap (set image (page_at z p)) (check-is b (total (stream_part z (stream_of z image) p)) h (omega (arith, sum-parts z image whole p hp, hb (page_at z p)))) ∙ sym sealed-set
+  pub seal-code : set image (page_at z p) ((get_or image (page_at z p) 0 + (256 - page_sum z image p)) % 256) ≡ sealed z image p
+  seal-code =
+      let b : ℕ = (get_or image (page_at z p) 0 + (256 - page_sum z image p)) % 256 in
+      ap (set image (page_at z p)) (check-is b (total (stream_part z (stream_of z image) p)) (omega arith) (omega (arith, sum-parts z image whole p hp))) ∙ sym sealed-set

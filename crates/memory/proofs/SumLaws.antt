@@ -1,7 +1,7 @@
 -- Laws of page sums, and of the check of all pages.
 use Rattle.memory.proofs.Names.{◌≡◌, refl, sym, ap, ap₂, ◌∙◌, subst, Bool, true, false, true≢false, not, List, [], ◌∷◌, ◌++◌, ℕ, zero, suc, ◌+◌, ◌-◌, ◌*◌, ◌/◌, ◌%◌, ◌≤◌, ◌<◌, add-zero, add-sub_cancel_left}
 use Rattle.memory.proofs.Names.{le_refl, add-one, arith, ℕ_discrete, lt_of_le-ne, eqb, length, take, drop, get_or, length-drop, drop-cons, take-add, length-take-le, get_or-take, get_or-drop, ext_get_or, eqb-true, eq-eqb}
-use Rattle.memory.proofs.Names.{ne_eqb, not-false, good, refused, refuse◌if◌, ◌>>◌, wrong_sum, blank_chip, passed, both, Other, other-then, Sizes, Good, Wrong, Blank, Bytes, bit, image_bytes, page_at, page, covered}
+use Rattle.memory.proofs.Names.{ne_eqb, not-false, Ok, Err, refuse◌if◌, ◌>>◌, WrongSum, BlankChip, passed, both, Other, other-then, Sizes, Good, Wrong, Blank, Bytes, bit, image_bytes, page_at, page, covered}
 use Rattle.memory.proofs.Names.{total, page_sum, SumsRight, all_ff, blank_page, page_test, is_good, blank_from, sums_from, sums, check_byte, stream_of, stream_number, stream_index}
 use Rattle.memory.proofs.Streams.{stream-length, stream_at, stream-bit, index-register, index-page}
 
@@ -179,7 +179,7 @@ module _ (z : Sizes) (image : List ℕ) where
   unfolding sums_from
   step-good n i e = rw e
 
-  step-wrong : (n i : ℕ) → is_good (page_test z image i) ≡ false → sums_from z image (suc n) i ≡ refused (wrong_sum i)
+  step-wrong : (n i : ℕ) → is_good (page_test z image i) ≡ false → sums_from z image (suc n) i ≡ Err (WrongSum i)
   unfolding sums_from
   step-wrong n i e = rw e
 
@@ -199,7 +199,7 @@ module _ (z : Sizes) (image : List ℕ) where
     pub turn-good : is_good (page_test z image i) ≡ true → sums_from z image (n - i) i ≡ sums_from z image (n - (i + 1)) (i + 1)
     turn-good e = rw (left, add-one i) (step-good (n - suc i) i e)
 
-    pub turn-wrong : is_good (page_test z image i) ≡ false → sums_from z image (n - i) i ≡ refused (wrong_sum i)
+    pub turn-wrong : is_good (page_test z image i) ≡ false → sums_from z image (n - i) i ≡ Err (WrongSum i)
     turn-wrong e = rw left (step-wrong (n - (i + 1)) i e)
 
     pub turn-blank : blank_page z image i ≡ true → blank_from z image (n - i) i ≡ blank_from z image (n - (i + 1)) (i + 1)
@@ -220,14 +220,14 @@ module _ (z : Sizes) (image : List ℕ) where
   all-blank zero i f = refl
   all-blank (suc n) i f = step-blank n i (f i (le_refl i) (omega arith)) ∙ all-blank n (suc i) (λ q h k. f q (omega arith) (omega arith))
 
-  good-from : (n i : ℕ) → sums_from z image n i ≡ good tt → (q : ℕ) → i ≤ q → q < i + n → is_good (page_test z image q) ≡ true
+  good-from : (n i : ℕ) → sums_from z image n i ≡ Ok tt → (q : ℕ) → i ≤ q → q < i + n → is_good (page_test z image q) ≡ true
   unfolding sums_from
   good-from zero i e q h k = absurd (omega arith)
   good-from (suc n) i e q h k =
-      let (first, others) = passed (wrong_sum i) (not (is_good (page_test z image i))) (sums_from z image n (suc i)) tt e in
+      let (first, others) = passed (WrongSum i) (not (is_good (page_test z image i))) (sums_from z image n (suc i)) tt e in
       from (λ (p : ℕ). is_good (page_test z image p) ≡ true) (not-false _ first) (λ j. good-from n (suc i) others q j (omega arith)) h (ℕ_discrete i q)
 
-  from-good : (n i : ℕ) → ((q : ℕ) → i ≤ q → q < i + n → is_good (page_test z image q) ≡ true) → sums_from z image n i ≡ good tt
+  from-good : (n i : ℕ) → ((q : ℕ) → i ≤ q → q < i + n → is_good (page_test z image q) ≡ true) → sums_from z image n i ≡ Ok tt
   unfolding sums_from
   from-good zero i f = refl
   from-good (suc n) i f = step-good n i (f i (le_refl i) (omega arith)) ∙ from-good n (suc i) (λ q h k. f q (omega arith) (omega arith))
@@ -235,20 +235,20 @@ module _ (z : Sizes) (image : List ℕ) where
   pub sums-other : (n i : ℕ) → Other (sums_from z image n i)
   unfolding sums_from
   sums-other zero i = tt
-  sums-other (suc n) i = other-then (wrong_sum i) (not (is_good (page_test z image i))) _ (omega arith) (sums-other n (suc i))
+  sums-other (suc n) i = other-then (WrongSum i) (not (is_good (page_test z image i))) _ (omega arith) (sums-other n (suc i))
 
   -- If the check accepts, every page adds up to 0.
-  pub sums-right : sums z image ≡ good tt → SumsRight z image
+  pub sums-right : sums z image ≡ Ok tt → SumsRight z image
   sums-right e q h =
-      let (b, s) = passed blank_chip (blank_from z image z.pages 0) (sums_from z image z.pages 0) tt e in
+      let (b, s) = passed BlankChip (blank_from z image z.pages 0) (sums_from z image z.pages 0) tt e in
       good-sum z image q (good-from z.pages 0 s q (omega arith) (omega arith))
 
 -- The check accepts an image whose every page adds up to 0, if its first page
 -- is not blank. With the register, a blank first page may add up to 0 too.
 pub right-sums : (z : Sizes) (image : List ℕ) → length image ≡ image_bytes z → 1 ≤ z.pages → SumsRight z image → blank_page z image 0 ≡ false →
-    sums z image ≡ good tt
+    sums z image ≡ Ok tt
 right-sums z image whole paged right first =
-    ap (λ (b : Bool). refuse blank_chip if b >> sums_from z image z.pages 0) written
+    ap (λ (b : Bool). refuse BlankChip if b >> sums_from z image z.pages 0) written
     ∙ from-good z image z.pages 0 (λ q h k. ap is_good (test_good z image q (unblank q (omega arith)) (right q (omega arith))))
   where
     unblank : (q : ℕ) → q < z.pages → blank_page z image q ≡ false

@@ -1,8 +1,8 @@
 -- Document 01, "Image and stream", with document 02's Note 1: kinds, pages, check bytes,
 -- blank pages, and the stream between them. Kind and page are document 01's terms.
 use Rattle.std.specs.Prelude.{◌≡◌, ℕ, zero, suc, ◌+◌, ◌-◌, ◌*◌, ◌/◌, ◌%◌, ◌<◌, Bool, true, false, cond, not, ◌&&◌, List, [], ◌∷◌, ◌++◌, length, take, drop, ◌==◌, nat_lt}
-use Rattle.refusal.specs.Outcome.{Outcome, good, refused, ◌>>◌, ◌>>=◌, refuse◌if◌}
-use Rattle.refusal.specs.Rows.{wrong_image, wrong_sum, blank_chip}
+use Rattle.refusal.specs.Outcome.{Outcome, Ok, Err, ◌>>◌, ◌>>=◌, refuse◌if◌}
+use Rattle.refusal.specs.declared.Refusal.TheVariants.{WrongImage, WrongSum, BlankChip}
 use Rattle.memory.specs.declared.Sizes.{Sizes}
 use Rattle.memory.specs.declared.pages.PageTest.{PageTest}
 use Rattle.memory.specs.declared.pages.PageTest.TheVariants.{Good, Wrong, Blank}
@@ -13,10 +13,10 @@ use Rattle.memory.specs.Bits.{number, bytes_of}
 -- "Kind 0: 40 bytes, a register of 8 bytes and one page.
 -- Kind 1: 128 bytes, 4 pages. Kind 2: 512 bytes, 16 pages."
 abbrev pub sizes_of : ℕ → Outcome Sizes
-sizes_of zero = good (record { register = 8; pages = 1 })
-sizes_of (suc zero) = good (record { register = 0; pages = 4 })
-sizes_of (suc (suc zero)) = good (record { register = 0; pages = 16 })
-sizes_of (suc (suc (suc k))) = refused wrong_image
+sizes_of zero = Ok (record { register = 8; pages = 1 })
+sizes_of (suc zero) = Ok (record { register = 0; pages = 4 })
+sizes_of (suc (suc zero)) = Ok (record { register = 0; pages = 16 })
+sizes_of (suc (suc (suc k))) = Err WrongImage
 
 -- "A page is 32 bytes." All but its byte 0 belong to the stream.
 abbrev pub image_bytes : Sizes → ℕ
@@ -32,8 +32,8 @@ stream_bits z = 8 * stream_bytes z
 unfoldable pub image_sizes : ℕ → ℕ → Outcome Sizes
 image_sizes kind bytes = do
   z ← sizes_of kind
-  refuse wrong_image if not (bytes == image_bytes z)
-  good z
+  refuse WrongImage if not (bytes == image_bytes z)
+  Ok z
 
 -- ---- pages and their sums
 
@@ -85,21 +85,21 @@ blank_from z image (suc n) i = blank_page z image i && blank_from z image n (suc
 
 -- Row 2 by page, for n pages from page i on: "a blank page among others is still a wrong sum".
 unfoldable pub sums_from : Sizes → List ℕ → ℕ → ℕ → Outcome (Unit {0})
-sums_from z image zero i = good tt
+sums_from z image zero i = Ok tt
 sums_from z image (suc n) i = do
-  refuse wrong_sum i if not (is_good (page_test z image i))
+  refuse WrongSum i if not (is_good (page_test z image i))
   sums_from z image n (suc i)
 
 -- Note 1: 17 is tested before 2.
 abbrev pub sums : Sizes → List ℕ → Outcome (Unit {0})
 sums z image = do
-  refuse blank_chip if blank_from z image z.pages 0
+  refuse BlankChip if blank_from z image z.pages 0
   sums_from z image z.pages 0
 
 -- A page's stream bytes, its bytes 1 to 31: "empty for a wrong kind, image length or page number".
 abbrev pub part_of : List ℕ → ℕ → Outcome Sizes → List ℕ
-part_of image i (good z) = cond (nat_lt i z.pages) (drop 1 (page z image i)) []
-part_of image i (refused r) = []
+part_of image i (Ok z) = cond (nat_lt i z.pages) (drop 1 (page z image i)) []
+part_of image i (Err r) = []
 
 unfoldable pub page_bytes : ℕ → List ℕ → ℕ → List ℕ
 page_bytes kind image i = part_of image i (image_sizes kind (length image))

@@ -6,8 +6,8 @@
 mod kinds;
 mod pages;
 
-pub use kinds::{SizesAnswer, image_sizes, stream_bits};
-pub use pages::{Sums, check_sums, page_bytes, seal, sum};
+pub use kinds::{image_sizes, stream_bits};
+pub use pages::{check_sums, page_bytes, seal, sum};
 
 // A chip's memory: the bytes of its register, and its number of pages. Page and
 // kind are document 01's terms: a page is 32 bytes, a kind is one of three chips.

@@ -1,10 +1,11 @@
 // Pages, their sums and their check bytes.
 ghost use Rattle.std.specs.Prelude.{◌≡◌, ◌%◌, ◌<◌};
-ghost use Rattle.memory.specs.Image.{total, page_sum, all_ff, blank_page, page_test, is_good, blank_from, sums_from, sums, page_bytes};
+ghost use Rattle.memory.specs.Image.{total, page_sum, all_ff, blank_page, page_test, blank_from, sums_from, sums, page_bytes};
 ghost use Rattle.memory.specs.Laid.{sealed};
-ghost use Rattle.memory.specs.Answers.{sums_said, WholeImage};
+ghost use Rattle.memory.specs.Answers.{WholeImage};
 
-use crate::{Sizes, SizesAnswer, kinds};
+use crate::{Sizes, kinds};
+use refusal::Refusal;
 
 // The page test of document 02, Note 1: good, wrong, or blank.
 #[derive(Clone, Copy)]
@@ -14,27 +15,15 @@ enum PageTest {
     Blank,
 }
 
-// The sums of all pages: right, or the refusal's case.
-#[derive(Clone, Copy)]
-pub enum Sums {
-    Right,
-    // The first page that is not good.
-    Wrong(usize),
-    // Every page is blank.
-    Blank,
-}
-
 // The bytes of a slice, added up modulo 256.
 pub fn sum(bytes: &[u8]) -> u8
     ensures { result ≡ total bytes.now % 256 }
 {
-    let mut acc: u8 = 0;
-    let mut i: usize = 0;
-    while i < bytes.len() {
-        acc = std::num::wrapping_add_u8(acc, bytes[i]);
-        i += 1;
+    let mut sum: u8 = 0;
+    for &b in bytes {
+        sum = sum.wrapping_add(b);
     }
-    acc
+    sum
 }
 
 // The sum of the bytes that a page's check byte covers: the page, and for page 0 the register too.
@@ -54,14 +43,7 @@ fn page_sum(sizes: Sizes, image: &[u8], page: usize) -> u8
 fn all_ff(bytes: &[u8]) -> bool
     ensures { result ≡ all_ff bytes.now }
 {
-    let mut i: usize = 0;
-    while i < bytes.len() {
-        if bytes[i] != 0xff {
-            return false;
-        }
-        i += 1;
-    }
-    true
+    bytes.iter().all(|&b| b == 0xff)
 }
 
 // Whether the 32 bytes of a page are blank. The register does not count.
@@ -88,55 +70,39 @@ fn test_page(sizes: Sizes, image: &[u8], page: usize) -> PageTest
     PageTest::Wrong
 }
 
-fn is_good(test: PageTest) -> bool
-    ensures { result ≡ is_good test }
-{
-    match test {
-        PageTest::Good => true,
-        PageTest::Wrong => false,
-        PageTest::Blank => false,
-    }
-}
-
 // Whether every page is blank.
 fn all_blank(sizes: Sizes, image: &[u8]) -> bool
     requires { WholeImage sizes image.now }
     ensures { result ≡ blank_from sizes image.now sizes.pages 0 }
 {
-    let pages = sizes.pages;
-    let mut page: usize = 0;
-    while page < pages {
+    for page in 0..sizes.pages {
         if !is_blank(sizes, image, page) {
             return false;
         }
-        page += 1;
     }
     true
 }
 
-// Whether every page is good, or which is the first that is not.
-fn test_pages(sizes: Sizes, image: &[u8]) -> Sums
+// Refuses the first page that is not good.
+fn test_pages(sizes: Sizes, image: &[u8]) -> Result<(), Refusal>
     requires { WholeImage sizes image.now }
-    ensures { sums_said result ≡ sums_from sizes image.now sizes.pages 0 }
+    ensures { result ≡ sums_from sizes image.now sizes.pages 0 }
 {
-    let pages = sizes.pages;
-    let mut page: usize = 0;
-    while page < pages {
-        if !is_good(test_page(sizes, image, page)) {
-            return Sums::Wrong(page);
-        }
-        page += 1;
+    for page in 0..sizes.pages {
+        let PageTest::Good = test_page(sizes, image, page) else {
+            return Err(Refusal::WrongSum(page as u64));
+        };
     }
-    Sums::Right
+    Ok(())
 }
 
-// Whether every page is blank, every page is good, or which is the first that is not good.
-pub fn check_sums(sizes: Sizes, image: &[u8]) -> Sums
+// Refuses an image whose pages are all blank, else the first page that is not good.
+pub fn check_sums(sizes: Sizes, image: &[u8]) -> Result<(), Refusal>
     requires { WholeImage sizes image.now }
-    ensures { sums_said result ≡ sums sizes image.now }
+    ensures { result ≡ sums sizes image.now }
 {
     if all_blank(sizes, image) {
-        return Sums::Blank;
+        return Err(Refusal::BlankChip);
     }
     test_pages(sizes, image)
 }
@@ -146,16 +112,14 @@ pub fn check_sums(sizes: Sizes, image: &[u8]) -> Sums
 pub fn page_bytes(kind: u8, image: &[u8], page: u64) -> &[u8]
     ensures { result.now ≡ page_bytes kind image.now page }
 {
-    let none: usize = 0;
-    let SizesAnswer::Are(sizes) = kinds::image_sizes(kind, image.len()) else {
-        return &image[none..none];
+    let Ok(sizes) = kinds::image_sizes(kind, image.len()) else {
+        return &image[..0];
     };
     if page < sizes.pages as u64 {
         let from = sizes.register + 32 * (page as usize) + 1;
-        let end = from + 31;
-        return &image[from..end];
+        return &image[from..from + 31];
     }
-    &image[none..none]
+    &image[..0]
 }
 
 // Writes the check byte of a page, so that the page
@@ -166,5 +130,5 @@ pub fn seal(sizes: Sizes, image: &mut [u8], page: usize)
 {
     let at = sizes.register + 32 * page;
     let sum = page_sum(sizes, image, page);
-    image[at] = std::num::wrapping_sub_u8(image[at], sum);
+    image[at] = image[at].wrapping_sub(sum);
 }

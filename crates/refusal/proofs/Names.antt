@@ -4,5 +4,5 @@ pub use mathlib.Core.{Bool.Bool, Bool.◌&&◌, Bool.◌||◌, Bool.cond, Bool.f
 pub use native.Mathlib.Omega.{arith}
 pub use lib.Dec.{eqb}
 pub use borrow.Author.Tests.{eqb-true}
-pub use Rattle.refusal.specs.{Orders.By, Orders.occurs, Orders.stream_rows, Outcome.Outcome, Outcome.◌>>=◌, Outcome.◌>>◌, Outcome.good, Outcome.refuse◌if◌, Outcome.refused, Rows.returned}
-pub use Rattle.refusal.specs.{Written.afterwards, Written.written_said, declared.Refusal.Refusal, declared.Written.Written, declared.Written.TheVariants.Done, declared.Written.TheVariants.Refused}
+pub use Rattle.refusal.specs.{Orders.By, Orders.occurs, Orders.stream_rows, Outcome.Outcome, Outcome.◌>>=◌, Outcome.◌>>◌, Outcome.Ok, Outcome.refuse◌if◌, Outcome.Err, Rows.row_number}
+pub use Rattle.refusal.specs.{Written.afterwards, Written.written_said, declared.Refusal.Refusal}

@@ -1,7 +1,8 @@
 -- Document 01, "Turning down", "Order", as document 02's notes
 -- extend it: the rows that each call can refuse by, in its order.
 use Rattle.std.specs.Prelude.{cond, List, [], ◌∷◌, ◌++◌, ℕ, suc, ◌<◌, eqb}
-use Rattle.refusal.specs.Outcome.{Outcome, good, refused}
+use Rattle.refusal.specs.Outcome.{Outcome, Ok, Err}
+use Rattle.refusal.specs.Rows.{row_number}
 
 -- How often a number occurs in a list.
 abbrev pub occurs : ℕ → List ℕ → ℕ
@@ -10,8 +11,8 @@ occurs n (m ∷ rows) = cond (eqb n m) (suc (occurs n rows)) (occurs n rows)
 
 -- Accepted, or refused by one of these rows.
 abbrev pub By : {A : Type 0} → List ℕ → Outcome A → Type 0
-By rows (good a) = Unit {0}
-By rows (refused r) = 0 < occurs r.number rows
+By rows (Ok a) = Unit {0}
+By rows (Err r) = 0 < occurs (row_number r) rows
 
 -- The stream from its start: at a pair 3 and 5 of the point, 3
 -- and 5 of its deviation, then 7, then 22; in a curve 24 and 25.

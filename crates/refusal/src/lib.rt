@@ -1,78 +1,106 @@
-// Document 01, "Turning down": the number and place that a refused call
-// returns, and the answer of a call that writes. No function has a `requires`.
+// Document 01, "Turning down": why and where a call is refused.
+// No function has a `requires`.
 #![tactic(auto)]
 
-mod rows;
+ghost use Rattle.std.specs.Prelude.{◌≡◌};
+ghost use Rattle.refusal.specs.Rows.{row_number, row_place};
 
-pub use rows::{
-    blank_chip, changed_alone, end_outside, level_too_low, no_span, no_such, not_finite,
-    not_rising, other_code, out_of_range, outside_span, outside_table, past_end, short_index,
-    sums_not_rising, too_long, too_many_points, too_many_terms, wrong_block, wrong_curve,
-    wrong_image, wrong_list, wrong_sort, wrong_sum, wrong_ticks,
-};
-
-// Why and where a call is refused. `number` is 1 to 26; `place` is document 01's term: a
-// bit of the stream, a page, a field, an index or a size, as the row of the number says.
-#[derive(Clone, Copy)]
-pub struct Refusal {
-    pub number: u8,
-    pub place: u64,
+// A row of the table of refusals, with what its place is taken from. `specs/Rows.antt` has
+// the sentence of each row. Place is document 01's term: a bit of the stream, a page, a
+// field, an index or a size. Each variant that holds a number has a comment on what it is.
+#[derive(Clone, Copy, PartialEq, Eq)]
+pub enum Refusal {
+    WrongImage,
+    WrongSum(u64), // page
+    PastEnd(u64), // bit
+    WrongBlock(u64), // the selector's bit
+    OutsideTable(u64), // bit
+    NotFinite(u64), // bit
+    NotRising(u64), // bit or index
+    NoSuch(u64), // the number given
+    WrongSort(u64), // field
+    OutOfRange(u64), // bit or index
+    TooLong(u64), // bits needed
+    ChangedAlone(u64), // field
+    NoSpan(u64), // field
+    OutsideSpan,
+    WrongList(u64), // length
+    BlankChip,
+    ShortIndex(u64), // bytes needed
+    OtherCode(u64), // field
+    LevelTooLow(u64), // field
+    EndOutside(u64), // field
+    SumsNotRising(u64), // bit or index
+    TooManyPoints(u64), // points
+    WrongCurve(u64), // bit or index
+    TooManyTerms(u64), // total so far
+    WrongTicks(u64), // ticks
 }
 
-// The answer of a call that writes: it wrote its bytes, or it wrote nothing.
-#[derive(Clone, Copy)]
-pub enum Written {
-    Done,
-    Refused(Refusal),
+impl Refusal {
+    // The number of the row, 1 to 26.
+    pub fn number(self) -> u8
+        ensures { result ≡ row_number self }
+    {
+        match self {
+            Refusal::WrongImage => 1,
+            Refusal::WrongSum(_) => 2,
+            Refusal::PastEnd(_) => 3,
+            Refusal::WrongBlock(_) => 4,
+            Refusal::OutsideTable(_) => 5,
+            Refusal::NotFinite(_) => 6,
+            Refusal::NotRising(_) => 7,
+            Refusal::NoSuch(_) => 8,
+            Refusal::WrongSort(_) => 9,
+            Refusal::OutOfRange(_) => 10,
+            Refusal::TooLong(_) => 11,
+            Refusal::ChangedAlone(_) => 12,
+            Refusal::NoSpan(_) => 13,
+            Refusal::OutsideSpan => 14,
+            Refusal::WrongList(_) => 16,
+            Refusal::BlankChip => 17,
+            Refusal::ShortIndex(_) => 18,
+            Refusal::OtherCode(_) => 19,
+            Refusal::LevelTooLow(_) => 20,
+            Refusal::EndOutside(_) => 21,
+            Refusal::SumsNotRising(_) => 22,
+            Refusal::TooManyPoints(_) => 23,
+            Refusal::WrongCurve(_) => 24,
+            Refusal::TooManyTerms(_) => 25,
+            Refusal::WrongTicks(_) => 26,
+        }
+    }
+
+    // The place. The bits needed are given as 65,535 if they are more than that.
+    pub fn place(self) -> u64
+        ensures { result ≡ row_place self }
+    {
+        match self {
+            Refusal::WrongImage => 0,
+            Refusal::WrongSum(page) => page,
+            Refusal::PastEnd(bit) => bit,
+            Refusal::WrongBlock(selector_bit) => selector_bit,
+            Refusal::OutsideTable(bit) => bit,
+            Refusal::NotFinite(bit) => bit,
+            Refusal::NotRising(place) => place,
+            Refusal::NoSuch(given) => given,
+            Refusal::WrongSort(field) => field,
+            Refusal::OutOfRange(place) => place,
+            Refusal::TooLong(needed) => { if 65_535 < needed { 65_535 } else { needed } }
+            Refusal::ChangedAlone(field) => field,
+            Refusal::NoSpan(field) => field,
+            Refusal::OutsideSpan => 0,
+            Refusal::WrongList(length) => length,
+            Refusal::BlankChip => 0,
+            Refusal::ShortIndex(bytes) => bytes,
+            Refusal::OtherCode(field) => field,
+            Refusal::LevelTooLow(field) => field,
+            Refusal::EndOutside(field) => field,
+            Refusal::SumsNotRising(place) => place,
+            Refusal::TooManyPoints(points) => points,
+            Refusal::WrongCurve(place) => place,
+            Refusal::TooManyTerms(total) => total,
+            Refusal::WrongTicks(ticks) => ticks,
+        }
+    }
 }
-
-// The numbers of the rows. `specs/Rows.antt` has each row with its place.
-pub const WRONG_IMAGE: u8 = 1;
-
-pub const WRONG_SUM: u8 = 2;
-
-pub const PAST_END: u8 = 3;
-
-pub const WRONG_BLOCK: u8 = 4;
-
-pub const OUTSIDE_TABLE: u8 = 5;
-
-pub const NOT_FINITE: u8 = 6;
-
-pub const NOT_RISING: u8 = 7;
-
-pub const NO_SUCH: u8 = 8;
-
-pub const WRONG_SORT: u8 = 9;
-
-pub const OUT_OF_RANGE: u8 = 10;
-
-pub const TOO_LONG: u8 = 11;
-
-pub const CHANGED_ALONE: u8 = 12;
-
-pub const NO_SPAN: u8 = 13;
-
-pub const OUTSIDE_SPAN: u8 = 14;
-
-pub const WRONG_LIST: u8 = 16;
-
-pub const BLANK_CHIP: u8 = 17;
-
-pub const SHORT_INDEX: u8 = 18;
-
-pub const OTHER_CODE: u8 = 19;
-
-pub const LEVEL_TOO_LOW: u8 = 20;
-
-pub const END_OUTSIDE: u8 = 21;
-
-pub const SUMS_NOT_RISING: u8 = 22;
-
-pub const TOO_MANY_POINTS: u8 = 23;
-
-pub const WRONG_CURVE: u8 = 24;
-
-pub const TOO_MANY_TERMS: u8 = 25;
-
-pub const WRONG_TICKS: u8 = 26;

@@ -8,7 +8,7 @@ pub use lib.Pow.{high, low, mod-mod-pow, mod-pow-add, ones_lt, ones_split, pow-a
 pub use lib.{Bits.and_block, Bits.and_high, Bits.and_mask, Bits.bit_and, Bits.bit_or, Bits.mask_lt, Bits.or_block, Bits.or_shifted_r, Bits.or_zero_r, Dec.lit<, Seq.drop-length, Seq.get_or-set_other, Seq.length-take-le}
 pub use mir.{Syntax.w64, Val.Fits}
 pub use borrow.Author.{Fill.fill_more, Fill.fill_none, Rules.rules, Tests.le-ltb, Tests.lt-ltb}
-pub use Rattle.refusal.specs.{Outcome.good, Outcome.refused, Rows.past_end}
+pub use Rattle.refusal.specs.{Outcome.Ok, Outcome.Err, declared.Refusal.TheVariants.PastEnd}
 pub use Rattle.memory.proofs.Digits.{bytes_drop, bytes-length, bytes-number, bytes-set, bytes_take, number_at, number-bytes, number-ext, number_lt, number-part, number-set}
 pub use Rattle.memory.proofs.FieldLaws.{field-add, field-field, field_lt, low-lt, put-after, put-before, put-in, put-lt, put-put, put_same}
 pub use Rattle.memory.proofs.Sealing.{seal-bytes, seal-length, seal-number, seal-other, seal-others, seal-sum}

@@ -1,15 +1,13 @@
 -- Only inner contracts need this: fields inside an image's stream, and the answers as outcomes.
 use Rattle.std.specs.Prelude.{List, ℕ, ◌+◌, ◌≤◌, ltb}
-use Rattle.refusal.specs.Outcome.{Outcome, good, refused, ◌>>◌, refuse◌if◌}
-use Rattle.refusal.specs.Rows.{past_end}
+use Rattle.refusal.specs.Outcome.{Outcome, Ok, Err, ◌>>◌, refuse◌if◌}
+use Rattle.refusal.specs.declared.Refusal.TheVariants.{PastEnd}
 use Rattle.memory.specs.declared.Sizes.{Sizes}
 use Rattle.memory.specs.Bits.{field_at}
 use Rattle.memory.specs.Image.{stream_bits, stream_number}
 use Rattle.memory.specs.Answers.{WholeImage}
 use Rattle.stream.specs.declared.cursor.Cursor.{Cursor}
 use Rattle.stream.specs.declared.cursor.Passed.{Passed}
-use Rattle.stream.specs.declared.cursor.Taken.{Taken}
-use Rattle.stream.specs.declared.cursor.Taken.TheVariants.{Field, Refused as NoField}
 
 -- A field of 1 to 49 bits inside the stream. From any bit of a byte
 -- on it fits in 8 bytes of the image, a check byte among them.
@@ -30,12 +28,12 @@ pub record Step : Type 0 where
   pub code : ℕ
   pub next : ℕ
 
-abbrev pub taken_said : Taken → Outcome Step
-taken_said (Field code cursor) = good (record { code = code; next = cursor.at })
-taken_said (NoField r) = refused r
+abbrev pub taken_said : (Outcome (ℕ × Cursor)) → Outcome Step
+taken_said (Ok x) = Ok (record { code = x.0; next = x.1.at })
+taken_said (Err r) = Err r
 
 -- Row 3: the field of w bits at a place, if it is inside the stream, and the place after it.
 unfoldable pub taken_at : Sizes → List ℕ → ℕ → ℕ → Outcome Step
 taken_at z image at w = do
-  refuse past_end at if ltb (stream_bits z) (at + w)
-  good (record { code = field_at (stream_number z image) at w; next = at + w })
+  refuse PastEnd at if ltb (stream_bits z) (at + w)
+  Ok (record { code = field_at (stream_number z image) at w; next = at + w })

@@ -7,25 +7,19 @@ ghost use Rattle.stream.specs.Answers.{InStream};
 
 use memory::Sizes;
 
-fn wide(x: u8) -> u64
-    ensures { (result ≡ x) × (result < 256) }
-{
-    x as u64
-}
-
 // The 8 bytes of the image from byte `from` on, as one number.
 fn eight(image: &[u8], from: usize) -> u64
     requires { from + 8 ≤ length image.now }
     ensures { result ≡ field_at (number image.now) (8 * from) 64 }
 {
-    wide(image[from])
-        | (wide(image[from + 1]) << 8)
-        | (wide(image[from + 2]) << 16)
-        | (wide(image[from + 3]) << 24)
-        | (wide(image[from + 4]) << 32)
-        | (wide(image[from + 5]) << 40)
-        | (wide(image[from + 6]) << 48)
-        | (wide(image[from + 7]) << 56)
+    u64::from(image[from])
+        | (u64::from(image[from + 1]) << 8)
+        | (u64::from(image[from + 2]) << 16)
+        | (u64::from(image[from + 3]) << 24)
+        | (u64::from(image[from + 4]) << 32)
+        | (u64::from(image[from + 5]) << 40)
+        | (u64::from(image[from + 6]) << 48)
+        | (u64::from(image[from + 7]) << 56)
 }
 
 // The 8 bytes of the image from byte `from` on, as one number, with zeros
@@ -135,13 +129,8 @@ fn put_bits(image: &mut [u8], bit: usize, width: usize, code: u64)
     requires le_width { (1 ≤ width) × (width ≤ 49) × (code < 2 ^ width) }
     ensures { image.new ≡ bytes_of (length image.old) (put_at (number image.old) bit width code) }
 {
-    let from = bit / 8;
-    let last = image.len() - 8;
-    if from <= last {
-        put_eight(image, from, bit, width, code);
-        return;
-    }
-    put_eight(image, last, bit, width, code);
+    let from = (bit / 8).min(image.len() - 8);
+    put_eight(image, from, bit, width, code);
 }
 
 // Writes a code into the field of `width` bits at bit `at` of the
@@ -172,7 +161,7 @@ pub fn append(sizes: Sizes, image: &mut [u8], at: usize, width: usize, code: u64
     let i = at / 8;
     let checks = checks_before(sizes, i);
     let from = i + checks;
-    let word = wide(image[from]) | (code << (at % 8));
+    let word = u64::from(image[from]) | (code << (at % 8));
     // The stream byte right after the next check byte.
     let edge = sizes.register + 31 * checks;
     if i + 8 <= edge {
@@ -180,7 +169,7 @@ pub fn append(sizes: Sizes, image: &mut [u8], at: usize, width: usize, code: u64
         return;
     }
     if from + 8 <= image.len() {
-        let check = wide(image[edge + checks]);
+        let check = u64::from(image[edge + checks]);
         lay_eight(image, from, with_check(word, 8 * (edge - i), check));
         return;
     }

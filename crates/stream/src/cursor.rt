@@ -36,15 +36,6 @@ pub struct Read {
     pub next: Cursor,
 }
 
-// A field that may pass the stream's end.
-#[derive(Clone, Copy)]
-pub enum Taken {
-    // The field's code, and the cursor after it.
-    Field(u64, Cursor),
-    // 3: the field would pass the stream's end.
-    Refused(Refusal),
-}
-
 impl Field {
     // The code of the field, which has `width` bits and is inside the stream.
     pub fn code(self, sizes: Sizes, image: &[u8], width: usize) -> u64
@@ -92,7 +83,7 @@ impl Cursor {
 
     // The code of the field of `width` bits at the cursor, and the
     // cursor after it; or 3 if the field would pass the stream's end.
-    pub fn take(self, sizes: Sizes, image: &[u8], width: usize) -> Taken
+    pub fn take(self, sizes: Sizes, image: &[u8], width: usize) -> Result<(u64, Cursor), Refusal>
         requires { WholeImage sizes image.now × (1 ≤ width) × (width ≤ 49) }
         ensures { taken_said result ≡ taken_at sizes image.now self.at width }
     {
@@ -100,14 +91,14 @@ impl Cursor {
         // `stream_bits`, from the image's length: three instructions fewer per field.
         let bits = 8 * (image.len() - sizes.pages);
         if bits < at {
-            return Taken::Refused(refusal::past_end(at as u64));
+            return Err(Refusal::PastEnd(at as u64));
         }
         if bits - at < width {
-            return Taken::Refused(refusal::past_end(at as u64));
+            return Err(Refusal::PastEnd(at as u64));
         }
         let read = self.read(sizes, image, width);
         let next = read.next;
-        Taken::Field(read.code, next)
+        Ok((read.code, next))
     }
 
     // Writes a code into the field of `width` bits at the cursor, and returns the

@@ -7,5 +7,5 @@ mod bitfields;
 mod cursor;
 mod rewriting;
 
-pub use cursor::{Cursor, Field, Passed, Read, Taken};
+pub use cursor::{Cursor, Field, Passed, Read};
 pub use rewriting::{clear, rewrite, seal_pages};

@@ -13,10 +13,8 @@ use memory::Sizes;
 pub fn clear(image: &mut [u8])
     ensures { image.new ≡ replicate (length image.old) 0 }
 {
-    let mut i: usize = 0;
-    while i < image.len() {
-        image[i] = 0;
-        i += 1;
+    for byte in image {
+        *byte = 0;
     }
 }
 
@@ -53,10 +51,7 @@ pub fn seal_pages(sizes: Sizes, image: &mut [u8])
     requires { WholeImage sizes image.old }
     ensures { image.new ≡ image_of sizes (stream_number sizes image.old) }
 {
-    let pages = sizes.pages;
-    let mut page: usize = 0;
-    while page < pages {
+    for page in 0..sizes.pages {
         memory::seal(sizes, image, page);
-        page += 1;
     }
 }

@@ -1,17 +1,32 @@
-use Rattle.memory.proofs.Names.{refl, sym, ap, ◌∙◌, refused}
-use Rattle.memory.proofs.Chips.{sizes-kind, sizes-others}
+use Rattle.memory.proofs.Names.{refl, sym, ne_eqb, image_sizes}
+use Rattle.memory.proofs.Chips.{sizes-others}
 use Rattle.memory.proofs.kinds.image_sizes.Goals as goal
 
-pub returns-in-0 : goal.returns-in-0
-returns-in-0 c = rw c.in-0.is (c.fitting.ensures ∙ sym (sizes-kind 0 _ _ refl))
+pub returns-in-0-eq40 : goal.returns-in-0-eq40
+unfolding image_sizes
+returns-in-0-eq40 c = rw (c.in-0-eq40.is-0, c.in-0-eq40.is-1)
 
-pub returns-in-1 : goal.returns-in-1
-returns-in-1 c = rw c.in-1.is (c.fitting-in-1.ensures ∙ sym (sizes-kind 1 _ _ refl))
+pub returns-in-1-eq128 : goal.returns-in-1-eq128
+unfolding image_sizes
+returns-in-1-eq128 c = rw (c.in-1-eq128.is-0, c.in-1-eq128.is-1)
 
-pub returns-in-2 : goal.returns-in-2
-returns-in-2 c = rw c.in-2.is (c.fitting-in-2.ensures ∙ sym (sizes-kind 2 _ _ refl))
+pub returns-in-2-eq512 : goal.returns-in-2-eq512
+unfolding image_sizes
+returns-in-2-eq512 c = rw (c.in-2-eq512.is-0, c.in-2-eq512.is-1)
 
 pub returns-in_default : goal.returns-in_default
-returns-in_default c =
-    let h = c.in_default.in_default-own.rest in
-    ap refused c.wrong_image.ensures ∙ sym (sizes-others _ _ h.0.0.1 h.0.1 h.1)
+unfolding image_sizes
+returns-in_default c = rw c.in_default.is-0 (simp (ne_eqb _ _ c.in_default.is-1.1) (refl))
+
+pub returns-in_default-2 : goal.returns-in_default-2
+unfolding image_sizes
+returns-in_default-2 c = rw c.in_default.is-0 (simp (ne_eqb _ _ c.in_default.is-1.1) (refl))
+
+pub returns-in_default-3 : goal.returns-in_default-3
+unfolding image_sizes
+returns-in_default-3 c = rw c.in_default.is-0 (simp (ne_eqb _ _ c.in_default.is-1.1) (refl))
+
+pub returns-in_default-4 : goal.returns-in_default-4
+returns-in_default-4 c =
+    let h = c.in_default.is-0 in
+    sym (sizes-others _ _ h.1 h.0.1 h.0.0.1)

@@ -1,33 +1,30 @@
-use Rattle.memory.proofs.Names.{rules, ◌≡◌, sym, ap, ◌∙◌, ◌-◌, sub-zero, arith, not-true, not-false, is_good, sums_from}
+use Rattle.memory.proofs.Names.{◌≡◌, refl, sym, ap, ◌∙◌, ◌-◌, arith, false, is_good, sums_from, Good, Wrong, Blank}
 use Rattle.memory.proofs.SumLaws.{turn-good, turn-wrong}
+use Rattle.memory.specs.declared.pages.PageTest.{PageTest}
 use Rattle.memory.proofs.pages.test_pages.Goals as goal
 
-pub loop-page-init : goal.loop-page-init
-loop-page-init c = (search rules, simp sub-zero)
+not-good : (t : PageTest) → (t ≡ Good → ⊥) → is_good t ≡ false
+not-good Good n = absurd (n refl)
+not-good Wrong n = refl
+not-good Blank n = refl
 
-pub returns-then-not-is_good : goal.returns-then-not-is_good
-returns-then-not-is_good c =
+pub returns-in_default : goal.returns-in_default
+returns-in_default c =
     let a = c.args in
     let l = c.loop-page in
-    sym
-    (turn-wrong a.sizes a.image.now a.sizes.pages l.page c.loop-page-test.true
-    (sym (c.is_good.ensures ∙ ap is_good c.test_page.ensures) ∙ not-true c.is_good.result c.if-not-is_good.true-raw))
-    ∙ l.invariant.1
+    sym (turn-wrong a.sizes a.image.now a.sizes.pages l.page c.loop-page-test.true (sym (ap is_good c.test_page.ensures) ∙ not-good _ c.in_default.not-Good))
+    ∙ l.invariant
 
 pub loop-page-preserved : goal.loop-page-preserved
 loop-page-preserved c =
     let a = c.args in
-    let l = c.loop-page in (
-      search rules,
-      sym
-          (turn-good a.sizes a.image.now a.sizes.pages l.page c.loop-page-test.true
-          (sym (c.is_good.ensures ∙ ap is_good c.test_page.ensures) ∙ not-false c.is_good.result c.if-not-is_good.false-raw))
-          ∙ l.invariant.1,
-    )
+    let l = c.loop-page in
+    sym (turn-good a.sizes a.image.now a.sizes.pages l.page c.loop-page-test.true (sym (ap is_good c.test_page.ensures) ∙ ap is_good c.in-Good.is))
+    ∙ l.invariant
 
 pub returns : goal.returns
 unfolding sums_from
 returns c =
     let l = c.loop-page in
     let e : c.args.sizes.pages - l.page ≡ 0 = omega arith in
-    rw e at l.invariant.1
+    rw e at l.invariant

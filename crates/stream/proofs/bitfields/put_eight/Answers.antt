@@ -1,21 +1,5 @@
-use Rattle.stream.proofs.Names.{arith}
 use Rattle.stream.proofs.Laying.{eight-put}
 use Rattle.stream.proofs.bitfields.put_eight.Goals as goal
-
-pub eight-word-requires : goal.eight-word-requires
-eight-word-requires c = omega arith
-
-pub overflow_mul-from : goal.overflow_mul-from
-overflow_mul-from c = omega arith
-
-pub overflow_sub-bit : goal.overflow_sub-bit
-overflow_sub-bit c = omega arith
-
-pub replaced-requires : goal.replaced-requires
-replaced-requires c = omega arith
-
-pub lay_eight-requires : goal.lay_eight-requires
-lay_eight-requires c = omega arith
 
 pub returns : goal.returns
 returns c =

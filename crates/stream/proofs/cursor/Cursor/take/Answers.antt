@@ -5,12 +5,12 @@ use Rattle.stream.proofs.cursor.Cursor.take.Goals as goal
 pub returns-then-bits-at : goal.returns-then-bits-at
 returns-then-bits-at c =
     let a = c.args in
-    rw (c.past_end.ensures, take_past a.sizes a.image.now a.self.at a.width (omega arith))
+    rw (take_past a.sizes a.image.now a.self.at a.width (omega arith))
 
 pub returns-then-bits-at-2 : goal.returns-then-bits-at-2
 returns-then-bits-at-2 c =
     let a = c.args in
-    rw (c.past_end-then-bits-at-2.ensures, take_past a.sizes a.image.now a.self.at a.width (omega arith))
+    rw (take_past a.sizes a.image.now a.self.at a.width (omega arith))
 
 pub returns : goal.returns
 returns c =
