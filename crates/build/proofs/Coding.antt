@@ -1,10 +1,10 @@
 -- Laws of the codes of fields, in order.
 use Rattle.build.proofs.Names.{Bool, true, false, ◌≡◌, refl, sym, ap, ap₂, ◌∙◌, subst, List, [], ◌∷◌, ◌++◌, map, append_assoc, append-nil, ℕ, zero, suc, ◌+◌, ◌-◌, ◌*◌, ◌/◌, ◌%◌, ◌^◌, ◌≤◌, ◌<◌, add-one, arith}
 use Rattle.build.proofs.Names.{ℕ_discrete, ℤ, w64, SFits, to_z, of_z, to_z-of_z, Float, length, take, drop, get_or, set, replicate, length-replicate, get_or-replicate, length-set, length-map, get_or-map}
-use Rattle.build.proofs.Names.{drop_of_length-le, slice, slice-cons, slice_empty, drop-cons, get_or-set_same, get_or-set_other, take-take, Refusal, Outcome, good, refused, ◌>>=◌, bind-good, bind-refused, bind_assoc}
-use Rattle.build.proofs.Names.{bind-same, Piece, piece, needed, needed-append, Value, Whole, Missing, Row, Encoded, Code, NoCode, Template, Layout, encode, Line, chose, basic, lines_of, number_of, last_field, line_of}
-use Rattle.build.proofs.Names.{row_of, rows_of, no_line, bits_before, Sound, AllSound, Real, encoded_said, reads-back, row-sound, rows-sound, DirectCode, block_pieces, Steady, lines-steady, Sheet, CodedField, Coded}
-use Rattle.build.proofs.Names.{Next, NotCoded, Are, Listed, NotPlanned, slot, lent, template_in, line_pieces, field_pieces, Encodes, Fitting, Fit, blank, field_piece, unpack, unpacked, coded_list, value_lent, slots_lent}
+use Rattle.build.proofs.Names.{drop_of_length-le, slice, slice-cons, slice_empty, drop-cons, get_or-set_same, get_or-set_other, take-take, Refusal, Outcome, Ok, Err, ◌>>=◌, bind-good, bind-refused, bind_assoc}
+use Rattle.build.proofs.Names.{bind-same, Piece, piece, needed, needed-append, Value, Whole, Missing, Row, Outcome, Ok, Err, Template, Layout, encode, Line, chose, basic, lines_of, number_of, last_field, line_of}
+use Rattle.build.proofs.Names.{row_of, rows_of, no_line, bits_before, Sound, AllSound, Real, reads-back, row-sound, rows-sound, block_pieces, Steady, lines-steady, Sheet, CodedField}
+use Rattle.build.proofs.Names.{Ok, Err, Listed, slot, lent, template_in, line_pieces, field_pieces, Encodes, Fitting, Fit, blank, field_piece, unpack, unpacked, coded_list, value_lent, slots_lent}
 use Rattle.build.proofs.Names.{LentLengths, fields_lent, Quick, coded_from, FieldsCoded, CodedTo, FieldsPlanned, last-most, basic-most}
 use Rattle.build.proofs.FieldPlans.{with_block, block-needed, fields-listed}
 use Rattle.build.proofs.Lent.{long-slot}
@@ -12,14 +12,10 @@ use Rattle.build.proofs.Lent.{long-slot}
 -- ---- one value
 
 -- The answer for a lent value.
-pub encodes : (row : Row) (place : ℕ) (v : Value) (e : Encoded) → Sound row → Real v → encoded_said e ≡ encode row place v → Encodes row place v e
-encodes row place v e s real said = record { said = said; fits = λ code h. (reads-back row place 0 code v s real (sym said ∙ ap encoded_said h)).0 }
+pub encodes : (row : Row) (place : ℕ) (v : Value) (e : (Outcome ℕ)) → Sound row → Real v → e ≡ encode row place v → Encodes row place v e
+encodes row place v e s real said = record { said = said; fits = λ code h. (reads-back row place 0 code v s real (sym said ∙ h)).0 }
 
--- The answer for a lent value whose code needed no search.
-pub quick-encodes : (row : Row) (place : ℕ) (v : Value) (code : ℕ) → DirectCode row v code → code < 2 ^ 32 → Encodes row place v (Code code)
-quick-encodes row place v code told h = record { said = sym ((told h).0 place); fits = λ n e. let same : code ≡ n = cc in subst (λ m. m < 2 ^ row.width) same (told h).1 }
-
-pub coded-fits : {row : Row} {place : ℕ} {v : Value} {e : Encoded} {code : ℕ} → Sound row → Encodes row place v e → e ≡ Code code → Fitting row.width code
+pub coded-fits : {row : Row} {place : ℕ} {v : Value} {e : Outcome ℕ} {code : ℕ} → Sound row → Encodes row place v e → e ≡ Ok code → Fitting row.width code
 coded-fits s c a = record { some = s.some; most = omega (arith, s.most); fits = c.fits _ a }
 
 -- A figure that is passed to a callee.
@@ -96,42 +92,42 @@ module _ (sheet : Sheet) where
   from_start : (fields : List CodedField) → coded_from sheet fields 0 0 ≡ line_pieces sheet lines 0 1
   from_start fields = go (line_pieces sheet lines 0 1)
     where
-      go : (o : Outcome (List Piece)) → (o >>= good) ≡ o
-      go (good ps) = refl
-      go (refused r) = refl
+      go : (o : Outcome (List Piece)) → (o >>= Ok) ≡ o
+      go (Ok ps) = refl
+      go (Err r) = refl
 
-  pub from_end : (fields : List CodedField) (latest i : ℕ) → last_field t ≤ i → coded_from sheet fields latest i ≡ good (take i (map field_piece fields))
+  pub from_end : (fields : List CodedField) (latest i : ℕ) → last_field t ≤ i → coded_from sheet fields latest i ≡ Ok (take i (map field_piece fields))
   unfolding line_pieces
   from_end fields latest i h =
-      ap (λ l. line_pieces sheet l latest (suc i) >>= λ rest. good (take i (map field_piece fields) ++ rest)) (drop_of_length-le lines h)
-      ∙ ap good (append-nil (take i (map field_piece fields)))
+      ap (λ l. line_pieces sheet l latest (suc i) >>= λ rest. Ok (take i (map field_piece fields) ++ rest)) (drop_of_length-le lines h)
+      ∙ ap Ok (append-nil (take i (map field_piece fields)))
 
   module _ (fields : List CodedField) (latest i : ℕ) (h : i < last_field t) where
     abbrev here : Line
     here = get_or lines i no_line
 
     step : line_pieces sheet (drop i lines) latest (suc i) ≡ (encode (here.row_at latest) (suc i) (lent sheet (suc i)) >>= λ code.
-        line_pieces sheet (drop (suc i) lines) (chose here.sets code latest) (suc (suc i)) >>= λ rest. good (piece (here.row_at latest).width code ∷ rest))
+        line_pieces sheet (drop (suc i) lines) (chose here.sets code latest) (suc (suc i)) >>= λ rest. Ok (piece (here.row_at latest).width code ∷ rest))
     unfolding line_pieces
     step = ap (λ l. line_pieces sheet l latest (suc i)) (drop-cons lines i no_line h)
 
-    pub field-refused : {r : Refusal} → encode (here.row_at latest) (suc i) (lent sheet (suc i)) ≡ refused r → coded_from sheet fields latest i ≡ refused r
-    field-refused e = ap (λ o. o >>= λ rest. good (take i (map field_piece fields) ++ rest)) (step ∙ bind-refused _ e)
+    pub field-refused : {r : Refusal} → encode (here.row_at latest) (suc i) (lent sheet (suc i)) ≡ Err r → coded_from sheet fields latest i ≡ Err r
+    field-refused e = ap (λ o. o >>= λ rest. Ok (take i (map field_piece fields) ++ rest)) (step ∙ bind-refused _ e)
 
-    pub field-coded : {code : ℕ} → i < length fields → encode (here.row_at latest) (suc i) (lent sheet (suc i)) ≡ good code →
+    pub field-coded : {code : ℕ} → i < length fields → encode (here.row_at latest) (suc i) (lent sheet (suc i)) ≡ Ok code →
         coded_from sheet fields latest i ≡ coded_from sheet (set fields i (record { width = (here.row_at latest).width; code = code })) (chose here.sets code latest) (suc i)
     field-coded {code} k e =
         let x : CodedField = record { width = (here.row_at latest).width; code = code } in
         let others = line_pieces sheet (drop (suc i) lines) (chose here.sets code latest) (suc (suc i)) in
-        ap (λ o. o >>= λ rest. good (take i (map field_piece fields) ++ rest)) (step ∙ bind-good _ e)
-        ∙ bind_assoc others (λ rest. good (field_piece x ∷ rest)) (λ rest. good (take i (map field_piece fields) ++ rest))
-        ∙ bind-same others (λ rest. ap good (sym (ap (λ l. l ++ rest) (taken fields i x k) ∙ append_assoc (take i (map field_piece fields)) (field_piece x ∷ []) rest)))
+        ap (λ o. o >>= λ rest. Ok (take i (map field_piece fields) ++ rest)) (step ∙ bind-good _ e)
+        ∙ bind_assoc others (λ rest. Ok (field_piece x ∷ rest)) (λ rest. Ok (take i (map field_piece fields) ++ rest))
+        ∙ bind-same others (λ rest. ap Ok (sym (ap (λ l. l ++ rest) (taken fields i x k) ∙ append_assoc (take i (map field_piece fields)) (field_piece x ∷ []) rest)))
 
 -- ---- the bits of the coded fields
 
 bits_none : (lines : List Line) (latest : ℕ) → bits_before lines latest 0 ≡ 0
 bits_none [] latest = refl
-bits_none (l ∷ lines) latest = refl
+bits_none (l ∷ _) latest = refl
 
 -- A row has at most 32 bits.
 bits_most : (lines : List Line) (latest i : ℕ) → AllSound (rows_of lines latest) → bits_before lines latest i ≤ 32 * i
@@ -174,10 +170,6 @@ module _ (layout : Layout) {row : Row} {tags : List ℕ} {wholes : List ℤ} {si
   pub quick-here : {quick : CodedField} → Quick row tags wholes singles i quick → Quick (row_of layout (i + 1)) tags wholes singles i quick
   quick-here {quick} q = subst (λ r. Quick r tags wholes singles i quick) is q
 
--- The row of a field, if the template is known.
-pub row-known : (layout : Layout) (f : ℕ) {t : Template} {row : Row} → layout.template ≡ t → row ≡ (line_of t f).row_at layout.precision → row ≡ row_of layout f
-row-known layout f e r = r ∙ ap (λ t. (line_of t f).row_at layout.precision) (sym e)
-
 -- ---- field by field
 
 module _ {t : Template} {tags : List ℕ} {wholes : List ℤ} {singles : List Float} where
@@ -190,34 +182,23 @@ module _ {t : Template} {tags : List ℕ} {wholes : List ℤ} {singles : List Fl
     count = sym (bits_none (lines_of t) 0);
   }
 
-  pub coded-next : {n latest : ℕ} {codes : List ℕ} → FieldsCoded t tags wholes singles codes latest n → CodedTo n t tags wholes singles codes (Next latest)
+  pub coded-next : {n latest : ℕ} {codes : List ℕ} → FieldsCoded t tags wholes singles codes latest n → CodedTo n t tags wholes singles codes (Ok latest)
   coded-next {n} {latest} {codes} d = record {
     done = λ other e. let same : latest ≡ other = cc in subst (λ (k : ℕ). FieldsCoded t tags wholes singles codes k n) same d;
     stop = λ r e. absurd (let z : ◌≡◌ {A = ℕ} 0 1 = cc in omega arith);
     fit = d.fit;
   }
 
-  coded-stop : {n : ℕ} {codes : List ℕ} {r : Refusal} → field_pieces (fields_lent t tags wholes singles) ≡ refused r → Fit 21 (unpacked codes) → CodedTo n t tags wholes singles codes (NotCoded r)
+  coded-stop : {n : ℕ} {codes : List ℕ} {r : Refusal} → field_pieces (fields_lent t tags wholes singles) ≡ Err r → Fit 21 (unpacked codes) → CodedTo n t tags wholes singles codes (Err r)
   coded-stop {n} {codes} {r} e fit = record {
     done = λ latest a. absurd (let z : ◌≡◌ {A = ℕ} 0 1 = cc in omega arith);
-    stop = λ other a. let same : r ≡ other = cc in e ∙ ap refused same;
+    stop = λ other a. let same : r ≡ other = cc in e ∙ ap Err same;
     fit = fit;
   }
-
-  pub coded-up : {n latest i : ℕ} {codes : List ℕ} → FieldsCoded t tags wholes singles codes latest i → n ≤ i → i ≤ n → CodedTo n t tags wholes singles codes (Next latest)
-  coded-up {n} {latest} {i} {codes} d a b = let e : i ≡ n = omega arith in coded-next (subst (λ (k : ℕ). FieldsCoded t tags wholes singles codes latest k) e d)
 
   -- An equal number of fields.
   pub coded-at : {n m latest : ℕ} {codes : List ℕ} → FieldsCoded t tags wholes singles codes latest n → n ≡ m → FieldsCoded t tags wholes singles codes latest m
   coded-at {n} {m} {latest} {codes} d e = subst (λ (k : ℕ). FieldsCoded t tags wholes singles codes latest k) e d
-
-  -- If one field is refused, so are longer lists.
-  pub stopped : {n m : ℕ} {codes : List ℕ} {answer : Coded} {r : Refusal} → CodedTo n t tags wholes singles codes answer → answer ≡ NotCoded r → CodedTo m t tags wholes singles codes (NotCoded r)
-  stopped c e = coded-stop (c.stop _ e) c.fit
-
-  -- A list of codes keeps its length.
-  pub coded-same : {n latest i : ℕ} {codes codes₀ : List ℕ} {answer : Coded} → CodedTo n t tags wholes singles codes answer → FieldsCoded t tags wholes singles codes₀ latest i → length codes ≡ length codes₀
-  coded-same {codes = codes} {codes₀ = codes₀} c d = packed-long codes c.fit ∙ sym (packed-long codes₀ d.fit)
 
   -- One turn: field i + 1 by its row.
   module _ {codes : List ℕ} {latest i : ℕ} (d : FieldsCoded t tags wholes singles codes latest i) (h : i < last_field t) where
@@ -236,8 +217,8 @@ module _ {t : Template} {tags : List ℕ} {wholes : List ℤ} {singles : List Fl
     is-here : line_of t (i + 1) ≡ line_here
     is-here = let k : i + 1 - 1 ≡ i = omega arith in ap (λ (n : ℕ). get_or (lines_of t) n no_line) k
 
-    module _ {e : Encoded} (c : Encodes row_here (i + 1) (value_lent tags wholes singles i) e) where
-      encoded-here : encoded_said e ≡ encode (line_here.row_at latest) (suc i) (lent (fields_lent t tags wholes singles) (suc i))
+    module _ {e : Outcome ℕ} (c : Encodes row_here (i + 1) (value_lent tags wholes singles i) e) where
+      encoded-here : e ≡ encode (line_here.row_at latest) (suc i) (lent (fields_lent t tags wholes singles) (suc i))
       encoded-here =
           let k : suc i - 1 ≡ i = omega arith in
           c.said
@@ -245,11 +226,11 @@ module _ {t : Template} {tags : List ℕ} {wholes : List ℤ} {singles : List Fl
           ∙ ap (λ l. encode (l.row_at latest) (suc i) (value_lent tags wholes singles i)) is-here
           ∙ ap (encode (line_here.row_at latest) (suc i)) (sym (ap (λ (n : ℕ). (get_or (slots_lent tags wholes singles) n (slot Missing)).value) k ∙ long-slot d.long i (omega (arith, last-most t))))
 
-      pub turn-refused : {r : Refusal} → e ≡ NoCode r → CodedTo (i + 1) t tags wholes singles codes (NotCoded r)
-      turn-refused a = coded-stop (fields-listed (fields_lent t tags wholes singles) ∙ bind-refused _ (sym d.rest ∙ field-refused (fields_lent t tags wholes singles) (unpacked codes) latest i h (sym encoded-here ∙ ap encoded_said a))) d.fit
+      pub turn-refused : {r : Refusal} → e ≡ Err r → CodedTo (i + 1) t tags wholes singles codes (Err r)
+      turn-refused a = coded-stop (fields-listed (fields_lent t tags wholes singles) ∙ bind-refused _ (sym d.rest ∙ field-refused (fields_lent t tags wholes singles) (unpacked codes) latest i h (sym encoded-here ∙ a))) d.fit
 
-      pub turn-coded : (p : ℕ) {code next : ℕ} → e ≡ Code code → (p / 2 ^ 56 ≡ row_here.width) × (p % 2 ^ 56 ≡ code) → next ≡ chose (line_of t (i + 1)).sets code latest →
-          CodedTo (i + 1) t tags wholes singles (set codes i p) (Next next)
+      pub turn-coded : (p : ℕ) {code next : ℕ} → e ≡ Ok code → (p / 2 ^ 56 ≡ row_here.width) × (p % 2 ^ 56 ≡ code) → next ≡ chose (line_of t (i + 1)).sets code latest →
+          CodedTo (i + 1) t tags wholes singles (set codes i p) (Ok next)
       turn-coded p {code} {next} a are n =
           let x : CodedField = record { width = row_here.width; code = code } in
           let k : i < length (unpacked codes) = omega (arith, d.fit.long, last-most t) in
@@ -259,27 +240,20 @@ module _ {t : Template} {tags : List ℕ} {wholes : List ℤ} {singles : List Fl
             long = d.long;
             inside = omega arith;
             fit = rw (packed-set codes i p are.0 are.1) (fit-more (unpacked codes) i x d.fit (coded-fits turn-sound c a));
-            rest = rw (packed-set codes i p are.0 are.1, is-here) (sym (field-coded (fields_lent t tags wholes singles) (unpacked codes) latest i h k (sym encoded-here ∙ ap encoded_said a)) ∙ d.rest);
+            rest = rw (packed-set codes i p are.0 are.1, is-here) (sym (field-coded (fields_lent t tags wholes singles) (unpacked codes) latest i h k (sym encoded-here ∙ a)) ∙ d.rest);
             count = rw (packed-set codes i p are.0 are.1) (added ∙ omega (arith, d.count, ap (λ l. (l.row_at latest).width) is-here, bits-more false (lines_of t) (lines-steady t) latest code i h));
           }))
 
   -- All fields are coded.
   pub coded-all : {codes : List ℕ} {latest : ℕ} {l : Listed} → FieldsCoded t tags wholes singles codes latest (last_field t) →
-      (l.count ≡ last_field t) × (l.bits ≡ bits_before (lines_of t) latest (last_field t) + 10) × (l.bits < 2 ^ 16) → FieldsPlanned (fields_lent t tags wholes singles) (unpacked codes) (Are l)
+      (l.count ≡ last_field t) × (l.bits ≡ bits_before (lines_of t) latest (last_field t) + 10) × (l.bits < 2 ^ 16) → FieldsPlanned (fields_lent t tags wholes singles) (unpacked codes) (Ok l)
   coded-all {codes} {latest} {l} d b =
       let all : List Piece = take (last_field t) (map field_piece (unpacked codes)) in
-      let planned : line_pieces (fields_lent t tags wholes singles) (lines_of t) 0 1 ≡ good all = sym d.rest ∙ from_end (fields_lent t tags wholes singles) (unpacked codes) latest (last_field t) (omega arith) in
+      let planned : line_pieces (fields_lent t tags wholes singles) (lines_of t) 0 1 ≡ Ok all = sym d.rest ∙ from_end (fields_lent t tags wholes singles) (unpacked codes) latest (last_field t) (omega arith) in
       let are : with_block t all ≡ coded_list t (unpacked codes) (last_field t) =
       ap (λ q. q ++ (block_pieces (number_of t) ++ drop (length basic) all)) (take-take (length basic) (last_field t) (map field_piece (unpacked codes)) (basic-most t)) in
       record {
-        said = sym (fields-listed (fields_lent t tags wholes singles) ∙ bind-good _ planned ∙ ap good are);
+        said = sym (fields-listed (fields_lent t tags wholes singles) ∙ bind-good _ planned ∙ ap Ok are);
         fit = d.fit;
         count = λ n a. let same : l ≡ n = cc in let bits : l.bits ≡ needed (coded_list t (unpacked codes) (last_field t)) = omega (arith, b.1, d.count, block-needed t all, ap needed are) in rw (← same) (b.0, bits, b.2);
       }
-
-  pub all-refused : {n : ℕ} {codes : List ℕ} {answer : Coded} {r : Refusal} → CodedTo n t tags wholes singles codes answer → answer ≡ NotCoded r → FieldsPlanned (fields_lent t tags wholes singles) (unpacked codes) (NotPlanned r)
-  all-refused c e = record {
-    said = sym (c.stop _ e);
-    fit = c.fit;
-    count = λ b s. absurd (let z : ◌≡◌ {A = ℕ} 0 1 = cc in omega arith);
-  }

@@ -1,5 +1,5 @@
 -- Laws of the ending: the end bit and the text.
-use Rattle.build.proofs.Names.{◌≡◌, Bool, false, not, ◌&&◌, ◌||◌, List, [], ◌∷◌, ℕ, zero, suc, ◌<◌, arith, eqb, ltb, length, get_or, ltb-false, eqb-false, good, wrong_sort, out_of_range, passed, not-refused}
+use Rattle.build.proofs.Names.{◌≡◌, Bool, false, not, ◌&&◌, ◌||◌, List, [], ◌∷◌, ℕ, zero, suc, ◌<◌, arith, eqb, ltb, length, get_or, ltb-false, eqb-false, Ok, WrongSort, OutOfRange, passed, not-refused}
 use Rattle.build.proofs.Names.{neither, Characters, unfit, ending_tested}
 
 -- ---- the characters
@@ -23,8 +23,8 @@ stray_text end_bit text = not end_bit && ltb 0 (length text)
 -- ---- tested
 
 module _ (f : ℕ) (end_bit : Bool) (text : List ℕ) where
-  pub ending-characters : ending_tested f end_bit text ≡ good tt → Characters text
+  pub ending-characters : ending_tested f end_bit text ≡ Ok tt → Characters text
   unfolding ending_tested
   ending-characters e =
-      let (a, e1) = passed (wrong_sort f) (stray_text end_bit text) _ tt e in
-      fit-characters text (not-refused (out_of_range f) (unfit text) e1)
+      let (a, e1) = passed (WrongSort f) (stray_text end_bit text) _ tt e in
+      fit-characters text (not-refused (OutOfRange f) (unfit text) e1)

@@ -111,9 +111,6 @@ module _ (z : Sizes) where
     pub fits : code < 2 ^ w
     pub most : w ≤ 49
 
-  pub gathering-none : {a : List ℕ} {k : Cursor} {ps : List Piece} → Room z a k ps → Gathering a k ps a k 0 0 ps
-  gathering-none {ps = ps} r = record { filling = joined [] ps refl (filling-none r) refl; fits = omega arith; most = omega arith }
-
   module _ {a b : List ℕ} {k m : Cursor} {all left : List Piece} {w code : ℕ} (g : Gathering a k all b m w code left) where
     pub gathering-ready : 1 ≤ w → (InStream z b m.at w × (code < 2 ^ w)) × (stream_number z b < 2 ^ m.at)
     gathering-ready some = ((code_inside w code left refl g.filling some g.most, g.fits), g.filling.room.free.below)

@@ -4,6 +4,7 @@ pub mod FieldPlans
 pub mod Lent
 pub mod PairPlans
 pub mod EndingPlans
+mod Handed
 pub mod Filling
 pub mod TextTurns
 pub mod Coding

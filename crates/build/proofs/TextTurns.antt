@@ -1,7 +1,7 @@
 -- Laws of the loop over the text, character by character.
 use Rattle.build.proofs.Names.{◌≡◌, refl, sym, ap, ap₂, ◌∙◌, true, false, ◌||◌, List, [], ◌∷◌, ◌++◌, map, ℕ, zero, suc, ◌+◌, ◌-◌, ◌*◌, ◌^◌, ◌≤◌, ◌<◌, lt_of_lt_of_le, add-one, arith, lt-ltb, le-ltb, eq-eqb}
 use Rattle.build.proofs.Names.{ne_eqb, eqb, ltb, length, take, drop, get_or, length-map, get_or-map, take-append-drop, drop_of_length-le, pow_mono, slice, slice-cons, drop-cons, drop-append-le, length-take-le}
-use Rattle.build.proofs.Names.{Outcome, good, refused, refuse◌if◌, wrong_sort, out_of_range, Piece, piece, pack, needed, pack-lt, unfit, ending_tested}
+use Rattle.build.proofs.Names.{Outcome, Ok, Err, refuse◌if◌, WrongSort, OutOfRange, Piece, piece, pack, needed, pack-lt, unfit, ending_tested}
 use Rattle.memory.proofs.PieceLaws.{Fit}
 
 module _ (text : List ℕ) (i : ℕ) (h : i < length text) where
@@ -74,15 +74,15 @@ chars-end text i h = drop_of_length-le (map (piece 7) text) {i = i} (omega (arit
 -- ---- the ending, with its text tested
 
 module _ (f : ℕ) (text : List ℕ) where
-  pub open-ending : {o : Outcome (Unit {0})} → o ≡ (refuse out_of_range f if unfit text) → o ≡ ending_tested f true text
+  pub open-ending : {o : Outcome (Unit {0})} → o ≡ (refuse OutOfRange f if unfit text) → o ≡ ending_tested f true text
   unfolding ending_tested
   open-ending e = e
 
-  pub shut-ending : 0 < length text → refused (wrong_sort f) ≡ ending_tested f false text
+  pub shut-ending : 0 < length text → Err (WrongSort f) ≡ ending_tested f false text
   unfolding ending_tested
   shut-ending h = rw (lt-ltb 0 (length text) h)
 
-pub no-ending : (f : ℕ) (text : List ℕ) → length text ≤ 0 → good tt ≡ ending_tested f false text
+pub no-ending : (f : ℕ) (text : List ℕ) → length text ≤ 0 → Ok tt ≡ ending_tested f false text
 unfolding ending_tested
 no-ending f [] h = refl
 no-ending f (c ∷ text) h = absurd (omega arith)

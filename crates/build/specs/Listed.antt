@@ -1,9 +1,9 @@
 -- Only inner contracts need this: the one list of codes that a build
 -- fills before it writes, and the image of what is on it.
-use Rattle.std.specs.Prelude.{◌≡◌, Bool, List, ◌++◌, map, ℕ, ◌+◌, ◌/◌, ◌%◌, ◌^◌, ◌≤◌, ◌<◌, ltb, length, get_or, take, set}
+use Rattle.std.specs.Prelude.{◌≡◌, Bool, List, ◌++◌, map, ℕ, ◌+◌, ◌/◌, ◌%◌, ◌^◌, ◌≤◌, ◌<◌, min, ltb, length, get_or, take, set}
 use Rattle.std.proofs.Math.Seq.{slice}
-use Rattle.refusal.specs.Outcome.{Outcome, good, refused, ◌>>◌, ◌>>=◌, refuse◌if◌}
-use Rattle.refusal.specs.Rows.{too_long}
+use Rattle.refusal.specs.Outcome.{Outcome, Ok, Err, ◌>>◌, ◌>>=◌, refuse◌if◌}
+use Rattle.refusal.specs.declared.Refusal.TheVariants.{TooLong}
 use Rattle.memory.specs.declared.Sizes.{Sizes}
 use Rattle.memory.specs.Image.{stream_bits, image_of}
 use Rattle.memory.specs.Pieces.{Piece, piece, pack, needed}
@@ -12,8 +12,6 @@ use Rattle.templates.specs.Lines.{basic, number_of}
 use Rattle.layout.specs.Pieces.{block_pieces}
 use Rattle.build.specs.declared.list.CodedField.{CodedField}
 use Rattle.build.specs.declared.list.Listed.{Listed}
-use Rattle.build.specs.declared.list.Planned.{Planned}
-use Rattle.build.specs.declared.list.Planned.TheVariants.{Are, Refused}
 use Rattle.build.specs.Build.{ending_pieces}
 
 -- ---- a code
@@ -74,15 +72,11 @@ pub record BitString : Type 0 where
 abbrev pub bit_string : List Piece → BitString
 bit_string pieces = record { bits = needed pieces; number = pack pieces }
 
-abbrev pub planned_said : Planned → Outcome Listed
-planned_said (Are listed) = good listed
-planned_said (Refused r) = refused r
-
 -- A list of n codes begins with those of a block, or the block is refused.
-pub record BlockPlanned (block : Outcome (List Piece)) (n : ℕ) (codes : List CodedField) (r : Planned) : Type 0 where
-  pub said : (planned_said r >>= λ l. good (bit_string (first_codes codes l.count))) ≡ (block >>= λ pieces. good (bit_string pieces))
+pub record BlockPlanned (block : Outcome (List Piece)) (n : ℕ) (codes : List CodedField) (r : Outcome Listed) : Type 0 where
+  pub said : (r >>= λ l. Ok (bit_string (first_codes codes l.count))) ≡ (block >>= λ pieces. Ok (bit_string pieces))
   pub fit : Fit n codes
-  pub count : (l : Listed) → r ≡ Are l → (l.count ≤ n) × (l.bits ≡ needed (first_codes codes l.count)) × (l.bits < 2 ^ 16)
+  pub count : (l : Listed) → r ≡ Ok l → (l.count ≤ n) × (l.bits ≡ needed (first_codes codes l.count)) × (l.bits < 2 ^ 16)
 
 -- Codes, and those after them.
 abbrev pub both_listed : Listed → Listed → Listed
@@ -102,10 +96,10 @@ pub record Ready (template : Template) (codes : List ℕ) (listed : Listed) (tex
 -- The image of the pieces, if the stream has the bits that they need.
 unfoldable pub fitted : Sizes → List Piece → Outcome (List ℕ)
 fitted z pieces = do
-  refuse too_long (needed pieces) if ltb (stream_bits z) (needed pieces)
-  good (image_of z (pack pieces))
+  refuse TooLong (min (needed pieces) 65_535) if ltb (stream_bits z) (needed pieces)
+  Ok (image_of z (pack pieces))
 
 -- The refusal of the tests, or the image of what is on the list.
-abbrev pub finished : Sizes → Template → Bool → List ℕ → List CodedField → Planned → Outcome (List ℕ)
-finished z template end_bit text codes (Refused r) = refused r
-finished z template end_bit text codes (Are listed) = fitted z (coded_sheet template codes listed.count end_bit text)
+abbrev pub finished : Sizes → Template → Bool → List ℕ → List CodedField → Outcome Listed → Outcome (List ℕ)
+finished z template end_bit text codes (Err r) = Err r
+finished z template end_bit text codes (Ok listed) = fitted z (coded_sheet template codes listed.count end_bit text)

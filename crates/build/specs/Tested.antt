@@ -1,45 +1,32 @@
 -- Only inner contracts need this: the answers of a build's
 -- tests, and the codes that they put onto the list.
-use Rattle.std.specs.Prelude.{◌≡◌, Bool, false, List, [], ◌∷◌, ◌++◌, map, ℕ, zero, suc, ◌+◌, ◌*◌, ◌^◌, ◌≤◌, ◌<◌, ℤ, pos, ◌*ℤ◌, Float, length, get_or, take, drop}
-use Rattle.std.proofs.Math.Option.{Option}
+use Rattle.std.specs.Prelude.{Option, ◌≡◌, Bool, false, List, [], ◌∷◌, ◌++◌, map, ℕ, zero, suc, ◌+◌, ◌*◌, ◌^◌, ◌≤◌, ◌<◌, ℤ, pos, ◌*ℤ◌, Float, length, get_or, take, drop}
 use Rattle.std.specs.Float.{nan}
 use Rattle.refusal.specs.declared.Refusal.{Refusal}
 pub use Rattle.refusal.specs.Outcome.{tested}
-use Rattle.refusal.specs.Outcome.{Outcome, good, refused, ◌>>◌, ◌>>=◌}
+use Rattle.refusal.specs.Outcome.{Outcome, Ok, Err, ◌>>◌, ◌>>=◌}
 use Rattle.memory.specs.declared.Sizes.{Sizes}
 use Rattle.memory.specs.Pieces.{Piece, needed}
 use Rattle.codes.specs.declared.Value.{Value}
 use Rattle.codes.specs.declared.Value.TheVariants.{Whole, Single, Missing}
 use Rattle.codes.specs.declared.Row.{Row}
 use Rattle.templates.specs.declared.Pair.{Pair}
-use Rattle.templates.specs.declared.Codes.{Codes}
 use Rattle.templates.specs.declared.Segment.{Segment}
 use Rattle.templates.specs.declared.Term.{Term}
-use Rattle.codes.specs.declared.Encoded.{Encoded}
-use Rattle.codes.specs.declared.Encoded.TheVariants.{Code}
 use Rattle.templates.specs.declared.Template.{Template}
 use Rattle.templates.specs.declared.Level.{Level}
 use Rattle.templates.specs.declared.Level.TheVariants.{Owner}
 use Rattle.codes.specs.Rules.{encode}
 use Rattle.templates.specs.Lines.{basic, lines_of, last_field, ending, bits_before}
 use Rattle.templates.specs.Curves.{segment_start, term_count, exponent, coefficient, exponent_code}
-use Rattle.codes.specs.Answers.{encoded_said}
 use Rattle.codes.specs.DirectCode.{DirectCode}
 use Rattle.build.specs.declared.Options.{Options}
 use Rattle.build.specs.declared.Slot.{Slot}
 use Rattle.build.specs.declared.Sheet.{Sheet}
 use Rattle.build.specs.declared.list.CodedField.{CodedField}
 use Rattle.build.specs.declared.list.Listed.{Listed}
-use Rattle.build.specs.declared.list.Planned.{Planned}
-use Rattle.build.specs.declared.list.Planned.TheVariants.{Are, Refused as NotPlanned}
-use Rattle.build.specs.declared.plan.Coded.{Coded}
-use Rattle.build.specs.declared.plan.Coded.TheVariants.{Next, Refused as NotCoded}
-use Rattle.build.specs.declared.plan.PairAnswer.{PairAnswer}
-use Rattle.build.specs.declared.plan.PairAnswer.TheVariants.{Are as Coding, Refused}
-use Rattle.build.specs.declared.curve_plan.CodedPair.{CodedPair}
-use Rattle.build.specs.declared.curve_plan.CodedPair.TheVariants.{Are as Both, Refused as Neither}
 use Rattle.build.specs.Build.{slot, template_in, line_pieces, field_pieces, ending_tested, start_code, Table, built_in}
-use Rattle.build.specs.Listed.{Fitting, Fit, field_piece, unpacked, coded_list, planned_said, Ready, finished}
+use Rattle.build.specs.Listed.{Fitting, Fit, field_piece, unpacked, coded_list, Ready, finished}
 
 -- ---- the values of a sheet, lent
 
@@ -82,9 +69,9 @@ fields_lent template tags wholes singles = sheet_lent template false Owner tags 
 -- ---- the fields
 
 -- The code of a value, which fits the row's bits, or the refusal.
-pub record Encodes (row : Row) (place : ℕ) (value : Value) (answer : Encoded) : Type 0 where
-  pub said : encoded_said answer ≡ encode row place value
-  pub fits : (code : ℕ) → answer ≡ Code code → code < 2 ^ row.width
+pub record Encodes (row : Row) (place : ℕ) (value : Value) (answer : Outcome ℕ) : Type 0 where
+  pub said : answer ≡ encode row place value
+  pub fits : (code : ℕ) → answer ≡ Ok code → code < 2 ^ row.width
 
 -- A row's bits, and the code of field i + 1 by it, if it is below 2^32.
 pub record Quick (row : Row) (tags : List ℕ) (wholes : List ℤ) (singles : List Float) (i : ℕ) (quick : CodedField) : Type 0 where
@@ -95,7 +82,7 @@ pub record Quick (row : Row) (tags : List ℕ) (wholes : List ℤ) (singles : Li
 -- codes, and the others depend on the latest choice.
 abbrev pub coded_from : Sheet → List CodedField → ℕ → ℕ → Outcome (List Piece)
 coded_from sheet fields latest i =
-    line_pieces sheet (drop i (lines_of (template_in sheet))) latest (suc i) >>= λ rest. good (take i (map field_piece fields) ++ rest)
+    line_pieces sheet (drop i (lines_of (template_in sheet))) latest (suc i) >>= λ rest. Ok (take i (map field_piece fields) ++ rest)
 
 -- The first i fields of a lent sheet have their codes; `latest` is the choice after them.
 pub record FieldsCoded (t : Template) (tags : List ℕ) (wholes : List ℤ) (singles : List Float) (codes : List ℕ) (latest i : ℕ) : Type 0 where
@@ -106,16 +93,16 @@ pub record FieldsCoded (t : Template) (tags : List ℕ) (wholes : List ℤ) (sin
   pub count : needed (take i (map field_piece (unpacked codes))) ≡ bits_before (lines_of t) latest i
 
 -- The first n fields have their codes, or one of them is refused.
-pub record CodedTo (n : ℕ) (t : Template) (tags : List ℕ) (wholes : List ℤ) (singles : List Float) (codes : List ℕ) (answer : Coded) : Type 0 where
-  pub done : (latest : ℕ) → answer ≡ Next latest → FieldsCoded t tags wholes singles codes latest n
-  pub stop : (r : Refusal) → answer ≡ NotCoded r → field_pieces (fields_lent t tags wholes singles) ≡ refused r
+pub record CodedTo (n : ℕ) (t : Template) (tags : List ℕ) (wholes : List ℤ) (singles : List Float) (codes : List ℕ) (answer : Outcome ℕ) : Type 0 where
+  pub done : (latest : ℕ) → answer ≡ Ok latest → FieldsCoded t tags wholes singles codes latest n
+  pub stop : (r : Refusal) → answer ≡ Err r → field_pieces (fields_lent t tags wholes singles) ≡ Err r
   pub fit : Fit 21 (unpacked codes)
 
 -- The fields are the first on a list of 21 codes, or one of them is refused.
-pub record FieldsPlanned (sheet : Sheet) (fields : List CodedField) (r : Planned) : Type 0 where
-  pub said : (planned_said r >> good (coded_list (template_in sheet) fields (last_field (template_in sheet)))) ≡ field_pieces sheet
+pub record FieldsPlanned (sheet : Sheet) (fields : List CodedField) (r : Outcome Listed) : Type 0 where
+  pub said : (r >> Ok (coded_list (template_in sheet) fields (last_field (template_in sheet)))) ≡ field_pieces sheet
   pub fit : Fit 21 fields
-  pub count : (l : Listed) → r ≡ Are l → (l.count ≡ last_field (template_in sheet)) × (l.bits ≡ needed (coded_list (template_in sheet) fields (last_field (template_in sheet)))) × (l.bits < 2 ^ 16)
+  pub count : (l : Listed) → r ≡ Ok l → (l.count ≡ last_field (template_in sheet)) × (l.bits ≡ needed (coded_list (template_in sheet) fields (last_field (template_in sheet)))) × (l.bits < 2 ^ 16)
 
 -- ---- the points
 
@@ -123,35 +110,31 @@ pub record FieldsPlanned (sheet : Sheet) (fields : List CodedField) (r : Planned
 abbrev pub pair_at : List ℤ → ℕ → Pair
 pair_at points i = record { point = get_or points (2 * i) (pos 0); deviation = get_or points (2 * i + 1) (pos 0) }
 
-abbrev pub codes_said : PairAnswer → Outcome Codes
-codes_said (Coding codes) = good codes
-codes_said (Refused r) = refused r
-
 -- ---- the curve
 
 abbrev pub coded : Row → ℕ → CodedField
 coded row code = record { width = row.width; code = code }
 
 -- Two pieces that fit their bits, or the refusal.
-abbrev pub two_said : CodedPair → Outcome (List CodedField)
-two_said (Both first second) = good (first ∷ second ∷ [])
-two_said (Neither r) = refused r
+abbrev pub two_said : Outcome (CodedField × CodedField) → Outcome (List CodedField)
+two_said (Ok (first, second)) = Ok (first ∷ second ∷ [])
+two_said (Err r) = Err r
 
-pub record PairCoded (two : Outcome (List CodedField)) (answer : CodedPair) : Type 0 where
+pub record PairCoded (two : Outcome (List CodedField)) (answer : Outcome (CodedField × CodedField)) : Type 0 where
   pub said : two_said answer ≡ two
-  pub fits : (first second : CodedField) → answer ≡ Both first second → Fitting first.width first.code × Fitting second.width second.code
+  pub fits : (first second : CodedField) → answer ≡ Ok (first, second) → Fitting first.width first.code × Fitting second.width second.code
 
 -- The two pieces of a segment, and of a term.
 unfoldable pub segment_fields : Option ℕ → ℕ → ℕ → Segment → Outcome (List CodedField)
 segment_fields before i total s = do
   start ← start_code before i total s
-  good (coded segment_start start ∷ coded term_count s.terms ∷ [])
+  Ok (coded segment_start start ∷ coded term_count s.terms ∷ [])
 
 unfoldable pub term_fields : Option ℤ → ℕ → Term → Outcome (List CodedField)
 term_fields before i t = do
   power ← exponent_code before i (pos 10 *ℤ t.exponent)
   factor ← encode coefficient i (Single t.coefficient)
-  good (coded exponent power ∷ coded coefficient factor ∷ [])
+  Ok (coded exponent power ∷ coded coefficient factor ∷ [])
 
 -- The codes of a whole curve.
 abbrev pub whole_curve : ℕ → ℕ → Listed
@@ -160,14 +143,14 @@ whole_curve segments terms = record { count = 4 + 2 * (segments + terms); bits =
 -- ---- a sheet
 
 -- The fields are on a list of n codes and the ending passed its test, or one of them is refused.
-pub record FrontPlanned (sheet : Sheet) (text : List ℕ) (n : ℕ) (codes : List CodedField) (r : Planned) : Type 0 where
-  pub stop : (x : Refusal) → r ≡ NotPlanned x → (field_pieces sheet >> ending_tested (ending (template_in sheet)) sheet.end_bit text) ≡ refused x
-  pub fields : (l : Listed) → r ≡ Are l → field_pieces sheet ≡ good (coded_list (template_in sheet) codes l.count)
-  pub end : (l : Listed) → r ≡ Are l → ending_tested (ending (template_in sheet)) sheet.end_bit text ≡ good tt
-  pub count : (l : Listed) → r ≡ Are l → (length basic < l.count) × (l.count ≤ 21) × (l.bits ≡ needed (coded_list (template_in sheet) codes l.count)) × (l.bits < 2 ^ 16)
+pub record FrontPlanned (sheet : Sheet) (text : List ℕ) (n : ℕ) (codes : List CodedField) (r : Outcome Listed) : Type 0 where
+  pub stop : (x : Refusal) → r ≡ Err x → (field_pieces sheet >> ending_tested (ending (template_in sheet)) sheet.end_bit text) ≡ Err x
+  pub fields : (l : Listed) → r ≡ Ok l → field_pieces sheet ≡ Ok (coded_list (template_in sheet) codes l.count)
+  pub end : (l : Listed) → r ≡ Ok l → ending_tested (ending (template_in sheet)) sheet.end_bit text ≡ Ok tt
+  pub count : (l : Listed) → r ≡ Ok l → (length basic < l.count) × (l.count ≤ 21) × (l.bits ≡ needed (coded_list (template_in sheet) codes l.count)) × (l.bits < 2 ^ 16)
   pub fit : Fit n codes
 
 -- To finish what the tests leave is to build the sheet, whatever the sizes of the image.
-pub record SheetPlanned (options : Options) (tags : List ℕ) (wholes : List ℤ) (singles : List Float) (text : List ℕ) (table : Table) (codes : List ℕ) (r : Planned) : Type 0 where
+pub record SheetPlanned (options : Options) (tags : List ℕ) (wholes : List ℤ) (singles : List Float) (text : List ℕ) (table : Table) (codes : List ℕ) (r : Outcome Listed) : Type 0 where
   pub said : (level : Level) (z : Sizes) → finished z options.template options.end_bit text (unpacked codes) r ≡ built_in z (sheet_lent options.template options.end_bit level tags wholes singles) text table
-  pub ready : (l : Listed) → r ≡ Are l → Ready options.template codes l text
+  pub ready : (l : Listed) → r ≡ Ok l → Ready options.template codes l text

@@ -1,23 +1,22 @@
 // Builds an image in the caller's buffer.
 ghost use Rattle.std.specs.Prelude.{◌≡◌, min, ◌+◌, ◌*◌, ◌/◌, ◌^◌, ◌≤◌, ◌<◌, ltb, length};
-ghost use Rattle.refusal.specs.Outcome.{good};
+ghost use Rattle.refusal.specs.Outcome.{Ok};
 ghost use Rattle.refusal.specs.Written.{written_said, afterwards};
 ghost use Rattle.memory.specs.Image.{image_bytes, stream_bits};
 ghost use Rattle.memory.specs.Answers.{WholeImage};
 ghost use Rattle.templates.specs.declared.Level.{Level};
-ghost use Rattle.build.specs.declared.list.Planned.TheVariants.{Are};
 ghost use Rattle.build.specs.Build.{listed, by_curve, list_tested, built_in, build as build_of, build_curve};
 ghost use Rattle.build.specs.Listed.{Fit, unpacked, Ready, finished, both_listed};
 ghost use Rattle.build.specs.Tested.{LentLengths, SplitValues, sheet_lent, FrontPlanned, SheetPlanned};
 
 use crate::curve_plan::plan_curve;
-use crate::list::{Listed, NO_CODE, Planned};
-use crate::plan::{check_ending, is_wrong_list, plan_fields, plan_points};
+use crate::list::{Listed, NO_CODE};
+use crate::plan::{Lent, check_ending, is_wrong_list, plan_fields, plan_points};
 use crate::write::write_image;
 use crate::{Options, Sheet, Slot};
-use codes::{Judged, Value};
-use memory::{Sizes, SizesAnswer};
-use refusal::Written;
+use codes::Value;
+use memory::Sizes;
+use refusal::Refusal;
 use templates::{Curve, Domain};
 
 // The codes that a list has room for: the fields of any template; then the first four
@@ -28,16 +27,16 @@ const WITH_POINTS: usize = FIELDS + 4 + 127;
 
 const WITH_CURVE: usize = FIELDS + 4 + 2 * 50;
 
-// The bits that codes, the ending and its characters need. Row 11 names at most
-// 65,535: for more characters than that their number is returned, which can't overflow.
+// The bits that codes, the ending and its characters need, 65,535 if they are more: row 11 names no
+// more than that, and so no number of characters makes them overflow.
 fn bits_needed(codes: u64, characters: u64) -> u64
     requires { codes < 2 ^ 17 }
-    ensures { min result 65_535 ≡ min (codes + 3 + 7 * characters) 65_535 }
+    ensures { result ≡ min (codes + 3 + 7 * characters) 65_535 }
 {
     if 65_535 < characters {
-        return characters;
+        return 65_535;
     }
-    codes + 3 + 7 * characters
+    (codes + 3 + 7 * characters).min(65_535)
 }
 
 // Whether the stream has fewer bits.
@@ -54,48 +53,38 @@ fn finish(
     image: &mut [u8],
     options: Options,
     codes: &[u64],
-    planned: Planned,
+    planned: Result<Listed, Refusal>,
     text: &[u8],
-) -> Written
+) -> Result<(), Refusal>
     requires whole_image { WholeImage sizes image.old × (image_bytes sizes ≤ 512) }
-    requires ready { (l : Listed) → planned ≡ Are l → Ready options.template codes.now l text.now }
+    requires ready { (l : Listed) → planned ≡ Ok l → Ready options.template codes.now l text.now }
     ensures { let outcome = finished sizes options.template options.end_bit text.now (unpacked codes.now) planned in
         (written_said result image.new ≡ outcome) × (image.new ≡ afterwards image.old outcome) }
 {
-    match planned {
-        Planned::Refused(r) => Written::Refused(r),
-        Planned::Are(listed) => {
-            let bits = bits_needed(listed.bits, text.len() as u64);
-            if is_too_long(sizes, bits) {
-                return Written::Refused(refusal::too_long(bits));
-            }
-            let template = options.template;
-            write_image(sizes, image, template, codes, listed, options.end_bit, text);
-            Written::Done
-        }
+    let listed = planned?;
+    let bits = bits_needed(listed.bits, text.len() as u64);
+    if is_too_long(sizes, bits) {
+        return Err(Refusal::TooLong(bits));
     }
+    let template = options.template;
+    write_image(sizes, image, template, codes, listed, options.end_bit, text);
+    Ok(())
 }
 
 // The fields and the ending: 9 or 10, field by field, then 9 or 10 of the ending. The fields' codes go onto the list.
 fn plan_front(
     options: Options,
-    tags: &[u8],
-    wholes: &[i64],
-    singles: &[f32],
+    values: Lent<'_>,
     text: &[u8],
     codes: &mut [u64],
-) -> Planned
-    requires { LentLengths tags.now wholes.now singles.now × (21 ≤ length codes.old) × Fit (length codes.old) (unpacked codes.old) }
-    ensures { (level : Level) → FrontPlanned (sheet_lent options.template options.end_bit level tags.now wholes.now singles.now) text.now (length codes.old) (unpacked codes.new) result }
+) -> Result<Listed, Refusal>
+    requires { LentLengths values.tags.now values.wholes.now values.singles.now × (21 ≤ length codes.old) × Fit (length codes.old) (unpacked codes.old) }
+    ensures { (level : Level) → FrontPlanned (sheet_lent options.template options.end_bit level values.entry.tags.now values.entry.wholes.now values.entry.singles.now) text.now (length codes.old) (unpacked codes.new) result }
 {
     let template = options.template;
-    match plan_fields(template, tags, wholes, singles, &mut codes[..FIELDS]) {
-        Planned::Refused(r) => Planned::Refused(r),
-        Planned::Are(fields) => match check_ending(template, options.end_bit, text) {
-            Judged::Refused(r) => Planned::Refused(r),
-            Judged::Valid => Planned::Are(fields),
-        },
-    }
+    let fields = plan_fields(template, values, &mut codes[..FIELDS])?;
+    check_ending(template, options.end_bit, text)?;
+    Ok(fields)
 }
 
 // Codes of a list, and those after them.
@@ -112,54 +101,37 @@ fn both_listed(first: Listed, second: Listed) -> Listed
 // All tests but 16 and 11, in document 01's order; what passes them goes onto the list.
 fn plan_sheet(
     options: Options,
-    tags: &[u8],
-    wholes: &[i64],
-    singles: &[f32],
+    values: Lent<'_>,
     text: &[u8],
     points: &[i64],
     codes: &mut [u64],
-) -> Planned
-    requires lent_lengths { LentLengths tags.now wholes.now singles.now × Fit (length codes.old) (unpacked codes.old) × (length codes.old ≤ 256) }
-    requires in_bounds { (21 ≤ length codes.old) × (list_tested (listed options.domain points.now) ≡ good tt) × (0 < length points.now / 2 → 25 + length points.now / 2 ≤ length codes.old) }
-    ensures { SheetPlanned options tags.now wholes.now singles.now text.now (listed options.domain points.now) codes.new result }
+) -> Result<Listed, Refusal>
+    requires lent_lengths { LentLengths values.tags.now values.wholes.now values.singles.now × Fit (length codes.old) (unpacked codes.old) × (length codes.old ≤ 256) }
+    requires in_bounds { (21 ≤ length codes.old) × (list_tested (listed options.domain points.now) ≡ Ok tt) × (0 < length points.now / 2 → 25 + length points.now / 2 ≤ length codes.old) }
+    ensures { SheetPlanned options values.entry.tags.now values.entry.wholes.now values.entry.singles.now text.now (listed options.domain points.now) codes.new result }
 {
-    match plan_front(options, tags, wholes, singles, text, codes) {
-        Planned::Refused(r) => Planned::Refused(r),
-        Planned::Are(front) => {
-            let at = front.count;
-            let domain = options.domain;
-            match plan_points(domain, points, &mut codes[at..]) {
-                Planned::Refused(r) => Planned::Refused(r),
-                Planned::Are(block) => Planned::Are(both_listed(front, block)),
-            }
-        }
-    }
+    let front = plan_front(options, values, text, codes)?;
+    let at = front.count;
+    let block = plan_points(options.domain, points, &mut codes[at..])?;
+    Ok(both_listed(front, block))
 }
 
 // All tests but 11 of a sheet with a curve, which has no points list.
 fn plan_curve_sheet(
     options: Options,
-    tags: &[u8],
-    wholes: &[i64],
-    singles: &[f32],
+    values: Lent<'_>,
     text: &[u8],
     curve: Curve,
     codes: &mut [u64],
-) -> Planned
-    requires lent_lengths { LentLengths tags.now wholes.now singles.now × Fit (length codes.old) (unpacked codes.old) × (length codes.old ≤ 256) }
+) -> Result<Listed, Refusal>
+    requires lent_lengths { LentLengths values.tags.now values.wholes.now values.singles.now × Fit (length codes.old) (unpacked codes.old) × (length codes.old ≤ 256) }
     requires in_bounds { 125 ≤ length codes.old }
-    ensures { SheetPlanned options tags.now wholes.now singles.now text.now (by_curve curve) codes.new result }
+    ensures { SheetPlanned options values.entry.tags.now values.entry.wholes.now values.entry.singles.now text.now (by_curve curve) codes.new result }
 {
-    match plan_front(options, tags, wholes, singles, text, codes) {
-        Planned::Refused(r) => Planned::Refused(r),
-        Planned::Are(front) => {
-            let at = front.count;
-            match plan_curve(curve, &mut codes[at..]) {
-                Planned::Refused(r) => Planned::Refused(r),
-                Planned::Are(block) => Planned::Are(both_listed(front, block)),
-            }
-        }
-    }
+    let front = plan_front(options, values, text, codes)?;
+    let at = front.count;
+    let block = plan_curve(curve, &mut codes[at..])?;
+    Ok(both_listed(front, block))
 }
 
 // All tests, in document 01's order; then the image with a table. The level makes no
@@ -169,27 +141,25 @@ fn build_in(
     sizes: Sizes,
     image: &mut [u8],
     options: Options,
-    tags: &[u8],
-    wholes: &[i64],
-    singles: &[f32],
+    values: Lent<'_>,
     text: &[u8],
     points: &[i64],
-) -> Written
-    requires { WholeImage sizes image.old × (image_bytes sizes ≤ 512) × LentLengths tags.now wholes.now singles.now }
-    ensures { (level : Level) → (let outcome = built_in sizes (sheet_lent options.template options.end_bit level tags.now wholes.now singles.now) text.now (listed options.domain points.now) in
+) -> Result<(), Refusal>
+    requires { WholeImage sizes image.old × (image_bytes sizes ≤ 512) × LentLengths values.tags.now values.wholes.now values.singles.now }
+    ensures { (level : Level) → (let outcome = built_in sizes (sheet_lent options.template options.end_bit level values.entry.tags.now values.entry.wholes.now values.entry.singles.now) text.now (listed options.domain points.now) in
         (written_said result image.new ≡ outcome) × (image.new ≡ afterwards image.old outcome)) }
 {
     let n = points.len();
     if is_wrong_list(n) {
-        return Written::Refused(refusal::wrong_list(n as u64));
+        return Err(Refusal::WrongList(n as u64));
     }
     if n == 0 {
         let mut codes = [NO_CODE; FIELDS];
-        let planned = plan_front(options, tags, wholes, singles, text, &mut codes);
+        let planned = plan_front(options, values, text, &mut codes);
         return finish(sizes, image, options, &codes, planned, text);
     }
     let mut codes = [NO_CODE; WITH_POINTS];
-    let planned = plan_sheet(options, tags, wholes, singles, text, points, &mut codes);
+    let planned = plan_sheet(options, values, text, points, &mut codes);
     finish(sizes, image, options, &codes, planned, text)
 }
 
@@ -198,18 +168,16 @@ fn build_curve_in(
     sizes: Sizes,
     image: &mut [u8],
     options: Options,
-    tags: &[u8],
-    wholes: &[i64],
-    singles: &[f32],
+    values: Lent<'_>,
     text: &[u8],
     curve: Curve,
-) -> Written
-    requires { WholeImage sizes image.old × (image_bytes sizes ≤ 512) × LentLengths tags.now wholes.now singles.now }
-    ensures { (level : Level) → (let outcome = built_in sizes (sheet_lent options.template options.end_bit level tags.now wholes.now singles.now) text.now (by_curve curve) in
+) -> Result<(), Refusal>
+    requires { WholeImage sizes image.old × (image_bytes sizes ≤ 512) × LentLengths values.tags.now values.wholes.now values.singles.now }
+    ensures { (level : Level) → (let outcome = built_in sizes (sheet_lent options.template options.end_bit level values.entry.tags.now values.entry.wholes.now values.entry.singles.now) text.now (by_curve curve) in
         (written_said result image.new ≡ outcome) × (image.new ≡ afterwards image.old outcome)) }
 {
     let mut codes = [NO_CODE; WITH_CURVE];
-    let planned = plan_curve_sheet(options, tags, wholes, singles, text, curve, &mut codes);
+    let planned = plan_curve_sheet(options, values, text, curve, &mut codes);
     finish(sizes, image, options, &codes, planned, text)
 }
 
@@ -218,11 +186,8 @@ fn split_values(slots: [Slot; 21], tags: &mut [u8], wholes: &mut [i64], singles:
     requires { LentLengths tags.old wholes.old singles.old }
     ensures { SplitValues slots tags.new wholes.new singles.new }
 {
-    let mut i: usize = 0;
-    while i < 21 {
-        let slot = slots[i];
-        let value = slot.value;
-        match value {
+    for (i, slot) in slots.iter().enumerate() {
+        match slot.value {
             Value::Whole(figure) => {
                 tags[i] = 0;
                 wholes[i] = figure;
@@ -235,7 +200,6 @@ fn split_values(slots: [Slot; 21], tags: &mut [u8], wholes: &mut [i64], singles:
                 tags[i] = 2;
             }
         }
-        i += 1;
     }
 }
 
@@ -250,17 +214,18 @@ pub fn build_lent(
     singles: &[f32],
     text: &[u8],
     points: &[i64],
-) -> Written
+) -> Result<(), Refusal>
     requires { LentLengths tags.now wholes.now singles.now }
     ensures { (level : Level) → (let outcome = build_of kind image.old (sheet_lent options.template options.end_bit level tags.now wholes.now singles.now) text.now options.domain points.now in
         (written_said result image.new ≡ outcome) × (image.new ≡ afterwards image.old outcome)) }
 {
-    match memory::image_sizes(kind, image.len()) {
-        SizesAnswer::Refused(r) => Written::Refused(r),
-        SizesAnswer::Are(sizes) => {
-            build_in(sizes, image, options, tags, wholes, singles, text, points)
-        }
-    }
+    let sizes = memory::image_sizes(kind, image.len())?;
+    let values = Lent {
+        tags,
+        wholes,
+        singles,
+    };
+    build_in(sizes, image, options, values, text, points)
 }
 
 // `build_curve` of a sheet whose values are lent as sorts, whole numbers and Singles.
@@ -273,17 +238,18 @@ pub fn build_curve_lent(
     singles: &[f32],
     text: &[u8],
     curve: Curve,
-) -> Written
+) -> Result<(), Refusal>
     requires { LentLengths tags.now wholes.now singles.now }
     ensures { (level : Level) → (let outcome = build_curve kind image.old (sheet_lent options.template options.end_bit level tags.now wholes.now singles.now) text.now curve in
         (written_said result image.new ≡ outcome) × (image.new ≡ afterwards image.old outcome)) }
 {
-    match memory::image_sizes(kind, image.len()) {
-        SizesAnswer::Refused(r) => Written::Refused(r),
-        SizesAnswer::Are(sizes) => {
-            build_curve_in(sizes, image, options, tags, wholes, singles, text, curve)
-        }
-    }
+    let sizes = memory::image_sizes(kind, image.len())?;
+    let values = Lent {
+        tags,
+        wholes,
+        singles,
+    };
+    build_curve_in(sizes, image, options, values, text, curve)
 }
 
 // Writes the image of a sheet into the buffer, whatever the buffer held. The fields and the end
@@ -302,7 +268,7 @@ pub fn build(
     text: &[u8],
     domain: Domain,
     points: &[i64],
-) -> Written
+) -> Result<(), Refusal>
     ensures { let outcome = build_of kind image.old sheet text.now domain points.now in
         (written_said result image.new ≡ outcome) × (image.new ≡ afterwards image.old outcome) }
 {
@@ -329,7 +295,13 @@ pub fn build(
 // - 10 for a start or a coefficient that its field can't hold;
 // - 25 for more than 30 terms;
 // - 11 if the stream has fewer bits than needed.
-pub fn build_curve(kind: u8, image: &mut [u8], sheet: Sheet, text: &[u8], curve: Curve) -> Written
+pub fn build_curve(
+    kind: u8,
+    image: &mut [u8],
+    sheet: Sheet,
+    text: &[u8],
+    curve: Curve,
+) -> Result<(), Refusal>
     ensures { let outcome = build_curve kind image.old sheet text.now curve in
         (written_said result image.new ≡ outcome) × (image.new ≡ afterwards image.old outcome) }
 {

@@ -18,13 +18,6 @@ pub struct Listed {
     pub bits: u64,
 }
 
-// What the tests leave: codes on the list, or a refusal.
-#[derive(Clone, Copy)]
-pub enum Planned {
-    Are(Listed),
-    Refused(Refusal),
-}
-
 // A code packed in a u64: width in the upper 8 bits, code in the lower.
 pub const CODE_BITS: u64 = 56;
 

@@ -1,45 +1,36 @@
 // What a build tests before it writes, and the codes that go onto its list: the fields, the ending, and the points.
 ghost use Rattle.std.specs.Prelude.{◌≡◌, ◌||◌, ◌*◌, ◌+◌, ◌-◌, ◌^◌, ◌/◌, ◌%◌, ◌<◌, ◌≤◌, eqb, ltb, length};
 ghost use Rattle.refusal.specs.Outcome.{refuse◌if◌};
-ghost use Rattle.refusal.specs.Rows.{out_of_range};
+ghost use Rattle.refusal.specs.declared.Refusal.TheVariants.{OutOfRange};
 ghost use Rattle.templates.specs.Lines.{chose, basic, line_of, lines_of, row_of, last_field, ending, bits_before};
 ghost use Rattle.codes.specs.Stored.{Sound};
-ghost use Rattle.codes.specs.Answers.{judged_said};
-ghost use Rattle.templates.specs.Answers.{previous_said};
 ghost use Rattle.codes.specs.DirectCode.{DirectCode};
 ghost use Rattle.build.specs.Build.{unfit, ending_tested, pairs_lent, codes_for, pair_codes, table_pieces};
 ghost use Rattle.build.specs.Listed.{Fit, unpacked, BlockPlanned};
-ghost use Rattle.build.specs.Tested.{tested, pair_at, codes_said, Encodes, value_lent, LentLengths, fields_lent, Quick, FieldsCoded, CodedTo, FieldsPlanned};
+ghost use Rattle.build.specs.Tested.{tested, pair_at, Encodes, value_lent, LentLengths, fields_lent, Quick, FieldsCoded, CodedTo, FieldsPlanned};
 
-use crate::list::{CodedField, Listed, Planned, packed, put_head};
-use codes::{Encoded, Judged, Row, Value};
+use crate::list::{CodedField, Listed, packed, put_head};
+use codes::{Row, Value};
 use layout::PAIR_BITS;
 use refusal::Refusal;
-use templates::{Codes, Domain, Layout, POINT_BITS, Previous, Template};
+use templates::{Codes, Domain, Layout, POINT_BITS, Template};
 
-// The precision for the field after those that are coded, or 9 or 10.
+// The values of a sheet, lent as sorts, whole numbers and Singles.
 #[derive(Clone, Copy)]
-pub enum Coded {
-    Next(u64),
-    Refused(Refusal),
+pub struct Lent<'a> {
+    pub tags: &'a [u8],
+    pub wholes: &'a [i64],
+    pub singles: &'a [f32],
 }
 
-// The codes of a pair, or 10, 7 or 22.
-#[derive(Clone, Copy)]
-pub enum PairAnswer {
-    Are(Codes),
-    Refused(Refusal),
-}
-
-// The value at an index of the lent sorts, whole numbers and
-// Singles: sort 0 is a whole number, 1 a Single, any other missing.
-fn value_at(tags: &[u8], wholes: &[i64], singles: &[f32], i: usize) -> Value
-    requires { LentLengths tags.now wholes.now singles.now × (i < 21) }
-    ensures { result ≡ value_lent tags.now wholes.now singles.now i }
+// The value at an index: sort 0 is a whole number, 1 a Single, any other missing.
+fn value_at(values: Lent<'_>, i: usize) -> Value
+    requires { LentLengths values.tags.now values.wholes.now values.singles.now × (i < 21) }
+    ensures { result ≡ value_lent values.entry.tags.now values.entry.wholes.now values.entry.singles.now i }
 {
-    match tags[i] {
-        0 => Value::Whole(wholes[i]),
-        1 => Value::Single(singles[i]),
+    match values.tags[i] {
+        0 => Value::Whole(values.wholes[i]),
+        1 => Value::Single(values.singles[i]),
         _ => Value::Missing,
     }
 }
@@ -47,48 +38,18 @@ fn value_at(tags: &[u8], wholes: &[i64], singles: &[f32], i: usize) -> Value
 // The bits of field i + 1 by its row, and its code if that needs
 // no table search, else `codes::NO_CODE`. Kept small so that it is
 // inlined into the loops below and the row stays in registers.
-fn quick_code(row: Row, tags: &[u8], wholes: &[i64], singles: &[f32], i: usize) -> CodedField
-    requires { Sound row × LentLengths tags.now wholes.now singles.now × (i < 21) }
-    ensures { Quick row tags.now wholes.now singles.now i result }
+fn quick_code(row: Row, values: Lent<'_>, i: usize) -> CodedField
+    requires { Sound row × LentLengths values.tags.now values.wholes.now values.singles.now × (i < 21) }
+    ensures { Quick row values.entry.tags.now values.entry.wholes.now values.entry.singles.now i result }
 {
     CodedField {
         width: row.width,
-        code: codes::direct_code(row, value_at(tags, wholes, singles, i)),
-    }
-}
-
-// The bits of a template's own field i + 1, and its code
-// if that needs no table search, else `codes::NO_CODE`.
-fn quick_own(layout: Layout, tags: &[u8], wholes: &[i64], singles: &[f32], i: usize) -> CodedField
-    requires { LentLengths tags.now wholes.now singles.now × (length basic ≤ i) × (i < last_field layout.template) }
-    ensures { Quick (row_of layout (i + 1)) tags.now wholes.now singles.now i result }
-{
-    let field = i as u64 + 1;
-    let template = layout.template;
-    match template {
-        Template::Bridge => {
-            quick_code(
-                templates::bridge_row(layout.precision, field),
-                tags,
-                wholes,
-                singles,
-                i,
-            )
-        }
-        Template::Resistance => {
-            quick_code(
-                templates::resistance_row(layout.precision, field),
-                tags,
-                wholes,
-                singles,
-                i,
-            )
-        }
+        code: codes::direct_code(row, value_at(values, i)),
     }
 }
 
 // The code of a field's value. It fits the row's bits, since a lent Single has 32.
-fn code_of(layout: Layout, field: u64, value: Value) -> Encoded
+fn code_of(layout: Layout, field: u64, value: Value) -> Result<u64, Refusal>
     requires { (1 ≤ field) × (field ≤ last_field layout.template) }
     ensures { Encodes (row_of layout field) field value result }
 {
@@ -97,22 +58,15 @@ fn code_of(layout: Layout, field: u64, value: Value) -> Encoded
 
 // `quick` if it is a code, else `encode` of field i + 1. Takes no
 // row, so that the caller's constant row is never stored in memory.
-fn code_at(
-    layout: Layout,
-    quick: u64,
-    tags: &[u8],
-    wholes: &[i64],
-    singles: &[f32],
-    i: usize,
-) -> Encoded
-    requires lent_lengths { LentLengths tags.now wholes.now singles.now × (i < last_field layout.template) }
-    requires direct_code { DirectCode (row_of layout (i + 1)) (value_lent tags.now wholes.now singles.now i) quick }
-    ensures { Encodes (row_of layout (i + 1)) (i + 1) (value_lent tags.now wholes.now singles.now i) result }
+fn code_at(layout: Layout, quick: u64, values: Lent<'_>, i: usize) -> Result<u64, Refusal>
+    requires lent_lengths { LentLengths values.tags.now values.wholes.now values.singles.now × (i < last_field layout.template) }
+    requires direct_code { DirectCode (row_of layout (i + 1)) (value_lent values.tags.now values.wholes.now values.singles.now i) quick }
+    ensures { Encodes (row_of layout (i + 1)) (i + 1) (value_lent values.entry.tags.now values.entry.wholes.now values.entry.singles.now i) result }
 {
     if quick < codes::NO_CODE {
-        return Encoded::Code(quick);
+        return Ok(quick);
     }
-    code_of(layout, i as u64 + 1, value_at(tags, wholes, singles, i))
+    code_of(layout, i as u64 + 1, value_at(values, i))
 }
 
 // The precision after a field: its code, if it is the field that sets it.
@@ -131,23 +85,17 @@ fn precision_behind(layout: Layout, field: u64, code: u64) -> u64
 fn code_field(
     layout: Layout,
     quick: CodedField,
-    tags: &[u8],
-    wholes: &[i64],
-    singles: &[f32],
+    values: Lent<'_>,
     codes: &mut [u64],
     i: usize,
-) -> Coded
-    requires fields_coded { FieldsCoded layout.template tags.now wholes.now singles.now codes.old layout.precision i × (i < last_field layout.template) }
-    requires quick { Quick (row_of layout (i + 1)) tags.now wholes.now singles.now i quick }
-    ensures { CodedTo (i + 1) layout.template tags.now wholes.now singles.now codes.new result }
+) -> Result<u64, Refusal>
+    requires fields_coded { FieldsCoded layout.template values.tags.now values.wholes.now values.singles.now codes.old layout.precision i × (i < last_field layout.template) }
+    requires quick { Quick (row_of layout (i + 1)) values.tags.now values.wholes.now values.singles.now i quick }
+    ensures { CodedTo (i + 1) layout.template values.entry.tags.now values.entry.wholes.now values.entry.singles.now codes.new result }
 {
-    match code_at(layout, quick.code, tags, wholes, singles, i) {
-        Encoded::Refused(r) => Coded::Refused(r),
-        Encoded::Code(code) => {
-            codes[i] = packed(quick.width, code);
-            Coded::Next(precision_behind(layout, i as u64 + 1, code))
-        }
-    }
+    let code = code_at(layout, quick.code, values, i)?;
+    codes[i] = packed(quick.width, code);
+    Ok(precision_behind(layout, i as u64 + 1, code))
 }
 
 // Fields 6 to 8 and the last four have the same rows in both templates. So each part is a loop of its own, short enough for the
@@ -176,13 +124,11 @@ fn back_row(j: usize) -> Row
 fn code_front(
     template: Template,
     before: u64,
-    tags: &[u8],
-    wholes: &[i64],
-    singles: &[f32],
+    values: Lent<'_>,
     codes: &mut [u64],
-) -> Coded
-    requires { FieldsCoded template tags.now wholes.now singles.now codes.old before (length basic) }
-    ensures { CodedTo 8 template tags.now wholes.now singles.now codes.new result }
+) -> Result<u64, Refusal>
+    requires { FieldsCoded template values.tags.now values.wholes.now values.singles.now codes.old before (length basic) }
+    ensures { CodedTo 8 template values.entry.tags.now values.entry.wholes.now values.entry.singles.now codes.new result }
 {
     let first = templates::basic_fields() as usize;
     let mut precision = before;
@@ -191,29 +137,16 @@ fn code_front(
             template,
             precision,
         };
-        let quick = quick_code(front_row(i as u64 + 1), tags, wholes, singles, i);
-        match code_field(layout, quick, tags, wholes, singles, codes, i) {
-            Coded::Refused(r) => {
-                return Coded::Refused(r);
-            }
-            Coded::Next(next) => {
-                precision = next;
-            }
-        }
+        let quick = quick_code(front_row(i as u64 + 1), values, i);
+        precision = code_field(layout, quick, values, codes, i)?;
     }
-    Coded::Next(precision)
+    Ok(precision)
 }
 
 // Codes the fields of Basic, then fields 6 to 8.
-fn code_basic(
-    template: Template,
-    tags: &[u8],
-    wholes: &[i64],
-    singles: &[f32],
-    codes: &mut [u64],
-) -> Coded
-    requires { FieldsCoded template tags.now wholes.now singles.now codes.old 0 0 }
-    ensures { CodedTo 8 template tags.now wholes.now singles.now codes.new result }
+fn code_basic(template: Template, values: Lent<'_>, codes: &mut [u64]) -> Result<u64, Refusal>
+    requires { FieldsCoded template values.tags.now values.wholes.now values.singles.now codes.old 0 0 }
+    ensures { CodedTo 8 template values.entry.tags.now values.entry.wholes.now values.entry.singles.now codes.new result }
 {
     let end = templates::basic_fields() as usize;
     let mut precision: u64 = 0;
@@ -222,30 +155,21 @@ fn code_basic(
             template,
             precision,
         };
-        let quick = quick_code(templates::basic_row(i as u64 + 1), tags, wholes, singles, i);
-        match code_field(layout, quick, tags, wholes, singles, codes, i) {
-            Coded::Refused(r) => {
-                return Coded::Refused(r);
-            }
-            Coded::Next(next) => {
-                precision = next;
-            }
-        }
+        let quick = quick_code(templates::basic_row(i as u64 + 1), values, i);
+        precision = code_field(layout, quick, values, codes, i)?;
     }
-    code_front(template, precision, tags, wholes, singles, codes)
+    code_front(template, precision, values, codes)
 }
 
 // Codes the last four fields.
 fn code_back(
     template: Template,
     before: u64,
-    tags: &[u8],
-    wholes: &[i64],
-    singles: &[f32],
+    values: Lent<'_>,
     codes: &mut [u64],
-) -> Coded
-    requires { FieldsCoded template tags.now wholes.now singles.now codes.old before (last_field template - 4) }
-    ensures { CodedTo (last_field template) template tags.now wholes.now singles.now codes.new result }
+) -> Result<u64, Refusal>
+    requires { FieldsCoded template values.tags.now values.wholes.now values.singles.now codes.old before (last_field template - 4) }
+    ensures { CodedTo (last_field template) template values.entry.tags.now values.entry.wholes.now values.entry.singles.now codes.new result }
 {
     let first = templates::last_field(template) as usize - BACK_FIELDS;
     let mut precision = before;
@@ -255,30 +179,21 @@ fn code_back(
             template,
             precision,
         };
-        let quick = quick_code(back_row(j), tags, wholes, singles, i);
-        match code_field(layout, quick, tags, wholes, singles, codes, i) {
-            Coded::Refused(r) => {
-                return Coded::Refused(r);
-            }
-            Coded::Next(next) => {
-                precision = next;
-            }
-        }
+        let quick = quick_code(back_row(j), values, i);
+        precision = code_field(layout, quick, values, codes, i)?;
     }
-    Coded::Next(precision)
+    Ok(precision)
 }
 
 // Codes the fields after field 8, which differ by template up to the last four.
 fn code_own(
     template: Template,
     before: u64,
-    tags: &[u8],
-    wholes: &[i64],
-    singles: &[f32],
+    values: Lent<'_>,
     codes: &mut [u64],
-) -> Coded
-    requires { FieldsCoded template tags.now wholes.now singles.now codes.old before 8 }
-    ensures { CodedTo (last_field template) template tags.now wholes.now singles.now codes.new result }
+) -> Result<u64, Refusal>
+    requires { FieldsCoded template values.tags.now values.wholes.now values.singles.now codes.old before 8 }
+    ensures { CodedTo (last_field template) template values.entry.tags.now values.entry.wholes.now values.entry.singles.now codes.new result }
 {
     let end = templates::last_field(template) as usize - BACK_FIELDS;
     let mut precision = before;
@@ -287,17 +202,10 @@ fn code_own(
             template,
             precision,
         };
-        let quick = quick_own(layout, tags, wholes, singles, i);
-        match code_field(layout, quick, tags, wholes, singles, codes, i) {
-            Coded::Refused(r) => {
-                return Coded::Refused(r);
-            }
-            Coded::Next(next) => {
-                precision = next;
-            }
-        }
+        let quick = quick_code(templates::row_of(layout, i as u64 + 1), values, i);
+        precision = code_field(layout, quick, values, codes, i)?;
     }
-    code_back(template, precision, tags, wholes, singles, codes)
+    code_back(template, precision, values, codes)
 }
 
 // The bits of the fields of a layout, with their block.
@@ -322,112 +230,88 @@ fn fields_listed(layout: Layout) -> Listed
 // 9 or 10, field by field, each by the precision before it; the codes go onto the list.
 pub fn plan_fields(
     template: Template,
-    tags: &[u8],
-    wholes: &[i64],
-    singles: &[f32],
+    values: Lent<'_>,
     codes: &mut [u64],
-) -> Planned
-    requires { LentLengths tags.now wholes.now singles.now × Fit 21 (unpacked codes.old) }
-    ensures { FieldsPlanned (fields_lent template tags.now wholes.now singles.now) (unpacked codes.new) result }
+) -> Result<Listed, Refusal>
+    requires { LentLengths values.tags.now values.wholes.now values.singles.now × Fit 21 (unpacked codes.old) }
+    ensures { FieldsPlanned (fields_lent template values.entry.tags.now values.entry.wholes.now values.entry.singles.now) (unpacked codes.new) result }
 {
-    match code_basic(template, tags, wholes, singles, codes) {
-        Coded::Refused(r) => Planned::Refused(r),
-        Coded::Next(behind) => match code_own(template, behind, tags, wholes, singles, codes) {
-            Coded::Refused(r) => Planned::Refused(r),
-            Coded::Next(precision) => Planned::Are(fields_listed(Layout {
-                template,
-                precision,
-            })),
-        },
-    }
+    let behind = code_basic(template, values, codes)?;
+    let precision = code_own(template, behind, values, codes)?;
+    Ok(fields_listed(Layout {
+        template,
+        precision,
+    }))
 }
 
 // 10 for a character 0 or above 127.
-fn check_characters(field: u64, text: &[u8]) -> Judged
-    ensures { judged_said result ≡ (refuse (out_of_range field) if unfit text.now) }
+fn check_characters(field: u64, text: &[u8]) -> Result<(), Refusal>
+    ensures { result ≡ (refuse (OutOfRange field) if unfit text.now) }
 {
-    let mut i: usize = 0;
-    while i < text.len() {
-        let c = text[i];
+    for &c in text {
         let is_zero = c == 0;
-        if is_zero {
-            return Judged::Refused(refusal::out_of_range(field));
+        if is_zero || 127 < c {
+            return Err(Refusal::OutOfRange(field));
         }
-        if 127 < c {
-            return Judged::Refused(refusal::out_of_range(field));
-        }
-        i += 1;
     }
-    Judged::Valid
+    Ok(())
 }
 
 // The ending: 9 for text with end bit 0, then 10 for a character.
-pub fn check_ending(template: Template, end_bit: bool, text: &[u8]) -> Judged
-    ensures { judged_said result ≡ ending_tested (ending template) end_bit text.now }
+pub fn check_ending(template: Template, end_bit: bool, text: &[u8]) -> Result<(), Refusal>
+    ensures { result ≡ ending_tested (ending template) end_bit text.now }
 {
     let field = templates::last_field(template) + 1;
     if end_bit {
         return check_characters(field, text);
     }
     if 0 < text.len() {
-        return Judged::Refused(refusal::wrong_sort(field));
+        return Err(Refusal::WrongSort(field));
     }
-    Judged::Valid
+    Ok(())
 }
 
 // The codes of pair i: 10 for the point, 10 for its deviation.
-fn code_pair(points: &[i64], i: usize) -> PairAnswer
+fn code_pair(points: &[i64], i: usize) -> Result<Codes, Refusal>
     requires { 2 * i + 1 < length points.now }
-    ensures { codes_said result ≡ codes_for i (pair_at points.now i) }
+    ensures { result ≡ codes_for i (pair_at points.now i) }
 {
     let at = 2 * i;
     let place = i as u64;
-    match templates::encode_point(place, points[at]) {
-        Encoded::Refused(r) => PairAnswer::Refused(r),
-        Encoded::Code(point) => match templates::encode_deviation(place, points[at + 1]) {
-            Encoded::Refused(r) => PairAnswer::Refused(r),
-            Encoded::Code(deviation) => PairAnswer::Are(Codes {
-                point: point as u16,
-                deviation: deviation as u32,
-            }),
-        },
-    }
+    let point = templates::encode_point(place, points[at])?;
+    let deviation = templates::encode_deviation(place, points[at + 1])?;
+    Ok(Codes {
+        point: point as u16,
+        deviation: deviation as u32,
+    })
 }
 
 // The codes of pair i: 10 for the point, 10 for its deviation, then 7
 // if its point does not rise, and 22 in domain 1 if its sum does not.
-fn check_pair(domain: Domain, before: Previous, points: &[i64], i: usize) -> PairAnswer
+fn check_pair(
+    domain: Domain,
+    before: Option<Codes>,
+    points: &[i64],
+    i: usize,
+) -> Result<Codes, Refusal>
     requires { 2 * i + 1 < length points.now }
-    ensures { codes_said result ≡ pair_codes domain (previous_said before) i (pair_at points.now i) }
+    ensures { result ≡ pair_codes domain before i (pair_at points.now i) }
 {
-    match code_pair(points, i) {
-        PairAnswer::Refused(r) => PairAnswer::Refused(r),
-        PairAnswer::Are(codes) => match templates::follows(domain, before, i as u64, codes) {
-            Judged::Refused(r) => PairAnswer::Refused(r),
-            Judged::Valid => PairAnswer::Are(codes),
-        },
-    }
+    let codes = code_pair(points, i)?;
+    templates::follows(domain, before, i as u64, codes)?;
+    Ok(codes)
 }
 
 // 10, 7 and 22, pair by pair.
-pub fn check_points(domain: Domain, points: &[i64]) -> Judged
-    ensures { judged_said result ≡ tested (table_pieces domain (pairs_lent points.now)) }
+pub fn check_points(domain: Domain, points: &[i64]) -> Result<(), Refusal>
+    ensures { result ≡ tested (table_pieces domain (pairs_lent points.now)) }
 {
     let n = points.len() / 2;
-    let mut before = Previous::Nothing;
-    let mut i: usize = 0;
-    while i < n {
-        match check_pair(domain, before, points, i) {
-            PairAnswer::Refused(r) => {
-                return Judged::Refused(r);
-            }
-            PairAnswer::Are(codes) => {
-                before = Previous::Pair(codes);
-            }
-        }
-        i += 1;
+    let mut before = None;
+    for i in 0..n {
+        before = Some(check_pair(domain, before, points, i)?);
     }
-    Judged::Valid
+    Ok(())
 }
 
 // The codes of a pair as one, the point in its lowest bits.
@@ -441,31 +325,23 @@ fn pair_code(codes: Codes) -> u64
 
 // Block 40: 10, 7 and 22, pair by pair; its first four codes and one for each
 // pair go onto the list. Without points nothing does, and no domain is looked at.
-pub fn plan_points(domain: Domain, points: &[i64], codes: &mut [u64]) -> Planned
+pub fn plan_points(domain: Domain, points: &[i64], codes: &mut [u64]) -> Result<Listed, Refusal>
     requires points_len_bound { (length points.now ≤ 254) × (0 < length points.now / 2 → 4 + length points.now / 2 ≤ length codes.old) }
     requires fit { Fit (length codes.old) (unpacked codes.old) }
     ensures { BlockPlanned (table_pieces domain (pairs_lent points.now)) (length codes.old) (unpacked codes.new) result }
 {
     let n = points.len() / 2;
     if n == 0 {
-        return Planned::Are(Listed { count: 0, bits: 0 });
+        return Ok(Listed { count: 0, bits: 0 });
     }
     put_head(codes, 40, templates::domain_code(domain), 7, n as u64);
-    let mut before = Previous::Nothing;
-    let mut i: usize = 0;
-    while i < n {
-        match check_pair(domain, before, points, i) {
-            PairAnswer::Refused(r) => {
-                return Planned::Refused(r);
-            }
-            PairAnswer::Are(pair) => {
-                codes[4 + i] = packed(PAIR_BITS as u64, pair_code(pair));
-                before = Previous::Pair(pair);
-            }
-        }
-        i += 1;
+    let mut before = None;
+    for i in 0..n {
+        let pair = check_pair(domain, before, points, i)?;
+        codes[4 + i] = packed(PAIR_BITS as u64, pair_code(pair));
+        before = Some(pair);
     }
-    Planned::Are(Listed {
+    Ok(Listed {
         count: 4 + n,
         bits: layout::table_bits(n as u64) as u64,
     })
@@ -475,8 +351,5 @@ pub fn plan_points(domain: Domain, points: &[i64], codes: &mut [u64]) -> Planned
 pub fn is_wrong_list(n: usize) -> bool
     ensures { result ≡ (eqb (n % 2) 1 || ltb 254 n) }
 {
-    if n % 2 == 1 {
-        return true;
-    }
-    254 < n
+    n % 2 == 1 || 254 < n
 }

@@ -34,20 +34,17 @@ fn lay_codes(
     let mut cursor = start;
     let mut code: u64 = 0;
     let mut width: usize = 0;
-    let mut i = first;
-    while i < end {
+    for i in first..end {
         let next = codes[i];
         let more = (next >> CODE_BITS) as usize;
         if width + more <= 49 {
-            code = code | ((next & CODES) << width);
+            code |= (next & CODES) << width;
             width += more;
-            i += 1;
-        } else {
-            cursor = cursor.append(sizes, image, width, code);
-            code = next & CODES;
-            width = more;
-            i += 1;
+            continue;
         }
+        cursor = cursor.append(sizes, image, width, code);
+        code = next & CODES;
+        width = more;
     }
     cursor.append(sizes, image, width, code)
 }
@@ -75,17 +72,6 @@ fn pack_characters(text: &[u8], i: usize, end: usize) -> u64
     code
 }
 
-// The end of the seven characters from index i on, or of the text.
-fn next_seven(i: usize, n: usize) -> usize
-    requires { i ≤ n }
-    ensures { result ≡ min (i + 7) n }
-{
-    if 7 < n - i {
-        return i + 7;
-    }
-    n
-}
-
 // Writes the text in 7-bit characters, seven at a time. The zero that ends it is already there.
 fn lay_text(sizes: Sizes, image: &mut [u8], start: Cursor, text: &[u8]) -> Cursor
     requires room { Room sizes image.old start (map (piece 7) text.now) }
@@ -96,7 +82,7 @@ fn lay_text(sizes: Sizes, image: &mut [u8], start: Cursor, text: &[u8]) -> Curso
     let mut i: usize = 0;
     let n = text.len();
     while i < n {
-        let end = next_seven(i, n);
+        let end = (i + 7).min(n);
         cursor = cursor.append(sizes, image, 7 * (end - i), pack_characters(text, i, end));
         i = end;
     }

@@ -1,24 +1,24 @@
 -- Laws of the parts of a change: the code computes those of its definition.
-use Rattle.change.proofs.Names.{◌≡◌, refl, sym, ap, ap₂, ◌∙◌, subst, Bool, true, false, not, ◌||◌, List, ℕ, ◌^◌, ◌≤◌, ◌<◌, arith, eqb, ltb, length, eqb-false, ltb-false, eq-eqb, ne_eqb, lt-ltb, le-ltb}
-use Rattle.change.proofs.Names.{Refusal, Outcome, good, refused, ◌>>◌, ◌>>=◌, refuse◌if◌, no_such, changed_alone, level_too_low, passed, neither, good-then, bind-good, bind-refused, then-good, then-refused, Sizes}
-use Rattle.change.proofs.Names.{put_at, SumsRight, stream_number, image_of, InStream, sizes-chip, sums-right, Value, Template, Layout, Row, Level, encode, Real, last_field, line_of, row_of, may_write, row-sound}
-use Rattle.change.proofs.Names.{reads-back, Contents, stream_in, field, layout_of, field_place, row_is, at-is, width_is, fields-count, field-at, accepted-at, Valid, field-stands, Opened, Opens, layout_is, held_whole}
-use Rattle.change.proofs.Names.{holding, changeable, code_for, change, writable_in, allowed_in, code_in}
+use Rattle.change.proofs.Names.{◌≡◌, refl, sym, ap, ◌∙◌, subst, Bool, true, false, not, ◌||◌, List, ℕ, ◌^◌, ◌≤◌, ◌<◌, arith, eqb, ltb, length, eqb-false, ltb-false, eq-eqb, ne_eqb, lt-ltb, le-ltb}
+use Rattle.change.proofs.Names.{Refusal, Outcome, Ok, Err, ◌>>◌, ◌>>=◌, refuse◌if◌, NoSuch, ChangedAlone, LevelTooLow, passed, neither, good-then, bind-good, bind-refused, then-good, then-refused, Sizes}
+use Rattle.change.proofs.Names.{SumsRight, InStream, sizes-chip, sums-right, Value, Template, Layout, Level, encode, Real, last_field, line_of, row_of, may_write, row-sound}
+use Rattle.change.proofs.Names.{reads-back, Contents, stream_in, field, layout_of, field_place, row_is, fields-count, field-at, accepted-at, Valid, field-stands, Opened, Opens, layout_is, held_whole}
+use Rattle.change.proofs.Names.{holding, changeable, code_for, change, recoded_in, writable_in, allowed_in, code_in}
 pub use Rattle.codes.proofs.Lent.{lent-real}
 use Rattle.change.proofs.Recoding.{change-is}
 
 -- ---- the tests
 
 module _ (t : Template) (level : Level) (f : ℕ) where
-  pub allowed-none : f < 1 → refused (no_such f) ≡ allowed_in t level f
+  pub allowed-none : f < 1 → Err (NoSuch f) ≡ allowed_in t level f
   unfolding allowed_in
   allowed-none h = let z : f ≡ 0 = omega arith in rw (eq-eqb f 0 z)
 
-  pub allowed-past : 1 ≤ f → last_field t < f → refused (no_such f) ≡ allowed_in t level f
+  pub allowed-past : 1 ≤ f → last_field t < f → Err (NoSuch f) ≡ allowed_in t level f
   unfolding allowed_in
   allowed-past h m = rw (ne_eqb f 0 (λ z. omega arith), lt-ltb (last_field t) f m)
 
-  pub allowed-choice : (line_of t f).sets ≡ true → 1 ≤ f → f ≤ last_field t → refused (changed_alone f) ≡ allowed_in t level f
+  pub allowed-choice : (line_of t f).sets ≡ true → 1 ≤ f → f ≤ last_field t → Err (ChangedAlone f) ≡ allowed_in t level f
   unfolding allowed_in
   allowed-choice e h m = rw (ne_eqb f 0 (λ z. omega arith), le-ltb (last_field t) f m, e)
 
@@ -26,14 +26,14 @@ module _ (t : Template) (level : Level) (f : ℕ) where
   unfolding allowed_in
   allowed-by-level e h m = rw (ne_eqb f 0 (λ z. omega arith), le-ltb (last_field t) f m, e)
 
-  pub writable-by : {b : Bool} → may_write level (line_of t f).mark ≡ b → (refuse level_too_low f if not b) ≡ writable_in t level f
+  pub writable-by : {b : Bool} → may_write level (line_of t f).mark ≡ b → (refuse LevelTooLow f if not b) ≡ writable_in t level f
   writable-by e = rw e
 
   -- A field that may be changed is one of the template's.
-  pub allowed-known : good tt ≡ allowed_in t level f → (1 ≤ f) × (f ≤ last_field t)
+  pub allowed-known : Ok tt ≡ allowed_in t level f → (1 ≤ f) × (f ≤ last_field t)
   unfolding allowed_in
   allowed-known e =
-      let (k, g) = passed (no_such f) (eqb f 0 || ltb (last_field t) f) ((refuse changed_alone f if (line_of t f).sets) >> writable_in t level f) tt (sym e) in
+      let (k, g) = passed (NoSuch f) (eqb f 0 || ltb (last_field t) f) ((refuse ChangedAlone f if (line_of t f).sets) >> writable_in t level f) tt (sym e) in
       let (a, b) = neither (eqb f 0) (ltb (last_field t) f) k in
       let z : f ≡ 0 → ⊥ = eqb-false f 0 a in
       (omega arith, ltb-false (last_field t) f b)
@@ -50,10 +50,10 @@ module _ (c : Contents) (level : Level) (f : ℕ) (v : Value) where
   -- The tests by the field agree with those by its row.
   abbrev by_field : Bool → Bool → Bool → Outcome ℕ
   by_field none sets low =
-      ((refuse no_such f if none) >> good (field c f)) >>= (λ x. (refuse changed_alone f if sets) >> ((refuse level_too_low f if low) >> good x)) >>= λ x. encode x.row f v
+      ((refuse NoSuch f if none) >> Ok (field c f)) >>= (λ x. (refuse ChangedAlone f if sets) >> ((refuse LevelTooLow f if low) >> Ok x)) >>= λ x. encode x.row f v
 
   abbrev by_row : Bool → Bool → Bool → Outcome ℕ
-  by_row none sets low = ((refuse no_such f if none) >> ((refuse changed_alone f if sets) >> (refuse level_too_low f if low))) >> encode (row_of (layout_of c) f) f v
+  by_row none sets low = ((refuse NoSuch f if none) >> ((refuse ChangedAlone f if sets) >> (refuse LevelTooLow f if low))) >> encode (row_of (layout_of c) f) f v
 
   same_tests : (none sets low : Bool) → (none ≡ false → (field c f).row ≡ row_of (layout_of c) f) → by_field none sets low ≡ by_row none sets low
   same_tests true sets low h = refl
@@ -74,8 +74,8 @@ module _ (c : Contents) (level : Level) (f : ℕ) (v : Value) where
           let z : f ≡ 0 → ⊥ = eqb-false f 0 a in
           row (omega arith) (ltb-false (last_field t) f b)
 
-pub code-known : (layout : Layout) (level : Level) (f : ℕ) (v : Value) (code : ℕ) → code_in layout level f v ≡ good code →
-    (1 ≤ f) × (f ≤ last_field layout.template) × (encode (row_of layout f) f v ≡ good code)
+pub code-known : (layout : Layout) (level : Level) (f : ℕ) (v : Value) (code : ℕ) → code_in layout level f v ≡ Ok code →
+    (1 ≤ f) × (f ≤ last_field layout.template) × (encode (row_of layout f) f v ≡ Ok code)
 unfolding code_in
 code-known layout level f v code e =
     let (a, b) = good-then (allowed_in layout.template level f) (encode (row_of layout f) f v) code e in
@@ -83,17 +83,20 @@ code-known layout level f v code e =
     (lo, hi, b)
 
 module _ (layout : Layout) (level : Level) (f : ℕ) (v : Value) where
-  pub code-refused : {r : Refusal} → refused r ≡ allowed_in layout.template level f → refused r ≡ code_in layout level f v
+  pub code-refused : {r : Refusal} → Err r ≡ allowed_in layout.template level f → Err r ≡ code_in layout level f v
   unfolding code_in
   code-refused e = sym (then-refused (encode (row_of layout f) f v) (sym e))
 
-  pub code-allowed : good tt ≡ allowed_in layout.template level f → {o : Outcome ℕ} → o ≡ encode (row_of layout f) f v → o ≡ code_in layout level f v
+  pub code-allowed : Ok tt ≡ allowed_in layout.template level f → {o : Outcome ℕ} → o ≡ encode (row_of layout f) f v → o ≡ code_in layout level f v
   unfolding code_in
   code-allowed e k = k ∙ sym (then-good (encode (row_of layout f) f v) (sym e))
 
-  -- The code of a value, by the row that the code uses.
-  pub code_by : good tt ≡ allowed_in layout.template level f → {row : Row} → row ≡ row_of layout f → {o : Outcome ℕ} → o ≡ encode row f v → code_in layout level f v ≡ o
-  code_by e r k = sym (code-allowed e (k ∙ ap (λ x. encode x f v) r))
+-- A stored value's code is in a field of the template, and fits it.
+pub code-fits : (layout : Layout) (level : Level) (f : ℕ) (v : Value) {code : ℕ} → code_in layout level f v ≡ Ok code → Real v →
+    (1 ≤ f) × (f ≤ last_field layout.template) × (code < 2 ^ (row_of layout f).width)
+code-fits layout level f v {code} e real =
+    let (lo, hi, k) = code-known layout level f v code e in
+    (lo, hi, (reads-back (row_of layout f) f 0 code v (row-sound layout f lo hi) real k).0)
 
 -- ---- a field of an opened sheet
 
@@ -109,6 +112,10 @@ module _ {kind : ℕ} {image : List ℕ} {o : Opened} {c : Contents} (h : Opens 
       let s = row-sound o.layout f lo hi in
       record { whole = held_whole h; inside = omega (arith, ea, ew, (stands_here lo hi).inside); some = omega (arith, ew, s.some); most = omega (arith, ew, s.most) }
 
+  -- The image that was opened has a page, and right sums.
+  pub opened-right : (1 ≤ o.sizes.pages) × SumsRight o.sizes image
+  opened-right = ((sizes-chip kind (length image) o.sizes h.sized).paged, sums-right o.sizes image (accepted-at kind image c o.sizes h.accepted h.sized).0)
+
 -- ---- a change of an opened sheet
 
 module _ {kind : ℕ} {image : List ℕ} {o : Opened} {c : Contents} (h : Opens kind image o c) (level : Level) (f : ℕ) (v : Value) where
@@ -120,28 +127,8 @@ module _ {kind : ℕ} {image : List ℕ} {o : Opened} {c : Contents} (h : Opens 
       code-parts c level f v (fields-count (holding h).formed) (λ lo hi. row_is (field-at (holding h).formed f lo hi))
       ∙ ap (λ l. code_in l level f v) (sym (layout_is h))
 
-  pub change-refused : {r : Refusal} → code_in o.layout level f v ≡ refused r → change kind image level f v ≡ refused r
+  pub change-refused : {r : Refusal} → code_in o.layout level f v ≡ Err r → change kind image level f v ≡ Err r
   change-refused e = change-is kind image c z h.accepted h.sized level f v ∙ bind-refused _ (coded ∙ e)
 
-  module _ {code : ℕ} (e : code_in o.layout level f v ≡ good code) where
-    known : (1 ≤ f) × (f ≤ last_field o.layout.template) × (encode (row_of o.layout f) f v ≡ good code)
-    known = code-known o.layout level f v code e
-
-    stands : Valid (stream_in z image) (row_of o.layout f) (field_place o.layout f) (field c f)
-    stands = stands_here h f known.0 known.1
-
-    pub change-stored : {at w : ℕ} → at ≡ field_place o.layout f → w ≡ (row_of o.layout f).width →
-        change kind image level f v ≡ good (image_of z (put_at (stream_number z image) at w code))
-    change-stored {at} {w} ea ew =
-        change-is kind image c z h.accepted h.sized level f v ∙ bind-good _ (coded ∙ e)
-        ∙ ap₂ (λ (n k : ℕ). good (image_of z (put_at (stream_number z image) n k code))) (at-is stands.field ∙ sym ea) (width_is stands.field ∙ sym ew)
-
-    pub change-place : Real v → {at w : ℕ} → at ≡ field_place o.layout f → w ≡ (row_of o.layout f).width → InStream z image at w × (code < 2 ^ w)
-    change-place real ea ew =
-        let s = row-sound o.layout f known.0 known.1 in
-        let fits = (reads-back (row_of o.layout f) f 0 code v s real known.2).0 in
-        (in-stream h f known.0 known.1 ea ew, subst (λ (n : ℕ). code < 2 ^ n) (sym ew) fits)
-
-  -- The image that was opened has a page, and right sums.
-  pub opened-right : (1 ≤ z.pages) × SumsRight z image
-  opened-right = ((sizes-chip kind (length image) z h.sized).paged, sums-right z image (accepted-at kind image c z h.accepted h.sized).0)
+  pub change-coded : {code : ℕ} → code_in o.layout level f v ≡ Ok code → change kind image level f v ≡ Ok (recoded_in z image (field c f) code)
+  change-coded e = change-is kind image c z h.accepted h.sized level f v ∙ bind-good _ (coded ∙ e)

@@ -1,9 +1,9 @@
 -- Document 01: change one field; document 02, Note 5: propose a change, and
 -- commit it; Note 6: each by a writer of a level. They share their parts: the
 -- field that the writer may change, the code to be stored, and the rewriting.
-use Rattle.std.specs.Prelude.{Bool, true, false, not, ◌&&◌, List, ℕ, ◌^◌, eqb, ltb, length}
-use Rattle.refusal.specs.Outcome.{Outcome, good, refused, ◌>>◌, ◌>>=◌, refuse◌if◌}
-use Rattle.refusal.specs.Rows.{changed_alone, out_of_range, other_code, level_too_low}
+use Rattle.std.specs.Prelude.{Bool, not, ◌&&◌, List, ℕ, ◌^◌, eqb, ltb, length, is_ok}
+use Rattle.refusal.specs.Outcome.{Outcome, Ok, ◌>>◌, ◌>>=◌, refuse◌if◌}
+use Rattle.refusal.specs.declared.Refusal.TheVariants.{ChangedAlone, OutOfRange, OtherCode, LevelTooLow}
 use Rattle.memory.specs.declared.Sizes.{Sizes}
 use Rattle.memory.specs.Bits.{put_at}
 use Rattle.memory.specs.Image.{image_sizes, stream_number, image_of}
@@ -16,8 +16,6 @@ use Rattle.templates.specs.Levels.{may_write}
 use Rattle.layout.specs.Contents.{Found, Contents}
 use Rattle.layout.specs.Image.{contents, field, numbered}
 use Rattle.change.specs.declared.Proposal.{Proposal}
-use Rattle.change.specs.declared.ProposalAnswer.{ProposalAnswer}
-use Rattle.change.specs.declared.ProposalAnswer.TheVariants.{Proposed, Refused}
 
 -- ---- the parts of a change
 
@@ -25,9 +23,9 @@ use Rattle.change.specs.declared.ProposalAnswer.TheVariants.{Proposed, Refused}
 unfoldable pub changeable : Contents → Level → ℕ → Outcome Found
 changeable c level f = do
   x ← numbered c f
-  refuse changed_alone f if (line_of c.template f).sets
-  refuse level_too_low f if not (may_write level (line_of c.template f).mark)
-  good x
+  refuse ChangedAlone f if (line_of c.template f).sets
+  refuse LevelTooLow f if not (may_write level (line_of c.template f).mark)
+  Ok x
 
 -- The code that a value would be stored at. Order: 8, 12, 20, 9, 10.
 unfoldable pub code_for : Contents → Level → ℕ → Value → Outcome ℕ
@@ -42,7 +40,7 @@ recoded_in z image x code = image_of z (put_at (stream_number z image) x.at x.ro
 unfoldable pub rewritten : ℕ → List ℕ → Found → ℕ → Outcome (List ℕ)
 rewritten kind image x code = do
   z ← image_sizes kind (length image)
-  good (recoded_in z image x code)
+  Ok (recoded_in z image x code)
 
 -- ---- the change
 
@@ -59,7 +57,7 @@ change kind image level f value = do
 abbrev pub proposed_for : Found → ℕ → Outcome Proposal
 proposed_for x code = do
   back ← decode x.row x.at code
-  good (record { present = x.code; new = code; value = back })
+  Ok (record { present = x.code; new = code; value = back })
 
 -- A proposal "writes nothing; it is refused as the change would be".
 unfoldable pub propose : ℕ → List ℕ → Level → ℕ → Value → Outcome Proposal
@@ -69,19 +67,15 @@ propose kind image level f value = do
   proposed_for (field c f) code
 
 -- A field of a row can hold a code if it fits the field's bits, and a check would accept it.
-abbrev pub taken : {A : Type 0} → Outcome A → Bool
-taken (good a) = true
-taken (refused r) = false
-
 unfoldable pub may_stand : Row → ℕ → Bool
-may_stand row code = ltb code (2 ^ row.width) && taken (decode row 0 code)
+may_stand row code = ltb code (2 ^ row.width) && is_ok (decode row 0 code)
 
 -- Whether a new code may be put into field f in place of the present one. Order: 8, 12, 20, 19, 10.
 unfoldable pub may_commit : Contents → Level → ℕ → ℕ → ℕ → Outcome (Unit {0})
 may_commit c level f present new = do
   x ← changeable c level f
-  refuse other_code f if not (eqb x.code present)
-  refuse out_of_range f if not (may_stand x.row new)
+  refuse OtherCode f if not (eqb x.code present)
+  refuse OutOfRange f if not (may_stand x.row new)
 
 -- The image with field f at a new code, if the present
 -- one is still there. Order: check, 8, 12, 20, 19, 10.
@@ -92,7 +86,3 @@ commit kind image level f present new = do
   rewritten kind image (field c f) new
 
 -- ---- the answer of a proposal
-
-abbrev pub proposal_said : ProposalAnswer → Outcome Proposal
-proposal_said (Proposed p) = good p
-proposal_said (Refused r) = refused r

@@ -4,46 +4,46 @@ ghost use Rattle.std.specs.Prelude.{◌≡◌, ◌≤◌};
 ghost use Rattle.refusal.specs.Written.{written_said, afterwards};
 ghost use Rattle.change.specs.Change.{change as change_of};
 ghost use Rattle.templates.specs.Lines.{last_field};
-ghost use Rattle.change.specs.Parts.{writable_in, allowed_in, allowed_said};
+ghost use Rattle.change.specs.Parts.{writable_in, allowed_in, code_in};
 
-use codes::{Encoded, Value};
-use refusal::{Refusal, Written};
-use sheet::OpenedAnswer;
-use templates::{Level, Template};
-
-// Whether a field may be changed alone.
-#[derive(Clone, Copy)]
-pub enum Allowed {
-    Free,
-    Refused(Refusal),
-}
+use crate::standing;
+use codes::Value;
+use refusal::Refusal;
+use templates::{Layout, Level, Template};
 
 // 20 if a writer of the level may not write the field.
-fn may_write(template: Template, level: Level, field: u64) -> Allowed
+fn may_write(template: Template, level: Level, field: u64) -> Result<(), Refusal>
     requires { (1 ≤ field) × (field ≤ last_field template) }
-    ensures { allowed_said result ≡ writable_in template level field }
+    ensures { result ≡ writable_in template level field }
 {
-    if !templates::may_write(level, templates::mark_of(template, field)) {
-        return Allowed::Refused(refusal::level_too_low(field));
+    if templates::may_write(level, templates::mark_of(template, field)) {
+        return Ok(());
     }
-    Allowed::Free
+    Err(Refusal::LevelTooLow(field))
 }
 
 // 8 if the template has no such field, 12 for a field that
 // sets the widths of others, 20 if the level is too low.
-pub fn may_change(template: Template, level: Level, field: u64) -> Allowed
-    ensures { allowed_said result ≡ allowed_in template level field }
+pub fn may_change(template: Template, level: Level, field: u64) -> Result<(), Refusal>
+    ensures { result ≡ allowed_in template level field }
 {
-    if field < 1 {
-        return Allowed::Refused(refusal::no_such(field));
-    }
-    if templates::last_field(template) < field {
-        return Allowed::Refused(refusal::no_such(field));
+    if field < 1 || templates::last_field(template) < field {
+        return Err(Refusal::NoSuch(field));
     }
     if templates::is_choice(template, field) {
-        return Allowed::Refused(refusal::changed_alone(field));
+        return Err(Refusal::ChangedAlone(field));
     }
     may_write(template, level, field)
+}
+
+// The code that a value would be stored at in a field; or 8, 12, 20, 9
+// if the field takes no value of this sort, 10 if it has no code for it.
+pub fn code_for(layout: Layout, level: Level, field: u64, value: Value) -> Result<u64, Refusal>
+    ensures { result ≡ code_in layout level field value }
+{
+    let template = layout.template;
+    may_change(template, level, field)?;
+    templates::encode(layout, field, value)
 }
 
 // Stores a value in a field, counted from 1, of an image: rewrites "the field
@@ -54,35 +54,19 @@ pub fn may_change(template: Template, level: Level, field: u64) -> Allowed
 // - 20 if a writer of the level may not write it;
 // - 9 if the field takes no value of this sort;
 // - 10 if it has no code for it.
-pub fn change(kind: u8, image: &mut [u8], level: Level, field: u64, value: Value) -> Written
+pub fn change(
+    kind: u8,
+    image: &mut [u8],
+    level: Level,
+    field: u64,
+    value: Value,
+) -> Result<(), Refusal>
     ensures { (written_said result image.new ≡ change_of kind image.old level field value)
         × (image.new ≡ afterwards image.old (change_of kind image.old level field value)) }
 {
-    match sheet::open(kind, image) {
-        OpenedAnswer::Refused(r) => Written::Refused(r),
-        OpenedAnswer::Sheet(opened) => {
-            let layout = opened.layout;
-            let template = layout.template;
-            match may_change(template, level, field) {
-                Allowed::Refused(r) => Written::Refused(r),
-                Allowed::Free => {
-                    let row = templates::row_of(layout, field);
-                    match codes::encode_by(row, field, value) {
-                        Encoded::Refused(r) => Written::Refused(r),
-                        Encoded::Code(code) => {
-                            let sizes = opened.sizes;
-                            stream::rewrite(
-                                sizes,
-                                image,
-                                layout::locate(layout, field),
-                                row.width as usize,
-                                code,
-                            );
-                            Written::Done
-                        }
-                    }
-                }
-            }
-        }
-    }
+    let opened = sheet::open(kind, image)?;
+    let layout = opened.layout;
+    let code = code_for(layout, level, field, value)?;
+    standing::put_code(opened, image, field, code);
+    Ok(())
 }

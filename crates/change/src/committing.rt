@@ -2,18 +2,16 @@
 // if the present one is still there. Order: check, 8, 12, 20, 19, 10.
 ghost use Rattle.std.specs.Prelude.{◌≡◌, ℕ};
 ghost use Rattle.refusal.specs.Written.{written_said, afterwards};
-ghost use Rattle.codes.specs.Answers.{judged_said};
 ghost use Rattle.codes.specs.Stored.{Sound};
 ghost use Rattle.layout.specs.Contents.{Contents};
 ghost use Rattle.sheet.specs.Opened.{Opens, Held};
 ghost use Rattle.change.specs.Change.{may_stand, may_commit, commit as commit_of};
 ghost use Rattle.change.specs.Parts.{may_follow};
 
-use crate::changing::Allowed;
 use crate::{changing, standing};
-use codes::{Judged, Row};
-use refusal::Written;
-use sheet::{Opened, OpenedAnswer};
+use codes::Row;
+use refusal::Refusal;
+use sheet::Opened;
 use templates::Level;
 
 // Whether a field can hold a code: it fits the field's bits, and a check would accept it.
@@ -24,25 +22,22 @@ fn may_stand(row: Row, code: u64) -> bool
     if 0 < code >> row.width {
         return false;
     }
-    match codes::judge(row, 0, code) {
-        Judged::Refused(_) => false,
-        Judged::Valid => true,
-    }
+    codes::judge(row, 0, code).is_ok()
 }
 
 // 19 if the field holds another code than the present one, 10 if it can't hold the new one.
-fn may_follow(row: Row, stands: u64, field: u64, present: u64, new: u64) -> Judged
+fn may_follow(row: Row, stands: u64, field: u64, present: u64, new: u64) -> Result<(), Refusal>
     requires { Sound row }
-    ensures { judged_said result ≡ may_follow row stands field present new }
+    ensures { result ≡ may_follow row stands field present new }
 {
     let is_other = stands != present;
     if is_other {
-        return Judged::Refused(refusal::other_code(field));
+        return Err(Refusal::OtherCode(field));
     }
     if !may_stand(row, new) {
-        return Judged::Refused(refusal::out_of_range(field));
+        return Err(Refusal::OutOfRange(field));
     }
-    Judged::Valid
+    Ok(())
 }
 
 // Whether a new code may be put into a field of an opened sheet: 8, 12, 20, 19, 10.
@@ -53,22 +48,20 @@ fn may_commit(
     field: u64,
     present: u64,
     new: u64,
-) -> Judged
+) -> Result<(), Refusal>
     requires { Held sheet image.now }
-    ensures { (kind : ℕ) (c : Contents) → Opens kind image.now sheet c → judged_said result ≡ may_commit c level field present new }
+    ensures { (kind : ℕ) (c : Contents) → Opens kind image.now sheet c → result ≡ may_commit c level field present new }
 {
     let layout = sheet.layout;
     let template = layout.template;
-    match changing::may_change(template, level, field) {
-        Allowed::Refused(r) => Judged::Refused(r),
-        Allowed::Free => may_follow(
-            templates::row_of(layout, field),
-            standing::code_in(sheet, image, field),
-            field,
-            present,
-            new,
-        ),
-    }
+    changing::may_change(template, level, field)?;
+    may_follow(
+        templates::row_of(layout, field),
+        standing::code_in(sheet, image, field),
+        field,
+        present,
+        new,
+    )
 }
 
 // Puts a code into a field, counted from 1, of an image: rewrites the field
@@ -86,27 +79,12 @@ pub fn commit(
     field: u64,
     present: u64,
     new: u64,
-) -> Written
+) -> Result<(), Refusal>
     ensures { (written_said result image.new ≡ commit_of kind image.old level field present new)
         × (image.new ≡ afterwards image.old (commit_of kind image.old level field present new)) }
 {
-    match sheet::open(kind, image) {
-        OpenedAnswer::Refused(r) => Written::Refused(r),
-        OpenedAnswer::Sheet(opened) => match may_commit(opened, image, level, field, present, new) {
-            Judged::Refused(r) => Written::Refused(r),
-            Judged::Valid => {
-                let sizes = opened.sizes;
-                let layout = opened.layout;
-                let row = templates::row_of(layout, field);
-                stream::rewrite(
-                    sizes,
-                    image,
-                    layout::locate(layout, field),
-                    row.width as usize,
-                    new,
-                );
-                Written::Done
-            }
-        },
-    }
+    let opened = sheet::open(kind, image)?;
+    may_commit(opened, image, level, field, present, new)?;
+    standing::put_code(opened, image, field, new);
+    Ok(())
 }

@@ -20,10 +20,3 @@ pub struct Proposal {
     pub new: u64,
     pub value: Value,
 }
-
-// A proposal, or the refusal of the change.
-#[derive(Clone, Copy)]
-pub enum ProposalAnswer {
-    Proposed(Proposal),
-    Refused(Refusal),
-}

@@ -14,7 +14,7 @@ pub use mir.{Facts.and_yes, Facts.to_z-of_z, Facts.to_z_pos, Syntax.w64, Val.Fit
 pub use denote.{Enum.Laws.owed, Enum.Laws.vals, Laws.Is}
 pub use borrow.Author.{Rules.rules, Rules.sfits_of, Tests.eq-eqb, Tests.eqb-true, Tests.le-leb, Tests.le-ltb, Tests.leb-true, Tests.lt-leb, Tests.lt-ltb, Tests.ltb-false, Tests.ltb-true, Tests.ne_eqb, Tests.not-false}
 pub use Rattle.refusal.proofs.Outcomes.{good-same, neither, no_value_lem, passed}
-pub use Rattle.refusal.specs.{Outcome.Outcome, Outcome.◌>>◌, Outcome.good, Outcome.refuse◌if◌, Outcome.refused, Rows.not_finite, Rows.out_of_range, Rows.outside_table, Rows.wrong_sort, declared.Refusal.Refusal}
+pub use Rattle.refusal.specs.{Outcome.Outcome, Outcome.◌>>◌, Outcome.Ok, Outcome.refuse◌if◌, Outcome.Err, declared.Refusal.TheVariants.NotFinite, declared.Refusal.TheVariants.OutOfRange, declared.Refusal.TheVariants.OutsideTable, declared.Refusal.TheVariants.WrongSort, declared.Refusal.Refusal}
 pub use Rattle.integers.proofs.Bridge.{parts-of-word}
 pub use Rattle.integers.proofs.NearestLaws.{nearest-exact, nearest-half, nearest-high, nearest-is, nearest-natural, nearest-rises-parts, nearest-scale}
 pub use Rattle.integers.proofs.PartLaws.{abs-parts, add_parts, dn-neg, is_false, le-lt_z, le_z-parts, lt-lt_z, lt_z-parts, mul-parts, nlt_z-parts, parts-≤ℤ, same, sub_is, sub_parts, sub-parts-ℤ, up_neg}
@@ -25,9 +25,9 @@ pub use Rattle.codes.specs.Singles.{NanovoltsNearest, NanovoltsRise, NanovoltsWi
 pub use Rattle.codes.specs.Stored.{GeometricBetween, GeometricByRatio, GeometricCovers, GeometricOwn, GeometricRises, Nearest, NearestUnit, ReadsBack, Real, Rising, Sound, SoundRule, SteppedNearest, SteppedRange}
 pub use Rattle.codes.specs.Stored.{SteppedRises, StoredAgain, ValuesNearest, ValuesRise, kept_by}
 pub use Rattle.codes.specs.declared.Rule.{Rule, TheVariants.Geometric, TheVariants.Plain, TheVariants.Single as Ieee, TheVariants.Stepped}
-pub use Rattle.codes.specs.declared.{Encoded.Encoded, Encoded.TheVariants.Code, Judged.Judged, Judged.TheVariants.Refused, Judged.TheVariants.Valid, Row.Row}
+pub use Rattle.codes.specs.declared.{Row.Row}
 pub use Rattle.codes.specs.declared.{Scale.Scale, Scale.TheVariants.Current, Scale.TheVariants.ResponseTime, Value.Value, Value.TheVariants.Missing, Value.TheVariants.Single, Value.TheVariants.Whole}
-pub use Rattle.codes.specs.{Answers.encoded_said, Answers.judged_said, DirectCode.DirectCode, Tables.RisingList, Tables.TableOf, Units.billion, Unscaled.Unscaled, Validity.judge, Validity.ruled, Validity.single_ruled}
+pub use Rattle.codes.specs.{DirectCode.DirectCode, Tables.RisingList, Tables.TableOf, Units.billion, Unscaled.Unscaled, Validity.judge, Validity.ruled, Validity.single_ruled}
 unfoldable pub use Rattle.codes.specs.{Rules.decode, Rules.encode, Rules.geometric_value, Rules.goes_up, Rules.stored_at, Singles.nanovolts, Singles.outside_two, Stored.kept, Tables.listed}
 pub use Rattle.codes.proofs.Value.TheLaws.{the_laws}
 pub use Rattle.codes.specs.contracts.Value.{the_type}

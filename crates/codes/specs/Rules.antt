@@ -6,8 +6,8 @@ use Rattle.std.specs.Int.Signed.{lt_z}
 use Rattle.std.specs.Float.{nan, inf, fin, binary32}
 use Rattle.std.specs.Float.Ieee.{of_bits, to_bits}
 use Rattle.integers.specs.Nearest.{◌over◌, nearest}
-use Rattle.refusal.specs.Outcome.{Outcome, good, refused, ◌>>◌, refuse◌if◌}
-use Rattle.refusal.specs.Rows.{outside_table, not_finite, wrong_sort, out_of_range}
+use Rattle.refusal.specs.Outcome.{Outcome, Ok, Err, ◌>>◌, refuse◌if◌}
+use Rattle.refusal.specs.declared.Refusal.TheVariants.{OutsideTable, NotFinite, WrongSort, OutOfRange}
 use Rattle.codes.specs.declared.Value.{Value}
 use Rattle.codes.specs.declared.Value.TheVariants.{Whole, Single, Missing}
 use Rattle.codes.specs.declared.Scale.{Scale}
@@ -60,23 +60,23 @@ finite (fin sign m e) = true
 
 abbrev pub meaning : Rule → ℕ → ℕ → ℕ → Outcome Value
 meaning (Plain least greatest) w at code = do
-  refuse outside_table at if ltb code least || ltb greatest code
-  good (Whole (pos code))
+  refuse OutsideTable at if ltb code least || ltb greatest code
+  Ok (Whole (pos code))
 meaning (Stepped start step) w at code = do
-  refuse outside_table at if ltb (top_code w) code
-  good (Whole (stepped_value start step code))
+  refuse OutsideTable at if ltb (top_code w) code
+  Ok (Whole (stepped_value start step code))
 meaning (Geometric scale) w at code = do
-  refuse outside_table at if ltb (top_code w) code
-  good (Whole (pos (geometric_value (progression scale) code)))
+  refuse OutsideTable at if ltb (top_code w) code
+  Ok (Whole (pos (geometric_value (progression scale) code)))
 meaning Ieee w at code = do
-  refuse outside_table at if eqb code (all_ones w)
-  refuse not_finite at if not (finite (of_bits binary32 code))
-  good (Single (of_bits binary32 code))
+  refuse OutsideTable at if eqb code (all_ones w)
+  refuse NotFinite at if not (finite (of_bits binary32 code))
+  Ok (Single (of_bits binary32 code))
 
 -- The value of a code in a field whose first bit is `at`. All ones is missing
 -- if the row allows it; else 5 or 6 if the rule gives the code no value.
 unfoldable pub decode : Row → ℕ → ℕ → Outcome Value
-decode row at code = cond (row.missing && eqb code (all_ones row.width)) (good Missing) (meaning row.rule row.width at code)
+decode row at code = cond (row.missing && eqb code (all_ones row.width)) (Ok Missing) (meaning row.rule row.width at code)
 
 -- ---- the code that a value is stored at
 
@@ -102,30 +102,30 @@ stored_at value (suc n) w = cond (goes_up (value n) (value (suc n)) w) (suc n) (
 -- a code; 10 outside, 9 if the rule takes no whole number.
 abbrev pub whole_code : Rule → ℕ → ℕ → ℤ → Outcome ℕ
 whole_code (Plain least greatest) w place figure = do
-  refuse out_of_range place if outside (pos least) (pos greatest) figure
-  good (nat_abs figure)
+  refuse OutOfRange place if outside (pos least) (pos greatest) figure
+  Ok (nat_abs figure)
 whole_code (Stepped start step) w place figure = do
-  refuse out_of_range place if outside start (stepped_value start step (top_code w)) figure
-  good (stepped_code start step figure)
+  refuse OutOfRange place if outside start (stepped_value start step (top_code w)) figure
+  Ok (stepped_code start step figure)
 whole_code (Geometric scale) w place figure =
     let value = geometric_value (progression scale) in do
-      refuse out_of_range place if outside (pos (value 0)) (pos (value (top_code w))) figure
-      good (stored_at value (top_code w) (nat_abs figure))
-whole_code Ieee w place figure = refused (wrong_sort place)
+      refuse OutOfRange place if outside (pos (value 0)) (pos (value (top_code w))) figure
+      Ok (stored_at value (top_code w) (nat_abs figure))
+whole_code Ieee w place figure = Err (WrongSort place)
 
 -- A Single is stored as its bits; 10 if it is not finite, 9 if the rule takes no Single.
 abbrev pub single_code : Rule → ℕ → Float → Outcome ℕ
-single_code (Plain least greatest) place x = refused (wrong_sort place)
-single_code (Stepped start step) place x = refused (wrong_sort place)
-single_code (Geometric scale) place x = refused (wrong_sort place)
+single_code (Plain least greatest) place x = Err (WrongSort place)
+single_code (Stepped start step) place x = Err (WrongSort place)
+single_code (Geometric scale) place x = Err (WrongSort place)
 single_code Ieee place x = do
-  refuse out_of_range place if not (finite x)
-  good (to_bits binary32 x)
+  refuse OutOfRange place if not (finite x)
+  Ok (to_bits binary32 x)
 
 -- Rows 9 and 10, at the place that the call passes.
 unfoldable pub encode : Row → ℕ → Value → Outcome ℕ
 encode row place (Whole figure) = whole_code row.rule row.width place figure
 encode row place (Single x) = single_code row.rule place x
 encode row place Missing = do
-  refuse wrong_sort place if not row.missing
-  good (all_ones row.width)
+  refuse WrongSort place if not row.missing
+  Ok (all_ones row.width)

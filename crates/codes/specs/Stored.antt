@@ -3,8 +3,8 @@
 use Rattle.std.specs.Prelude.{◌≡◌, cond, List, [], ◌∷◌, ℕ, suc, ◌+◌, ◌*◌, ◌^◌, ◌≤◌, ◌<◌, T, ℤ, pos, nat_abs, ◌-ℤ◌, ◌≤ℤ◌, ◌<ℤ◌}
 use Rattle.std.specs.Float.{binary32}
 use Rattle.std.specs.Float.Ieee.{fits}
-use Rattle.refusal.specs.Outcome.{good, refused}
-use Rattle.refusal.specs.Rows.{out_of_range}
+use Rattle.refusal.specs.Outcome.{Ok, Err}
+use Rattle.refusal.specs.declared.Refusal.TheVariants.{OutOfRange}
 use Rattle.codes.specs.declared.Value.{Value}
 use Rattle.codes.specs.declared.Value.TheVariants.{Whole, Single, Missing}
 use Rattle.codes.specs.declared.Scale.{Scale}
@@ -57,13 +57,13 @@ AllSound (row ∷ rows) = Sound row × AllSound rows
 abbrev pub ReadsBack : Type 0
 ReadsBack =
     (row : Row) (place at code : ℕ) (v : Value) → Sound row → Real v →
-    encode row place v ≡ good code → (code < 2 ^ row.width) × (decode row at code ≡ good (kept row v))
+    encode row place v ≡ Ok code → (code < 2 ^ row.width) × (decode row at code ≡ Ok (kept row v))
 
 -- A value read from a code is stored at that code again.
 abbrev pub StoredAgain : Type 0
 StoredAgain =
     (row : Row) (place at code : ℕ) (v : Value) → Sound row → code < 2 ^ row.width →
-    decode row at code ≡ good v → encode row place v ≡ good code
+    decode row at code ≡ Ok v → encode row place v ≡ Ok code
 
 -- ---- stepped, for any width, start and step
 
@@ -75,21 +75,21 @@ pub record Nearest (step : ℕ) (z y : ℤ) : Type 0 where
 abbrev pub SteppedNearest : Type 0
 SteppedNearest =
     (row : Row) (start : ℤ) (step place code : ℕ) (z : ℤ) → row.rule ≡ Stepped start step → 0 < step →
-    encode row place (Whole z) ≡ good code → Nearest step z (stepped_value start step code)
+    encode row place (Whole z) ≡ Ok code → Nearest step z (stepped_value start step code)
 
 -- Stepped codes rise with their figures.
 abbrev pub SteppedRises : Type 0
 SteppedRises =
     (row : Row) (start : ℤ) (step place c d : ℕ) (y z : ℤ) → row.rule ≡ Stepped start step → 0 < step → y ≤ℤ z →
-    encode row place (Whole y) ≡ good c → encode row place (Whole z) ≡ good d → c ≤ d
+    encode row place (Whole y) ≡ Ok c → encode row place (Whole z) ≡ Ok d → c ≤ d
 
 -- A figure from the lowest to the highest value is stored; outside it is refused with 10.
 abbrev pub SteppedRange : Type 0
 SteppedRange =
     (row : Row) (start : ℤ) (step place : ℕ) (z : ℤ) → row.rule ≡ Stepped start step →
-    (start ≤ℤ z → z ≤ℤ stepped_value start step (top_code row.width) → encode row place (Whole z) ≡ good (stepped_code start step z)) ×
-    (z <ℤ start → encode row place (Whole z) ≡ refused (out_of_range place)) ×
-    (stepped_value start step (top_code row.width) <ℤ z → encode row place (Whole z) ≡ refused (out_of_range place))
+    (start ≤ℤ z → z ≤ℤ stepped_value start step (top_code row.width) → encode row place (Whole z) ≡ Ok (stepped_code start step z)) ×
+    (z <ℤ start → encode row place (Whole z) ≡ Err (OutOfRange place)) ×
+    (stepped_value start step (top_code row.width) <ℤ z → encode row place (Whole z) ≡ Err (OutOfRange place))
 
 -- ---- geometric, for any rising table
 

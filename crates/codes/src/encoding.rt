@@ -1,30 +1,17 @@
 // Document 01, "Layout": the code that a value is stored at.
 ghost use Rattle.std.specs.Prelude.{◌≡◌, ◌*◌, ◌^◌, ◌<◌, ◌≤◌, pos, nat_abs};
-ghost use Rattle.refusal.specs.Outcome.{refused};
-ghost use Rattle.refusal.specs.Rows.{wrong_sort, out_of_range};
+ghost use Rattle.refusal.specs.Outcome.{Ok, Err};
+ghost use Rattle.refusal.specs.declared.Refusal.TheVariants.{WrongSort, OutOfRange};
 ghost use Rattle.codes.specs.Rules.{top_code, progression, geometric_value, scale_width, outside, whole_code, single_code, encode as encode_of};
 ghost use Rattle.codes.specs.Stored.{Sound};
-ghost use Rattle.codes.specs.Answers.{encoded_said};
 ghost use Rattle.codes.specs.DirectCode.{DirectCode};
 
 use crate::limits::{all_ones, top_code};
 use crate::steps::{step_code, step_value};
 use crate::tables::{greatest_value, least_value, scale_value, stored_code};
-use crate::{Encoded, Row, Rule, Scale, Value};
+use crate::{Row, Rule, Scale, Value};
 use integers::plus;
-
-// The refusals of rows 9 and 10 of "Turning down".
-fn wrong_sort(place: u64) -> Encoded
-    ensures { encoded_said result ≡ refused (wrong_sort place) }
-{
-    Encoded::Refused(refusal::wrong_sort(place))
-}
-
-fn out_of_range(place: u64) -> Encoded
-    ensures { encoded_said result ≡ refused (out_of_range place) }
-{
-    Encoded::Refused(refusal::out_of_range(place))
-}
+use refusal::Refusal;
 
 // Whether the figure is below the lowest or above the highest.
 fn is_outside(lowest: i64, highest: i64, figure: i64) -> bool
@@ -37,27 +24,33 @@ fn is_outside(lowest: i64, highest: i64, figure: i64) -> bool
 }
 
 // The figure itself, or 10 outside the table.
-fn plain(least: u64, greatest: u64, place: u64, figure: i64) -> Encoded
+fn plain(least: u64, greatest: u64, place: u64, figure: i64) -> Result<u64, Refusal>
     requires { (least ≤ greatest) × (greatest < 2 ^ 32) }
-    ensures { encoded_said result ≡ whole_code (Rule.Plain least greatest) 0 place figure }
+    ensures { result ≡ whole_code (Rule.Plain least greatest) 0 place figure }
 {
     if is_outside(least as i64, greatest as i64, figure) {
-        return out_of_range(place);
+        return Err(Refusal::OutOfRange(place));
     }
-    Encoded::Code(plus(figure))
+    Ok(plus(figure))
 }
 
 // The nearest step, halves upward, or 10 outside the lowest to the highest value.
-pub fn nearest_step(start: i64, step: u64, width: u64, place: u64, figure: i64) -> Encoded
+pub fn nearest_step(
+    start: i64,
+    step: u64,
+    width: u64,
+    place: u64,
+    figure: i64,
+) -> Result<u64, Refusal>
     requires le_width { (1 ≤ width) × (width ≤ 32) }
     requires step_nonzero { (0 < step) × ((nat_abs start < 2 ^ 62) × (step * 2 ^ width < 2 ^ 62)) }
-    ensures { encoded_said result ≡ whole_code (Rule.Stepped start step) width place figure }
+    ensures { result ≡ whole_code (Rule.Stepped start step) width place figure }
 {
     let highest = step_value(start, step, top_code(width));
     if is_outside(start, highest, figure) {
-        return out_of_range(place);
+        return Err(Refusal::OutOfRange(place));
     }
-    Encoded::Code(step_code(start, step, figure))
+    Ok(step_code(start, step, figure))
 }
 
 // The greatest value. Reads the table although a constant would do:
@@ -76,53 +69,53 @@ fn highest(scale: Scale, width: u64, figure: i64) -> i64
 }
 
 // The code that the storing rule gives, or 10 outside the lowest to the highest value.
-fn geometric(scale: Scale, width: u64, place: u64, figure: i64) -> Encoded
+fn geometric(scale: Scale, width: u64, place: u64, figure: i64) -> Result<u64, Refusal>
     requires le_width { (1 ≤ width) × (width ≤ 32) }
     requires width_value { width ≡ scale_width scale }
-    ensures { encoded_said result ≡ whole_code (Rule.Geometric scale) width place figure }
+    ensures { result ≡ whole_code (Rule.Geometric scale) width place figure }
 {
     if is_outside(least_value(scale), highest(scale, width, figure), figure) {
-        return out_of_range(place);
+        return Err(Refusal::OutOfRange(place));
     }
-    Encoded::Code(stored_code(scale, plus(figure)))
+    Ok(stored_code(scale, plus(figure)))
 }
 
 // The bits of a Single, or 10 if it is not finite. NaN is refused first, since
 // its bits are not determined; then an exponent of all ones is an infinity.
-pub fn single_bits(place: u64, x: f32) -> Encoded
-    ensures { encoded_said result ≡ single_code Rule.Single place x }
+pub fn single_bits(place: u64, x: f32) -> Result<u64, Refusal>
+    ensures { result ≡ single_code Rule.Single place x }
 {
     if x != x {
-        return out_of_range(place);
+        return Err(Refusal::OutOfRange(place));
     }
     let code = f32::to_bits(x);
     if code % 0x8000_0000 < 0x7f80_0000 {
-        return Encoded::Code(code as u64);
+        return Ok(code as u64);
     }
-    out_of_range(place)
+    Err(Refusal::OutOfRange(place))
 }
 
 // All ones, or 9 if the row has no missing.
-fn missing_code(row: Row, place: u64) -> Encoded
+fn missing_code(row: Row, place: u64) -> Result<u64, Refusal>
     requires { Sound row }
-    ensures { encoded_said result ≡ encode_of row place Value.Missing }
+    ensures { result ≡ encode_of row place Value.Missing }
 {
     if row.missing {
-        return Encoded::Code(all_ones(row.width));
+        return Ok(all_ones(row.width));
     }
-    wrong_sort(place)
+    Err(Refusal::WrongSort(place))
 }
 
 // No code: a code has at most 32 bits.
 pub const NO_CODE: u64 = 0x1_0000_0000;
 
 // The code of an answer, or `NO_CODE`.
-fn code_or_none(answer: Encoded) -> u64
-    ensures { result < 2 ^ 32 → answer ≡ Encoded.Code result }
+fn code_or_none(answer: Result<u64, Refusal>) -> u64
+    ensures { result < 2 ^ 32 → answer ≡ Ok result }
 {
     match answer {
-        Encoded::Code(code) => code,
-        Encoded::Refused(_) => NO_CODE,
+        Ok(code) => code,
+        Err(_) => NO_CODE,
     }
 }
 
@@ -174,45 +167,51 @@ pub fn direct_code(row: Row, value: Value) -> u64
 }
 
 // The code of a value by each rule: 9 if the rule takes no value of its sort.
-fn encode_plain(row: Row, least: u64, greatest: u64, place: u64, value: Value) -> Encoded
+fn encode_plain(
+    row: Row,
+    least: u64,
+    greatest: u64,
+    place: u64,
+    value: Value,
+) -> Result<u64, Refusal>
     requires { Sound row × (row.rule ≡ Rule.Plain least greatest) }
-    ensures { encoded_said result ≡ encode_of row place value }
+    ensures { result ≡ encode_of row place value }
 {
     match value {
         Value::Whole(figure) => plain(least, greatest, place, figure),
-        Value::Single(_) => wrong_sort(place),
+        Value::Single(_) => Err(Refusal::WrongSort(place)),
         Value::Missing => missing_code(row, place),
     }
 }
 
-fn encode_stepped(row: Row, start: i64, step: u64, place: u64, value: Value) -> Encoded
+fn encode_stepped(row: Row, start: i64, step: u64, place: u64, value: Value) -> Result<u64, Refusal>
     requires { Sound row × (row.rule ≡ Rule.Stepped start step) }
-    ensures { encoded_said result ≡ encode_of row place value }
+    ensures { result ≡ encode_of row place value }
 {
     match value {
         Value::Whole(figure) => nearest_step(start, step, row.width, place, figure),
-        Value::Single(_) => wrong_sort(place),
+        Value::Single(_) => Err(Refusal::WrongSort(place)),
         Value::Missing => missing_code(row, place),
     }
 }
 
-fn encode_geometric(row: Row, scale: Scale, place: u64, value: Value) -> Encoded
+fn encode_geometric(row: Row, scale: Scale, place: u64, value: Value) -> Result<u64, Refusal>
     requires { Sound row × (row.rule ≡ Rule.Geometric scale) }
-    ensures { encoded_said result ≡ encode_of row place value }
+    ensures { result ≡ encode_of row place value }
 {
     match value {
         Value::Whole(figure) => geometric(scale, row.width, place, figure),
-        Value::Single(_) => wrong_sort(place),
+        Value::Single(_) => Err(Refusal::WrongSort(place)),
         Value::Missing => missing_code(row, place),
     }
 }
 
-fn encode_single(row: Row, place: u64, value: Value) -> Encoded
+fn encode_single(row: Row, place: u64, value: Value) -> Result<u64, Refusal>
     requires { Sound row × (row.rule ≡ Rule.Single) }
-    ensures { encoded_said result ≡ encode_of row place value }
+    ensures { result ≡ encode_of row place value }
 {
     match value {
-        Value::Whole(_) => wrong_sort(place),
+        Value::Whole(_) => Err(Refusal::WrongSort(place)),
         Value::Single(x) => single_bits(place, x),
         Value::Missing => missing_code(row, place),
     }
@@ -221,9 +220,9 @@ fn encode_single(row: Row, place: u64, value: Value) -> Encoded
 // The code of a value, for any i64 or f32. Else 9 if the row takes no value of its
 // sort, 10 if it has no code for it, at the place that the call passes. Matches the
 // rule before the value: if the row is a constant, the compiler drops the other rules.
-pub fn encode_by(row: Row, place: u64, value: Value) -> Encoded
+pub fn encode_by(row: Row, place: u64, value: Value) -> Result<u64, Refusal>
     requires { Sound row }
-    ensures { encoded_said result ≡ encode_of row place value }
+    ensures { result ≡ encode_of row place value }
 {
     let rule = row.rule;
     match rule {

@@ -59,32 +59,3 @@ pub struct Row {
     pub rule: Rule,
     pub missing: bool,
 }
-
-// The value of a code; or 5 or 6.
-#[derive(Clone, Copy)]
-pub enum Decoded {
-    Means(Value),
-    Refused(Refusal),
-}
-
-// Whether a field can hold a code, else 5 or 6; and
-// whether a pair may follow another, else 7 or 22.
-#[derive(Clone, Copy)]
-pub enum Judged {
-    Valid,
-    Refused(Refusal),
-}
-
-// The code that a value is stored at; or 9, 10 or 24.
-#[derive(Clone, Copy)]
-pub enum Encoded {
-    Code(u64),
-    Refused(Refusal),
-}
-
-// A Single in V/V as the nearest nV/V, or that it is outside −2 to 2 V/V.
-#[derive(Clone, Copy)]
-pub enum Rounded {
-    To(i64),
-    Outside,
-}

@@ -1,12 +1,10 @@
 // Document 02, Note 8: a Single in V/V, from its own bits, to the nearest nV/V.
 ghost use Rattle.std.specs.Prelude.{◌≡◌, cond, ◌%◌, ◌^◌, ◌≤◌};
-ghost use Rattle.std.proofs.Math.Option.{none, some};
+ghost use Rattle.std.specs.Prelude.{None, Some};
 ghost use Rattle.std.specs.Float.{binary32};
 ghost use Rattle.std.specs.Float.Ieee.{of_bits};
 ghost use Rattle.codes.specs.Singles.{outside_two, nanovolts as nanovolts_of};
-ghost use Rattle.codes.specs.Answers.{rounded_said};
 
-use crate::Rounded;
 use integers::nearest;
 
 // The nearest nV/V of the bits of a Single from −2 to 2 V/V. Below 2^−31 V/V, 0x3000_0000,
@@ -31,15 +29,15 @@ fn from_bits(bits: u32) -> i64
 // A Single from −2 to 2 V/V as the nearest nV/V, halves upward, also below
 // 0. Both ends are inside; infinities and NaN are outside. Without the
 // sign bit, patterns are ordered as their values, and 2 is 0x4000_0000.
-pub fn nanovolts(x: f32) -> Rounded
-    ensures { rounded_said result ≡ cond (outside_two x) none (some (nanovolts_of x)) }
+pub fn nanovolts(x: f32) -> Option<i64>
+    ensures { result ≡ cond (outside_two x) None (Some (nanovolts_of x)) }
 {
     if x != x {
-        return Rounded::Outside;
+        return None;
     }
     let bits = f32::to_bits(x);
     if 0x4000_0000 < bits % 0x8000_0000 {
-        return Rounded::Outside;
+        return None;
     }
-    Rounded::To(from_bits(bits))
+    Some(from_bits(bits))
 }

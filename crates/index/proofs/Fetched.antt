@@ -1,7 +1,7 @@
 -- Laws of a field fetched through the index of its own image: entries
 -- read back as written, and an entry determines the field's row.
-use Rattle.index.proofs.Names.{◌≡◌, refl, sym, ap, ap₂, ◌∙◌, Bool, List, [], ◌∷◌, ◌++◌, inl, inr, ℕ, zero, suc, ◌+◌, ◌-◌, ◌*◌, ◌/◌, ◌%◌, ◌≤◌, ◌<◌, arith, dec_lt, length, get_or, length-append, eq-eqb, le-ltb, good}
-use Rattle.index.proofs.Names.{◌>>◌, ◌>>=◌, refuse◌if◌, outside_table, Sizes, number, field_at, stream_bits, stream_number, sizes-chip, Row, Template, Bridge, Resistance, Mark, Cal, Layout, decode, bridge_end}
+use Rattle.index.proofs.Names.{◌≡◌, refl, sym, ap, ap₂, ◌∙◌, Bool, List, [], ◌∷◌, ◌++◌, inl, inr, ℕ, zero, suc, ◌+◌, ◌-◌, ◌*◌, ◌/◌, ◌%◌, ◌≤◌, ◌<◌, arith, dec_lt, length, get_or, length-append, eq-eqb, le-ltb, Ok}
+use Rattle.index.proofs.Names.{◌>>◌, ◌>>=◌, refuse◌if◌, OutsideTable, Sizes, number, field_at, stream_bits, stream_number, sizes-chip, Row, Template, Bridge, Resistance, Mark, Cal, Layout, decode, bridge_end}
 use Rattle.index.proofs.Names.{resistance_end, Line, chosen, basic, template33, template32, template_lines, number_of, lines_of, last_field, line_of, row_of, no_line, Stream, Contents, stream_in, contents, field, layout_of}
 use Rattle.index.proofs.Names.{field_place, Holding, number-stands, Accepted, contents-accepted, Valid, field-stands, read_field, accepted-reads, Entry, entry, entries, entry_bytes, taken_as, template_at, entry_at}
 use Rattle.index.proofs.Names.{row_of_length, bits_at, fetch_in, fetch, entry_of}
@@ -32,7 +32,7 @@ entry-back (e ∷ es) rest (suc i) none h small =
     ∙ entry-back es rest i none (omega arith) small
 
 -- The entries of an accepted image read back.
-pub read_back : (kind : ℕ) (image rest : List ℕ) (c : Contents) → contents kind image ≡ good c → (i : ℕ) → i < length (entries c) →
+pub read_back : (kind : ℕ) (image rest : List ℕ) (c : Contents) → contents kind image ≡ Ok c → (i : ℕ) → i < length (entries c) →
     entry_at (entry_bytes (entries c) ++ rest) i ≡ entry_of (layout_of c) i
 read_back kind image rest c e i h =
     let a = contents-accepted kind image c e in
@@ -46,7 +46,7 @@ read_back kind image rest c e i h =
 
 -- A line's row at any choice is the first of its rows that has its length.
 ByLength : Line → Type 0
-ByLength l = (at p : ℕ) → row_of_length l (entry at (l.row_at p).width) ≡ good (l.row_at p)
+ByLength l = (at p : ℕ) → row_of_length l (entry at (l.row_at p).width) ≡ Ok (l.row_at p)
 
 Tolds : List Line → Type 0
 Tolds [] = Unit {0}
@@ -86,7 +86,7 @@ told_at [] h i = one _ _ _
 told_at (l ∷ lines) h zero = h.0
 told_at (l ∷ lines) h (suc i) = told_at lines h.1 i
 
-row_told : (layout : Layout) (f at : ℕ) → row_of_length (line_of layout.template f) (entry at (row_of layout f).width) ≡ good (row_of layout f)
+row_told : (layout : Layout) (f at : ℕ) → row_of_length (line_of layout.template f) (entry at (row_of layout f).width) ≡ Ok (row_of layout f)
 unfolding ByLength
 row_told layout f at = told_at (lines_of layout.template) (told-lines layout.template) (f - 1) at layout.precision
 
@@ -101,7 +101,7 @@ template-told : {s : Stream} {c : Contents} → Holding s c → template_at s.nu
 unfolding template_at
 template-told {c = c} h = ap taken_as (number-stands h) ∙ number-told c.template
 
-module _ (kind : ℕ) (image made : List ℕ) (c : Contents) (e : contents kind image ≡ good c) (rest : List ℕ) (is : made ≡ entry_bytes (entries c) ++ rest) where
+module _ (kind : ℕ) (image made : List ℕ) (c : Contents) (e : contents kind image ≡ Ok c) (rest : List ℕ) (is : made ≡ entry_bytes (entries c) ++ rest) where
   accepted : Accepted kind image c
   accepted = contents-accepted kind image c e
 
@@ -129,9 +129,9 @@ module _ (kind : ℕ) (image made : List ℕ) (c : Contents) (e : contents kind 
       bits_at z image row (entry at row.width) ≡ decode row at code
   unfolding bits_at
   stands_here row at code inside h =
-      ap₂ (λ (b : Bool) (k : ℕ). (refuse outside_table at if b) >> decode row at k) (le-ltb (stream_bits z) (at + row.width) inside) h
+      ap₂ (λ (b : Bool) (k : ℕ). (refuse OutsideTable at if b) >> decode row at k) (le-ltb (stream_bits z) (at + row.width) inside) h
 
-  fetched-field : (f : ℕ) → 1 ≤ f → f ≤ last_field c.template → fetch_in z image made f ≡ good (field c f).value
+  fetched-field : (f : ℕ) → 1 ≤ f → f ≤ last_field c.template → fetch_in z image made f ≡ Ok (field c f).value
   fetched-field f lo hi =
       let layout : Layout = layout_of c in
       let row : Row = row_of layout f in

@@ -1,5 +1,5 @@
 -- Laws of the loop over the entries of a template's own fields: its state, and one turn.
-use Rattle.index.proofs.Names.{◌≡◌, refl, sym, ap, ◌∙◌, List, ℕ, ◌+◌, ◌*◌, ◌≤◌, ◌<◌, arith, length, Row, Cursor, Passed, passed_over, Layout, basic, lines_of, last_field, bits_before, row_of, place-few, basic-most}
+use Rattle.index.proofs.Names.{◌≡◌, refl, sym, ap, ◌∙◌, List, ℕ, ◌+◌, ◌*◌, ◌≤◌, ◌<◌, arith, length, Row, Cursor, Layout, basic, lines_of, last_field, bits_before, row_of, place-few, basic-most}
 use Rattle.index.proofs.Names.{entry, entry_bytes, laid, first_entries, [], ◌∷◌, ◌^◌}
 use Rattle.index.proofs.Laying.{laid-length, first_more}
 use Rattle.index.proofs.EntryLaws.{field_next, own-entry, own_first}
@@ -34,12 +34,12 @@ module _ (layout : Layout) {before : List ℕ} where
       own-few = omega (arith, h.place, field_next layout i (omega arith) r, place-few layout (i + 1))
 
       -- One more entry is written.
-      pub own-next : {passed : Passed} {after : List ℕ} → 4 * i + 4 ≤ length before → passed ≡ passed_over cursor row.width →
-          after ≡ laid buffer (4 * i) (entry_bytes (entry passed.field.at row.width ∷ [])) → JudgedUpTo layout before (i + 1) passed.next after
-      own-next {passed} inside p step = record {
+      pub own-next : {next : Cursor} {after : List ℕ} → 4 * i + 4 ≤ length before → next.at ≡ cursor.at + row.width →
+          after ≡ laid buffer (4 * i) (entry_bytes (entry cursor.at row.width ∷ [])) → JudgedUpTo layout before (i + 1) next after
+      own-next {next} inside at step = record {
         low = omega (arith, h.low);
         high = omega arith;
-        long = ap length step ∙ laid-length buffer (4 * i) (entry_bytes (entry passed.field.at row.width ∷ [])) (omega (arith, h.long)) ∙ h.long;
-        place = omega (arith, ap (λ (x : Passed). x.next.at) p, h.place, field_next layout i (omega arith) r);
-        is = first_more layout before i (omega arith) h.is (own-entry layout i h.low (omega arith) r (ap (λ (x : Passed). x.field.at) p ∙ h.place)) step;
+        long = ap length step ∙ laid-length buffer (4 * i) (entry_bytes (entry cursor.at row.width ∷ [])) (omega (arith, h.long)) ∙ h.long;
+        place = omega (arith, at, h.place, field_next layout i (omega arith) r);
+        is = first_more layout before i (omega arith) h.is (own-entry layout i h.low (omega arith) r h.place) step;
       }

@@ -1,7 +1,7 @@
 -- Document 02, Notes 2 and 7: an index beside the image, and a field fetched through it.
 use Rattle.std.specs.Prelude.{◌||◌, cond, List, [], ◌∷◌, ◌++◌, map, ℕ, ◌+◌, ◌-◌, ◌*◌, eqb, ltb, length, get_or, drop}
-use Rattle.refusal.specs.Outcome.{Outcome, good, refused, ◌>>◌, ◌>>=◌, refuse◌if◌}
-use Rattle.refusal.specs.Rows.{outside_table, no_such, short_index}
+use Rattle.refusal.specs.Outcome.{Outcome, Ok, Err, ◌>>◌, ◌>>=◌, refuse◌if◌}
+use Rattle.refusal.specs.declared.Refusal.TheVariants.{OutsideTable, NoSuch, ShortIndex}
 use Rattle.memory.specs.declared.Sizes.{Sizes}
 use Rattle.memory.specs.Bits.{number, bytes_of, field_at}
 use Rattle.memory.specs.Image.{image_sizes, sums, stream_bits, stream_number}
@@ -43,8 +43,8 @@ unfoldable pub index : ℕ → List ℕ → List ℕ → Outcome (List ℕ)
 index kind image buffer = do
   c ← contents kind image
   let bytes = entry_bytes (entries c)
-  refuse short_index (length bytes) if ltb (length buffer) (length bytes)
-  good (bytes ++ drop (length bytes) buffer)
+  refuse ShortIndex (length bytes) if ltb (length buffer) (length bytes)
+  Ok (bytes ++ drop (length bytes) buffer)
 
 -- ---- a fetch
 
@@ -66,8 +66,8 @@ entry_at index i =
 
 -- The first row that is as long as an entry; 5 with the offset if there is none.
 abbrev pub of_length : Entry → List Row → Outcome Row
-of_length e [] = refused (outside_table e.offset)
-of_length e (row ∷ rows) = cond (eqb row.width e.length) (good row) (of_length e rows)
+of_length e [] = Err (OutsideTable e.offset)
+of_length e (row ∷ rows) = cond (eqb row.width e.length) (Ok row) (of_length e rows)
 
 -- The codes of a field that sets widths, which has two bits.
 abbrev pub choices : List ℕ
@@ -82,7 +82,7 @@ row_of_length line e = of_length e (map line.row_at choices)
 -- offset. Before that 5 if the entry ends past the stream.
 unfoldable pub bits_at : Sizes → List ℕ → Row → Entry → Outcome Value
 bits_at z image row e = do
-  refuse outside_table e.offset if ltb (stream_bits z) (e.offset + e.length)
+  refuse OutsideTable e.offset if ltb (stream_bits z) (e.offset + e.length)
   decode row e.offset (field_at (stream_number z image) e.offset e.length)
 
 -- Order: 8, then the index: 18 if it can't hold an entry for
@@ -90,8 +90,8 @@ bits_at z image row e = do
 unfoldable pub fetch_in : Sizes → List ℕ → List ℕ → ℕ → Outcome Value
 fetch_in z image index f =
     let template = template_at (stream_number z image) in do
-      refuse no_such f if eqb f 0 || ltb (last_field template) f
-      refuse short_index (4 * last_field template) if ltb (length index) (4 * last_field template)
+      refuse NoSuch f if eqb f 0 || ltb (last_field template) f
+      refuse ShortIndex (4 * last_field template) if ltb (length index) (4 * last_field template)
       row ← row_of_length (line_of template f) (entry_at index (f - 1))
       bits_at z image row (entry_at index (f - 1))
 

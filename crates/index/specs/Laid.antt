@@ -1,14 +1,10 @@
 -- Only inner contracts need this: bytes written into a buffer, and
 -- the entries of an accepted sheet by the places of its layout.
 use Rattle.std.specs.Prelude.{cond, List, [], ◌∷◌, ◌++◌, ℕ, zero, suc, ◌+◌, ◌-◌, ltb, length, take, drop}
-use Rattle.refusal.specs.Outcome.{Outcome, good, refused}
-use Rattle.codes.specs.declared.Row.{Row}
 use Rattle.templates.specs.declared.Layout.{Layout}
 use Rattle.templates.specs.Lines.{last_field, row_of}
 use Rattle.layout.specs.Places.{field_place, pair_bits, pair_place}
 use Rattle.index.specs.declared.Entry.{Entry}
-use Rattle.index.specs.declared.fetching.RowAnswer.{RowAnswer}
-use Rattle.index.specs.declared.fetching.RowAnswer.TheVariants.{Is, Refused}
 use Rattle.index.specs.Index.{entry}
 
 -- The buffer with bytes at an offset, all else unchanged.
@@ -25,7 +21,3 @@ entry_of layout i =
 abbrev pub first_entries : Layout → ℕ → List Entry
 first_entries layout zero = []
 first_entries layout (suc n) = first_entries layout n ++ (entry_of layout n ∷ [])
-
-abbrev pub row_said : RowAnswer → Outcome Row
-row_said (Is row) = good row
-row_said (Refused r) = refused r

@@ -6,26 +6,14 @@ ghost use Rattle.index.specs.Laid.{laid};
 
 use crate::Entry;
 
-fn wide(x: u8) -> u64
-    ensures { (result ≡ x) × (result < 256) }
-{
-    x as u64
-}
-
-// The lowest byte of a number.
-fn byte(word: u64) -> u8
-    ensures { result ≡ word % 256 }
-{
-    (word & 0xff) as u8
-}
-
 // Writes a number into the two bytes from byte `at` on.
 fn put_two(index: &mut [u8], at: usize, word: u64)
     requires { at + 2 ≤ length index.old }
     ensures { index.new ≡ laid index.old at (bytes_of 2 word) }
 {
-    index[at] = byte(word);
-    index[at + 1] = byte(word >> 8);
+    let [low, high] = ((word & 0xffff) as u16).to_le_bytes();
+    index[at] = low;
+    index[at + 1] = high;
 }
 
 // Writes an entry into the 4 bytes from byte `at` on.
@@ -42,7 +30,7 @@ fn two(index: &[u8], at: usize) -> u64
     requires { at + 2 ≤ length index.now }
     ensures { result ≡ number (get_or index.now at 0 ∷ get_or index.now (at + 1) 0 ∷ []) }
 {
-    wide(index[at]) | (wide(index[at + 1]) << 8)
+    u64::from(u16::from_le_bytes([index[at], index[at + 1]]))
 }
 
 // Entry i, counted from 0.

@@ -5,24 +5,14 @@ ghost use Rattle.memory.specs.Image.{stream_number};
 ghost use Rattle.memory.specs.Answers.{WholeImage};
 ghost use Rattle.templates.specs.Lines.{last_field, line_of};
 ghost use Rattle.codes.specs.Stored.{Sound};
-ghost use Rattle.sheet.specs.Check.{field_said};
 ghost use Rattle.index.specs.Index.{taken_as, template_at, row_of_length, bits_at, fetch_in, fetch as fetch_of};
-ghost use Rattle.index.specs.Laid.{row_said};
 
 use crate::{Entry, entries};
-use codes::{Decoded, Row};
-use memory::{Sizes, SizesAnswer, Sums};
+use codes::{Row, Value};
+use memory::Sizes;
 use refusal::Refusal;
-use sheet::FieldAnswer;
-use stream::{Cursor, Taken};
+use stream::Cursor;
 use templates::{Layout, Template};
-
-// The row that decodes a field, or 5.
-#[derive(Clone, Copy)]
-enum RowAnswer {
-    Is(Row),
-    Refused(Refusal),
-}
 
 // The most codes of a field that sets widths.
 const CHOICES: u64 = 4;
@@ -31,10 +21,7 @@ const CHOICES: u64 = 4;
 fn taken_as(number: u64) -> Template
     ensures { result ≡ taken_as number }
 {
-    if number == templates::template_number(Template::Resistance) {
-        return Template::Resistance;
-    }
-    Template::Bridge
+    templates::template_of(number).unwrap_or(Template::Bridge)
 }
 
 // The template whose fields are fetched, by the first
@@ -46,72 +33,62 @@ fn template_at(sizes: Sizes, image: &[u8]) -> Template
     let cursor = Cursor {
         at: layout::FIRST_NUMBER,
     };
-    match cursor.take(sizes, image, layout::NUMBER_BITS) {
-        Taken::Refused(_) => Template::Bridge,
-        Taken::Field(number, _) => taken_as(number),
-    }
+    let Ok((number, _)) = cursor.take(sizes, image, layout::NUMBER_BITS) else {
+        return Template::Bridge;
+    };
+    taken_as(number)
 }
 
 // The row of a field that is as long as its entry; 5 at the offset if there is none.
-fn row_of_length(template: Template, field: u64, entry: Entry) -> RowAnswer
+fn row_of_length(template: Template, field: u64, entry: Entry) -> Result<Row, Refusal>
     requires { (1 ≤ field) × (field ≤ last_field template) }
-    ensures { row_said result ≡ row_of_length (line_of template field) entry }
+    ensures { result ≡ row_of_length (line_of template field) entry }
 {
-    let mut precision: u64 = 0;
-    while precision < CHOICES {
+    for precision in 0..CHOICES {
         let layout = Layout {
             template,
             precision,
         };
         let row = templates::row_of(layout, field);
         if row.width == entry.length {
-            return RowAnswer::Is(row);
+            return Ok(row);
         }
-        precision += 1;
     }
-    RowAnswer::Refused(refusal::outside_table(entry.offset))
+    Err(Refusal::OutsideTable(entry.offset))
 }
 
 // The bits at an entry, as its row decodes them: 5 at
 // the offset if it ends past the stream, then 5 or 6.
-fn bits_at(sizes: Sizes, image: &[u8], row: Row, entry: Entry) -> FieldAnswer
+fn bits_at(sizes: Sizes, image: &[u8], row: Row, entry: Entry) -> Result<Value, Refusal>
     requires { WholeImage sizes image.now × Sound row × (row.width ≡ entry.length) }
-    ensures { field_said result ≡ bits_at sizes image.now row entry }
+    ensures { result ≡ bits_at sizes image.now row entry }
 {
     let offset = entry.offset;
     let cursor = Cursor {
         at: offset as usize,
     };
-    match cursor.take(sizes, image, entry.length as usize) {
-        Taken::Refused(_) => FieldAnswer::Refused(refusal::outside_table(offset)),
-        Taken::Field(code, _) => match codes::decode(row, offset, code) {
-            Decoded::Refused(r) => FieldAnswer::Refused(r),
-            Decoded::Means(value) => FieldAnswer::Holds(value),
-        },
-    }
+    let Ok((code, _)) = cursor.take(sizes, image, entry.length as usize) else {
+        return Err(Refusal::OutsideTable(offset));
+    };
+    codes::decode(row, offset, code)
 }
 
 // A field of an image whose page sums are right: 8, then 18, then 5 and 6.
-fn fetch_in(sizes: Sizes, image: &[u8], index: &[u8], field: u64) -> FieldAnswer
+fn fetch_in(sizes: Sizes, image: &[u8], index: &[u8], field: u64) -> Result<Value, Refusal>
     requires { WholeImage sizes image.now × (1 ≤ sizes.pages) }
-    ensures { field_said result ≡ fetch_in sizes image.now index.now field }
+    ensures { result ≡ fetch_in sizes image.now index.now field }
 {
     let template = template_at(sizes, image);
     let last = templates::last_field(template);
-    if field < 1 {
-        return FieldAnswer::Refused(refusal::no_such(field));
-    }
-    if last < field {
-        return FieldAnswer::Refused(refusal::no_such(field));
+    if field < 1 || last < field {
+        return Err(Refusal::NoSuch(field));
     }
     if (index.len() as u64) < 4 * last {
-        return FieldAnswer::Refused(refusal::short_index(4 * last));
+        return Err(Refusal::ShortIndex(4 * last));
     }
     let entry = entries::entry_at(index, (field - 1) as usize);
-    match row_of_length(template, field, entry) {
-        RowAnswer::Refused(r) => FieldAnswer::Refused(r),
-        RowAnswer::Is(row) => bits_at(sizes, image, row, entry),
-    }
+    let row = row_of_length(template, field, entry)?;
+    bits_at(sizes, image, row, entry)
 }
 
 // The value of a field, counted from 1, at the place that an
@@ -121,15 +98,10 @@ fn fetch_in(sizes: Sizes, image: &[u8], index: &[u8], field: u64) -> FieldAnswer
 // - 18 if the index can't hold an entry for each field;
 // - 5 at the entry's offset if the field can't have its length or would end past the stream;
 // - then 5 or 6 for the field's bits.
-pub fn fetch(kind: u8, image: &[u8], index: &[u8], field: u64) -> FieldAnswer
-    ensures { field_said result ≡ fetch_of kind image.now index.now field }
+pub fn fetch(kind: u8, image: &[u8], index: &[u8], field: u64) -> Result<Value, Refusal>
+    ensures { result ≡ fetch_of kind image.now index.now field }
 {
-    match memory::image_sizes(kind, image.len()) {
-        SizesAnswer::Refused(r) => FieldAnswer::Refused(r),
-        SizesAnswer::Are(sizes) => match memory::check_sums(sizes, image) {
-            Sums::Blank => FieldAnswer::Refused(refusal::blank_chip()),
-            Sums::Wrong(page) => FieldAnswer::Refused(refusal::wrong_sum(page as u64)),
-            Sums::Right => fetch_in(sizes, image, index, field),
-        },
-    }
+    let sizes = memory::image_sizes(kind, image.len())?;
+    memory::check_sums(sizes, image)?;
+    fetch_in(sizes, image, index, field)
 }

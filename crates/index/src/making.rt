@@ -1,17 +1,35 @@
 // An index made in the caller's buffer.
-ghost use Rattle.std.specs.Prelude.{◌≡◌, ◌*◌, ◌^◌, ◌≤◌, ◌<◌, length};
+ghost use Rattle.std.specs.Prelude.{◌≡◌, [], ◌∷◌, ℕ, ◌+◌, ◌*◌, ◌^◌, ◌≤◌, ◌<◌, length};
 ghost use Rattle.refusal.specs.Written.{written_said, afterwards};
-ghost use Rattle.templates.specs.Lines.{basic, last_field};
+ghost use Rattle.templates.specs.declared.Template.{Template};
+ghost use Rattle.templates.specs.Lines.{basic, last_field, row_of};
 ghost use Rattle.layout.specs.Places.{behind_fields};
 ghost use Rattle.sheet.specs.Walk.{layout_at};
-ghost use Rattle.index.specs.Index.{entry_bytes, index as index_of};
+ghost use Rattle.index.specs.Index.{entry, entry_bytes, index as index_of};
 ghost use Rattle.index.specs.Laid.{laid, first_entries};
 
 use crate::{Entry, entries};
-use refusal::Written;
-use sheet::OpenedAnswer;
+use codes::Row;
+use refusal::Refusal;
 use stream::Cursor;
 use templates::{Layout, Template};
+
+// Writes entry i, of the field of `width` bits at a cursor: the cursor after the field.
+fn write_entry(buffer: &mut [u8], i: usize, cursor: Cursor, width: u64) -> Cursor
+    requires { (4 * i + 4 ≤ length buffer.old) × (cursor.at + width < 2 ^ 64) }
+    ensures { (buffer.new ≡ laid buffer.old (4 * i) (entry_bytes (entry cursor.at width ∷ []))) × (result.at ≡ cursor.at + width) }
+{
+    let passed = cursor.over(width as usize);
+    entries::put_entry(
+        buffer,
+        4 * i,
+        Entry {
+            offset: passed.field.at as u64,
+            length: width,
+        },
+    );
+    passed.next
+}
 
 // Writes the entries of Basic, equal in every layout. An entry begins where
 // the one before it ends. Basic and each template have their own loop, with
@@ -22,76 +40,81 @@ fn write_basic(buffer: &mut [u8])
 {
     let last = templates::basic_fields() as usize;
     let mut cursor = Cursor::start();
-    let mut i: usize = 0;
-    while i < last {
+    for i in 0..last {
         let row = templates::basic_row(i as u64 + 1);
-        let passed = cursor.over(row.width as usize);
-        entries::put_entry(
-            buffer,
-            4 * i,
-            Entry {
-                offset: passed.field.at as u64,
-                length: row.width,
-            },
-        );
-        cursor = passed.next;
-        i += 1;
+        cursor = write_entry(buffer, i, cursor, row.width);
     }
 }
 
-// Writes the entries of template 33 after those of Basic.
-fn write_bridge(buffer: &mut [u8], precision: u64)
-    requires { let layout = layout_at Template.Bridge precision in
-        (4 * last_field Template.Bridge ≤ length buffer.old) × (buffer.old ≡ laid buffer.old 0 (entry_bytes (first_entries layout (length basic)))) }
-    ensures { let layout = layout_at Template.Bridge precision in
-        buffer.new ≡ laid buffer.old 0 (entry_bytes (first_entries layout (last_field Template.Bridge))) }
-{
-    let last = templates::last_field(Template::Bridge) as usize;
-    let mut cursor = Cursor {
-        at: layout::OWN_FIELDS,
-    };
-    let mut i = templates::basic_fields() as usize;
-    while i < last {
-        let row = templates::bridge_row(precision, i as u64 + 1);
-        let passed = cursor.over(row.width as usize);
-        entries::put_entry(
-            buffer,
-            4 * i,
-            Entry {
-                offset: passed.field.at as u64,
-                length: row.width,
-            },
-        );
-        cursor = passed.next;
-        i += 1;
+// A template's own fields. Each template is a type, so that its rows are constants in its loop.
+trait OwnFields: Copy {
+    ghost template: { Template };
+
+    ghost precision: { Self → ℕ };
+
+    // The number of the last field.
+    fn last() -> u64
+        ensures { result ≡ last_field template };
+
+    // The row of a field, counted from 1.
+    fn row(self, field: u64) -> Row
+        requires { (length basic < field) × (field ≤ last_field template) }
+        ensures { result ≡ row_of (layout_at template (precision self)) field };
+}
+
+#[derive(Clone, Copy)]
+struct Bridge {
+    precision: u64,
+}
+
+impl OwnFields for Bridge {
+    ghost template = { Template.Bridge };
+
+    ghost precision = { λ fields. fields.precision };
+
+    fn last() -> u64 {
+        templates::last_field(Template::Bridge)
+    }
+
+    fn row(self, field: u64) -> Row {
+        templates::bridge_row(self.precision, field)
     }
 }
 
-// Writes the entries of template 32 after those of Basic.
-fn write_resistance(buffer: &mut [u8], precision: u64)
-    requires { let layout = layout_at Template.Resistance precision in
-        (4 * last_field Template.Resistance ≤ length buffer.old) × (buffer.old ≡ laid buffer.old 0 (entry_bytes (first_entries layout (length basic)))) }
-    ensures { let layout = layout_at Template.Resistance precision in
-        buffer.new ≡ laid buffer.old 0 (entry_bytes (first_entries layout (last_field Template.Resistance))) }
+#[derive(Clone, Copy)]
+struct Resistance {
+    precision: u64,
+}
+
+impl OwnFields for Resistance {
+    ghost template = { Template.Resistance };
+
+    ghost precision = { λ fields. fields.precision };
+
+    fn last() -> u64 {
+        templates::last_field(Template::Resistance)
+    }
+
+    fn row(self, field: u64) -> Row {
+        templates::resistance_row(self.precision, field)
+    }
+}
+
+// Writes the entries of a template's own fields after those of Basic.
+fn write_fields<F: OwnFields>(buffer: &mut [u8], fields: F)
+    requires { let layout = layout_at F.template (F.precision fields) in
+        (4 * last_field F.template ≤ length buffer.old) × (buffer.old ≡ laid buffer.old 0 (entry_bytes (first_entries layout (length basic)))) }
+    ensures { let layout = layout_at F.template (F.precision fields) in
+        buffer.new ≡ laid buffer.old 0 (entry_bytes (first_entries layout (last_field F.template))) }
 {
-    let last = templates::last_field(Template::Resistance) as usize;
+    let first = templates::basic_fields() as usize;
+    let last = F::last() as usize;
     let mut cursor = Cursor {
         at: layout::OWN_FIELDS,
     };
-    let mut i = templates::basic_fields() as usize;
-    while i < last {
-        let row = templates::resistance_row(precision, i as u64 + 1);
-        let passed = cursor.over(row.width as usize);
-        entries::put_entry(
-            buffer,
-            4 * i,
-            Entry {
-                offset: passed.field.at as u64,
-                length: row.width,
-            },
-        );
-        cursor = passed.next;
-        i += 1;
+    for i in first..last {
+        let row = fields.row(i as u64 + 1);
+        cursor = write_entry(buffer, i, cursor, row.width);
     }
 }
 
@@ -100,9 +123,10 @@ fn write_own(layout: Layout, buffer: &mut [u8])
     ensures { buffer.new ≡ laid buffer.old 0 (entry_bytes (first_entries layout (last_field layout.template))) }
 {
     let template = layout.template;
+    let precision = layout.precision;
     match template {
-        Template::Bridge => write_bridge(buffer, layout.precision),
-        Template::Resistance => write_resistance(buffer, layout.precision),
+        Template::Bridge => write_fields(buffer, Bridge { precision }),
+        Template::Resistance => write_fields(buffer, Resistance { precision }),
     }
 }
 
@@ -113,22 +137,12 @@ fn write_points(layout: Layout, behind: Cursor, buffer: &mut [u8], count: usize)
     ensures { buffer.new ≡ laid buffer.old 0 (entry_bytes (first_entries layout count)) }
 {
     let template = layout.template;
+    let first = templates::last_field(template) as usize;
     let mut cursor = Cursor {
         at: layout::locate_pair(behind.at, 0),
     };
-    let mut i = templates::last_field(template) as usize;
-    while i < count {
-        let passed = cursor.over(layout::PAIR_BITS);
-        entries::put_entry(
-            buffer,
-            4 * i,
-            Entry {
-                offset: passed.field.at as u64,
-                length: layout::PAIR_BITS as u64,
-            },
-        );
-        cursor = passed.next;
-        i += 1;
+    for i in first..count {
+        cursor = write_entry(buffer, i, cursor, layout::PAIR_BITS as u64);
     }
 }
 
@@ -146,22 +160,18 @@ fn write_entries(layout: Layout, behind: Cursor, buffer: &mut [u8], count: usize
 // Writes the index of an image: an entry for each field in order, then one for
 // each calibration point; "bytes beyond them stay". Else the check's refusal, or
 // 18 with the bytes needed if the buffer has fewer. A refusal writes nothing.
-pub fn make_index(kind: u8, image: &[u8], buffer: &mut [u8]) -> Written
+pub fn make_index(kind: u8, image: &[u8], buffer: &mut [u8]) -> Result<(), Refusal>
     ensures { let outcome = index_of kind image.now buffer.old in
         (written_said result buffer.new ≡ outcome) × (buffer.new ≡ afterwards buffer.old outcome) }
 {
-    match sheet::open(kind, image) {
-        OpenedAnswer::Refused(r) => Written::Refused(r),
-        OpenedAnswer::Sheet(opened) => {
-            let layout = opened.layout;
-            let template = layout.template;
-            let summary = opened.summary;
-            let count = templates::last_field(template) + summary.points;
-            if (buffer.len() as u64) < 4 * count {
-                return Written::Refused(refusal::short_index(4 * count));
-            }
-            write_entries(layout, opened.behind, buffer, count as usize);
-            Written::Done
-        }
+    let opened = sheet::open(kind, image)?;
+    let layout = opened.layout;
+    let template = layout.template;
+    let summary = opened.summary;
+    let count = templates::last_field(template) + summary.points;
+    if (buffer.len() as u64) < 4 * count {
+        return Err(Refusal::ShortIndex(4 * count));
     }
+    write_entries(layout, opened.behind, buffer, count as usize);
+    Ok(())
 }

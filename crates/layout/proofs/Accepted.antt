@@ -1,6 +1,6 @@
 -- Laws of an accepted check: the image's sizes and sums, the
 -- sheet that the format allows, and that its stream holds it.
-use Rattle.layout.proofs.Names.{◌≡◌, sym, ap, ◌∙◌, subst, List, [], ◌∷◌, ◌++◌, map, append_assoc, ℕ, ◌+◌, ◌^◌, ◌≤◌, ◌<◌, ◌%◌, arith, length, Outcome, good, good-same, good-bind, good-then, Sizes, bit, field_at}
+use Rattle.layout.proofs.Names.{◌≡◌, sym, ap, ◌∙◌, subst, List, [], ◌∷◌, ◌++◌, map, append_assoc, ℕ, ◌+◌, ◌^◌, ◌≤◌, ◌<◌, ◌%◌, arith, length, Outcome, Ok, good-same, good-bind, good-then, Sizes, bit, field_at}
 use Rattle.layout.proofs.Names.{image_sizes, sums, stream_bits, stream_number, image_of, Piece, piece, needed, sizes-chip, field-bit, image-length, image-number-lt, image-passes, Fit, Holds, needed-append}
 use Rattle.layout.proofs.Names.{holds-piece, number_of, Stream, Parsed, parse, Contents, sheet_of, stream_in, contents, first_number}
 use Rattle.refusal.specs.Outcome.{◌>>=◌, ◌>>◌}
@@ -19,7 +19,7 @@ pub record Holding (s : Stream) (c : Contents) : Type 0 where
 pub holding-fit : {s : Stream} {c : Contents} (h : Holding s c) → Fit (sheet_pieces h.formed)
 holding-fit {s} {c} h = parses-fit s.bits sheet_of 0 (sheet_pieces h.formed) c (sheet-parses h.formed)
 
-pub parsed-holding : (s : Stream) (x : Parsed Contents) → parse s sheet_of 0 ≡ good x → Holding s x.found
+pub parsed-holding : (s : Stream) (x : Parsed Contents) → parse s sheet_of 0 ≡ Ok x → Holding s x.found
 parsed-holding s x e =
     let w = parsed-by s sheet_of 0 x (omega arith) e in
     let (f, p) = sheet-formed s.bits w.pieces x.found w.parses in
@@ -29,10 +29,10 @@ parsed-holding s x e =
       inside = omega (arith, sheet-needed f, ap needed p, w.behind, w.inside);
     }
 
-pub holding-parsed : (s : Stream) (c : Contents) → Holding s c → parse s sheet_of 0 ≡ good (parsed c c.bits)
+pub holding-parsed : (s : Stream) (c : Contents) → Holding s c → parse s sheet_of 0 ≡ Ok (parsed c c.bits)
 holding-parsed s c h =
     parse-held s sheet_of 0 (sheet_pieces h.formed) c (sheet-parses h.formed) h.holds (omega (arith, sheet-needed h.formed, h.inside))
-    ∙ ap (λ (n : ℕ). good (parsed c n)) (omega (arith, sheet-needed h.formed))
+    ∙ ap (λ (n : ℕ). Ok (parsed c n)) (omega (arith, sheet-needed h.formed))
 
 -- The first selector is 0, at bit 64.
 pub selector-zero : {s : Stream} {c : Contents} → Holding s c → bit s.number 64 ≡ 0
@@ -58,18 +58,18 @@ number-stands {s} {c} h =
 
 pub record Accepted (kind : ℕ) (image : List ℕ) (c : Contents) : Type 0 where
   pub sizes : Sizes
-  pub sized : image_sizes kind (length image) ≡ good sizes
-  pub summed : sums sizes image ≡ good tt
+  pub sized : image_sizes kind (length image) ≡ Ok sizes
+  pub summed : sums sizes image ≡ Ok tt
   pub holding : Holding (stream_in sizes image) c
 
-pub contents-accepted : (kind : ℕ) (image : List ℕ) (c : Contents) → contents kind image ≡ good c → Accepted kind image c
+pub contents-accepted : (kind : ℕ) (image : List ℕ) (c : Contents) → contents kind image ≡ Ok c → Accepted kind image c
 unfolding contents
 contents-accepted kind image c e =
-    let read : Sizes → Outcome Contents = λ z. parse (stream_in z image) sheet_of 0 >>= λ x. good x.found in
+    let read : Sizes → Outcome Contents = λ z. parse (stream_in z image) sheet_of 0 >>= λ x. Ok x.found in
     let a = good-bind (image_sizes kind (length image)) (λ z. sums z image >> read z) c e in
     let z : Sizes = a.0 in
     let b = good-then (sums z image) (read z) c a.2 in
-    let r = good-bind (parse (stream_in z image) sheet_of 0) (λ x. good x.found) c b.1 in
+    let r = good-bind (parse (stream_in z image) sheet_of 0) (λ x. Ok x.found) c b.1 in
     record {
       sizes = z;
       sized = a.1;
@@ -77,14 +77,14 @@ contents-accepted kind image c e =
       holding = subst (Holding (stream_in z image)) (good-same r.2) (parsed-holding (stream_in z image) r.0 r.1);
     }
 
-pub accepted-contents : (kind : ℕ) (image : List ℕ) (c : Contents) → Accepted kind image c → contents kind image ≡ good c
+pub accepted-contents : (kind : ℕ) (image : List ℕ) (c : Contents) → Accepted kind image c → contents kind image ≡ Ok c
 unfolding contents
 accepted-contents kind image c h = rw (h.sized, h.summed, holding-parsed (stream_in h.sizes image) c h.holding)
 
 -- The image of a stream that holds a sheet is accepted.
 -- It is not blank, since its first selector is 0.
-pub written-contents : (kind bytes : ℕ) (z : Sizes) (N : ℕ) (c : Contents) → image_sizes kind bytes ≡ good z → N < 2 ^ stream_bits z →
-    Holding (record { bits = stream_bits z; number = N }) c → contents kind (image_of z N) ≡ good c
+pub written-contents : (kind bytes : ℕ) (z : Sizes) (N : ℕ) (c : Contents) → image_sizes kind bytes ≡ Ok z → N < 2 ^ stream_bits z →
+    Holding (record { bits = stream_bits z; number = N }) c → contents kind (image_of z N) ≡ Ok c
 written-contents kind bytes z N c sizes small holding =
     let chip = sizes-chip kind bytes z sizes in
     accepted-contents kind (image_of z N) c (record {
@@ -95,17 +95,17 @@ written-contents kind bytes z N c sizes small holding =
     })
 
 -- The image of a stream that holds a sheet is accepted, at known sizes.
-pub accepted-at : (kind : ℕ) (image : List ℕ) (c : Contents) (z : Sizes) → contents kind image ≡ good c → image_sizes kind (length image) ≡ good z →
-    (sums z image ≡ good tt) × Holding (stream_in z image) c
+pub accepted-at : (kind : ℕ) (image : List ℕ) (c : Contents) (z : Sizes) → contents kind image ≡ Ok c → image_sizes kind (length image) ≡ Ok z →
+    (sums z image ≡ Ok tt) × Holding (stream_in z image) c
 accepted-at kind image c z e hz =
     let a = contents-accepted kind image c e in
-    subst (λ u. (sums u image ≡ good tt) × Holding (stream_in u image) c) (good-same (sym a.sized ∙ hz)) (a.summed, a.holding)
+    subst (λ u. (sums u image ≡ Ok tt) × Holding (stream_in u image) c) (good-same (sym a.sized ∙ hz)) (a.summed, a.holding)
 
 -- "Bits after the end are not judged". So an image of the same kind that passes the page
 -- test, and whose stream agrees with an accepted one up to its end, has the same contents.
-pub agree : (kind : ℕ) (image other : List ℕ) (z : Sizes) (c : Contents) → image_sizes kind (length image) ≡ good z → contents kind image ≡ good c →
-    image_sizes kind (length other) ≡ good z → sums z other ≡ good tt →
-    stream_number z image % 2 ^ c.bits ≡ stream_number z other % 2 ^ c.bits → contents kind other ≡ good c
+pub agree : (kind : ℕ) (image other : List ℕ) (z : Sizes) (c : Contents) → image_sizes kind (length image) ≡ Ok z → contents kind image ≡ Ok c →
+    image_sizes kind (length other) ≡ Ok z → sums z other ≡ Ok tt →
+    stream_number z image % 2 ^ c.bits ≡ stream_number z other % 2 ^ c.bits → contents kind other ≡ Ok c
 unfolding contents
 agree kind image other z c hz e ho hs same =
     let accepted = holding-parsed (stream_in z image) c (accepted-at kind image c z e hz).1 in

@@ -1,7 +1,7 @@
 -- Laws of the calibration after the fields: what the
 -- format allows as a table or a curve, and its pieces.
-use Rattle.layout.proofs.Names.{◌≡◌, refl, sym, ap, ap₂, ◌∙◌, subst, Bool, true, false, not, cond, List, [], ◌∷◌, ◌++◌, Option, none, some, ℕ, zero, suc, ◌+◌, ◌*◌, ◌^◌, ◌≤◌, ◌<◌, arith, eqb, length, eqb-true}
-use Rattle.layout.proofs.Names.{not-false, Outcome, good, refused, wrong_block, Piece, piece, needed, needed-append, Codes, Domain, cal_domain, domain_code, domain_of, point_count, cal_point, cal_deviation, follows}
+use Rattle.layout.proofs.Names.{◌≡◌, refl, sym, ap, ap₂, ◌∙◌, subst, Bool, true, false, not, cond, List, [], ◌∷◌, ◌++◌, Option, None, Some, ℕ, zero, suc, ◌+◌, ◌*◌, ◌^◌, ◌≤◌, ◌<◌, arith, eqb, length, eqb-true}
+use Rattle.layout.proofs.Names.{not-false, Outcome, Ok, Err, WrongBlock, Piece, piece, needed, needed-append, Codes, Domain, cal_domain, domain_code, domain_of, point_count, cal_point, cal_deviation, follows}
 use Rattle.layout.proofs.Names.{plain-bounds, domain-coded, code-domained, domain-most, Format, ends, stops, ◌>>=◌, ◌>>◌, given, reject◌if◌, Found, FoundPair, Calibration, bare, table, curve, paired, codes_in}
 use Rattle.layout.proofs.Names.{field_of, selector_of, pair_of, pairs_of, table_of, nothing_passed, curve_of, block_of, block_at, calibration_of, pairs_in, segments_in, all_terms, table_bits, curve_bits, block_pieces}
 use Rattle.layout.proofs.Formats.{Parses, parses-bind, parses-halves, ends-pieces, refuse-pieces, parses-made, made-pieces, fixed-pieces}
@@ -17,12 +17,12 @@ found_pair_pieces p = piece_of p.point ∷ piece_of p.deviation ∷ []
 pub record PairAt (domain : Domain) (before : Option Codes) (at : ℕ) (p : FoundPair) : Type 0 where
   pub point : FieldAt cal_point at p.point
   pub deviation : FieldAt cal_deviation (at + 16) p.deviation
-  pub follows : follows domain before at (codes_in p) ≡ good tt
+  pub follows : follows domain before at (codes_in p) ≡ Ok tt
 
 given-pieces : {A B : Type 0} (S : ℕ) (o : Outcome A) (k : A → Format B) (at : ℕ) (ps : List Piece) (b : B) →
-    Parses S (given o >>= k) at ps b → (a : A) × (o ≡ good a) × Parses S (k a) at ps b
-given-pieces S (good a) k at ps b l = (a, refl, l)
-given-pieces S (refused r) k at ps b l = absurd l
+    Parses S (given o >>= k) at ps b → (a : A) × (o ≡ Ok a) × Parses S (k a) at ps b
+given-pieces S (Ok a) k at ps b l = (a, refl, l)
+given-pieces S (Err r) k at ps b l = absurd l
 
 -- The format after a pair's two fields.
 abbrev pub following : Domain → Option Codes → Found → Found → Format FoundPair
@@ -32,7 +32,7 @@ module _ (S : ℕ) (domain : Domain) (before : Option Codes) (at : ℕ) where
   pub pair-parses : (p : FoundPair) → PairAt domain before at p → Parses S (pair_of domain before) at (found_pair_pieces p) p
   unfolding pair_of
   pair-parses p h =
-      let f : follows domain before p.point.at (codes_in p) ≡ good tt = ap (λ (n : ℕ). follows domain before n (codes_in p)) (at-is h.point) ∙ h.follows in
+      let f : follows domain before p.point.at (codes_in p) ≡ Ok tt = ap (λ (n : ℕ). follows domain before n (codes_in p)) (at-is h.point) ∙ h.follows in
       field-parses S cal_point (λ x. field_of cal_deviation >>= following domain before x) at p.point _ p h.point
       (field-parses S cal_deviation (following domain before p.point) (at + 16) p.deviation [] p h.deviation (rw f refl))
 
@@ -59,7 +59,7 @@ found_pairs_pieces (p ∷ pairs) = found_pair_pieces p ++ found_pairs_pieces pai
 
 abbrev pub PairsAt : Domain → Option Codes → ℕ → List FoundPair → Type 0
 PairsAt domain before at [] = Unit {0}
-PairsAt domain before at (p ∷ pairs) = PairAt domain before at p × PairsAt domain (some (codes_in p)) (at + 37) pairs
+PairsAt domain before at (p ∷ pairs) = PairAt domain before at p × PairsAt domain (Some (codes_in p)) (at + 37) pairs
 
 pair-needed : (domain : Domain) (before : Option Codes) (at : ℕ) (p : FoundPair) → PairAt domain before at p → needed (found_pair_pieces p) ≡ 37
 pair-needed domain before at p h = omega (arith, width_is h.point, width_is h.deviation)
@@ -67,7 +67,7 @@ pair-needed domain before at p h = omega (arith, width_is h.point, width_is h.de
 pub pairs-needed : (domain : Domain) (before : Option Codes) (at : ℕ) (pairs : List FoundPair) → PairsAt domain before at pairs → needed (found_pairs_pieces pairs) ≡ 37 * length pairs
 pairs-needed domain before at [] h = refl
 pairs-needed domain before at (p ∷ pairs) h =
-    omega (arith, pair-needed domain before at p h.0, needed-append (found_pair_pieces p) (found_pairs_pieces pairs), pairs-needed domain (some (codes_in p)) (at + 37) pairs h.1)
+    omega (arith, pair-needed domain before at p h.0, needed-append (found_pair_pieces p) (found_pairs_pieces pairs), pairs-needed domain (Some (codes_in p)) (at + 37) pairs h.1)
 
 pub pairs-parses : (S : ℕ) (domain : Domain) (before : Option Codes) (at : ℕ) (pairs : List FoundPair) → PairsAt domain before at pairs →
     Parses S (pairs_of domain (length pairs) before) at (found_pairs_pieces pairs) pairs
@@ -76,8 +76,8 @@ pairs-parses S domain before at [] h = refl
 pairs-parses S domain before at (p ∷ pairs) h =
     let e : at + 37 ≡ at + needed (found_pair_pieces p) = omega (arith, pair-needed domain before at p h.0) in
     parses-bind S (pair_of domain before) _ at (found_pair_pieces p) (found_pairs_pieces pairs) p (p ∷ pairs) (pair-parses S domain before at p h.0)
-    (parses-made S (pairs_of domain (length pairs) (some (codes_in p))) (λ rest. p ∷ rest) _ (found_pairs_pieces pairs) pairs
-    (subst (λ (n : ℕ). Parses S (pairs_of domain (length pairs) (some (codes_in p))) n (found_pairs_pieces pairs) pairs) e (pairs-parses S domain (some (codes_in p)) (at + 37) pairs h.1)))
+    (parses-made S (pairs_of domain (length pairs) (Some (codes_in p))) (λ rest. p ∷ rest) _ (found_pairs_pieces pairs) pairs
+    (subst (λ (n : ℕ). Parses S (pairs_of domain (length pairs) (Some (codes_in p))) n (found_pairs_pieces pairs) pairs) e (pairs-parses S domain (Some (codes_in p)) (at + 37) pairs h.1)))
 
 pub record PairsPieces (domain : Domain) (n : ℕ) (before : Option Codes) (at : ℕ) (ps : List Piece) (pairs : List FoundPair) : Type 0 where
   pub count : length pairs ≡ n
@@ -91,13 +91,13 @@ pairs-pieces S domain zero before at ps pairs l =
     let (e, f) = ends-pieces S [] at ps pairs l in
     subst (PairsPieces domain 0 before at ps) f (record { count = refl; split = e; stand = tt })
 pairs-pieces S domain (suc n) before at ps pairs l =
-    let h = parses-halves S (pair_of domain before) (λ p. pairs_of domain n (some (codes_in p)) >>= λ rest. ends (p ∷ rest)) at ps pairs l in
+    let h = parses-halves S (pair_of domain before) (λ p. pairs_of domain n (Some (codes_in p)) >>= λ rest. ends (p ∷ rest)) at ps pairs l in
     let p : FoundPair = h.middle in
     let (e, f) = pair-pieces S domain before at h.first p h.front in
     let k : at + needed h.first ≡ at + 37 = omega (arith, ap needed e, pair-needed domain before at p f) in
-    let (others, g, m) = made-pieces S (pairs_of domain n (some (codes_in p))) (λ rest. p ∷ rest) _ h.second pairs h.back in
-    let r = pairs-pieces S domain n (some (codes_in p)) (at + 37) h.second others
-    (subst (λ (i : ℕ). Parses S (pairs_of domain n (some (codes_in p))) i h.second others) k m) in
+    let (others, g, m) = made-pieces S (pairs_of domain n (Some (codes_in p))) (λ rest. p ∷ rest) _ h.second pairs h.back in
+    let r = pairs-pieces S domain n (Some (codes_in p)) (at + 37) h.second others
+    (subst (λ (i : ℕ). Parses S (pairs_of domain n (Some (codes_in p))) i h.second others) k m) in
     subst (PairsPieces domain (suc n) before at ps) g (record {
       count = ap suc r.count;
       split = sym h.joined ∙ ap₂ (λ q s. q ++ s) e r.split;
@@ -116,7 +116,7 @@ calibration_pieces (curve segments) = block_pieces 41 ++ curve_pieces segments
 pub record TableAt (at : ℕ) (domain : Domain) (pairs : List FoundPair) : Type 0 where
   pub some : 1 ≤ length pairs
   pub most : length pairs ≤ 127
-  pub stand : PairsAt domain none (at + 18) pairs
+  pub stand : PairsAt domain None (at + 18) pairs
 
 abbrev pub CalibrationAt : ℕ → Calibration → Type 0
 CalibrationAt at bare = Unit {0}
@@ -135,7 +135,7 @@ calibration-needed at (table domain pairs) h = go (length pairs) refl h.some
   where
     go : (n : ℕ) → length pairs ≡ n → 1 ≤ n → needed (calibration_pieces (table domain pairs)) ≡ table_bits n + 0
     go zero f l = absurd (omega arith)
-    go (suc n) f l = omega (arith, pairs-needed domain none (at + 18) pairs h.stand)
+    go (suc n) f l = omega (arith, pairs-needed domain None (at + 18) pairs h.stand)
 
 module _ (S at : ℕ) where
   -- The pieces after the block's template number.
@@ -143,12 +143,12 @@ module _ (S at : ℕ) where
   counted_pieces domain pairs = piece 1 (domain_code domain) ∷ piece 7 (length pairs) ∷ found_pairs_pieces pairs
 
   abbrev listed : Domain → Found → Format Calibration
-  listed domain count = pairs_of domain count.code none >>= λ pairs. ends (table domain pairs)
+  listed domain count = pairs_of domain count.code None >>= λ pairs. ends (table domain pairs)
 
   abbrev counted : Found → Format Calibration
   counted x = field_of point_count >>= listed (domain_of x.code)
 
-  table-parses : (domain : Domain) (pairs : List FoundPair) → 1 ≤ length pairs → length pairs ≤ 127 → PairsAt domain none (at + 1 + 7) pairs →
+  table-parses : (domain : Domain) (pairs : List FoundPair) → 1 ≤ length pairs → length pairs ≤ 127 → PairsAt domain None (at + 1 + 7) pairs →
       Parses S table_of at (counted_pieces domain pairs) (table domain pairs)
   unfolding table_of
   table-parses domain pairs l g h =
@@ -156,7 +156,7 @@ module _ (S at : ℕ) where
       field-parses S cal_domain counted at _ _ (table domain pairs) (plain-field 1 0 1 at (domain_code domain) (omega arith) most (omega arith))
       (subst (λ (d : Domain). Parses S (field_of point_count >>= listed d) (at + 1) (piece 7 (length pairs) ∷ found_pairs_pieces pairs) (table domain pairs)) (sym (domain-coded domain))
       (field-parses S point_count (listed domain) (at + 1) _ _ (table domain pairs) (plain-field 7 1 127 (at + 1) (length pairs) l g (omega arith))
-      (parses-made S (pairs_of domain (length pairs) none) (table domain) _ (found_pairs_pieces pairs) pairs (pairs-parses S domain none (at + 1 + 7) pairs h))))
+      (parses-made S (pairs_of domain (length pairs) None) (table domain) _ (found_pairs_pieces pairs) pairs (pairs-parses S domain None (at + 1 + 7) pairs h))))
 
   record TablePieces (ps : List Piece) (c : Calibration) : Type 0 where
     domain : Domain
@@ -165,7 +165,7 @@ module _ (S at : ℕ) where
     split : ps ≡ counted_pieces domain pairs
     some : 1 ≤ length pairs
     most : length pairs ≤ 127
-    stand : PairsAt domain none (at + 1 + 7) pairs
+    stand : PairsAt domain None (at + 1 + 7) pairs
 
   table-pieces : (ps : List Piece) (c : Calibration) → Parses S table_of at ps c → TablePieces ps c
   unfolding table_of
@@ -177,8 +177,8 @@ module _ (S at : ℕ) where
       let da = plain-bounds 1 0 1 at a.first.code _ a.field.means in
       let db = plain-bounds 7 1 127 (at + 1) n _ b.field.means in
       let z : a.first.code ≡ domain_code d = sym (code-domained a.first.code da.1) in
-      let (pairs, e, m) = made-pieces S (pairs_of d n none) (table d) _ b.behind c b.parses in
-      let r = pairs-pieces S d n none (at + 1 + 7) b.behind pairs m in
+      let (pairs, e, m) = made-pieces S (pairs_of d n None) (table d) _ b.behind c b.parses in
+      let r = pairs-pieces S d n None (at + 1 + 7) b.behind pairs m in
       record {
         domain = d;
         pairs = pairs;
@@ -208,7 +208,7 @@ module _ (S at : ℕ) where
   calibration-parses (table domain pairs) h =
       let e : at + 18 ≡ at + 2 + 8 + 1 + 7 = omega arith in
       only-parses 40 (table domain pairs) _ (omega arith)
-      (table-parses S (at + 2 + 8) domain pairs h.some h.most (subst (λ (n : ℕ). PairsAt domain none n pairs) e h.stand))
+      (table-parses S (at + 2 + 8) domain pairs h.some h.most (subst (λ (n : ℕ). PairsAt domain None n pairs) e h.stand))
   calibration-parses (curve segments) h =
       let e : at + 19 ≡ at + 2 + 8 + 1 + 8 = omega arith in
       only-parses 41 (curve segments) _ (omega arith)
@@ -224,14 +224,14 @@ module _ (S at : ℕ) where
       number n e = λ i. record { width = l.0 i; code = e i }
 
       go : (t : Bool) → eqb p.code 40 ≡ t → (u : Bool) → eqb p.code 41 ≡ u →
-          Parses S (cond t table_of (cond u curve_of (stops (wrong_block at)))) (at + 2 + 8) ps c →
+          Parses S (cond t table_of (cond u curve_of (stops (WrongBlock at)))) (at + 2 + 8) ps c →
           (piece 2 0 ∷ p ∷ ps ≡ calibration_pieces c) × CalibrationAt at c
       go true e u f m =
           let t = table-pieces S (at + 2 + 8) ps c m in
           let n : at + 2 + 8 + 1 + 7 ≡ at + 18 = omega arith in
           subst (λ (d : Calibration). (piece 2 0 ∷ p ∷ ps ≡ calibration_pieces d) × CalibrationAt at d) t.is (
             ap₂ (λ x q. piece 2 0 ∷ x ∷ q) (number 40 (eqb-true p.code 40 e)) t.split,
-            record { some = t.some; most = t.most; stand = subst (λ (k : ℕ). PairsAt t.domain none k t.pairs) n t.stand },
+            record { some = t.some; most = t.most; stand = subst (λ (k : ℕ). PairsAt t.domain None k t.pairs) n t.stand },
           )
       go false e true f m =
           let t = curve-pieces S (at + 2 + 8) ps c m in
@@ -252,12 +252,12 @@ module _ (S at : ℕ) where
       selector n e = λ i. record { width = l.0 i; code = e i }
 
       go : (t : Bool) → eqb p.code 0 ≡ t →
-          Parses S (cond t (block_at at >>= after_block) (reject wrong_block at if not (eqb p.code 3) >> ends bare)) (at + 2) ps c →
+          Parses S (cond t (block_at at >>= after_block) (reject WrongBlock at if not (eqb p.code 3) >> ends bare)) (at + 2) ps c →
           (p ∷ ps ≡ calibration_pieces c ++ (piece 2 3 ∷ [])) × CalibrationAt at c
       go true e m =
           let h = parses-halves S (block_at at) after_block (at + 2) ps c m in
           let (f, k) = block-pieces h.first h.middle h.front in
-          let (rs, g, j) = fixed-pieces S 2 3 (wrong_block _) (ends h.middle) _ h.second c h.back in
+          let (rs, g, j) = fixed-pieces S 2 3 (WrongBlock _) (ends h.middle) _ h.second c h.back in
           let (z, i) = ends-pieces S h.middle 0 rs c j in
           subst (λ (d : Calibration). (p ∷ ps ≡ calibration_pieces d ++ (piece 2 3 ∷ [])) × CalibrationAt at d) i (
             ap₂ (λ q r. q ∷ r) (selector 0 (eqb-true p.code 0 e)) (sym h.joined)
@@ -265,7 +265,7 @@ module _ (S at : ℕ) where
             k,
           )
       go false e m =
-          let (t, k) = refuse-pieces S (wrong_block at) (not (eqb p.code 3)) (ends bare) (at + 2) ps c m in
+          let (t, k) = refuse-pieces S (WrongBlock at) (not (eqb p.code 3)) (ends bare) (at + 2) ps c m in
           let (z, i) = ends-pieces S bare (at + 2) ps c k in
           subst (λ (d : Calibration). (p ∷ ps ≡ calibration_pieces d ++ (piece 2 3 ∷ [])) × CalibrationAt at d) i
           (ap₂ (λ q r. q ∷ r) (selector 3 (eqb-true p.code 3 (not-false _ t))) z, tt)

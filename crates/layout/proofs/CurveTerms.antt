@@ -1,7 +1,7 @@
 -- Laws of the terms of an accepted curve: exponents are whole numbers
 -- up to 5 that rise inside a segment, coefficients are finite.
-use Rattle.layout.proofs.Names.{◌≡◌, ap, ◌∙◌, sym, subst, true, not, List, [], ◌∷◌, map, Option, none, some, ℕ, suc, ◌+◌, ◌/◌, ◌≤◌, ◌<◌, arith, eqb, ℤ, pos, nat_abs, ◌*ℤ◌, binary32, of_bits, not-false, good}
-use Rattle.layout.proofs.Names.{outside_table, not_finite, good-same, passed, needed, Term, all_ones, finite, decode, least_exponent, coefficient, is_exponent, tenths_of, tenths_before, stepped-whole, power}
+use Rattle.layout.proofs.Names.{◌≡◌, ap, ◌∙◌, sym, subst, true, not, List, [], ◌∷◌, map, Option, None, Some, ℕ, suc, ◌+◌, ◌/◌, ◌≤◌, ◌<◌, arith, eqb, ℤ, pos, nat_abs, ◌*ℤ◌, binary32, of_bits, not-false, Ok}
+use Rattle.layout.proofs.Names.{OutsideTable, NotFinite, good-same, passed, needed, Term, all_ones, finite, decode, least_exponent, coefficient, is_exponent, tenths_of, tenths_before, stepped-whole, power}
 use Rattle.layout.proofs.Names.{follows-some, power-is, power-back, power-rises, Found, FoundTerm, figure, float, term_in}
 use Rattle.refusal.specs.Outcome.{◌>>◌, refuse◌if◌}
 use Rattle.codes.specs.declared.Value.TheVariants.{Single}
@@ -14,8 +14,8 @@ pub coefficient-is : {at : ℕ} {x : Found} → FieldAt coefficient at x → (x.
 unfolding decode
 coefficient-is {at} {x} h =
     let y = of_bits binary32 x.code in
-    let (t, f) = passed (outside_table at) (eqb x.code (all_ones 32)) (refuse not_finite at if not (finite y) >> good (Single y)) x.value h.means in
-    let (u, g) = passed (not_finite at) (not (finite y)) (good (Single y)) x.value f in
+    let (t, f) = passed (OutsideTable at) (eqb x.code (all_ones 32)) (refuse NotFinite at if not (finite y) >> Ok (Single y)) x.value h.means in
+    let (u, g) = passed (NotFinite at) (not (finite y)) (Ok (Single y)) x.value f in
     let e : x.value ≡ Single y = sym (good-same g) in
     (e, ap (λ v. finite (float v)) e ∙ not-false (finite y) u)
 
@@ -45,7 +45,7 @@ abbrev pub Rises : ℕ → List Term → Type 0
 Rises least [] = Unit {0}
 Rises least (t ∷ terms) = (least ≤ nat_abs t.exponent) × (nat_abs t.exponent < 6) × Rises (suc (nat_abs t.exponent)) terms
 
-behind-rise : (b at : ℕ) (terms : List FoundTerm) → is_exponent (tenths_of b) ≡ true → TermsAt (some b) at terms → Rises (suc (power b)) (map term_in terms)
+behind-rise : (b at : ℕ) (terms : List FoundTerm) → is_exponent (tenths_of b) ≡ true → TermsAt (Some b) at terms → Rises (suc (power b)) (map term_in terms)
 behind-rise b at [] e h = tt
 behind-rise b at (t ∷ terms) e h =
     let own = exponent-whole h.0 in
@@ -53,7 +53,7 @@ behind-rise b at (t ∷ terms) e h =
     (power-rises b t.exponent.code e h.0.exponent.taken, (power-is t.exponent.code own).0, behind-rise t.exponent.code (at + needed (term_pieces t)) terms own h.1)
 
 -- The exponents of a segment rise.
-pub terms-rise : (at : ℕ) (terms : List FoundTerm) → TermsAt none at terms → Rises 0 (map term_in terms)
+pub terms-rise : (at : ℕ) (terms : List FoundTerm) → TermsAt None at terms → Rises 0 (map term_in terms)
 terms-rise at [] h = tt
 terms-rise at (t ∷ terms) h =
     let own = exponent-whole h.0 in

@@ -1,6 +1,6 @@
 -- Laws of curves: what the format allows as terms, segments and a curve, and their pieces.
-use Rattle.layout.proofs.Names.{◌≡◌, refl, sym, ap, ap₂, ◌∙◌, subst, Bool, true, false, not, List, [], ◌∷◌, ◌++◌, Option, none, ℕ, ◌+◌, ◌*◌, ◌≤◌, arith, ltb, leb, pos, length, length-append, not-false}
-use Rattle.layout.proofs.Names.{le-leb, leb-true, wrong_curve, too_many_terms, both, Piece, piece, needed, needed-append, Whole, Row, curve_domain, segment_count, segment_start, term_count, exponent, coefficient}
+use Rattle.layout.proofs.Names.{◌≡◌, refl, sym, ap, ap₂, ◌∙◌, subst, Bool, true, false, not, List, [], ◌∷◌, ◌++◌, Option, None, ℕ, ◌+◌, ◌*◌, ◌≤◌, arith, ltb, leb, pos, length, length-append, not-false}
+use Rattle.layout.proofs.Names.{le-leb, leb-true, WrongCurve, TooManyTerms, both, Piece, piece, needed, needed-append, Whole, Row, curve_domain, segment_count, segment_start, term_count, exponent, coefficient}
 use Rattle.layout.proofs.Names.{is_segment_count, is_term_count, most_terms, start_follows, tenths_of, tenths_before, exponent_follows, plain-bounds, Format, ends, ◌>>=◌, ◌>>◌, reject◌if◌, Found, FoundTerm, FoundSegment}
 use Rattle.layout.proofs.Names.{Calibration, curve, Passed, field_of, ruled_of, term_of, behind_term, terms_of, segment_of, behind_segment, nothing_passed, segments_of, curve_of, all_terms}
 use Rattle.layout.proofs.Formats.{Parses, parses-bind, parses-halves, ends-pieces, refuse-pieces, parses-made, made-pieces}
@@ -23,7 +23,7 @@ pub record RuledPieces {B : Type 0} (S : ℕ) (row : Row) (rule : ℕ → Bool) 
 
 -- The field, if the rule accepts its code.
 abbrev pub taken_by : (ℕ → Bool) → Found → Format Found
-taken_by rule x = reject wrong_curve x.at if not (rule x.code) >> ends x
+taken_by rule x = reject WrongCurve x.at if not (rule x.code) >> ends x
 
 module _ (S : ℕ) (row : Row) (rule : ℕ → Bool) (at : ℕ) where
   alone : (x : Found) → RuledAt row rule at x → Parses S (ruled_of row rule) at (piece_of x ∷ []) x
@@ -35,7 +35,7 @@ module _ (S : ℕ) (row : Row) (rule : ℕ → Bool) (at : ℕ) where
   first-is ps x l =
       let w = field-pieces S row (taken_by rule) at ps x l in
       let y : Found = w.first in
-      let (t, m) = refuse-pieces S (wrong_curve y.at) (not (rule y.code)) (ends y) _ w.behind x w.parses in
+      let (t, m) = refuse-pieces S (WrongCurve y.at) (not (rule y.code)) (ends y) _ w.behind x w.parses in
       let (z, e) = ends-pieces S y 0 w.behind x m in
       subst (λ (y : Found). (ps ≡ piece_of y ∷ []) × RuledAt row rule at y) e
       (w.split ∙ ap (λ q. piece_of y ∷ q) z, record { field = w.field; taken = not-false (rule y.code) t })
@@ -123,7 +123,7 @@ pub record SegmentAt (before : Passed) (at : ℕ) (s : FoundSegment) : Type 0 wh
   pub count : RuledAt term_count is_term_count (at + 13) s.count
   pub few : ltb most_terms (before.terms + s.count.code) ≡ false
   pub counted : length s.terms ≡ s.count.code
-  pub terms : TermsAt none (at + 20) s.terms
+  pub terms : TermsAt None (at + 20) s.terms
 
 abbrev pub segment : Found → Found → List FoundTerm → FoundSegment
 segment start count terms = record { start = start; count = count; terms = terms }
@@ -131,7 +131,7 @@ segment start count terms = record { start = start; count = count; terms = terms
 -- The format after a segment's start and its number of terms.
 abbrev pub with_terms : Passed → Found → Found → Format FoundSegment
 with_terms before start count =
-    reject too_many_terms (before.terms + count.code) if ltb most_terms (before.terms + count.code) >> (terms_of count.code >>= λ terms. ends (segment start count terms))
+    reject TooManyTerms (before.terms + count.code) if ltb most_terms (before.terms + count.code) >> (terms_of count.code >>= λ terms. ends (segment start count terms))
 
 abbrev pub with_count : Passed → Found → Format FoundSegment
 with_count before start = ruled_of term_count is_term_count >>= with_terms before start
@@ -141,7 +141,7 @@ module _ (S : ℕ) (before : Passed) (at : ℕ) where
   unfolding segment_of terms_of
   segment-parses s h =
       let e : at + 20 ≡ at + 13 + 7 = omega arith in
-      let terms = each-parses S term_of behind_term TermAt term_pieces (term-parses S) none (at + 20) s.terms h.terms in
+      let terms = each-parses S term_of behind_term TermAt term_pieces (term-parses S) None (at + 20) s.terms h.terms in
       ruled-parses S segment_start (start_follows before.start) at (with_count before) s.start _ s h.start
       (ruled-parses S term_count is_term_count (at + 13) (with_terms before s.start) s.count _ s h.count
       (rw h.few
@@ -155,10 +155,10 @@ module _ (S : ℕ) (before : Passed) (at : ℕ) where
       let a = ruled-pieces S segment_start (start_follows before.start) at (with_count before) ps s l in
       let b = ruled-pieces S term_count is_term_count (at + 13) (with_terms before a.first) a.behind s a.parses in
       let total : ℕ = before.terms + b.first.code in
-      let (t, m) = refuse-pieces S (too_many_terms total) (ltb most_terms total) _ _ b.behind s b.parses in
+      let (t, m) = refuse-pieces S (TooManyTerms total) (ltb most_terms total) _ _ b.behind s b.parses in
       let (terms, e, k) = made-pieces S (terms_of b.first.code) (segment a.first b.first) _ b.behind s m in
       let n : at + 13 + 7 ≡ at + 20 = omega arith in
-      let r = each-pieces S term_of behind_term TermAt term_pieces (term-pieces S) b.first.code none (at + 20) b.behind terms
+      let r = each-pieces S term_of behind_term TermAt term_pieces (term-pieces S) b.first.code None (at + 20) b.behind terms
       (subst (λ (n : ℕ). Parses S (terms_of b.first.code) n b.behind terms) n k) in
       subst (λ (u : FoundSegment). (ps ≡ segment_pieces u) × SegmentAt before at u) e (
         a.split ∙ ap (λ q. piece_of a.first ∷ q) (b.split ∙ ap (λ q. piece_of b.first ∷ q) r.split),
@@ -167,7 +167,7 @@ module _ (S : ℕ) (before : Passed) (at : ℕ) where
 
 pub segment-needed : {before : Passed} {at : ℕ} (s : FoundSegment) → SegmentAt before at s → needed (segment_pieces s) ≡ 20 + 39 * length s.terms
 segment-needed {before} {at} s h =
-    omega (arith, width_is h.start.field, width_is h.count.field, terms-needed none (at + 20) s.terms h.terms)
+    omega (arith, width_is h.start.field, width_is h.count.field, terms-needed None (at + 20) s.terms h.terms)
 
 abbrev pub SegmentsAt : Passed → ℕ → List FoundSegment → Type 0
 SegmentsAt before at segments = EachAt behind_segment SegmentAt segment_pieces before at segments

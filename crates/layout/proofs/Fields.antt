@@ -1,6 +1,6 @@
 -- Laws of the fields of a sheet: what the format
 -- allows on the lines of a template, and their pieces.
-use Rattle.layout.proofs.Names.{◌≡◌, refl, sym, ap, ap₂, ◌∙◌, subst, List, [], ◌∷◌, ◌++◌, map, ℕ, zero, suc, ◌+◌, ◌^◌, ◌≤◌, ◌<◌, arith, pos, length, get_or, set, Outcome, good, refused, Piece, piece, needed, Value}
+use Rattle.layout.proofs.Names.{◌≡◌, refl, sym, ap, ap₂, ◌∙◌, subst, List, [], ◌∷◌, ◌++◌, map, ℕ, zero, suc, ◌+◌, ◌^◌, ◌≤◌, ◌<◌, arith, pos, length, get_or, set, Outcome, Ok, Err, Piece, piece, needed, Value}
 use Rattle.layout.proofs.Names.{Whole, Plain, Row, always, decode, Line, chose, plain-good, Format, ends, ◌>>=◌, given, Found, field_of, fields_of, nothing}
 use Rattle.layout.proofs.Formats.{Parses, ends-pieces, parses-made, made-pieces}
 
@@ -16,7 +16,7 @@ found row at code v = record { row = row; at = at; code = code; value = v }
 pub record FieldAt (row : Row) (at : ℕ) (x : Found) : Type 0 where
   pub is : x ≡ found row at x.code x.value
   pub fits : x.code < 2 ^ row.width
-  pub means : decode row at x.code ≡ good x.value
+  pub means : decode row at x.code ≡ Ok x.value
 
 module _ {row : Row} {at : ℕ} {x : Found} (h : FieldAt row at x) where
   pub row_is : x.row ≡ row
@@ -38,7 +38,7 @@ abbrev pub recoded : Found → ℕ → Value → Found
 recoded x code v = found x.row x.at code v
 
 pub recoded-at : {row : Row} {at : ℕ} {x : Found} → FieldAt row at x → (code : ℕ) (v : Value) →
-    code < 2 ^ x.row.width → decode x.row x.at code ≡ good v → FieldAt row at (recoded x code v)
+    code < 2 ^ x.row.width → decode x.row x.at code ≡ Ok v → FieldAt row at (recoded x code v)
 recoded-at {row} {at} {x} h code v fits means = record {
   is = ap (λ y. recoded y code v) h.is;
   fits = subst (λ (n : ℕ). code < 2 ^ n) (width_is h) fits;
@@ -66,14 +66,14 @@ module _ {B : Type 0} (S : ℕ) (row : Row) (k : Found → Format B) (at : ℕ) 
     where
       go : (o : Outcome Value) → decode row at p.code ≡ o →
           Parses S (given o >>= (λ v. ends (found row at p.code v)) >>= k) (at + row.width) ps b → FieldPieces S row k at (p ∷ ps) b
-      go (good v) e m = record {
+      go (Ok v) e m = record {
         first = found row at p.code v;
         behind = ps;
         split = ap (λ (n : ℕ). piece n p.code ∷ ps) l.0;
         field = record { is = refl; fits = l.1; means = e };
         parses = m;
       }
-      go (refused r) e m = absurd m
+      go (Err r) e m = absurd m
 
 -- ---- fields line by line
 
@@ -124,7 +124,7 @@ Keeps l code old = (latest : ℕ) → chose l.sets code latest ≡ chose l.sets 
 -- Field i with a code that keeps the choice.
 pub laid-put : (lines : List Line) (latest at : ℕ) (xs : List Found) → Laid lines latest at xs → (i : ℕ) (none : Line) → i < length xs →
     (code : ℕ) (v : Value) → let x = get_or xs i nothing in
-    Keeps (get_or lines i none) code x.code → code < 2 ^ x.row.width → decode x.row x.at code ≡ good v →
+    Keeps (get_or lines i none) code x.code → code < 2 ^ x.row.width → decode x.row x.at code ≡ Ok v →
     Laid lines latest at (set xs i (recoded x code v))
 laid-put [] latest at [] h i none n code v keeps fits means = absurd (omega arith)
 laid-put [] latest at (x ∷ xs) h i none n code v keeps fits means = absurd h

@@ -1,6 +1,6 @@
 -- Laws of every format: pieces that parse by it are those that a stream is read as, and conversely.
 use Rattle.layout.proofs.Names.{◌≡◌, refl, sym, ap, ap₂, ◌∙◌, subst, Bool, true, false, not, cond, List, [], ◌∷◌, ◌++◌, append-nil, ℕ, ◌+◌, ◌-◌, ◌^◌, ◌≤◌, ◌<◌, ◌%◌, arith, eqb, ltb, le-ltb, ltb-false, eqb-true}
-use Rattle.layout.proofs.Names.{not-false, Refusal, Outcome, good, refused, past_end, field_at, Piece, piece, needed, field_lt, Fit, Holds, holds-cons, holds-uncons, holds-nil, holds-mod, Format, ends, stops, takes}
+use Rattle.layout.proofs.Names.{not-false, Refusal, Outcome, Ok, Err, PastEnd, field_at, Piece, piece, needed, field_lt, Fit, Holds, holds-cons, holds-uncons, holds-nil, holds-mod, Format, ends, stops, takes}
 use Rattle.layout.proofs.Names.{looks, ◌>>=◌, ◌>>◌, bits, reject◌if◌, Stream, Parsed, parse}
 use Rattle.refusal.specs.Outcome as outcome
 
@@ -10,7 +10,7 @@ parsed a at = record { found = a; next = at }
 -- ---- one format after another
 
 cond-bind : {A B : Type 0} (t : Bool) (r : Refusal) (m : Outcome A) (k : A → Outcome B) →
-    cond t (refused r) (outcome.◌>>=◌ m k) ≡ outcome.◌>>=◌ (cond t (refused r) m) k
+    cond t (Err r) (outcome.◌>>=◌ m k) ≡ outcome.◌>>=◌ (cond t (Err r) m) k
 cond-bind true r m k = refl
 cond-bind false r m k = refl
 
@@ -21,27 +21,27 @@ parse-bind s (ends a) k at = refl
 parse-bind s (stops r) k at = refl
 parse-bind s (takes w step) k at =
     let c : ℕ = field_at s.number at w in
-    ap (λ x. cond (ltb s.bits (at + w)) (refused (past_end at)) x) (parse-bind s (step c) k (at + w))
-    ∙ cond-bind (ltb s.bits (at + w)) (past_end at) (parse s (step c) (at + w)) (λ x. parse s (k x.found) x.next)
+    ap (λ x. cond (ltb s.bits (at + w)) (Err (PastEnd at)) x) (parse-bind s (step c) k (at + w))
+    ∙ cond-bind (ltb s.bits (at + w)) (PastEnd at) (parse s (step c) (at + w)) (λ x. parse s (k x.found) x.next)
 parse-bind s (looks step) k at = parse-bind s (step at (s.bits - at)) k at
 
 -- A first format that parsed, or that refused, and the format after it.
 module _ {A B : Type 0} (s : Stream) (m : Format A) (k : A → Format B) (at : ℕ) where
-  pub parse-next : {a : A} {n : ℕ} → good (parsed a n) ≡ parse s m at → parse s (m >>= k) at ≡ parse s (k a) n
+  pub parse-next : {a : A} {n : ℕ} → Ok (parsed a n) ≡ parse s m at → parse s (m >>= k) at ≡ parse s (k a) n
   parse-next e = parse-bind s m k at ∙ ap (λ o. outcome.◌>>=◌ o (λ x. parse s (k x.found) x.next)) (sym e)
 
-  pub parse-refused : {r : Refusal} → refused r ≡ parse s m at → parse s (m >>= k) at ≡ refused r
+  pub parse-refused : {r : Refusal} → Err r ≡ parse s m at → parse s (m >>= k) at ≡ Err r
   parse-refused e = parse-bind s m k at ∙ ap (λ o. outcome.◌>>=◌ o (λ x. parse s (k x.found) x.next)) (sym e)
 
   -- What two formats in order parse, each parses.
-  pub parse-split : {b : B} {n : ℕ} → good (parsed b n) ≡ parse s (m >>= k) at →
-      (a : A) × (i : ℕ) × (good (parsed a i) ≡ parse s m at) × (good (parsed b n) ≡ parse s (k a) i)
+  pub parse-split : {b : B} {n : ℕ} → Ok (parsed b n) ≡ parse s (m >>= k) at →
+      (a : A) × (i : ℕ) × (Ok (parsed a i) ≡ parse s m at) × (Ok (parsed b n) ≡ parse s (k a) i)
   parse-split {b} {n} e = go (parse s m at) refl (e ∙ parse-bind s m k at)
     where
-      go : (o : Outcome (Parsed A)) → parse s m at ≡ o → good (parsed b n) ≡ outcome.◌>>=◌ o (λ x. parse s (k x.found) x.next) →
-          (a : A) × (i : ℕ) × (good (parsed a i) ≡ parse s m at) × (good (parsed b n) ≡ parse s (k a) i)
-      go (good x) f g = (x.found, x.next, sym f, g)
-      go (refused r) f g = absurd (let z : ◌≡◌ {A = ℕ} 0 1 = cc in omega arith)
+      go : (o : Outcome (Parsed A)) → parse s m at ≡ o → Ok (parsed b n) ≡ outcome.◌>>=◌ o (λ x. parse s (k x.found) x.next) →
+          (a : A) × (i : ℕ) × (Ok (parsed a i) ≡ parse s m at) × (Ok (parsed b n) ≡ parse s (k a) i)
+      go (Ok x) f g = (x.found, x.next, sym f, g)
+      go (Err r) f g = absurd (let z : ◌≡◌ {A = ℕ} 0 1 = cc in omega arith)
 
 -- Sequences of formats regroup, and next formats that parse alike give the same parse.
 pub parse-assoc : {A B C : Type 0} (s : Stream) (m : Format A) (k : A → Format B) (j : B → Format C) (at : ℕ) →
@@ -49,7 +49,7 @@ pub parse-assoc : {A B C : Type 0} (s : Stream) (m : Format A) (k : A → Format
 parse-assoc s (ends a) k j at = refl
 parse-assoc s (stops r) k j at = refl
 parse-assoc s (takes w step) k j at =
-    ap (λ o. cond (ltb s.bits (at + w)) (refused (past_end at)) o) (parse-assoc s (step (field_at s.number at w)) k j (at + w))
+    ap (λ o. cond (ltb s.bits (at + w)) (Err (PastEnd at)) o) (parse-assoc s (step (field_at s.number at w)) k j (at + w))
 parse-assoc s (looks step) k j at = parse-assoc s (step at (s.bits - at)) k j at
 
 pub parse-alike : {A B : Type 0} (s : Stream) (m : Format A) (k j : A → Format B) (at : ℕ) →
@@ -57,7 +57,7 @@ pub parse-alike : {A B : Type 0} (s : Stream) (m : Format A) (k j : A → Format
 parse-alike s (ends a) k j at h = h a at
 parse-alike s (stops r) k j at h = refl
 parse-alike s (takes w step) k j at h =
-    ap (λ o. cond (ltb s.bits (at + w)) (refused (past_end at)) o) (parse-alike s (step (field_at s.number at w)) k j (at + w) h)
+    ap (λ o. cond (ltb s.bits (at + w)) (Err (PastEnd at)) o) (parse-alike s (step (field_at s.number at w)) k j (at + w) h)
 parse-alike s (looks step) k j at h = parse-alike s (step at (s.bits - at)) k j at h
 
 -- ---- pieces that parse by a format
@@ -82,8 +82,8 @@ parses-fit S (looks next) at ps b l = parses-fit S (next at (S - at)) at ps b l
 
 -- A stream that holds such pieces parses to b.
 pub parse-held : {A : Type 0} (s : Stream) (f : Format A) (at : ℕ) (ps : List Piece) (b : A) → Parses s.bits f at ps b →
-    Holds s.number at ps → at + needed ps ≤ s.bits → parse s f at ≡ good (parsed b (at + needed ps))
-parse-held s (ends a) at [] b l h m = ap₂ (λ x n. good (parsed x n)) l (omega arith)
+    Holds s.number at ps → at + needed ps ≤ s.bits → parse s f at ≡ Ok (parsed b (at + needed ps))
+parse-held s (ends a) at [] b l h m = ap₂ (λ x n. Ok (parsed x n)) l (omega arith)
 parse-held s (ends a) at (p ∷ ps) b l h m = absurd l
 parse-held s (stops r) at ps b l h m = absurd l
 parse-held s (takes w next) at [] b l h m = absurd l
@@ -92,9 +92,9 @@ parse-held s (takes w next) at (p ∷ ps) b l h m =
     let u = holds-uncons s.number at p ps fits h in
     let e : field_at s.number at w ≡ p.code = ap (λ (n : ℕ). field_at s.number at n) (sym l.0) ∙ u.1 in
     let g : Holds s.number (at + w) ps = subst (λ (n : ℕ). Holds s.number (at + n) ps) l.0 u.0 in
-    ap₂ (λ t c. cond t (refused (past_end at)) (parse s (next c) (at + w))) (le-ltb s.bits (at + w) (omega (arith, l.0))) e
+    ap₂ (λ t c. cond t (Err (PastEnd at)) (parse s (next c) (at + w))) (le-ltb s.bits (at + w) (omega (arith, l.0))) e
     ∙ parse-held s (next p.code) (at + w) ps b l.2 g (omega (arith, l.0))
-    ∙ ap (λ (n : ℕ). good (parsed b n)) (omega (arith, l.0))
+    ∙ ap (λ (n : ℕ). Ok (parsed b n)) (omega (arith, l.0))
 parse-held s (looks next) at ps b l h m = parse-held s (next at (s.bits - at)) at ps b l h m
 
 -- The pieces that a stream was parsed by.
@@ -105,11 +105,11 @@ pub record ParsedBy {A : Type 0} (s : Stream) (f : Format A) (at : ℕ) (x : Par
   pub behind : at + needed pieces ≡ x.next
   pub inside : x.next ≤ s.bits
 
-passed : {A : Type 0} (t : Bool) (r : Refusal) (m : Outcome A) (a : A) → cond t (refused r) m ≡ good a → (t ≡ false) × (m ≡ good a)
+passed : {A : Type 0} (t : Bool) (r : Refusal) (m : Outcome A) (a : A) → cond t (Err r) m ≡ Ok a → (t ≡ false) × (m ≡ Ok a)
 passed true r m a e = absurd (let z : ◌≡◌ {A = ℕ} 0 1 = cc in omega arith)
 passed false r m a e = (refl, e)
 
-pub parsed-by : {A : Type 0} (s : Stream) (f : Format A) (at : ℕ) (x : Parsed A) → at ≤ s.bits → parse s f at ≡ good x → ParsedBy s f at x
+pub parsed-by : {A : Type 0} (s : Stream) (f : Format A) (at : ℕ) (x : Parsed A) → at ≤ s.bits → parse s f at ≡ Ok x → ParsedBy s f at x
 parsed-by s (ends a) at x l e =
     let e0 : a ≡ x.found = cc in
     let e1 : at ≡ x.next = cc in
@@ -117,7 +117,7 @@ parsed-by s (ends a) at x l e =
 parsed-by s (stops r) at x l e = absurd (let z : ◌≡◌ {A = ℕ} 0 1 = cc in omega arith)
 parsed-by s (takes w next) at x l e =
     let c : ℕ = field_at s.number at w in
-    let g = passed (ltb s.bits (at + w)) (past_end at) (parse s (next c) (at + w)) x e in
+    let g = passed (ltb s.bits (at + w)) (PastEnd at) (parse s (next c) (at + w)) x e in
     let k = parsed-by s (next c) (at + w) x (ltb-false s.bits (at + w) g.0) g.1 in
     record {
       pieces = piece w c ∷ k.pieces;
@@ -131,13 +131,13 @@ parsed-by s (looks next) at x l e =
     record { pieces = k.pieces; parses = k.parses; holds = k.holds; behind = k.behind; inside = k.inside }
 
 -- The bits after the end of a parse are free: streams that agree up to there parse alike.
-pub parse-agrees : {A : Type 0} (s : Stream) (M : ℕ) (f : Format A) (at : ℕ) (x : Parsed A) → at ≤ s.bits → parse s f at ≡ good x →
-    s.number % 2 ^ x.next ≡ M % 2 ^ x.next → parse (record { bits = s.bits; number = M }) f at ≡ good x
+pub parse-agrees : {A : Type 0} (s : Stream) (M : ℕ) (f : Format A) (at : ℕ) (x : Parsed A) → at ≤ s.bits → parse s f at ≡ Ok x →
+    s.number % 2 ^ x.next ≡ M % 2 ^ x.next → parse (record { bits = s.bits; number = M }) f at ≡ Ok x
 parse-agrees s M f at x l e agree =
     let w = parsed-by s f at x l e in
     let m : Holds M at w.pieces = holds-mod s.number M x.next agree at w.pieces (omega (arith, w.behind)) w.holds in
     parse-held (record { bits = s.bits; number = M }) f at w.pieces x.found w.parses m (omega (arith, w.behind, w.inside))
-    ∙ ap (λ (n : ℕ). good (parsed x.found n)) w.behind
+    ∙ ap (λ (n : ℕ). Ok (parsed x.found n)) w.behind
 
 -- ---- pieces by one format and then another
 

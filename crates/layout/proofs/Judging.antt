@@ -1,8 +1,8 @@
 -- Laws of fields inside the stream: judging them at their
 -- places in order gives what parsing them line by line does.
 use Rattle.layout.proofs.Names.{◌≡◌, refl, sym, ap, ap₂, ◌∙◌, subst, Bool, false, not, cond, List, [], ◌∷◌, ◌++◌, ℕ, zero, suc, ◌+◌, ◌*◌, ◌/◌, ◌%◌, ◌≤◌, ◌<◌, arith, eqb, length, take, drop, get_or, high, low}
-use Rattle.layout.proofs.Names.{le-ltb, eq-eqb, ne_eqb, Refusal, Outcome, good, refused, past_end, wrong_block, said_of, then-good, then-refused, bind_assoc, field_at, field_lt, field-add, Value, Row, Judged, Valid}
-use Rattle.layout.proofs.Names.{Refused, Template, Bridge, Resistance, TemplateAnswer, Is, Unknown, Layout, judged_said, template_said, decode, judge, Open, Line, chose, basic, template33, template32, template_lines}
+use Rattle.layout.proofs.Names.{le-ltb, eq-eqb, ne_eqb, Refusal, Outcome, Ok, Err, PastEnd, WrongBlock, same_of, then-good, then-refused, bind_assoc, field_at, field_lt, field-add, Value, Row}
+use Rattle.layout.proofs.Names.{Err, Template, Bridge, Resistance, Option, Some, None, Layout, decode, judge, Open, Line, chose, basic, template33, template32, template_lines}
 use Rattle.layout.proofs.Names.{template_of, lines_of, last_field, line_of, row_of, bits_before, row_open, Format, ends, ◌>>=◌, bits, given, reject◌if◌, Stream, Parsed, parse, Found, field_of, fields_of, selector_of}
 use Rattle.layout.proofs.Names.{named, first_block, last_choice, block_bits, first_selector, field_place, behind_fields, judged, front_lines}
 use Rattle.layout.proofs.Formats.{parsed, parse-bind}
@@ -14,7 +14,7 @@ use Rattle.refusal.specs.Outcome as outcome
 -- The latest choice after fields that are parsed line by line.
 abbrev pub choice_behind : Stream → List Line → ℕ → ℕ → Outcome (Parsed ℕ)
 choice_behind s lines latest at =
-    outcome.◌>>=◌ (parse s (fields_of lines latest) at) (λ x. good (parsed (last_choice lines x.found latest) x.next))
+    outcome.◌>>=◌ (parse s (fields_of lines latest) at) (λ x. Ok (parsed (last_choice lines x.found latest) x.next))
 
 abbrev pub line_bits : List Line → ℕ → ℕ
 line_bits lines choice = bits_before lines choice (length lines)
@@ -34,7 +34,7 @@ unfolding fields_of field_of
 fields-judged s [] more latest choice at m inside = ap₂ (λ (c n : ℕ). choice_behind s more c n) m (omega arith)
 fields-judged s (l ∷ lines) more latest choice at m inside =
     ap (λ (r : Row). kept (parse s (field_of r >>= others) at)) m.0
-    ∙ ap (λ (t : Bool). kept (cond t (refused (past_end at)) (parse s (valued (decode row at code) >>= others) next))) (le-ltb s.bits next (omega arith))
+    ∙ ap (λ (t : Bool). kept (cond t (Err (PastEnd at)) (parse s (valued (decode row at code) >>= others) next))) (le-ltb s.bits next (omega arith))
     ∙ go (decode row at code) (fields-judged s lines more later choice next m.1 (omega arith))
   where
     row : Row
@@ -56,19 +56,19 @@ fields-judged s (l ∷ lines) more latest choice at m inside =
     valued o = given o >>= λ v. ends (found row at code v)
 
     kept : Outcome (Parsed (List Found)) → Outcome (Parsed ℕ)
-    kept o = outcome.◌>>=◌ o (λ x. good (parsed (last_choice (l ∷ (lines ++ more)) x.found latest) x.next))
+    kept o = outcome.◌>>=◌ o (λ x. Ok (parsed (last_choice (l ∷ (lines ++ more)) x.found latest) x.next))
 
     behind : ℕ → Outcome (Parsed ℕ)
     behind n = choice_behind s more choice n
 
     go : (o : Outcome Value) → choice_behind s (lines ++ more) later next ≡ outcome.◌>>◌ (judged s lines choice next) (behind (next + line_bits lines choice)) →
         kept (parse s (valued o >>= others) next)
-        ≡ outcome.◌>>◌ (outcome.◌>>◌ (outcome.◌>>◌ o (good (tt {0}))) (judged s lines choice next)) (behind (at + line_bits (l ∷ lines) choice))
-    go (refused r) rest = refl
-    go (good v) rest =
-        let make : Parsed (List Found) → Outcome (Parsed (List Found)) = λ x. good (parsed (found row at code v ∷ x.found) x.next) in
+        ≡ outcome.◌>>◌ (outcome.◌>>◌ (outcome.◌>>◌ o (Ok (tt {0}))) (judged s lines choice next)) (behind (at + line_bits (l ∷ lines) choice))
+    go (Err r) rest = refl
+    go (Ok v) rest =
+        let make : Parsed (List Found) → Outcome (Parsed (List Found)) = λ x. Ok (parsed (found row at code v ∷ x.found) x.next) in
         ap kept (parse-bind s (fields_of (lines ++ more) later) (λ xs. ends (found row at code v ∷ xs)) next)
-        ∙ bind_assoc (parse s (fields_of (lines ++ more) later) next) make (λ x. good (parsed (last_choice (l ∷ (lines ++ more)) x.found latest) x.next))
+        ∙ bind_assoc (parse s (fields_of (lines ++ more) later) next) make (λ x. Ok (parsed (last_choice (l ∷ (lines ++ more)) x.found latest) x.next))
         ∙ rest
         ∙ ap (λ (n : ℕ). outcome.◌>>◌ (judged s lines choice next) (behind n)) (omega arith)
 
@@ -89,7 +89,7 @@ behind-open [] none choice (suc i) zero h = tt
 behind-open [] none choice (suc i) (suc n) h = tt
 behind-open (l ∷ lines) none choice (suc i) n h = behind-open lines none choice i n (λ j lo hi. h (suc j) (omega arith) (omega arith))
 
-open-judged : (s : Stream) (lines : List Line) (choice at : ℕ) → AllOpen lines choice → judged s lines choice at ≡ good tt
+open-judged : (s : Stream) (lines : List Line) (choice at : ℕ) → AllOpen lines choice → judged s lines choice at ≡ Ok tt
 open-judged s [] choice at h = refl
 open-judged s (l ∷ lines) choice at h =
     let row = l.row_at choice in
@@ -104,32 +104,32 @@ pub record JudgedUpTo (s : Stream) (choice end : ℕ) (answer : Outcome (Unit {0
   pub same : judged s lines choice at ≡ answer
 
 module _ {s : Stream} {choice end : ℕ} {answer : Outcome (Unit {0})} where
-  pub come-open : {lines : List Line} {at : ℕ} → JudgedUpTo s choice end answer lines at → AllOpen lines choice → good tt ≡ answer
+  pub come-open : {lines : List Line} {at : ℕ} → JudgedUpTo s choice end answer lines at → AllOpen lines choice → Ok tt ≡ answer
   come-open {lines} {at} h all = sym (open-judged s lines choice at all) ∙ h.same
 
   module _ {l : Line} {lines : List Line} {at : ℕ} (h : JudgedUpTo s choice end answer (l ∷ lines) at) {row : Row} (e : row ≡ l.row_at choice) where
     pub come-inside : end ≤ s.bits → at + row.width ≤ s.bits
     come-inside most = omega (arith, h.place, ap (λ r. r.width) e)
 
-    module _ (j : Judged) (f : judged_said j ≡ judge row at (field_at s.number at row.width)) where
-      here : judged_said j ≡ judge (l.row_at choice) at (field_at s.number at (l.row_at choice).width)
+    module _ (j : Outcome (Unit {0})) (f : j ≡ judge row at (field_at s.number at row.width)) where
+      here : j ≡ judge (l.row_at choice) at (field_at s.number at (l.row_at choice).width)
       here = f ∙ ap (λ r. judge r at (field_at s.number at r.width)) e
 
-      pub come-halt : {r : Refusal} → j ≡ Refused r → refused r ≡ answer
-      come-halt k = sym (then-refused _ (sym (said_of judged_said k here))) ∙ h.same
+      pub come-halt : {r : Refusal} → j ≡ Err r → Err r ≡ answer
+      come-halt k = sym (then-refused _ (sym (same_of k here))) ∙ h.same
 
-      pub come-next : j ≡ Valid → JudgedUpTo s choice end answer lines (at + row.width)
+      pub come-next : j ≡ (Ok tt) → JudgedUpTo s choice end answer lines (at + row.width)
       come-next k =
           let w : row.width ≡ (l.row_at choice).width = ap (λ r. r.width) e in
           record {
             place = omega (arith, h.place);
-            same = ap (λ (n : ℕ). judged s lines choice (at + n)) w ∙ sym (then-good _ (sym (said_of judged_said k here))) ∙ h.same;
+            same = ap (λ (n : ℕ). judged s lines choice (at + n)) w ∙ sym (then-good _ (sym (same_of k here))) ∙ h.same;
           }
 
 -- ---- Basic and the templates
 
 module _ (s : Stream) where
-  pub basic-judged : first_selector ≤ s.bits → choice_behind s basic 0 0 ≡ outcome.◌>>◌ (judged s basic 0 0) (good (parsed 0 first_selector))
+  pub basic-judged : first_selector ≤ s.bits → choice_behind s basic 0 0 ≡ outcome.◌>>◌ (judged s basic 0 0) (Ok (parsed 0 first_selector))
   unfolding basic fields_of
   basic-judged h = fields-judged s basic [] 0 0 0 (refl, (refl, (refl, (refl, (refl, refl))))) h
 
@@ -212,28 +212,28 @@ module _ (s : Stream) (at : ℕ) (inside : at + block_bits ≤ s.bits) {block : 
   numbered = bits 8 >>= λ number. named at (template_of number)
 
   abbrev tested : Bool → Outcome (Parsed Template)
-  tested b = parse s (reject wrong_block at if not b >>= λ u. numbered) (at + 2)
+  tested b = parse s (reject WrongBlock at if not b >>= λ u. numbered) (at + 2)
 
   at-selector : parse s first_block at ≡ tested (eqb (block % 4) 0)
   unfolding first_block selector_of
   at-selector =
-      ap₂ (λ (t : Bool) (k : ℕ). cond t (refused (past_end at)) (tested (eqb k 0))) (le-ltb s.bits (at + 2) (omega arith)) selector-is
+      ap₂ (λ (t : Bool) (k : ℕ). cond t (Err (PastEnd at)) (tested (eqb k 0))) (le-ltb s.bits (at + 2) (omega arith)) selector-is
 
-  pub wrong-selector : (block % 4 ≡ 0 → ⊥) → refused (wrong_block at) ≡ parse s first_block at
+  pub wrong-selector : (block % 4 ≡ 0 → ⊥) → Err (WrongBlock at) ≡ parse s first_block at
   wrong-selector h = sym (at-selector ∙ ap tested (ne_eqb (block % 4) 0 h))
 
-  module _ (h : block % 4 ≡ 0) (y : TemplateAnswer) (g : template_said y ≡ template_of (block / 4)) where
-    at_name : parse s first_block at ≡ parse s (named at (template_said y)) (at + block_bits)
+  module _ (h : block % 4 ≡ 0) (y : Option Template) (g : y ≡ template_of (block / 4)) where
+    at_name : parse s first_block at ≡ parse s (named at (y)) (at + block_bits)
     at_name =
         let n : at + 2 + 8 ≡ at + block_bits = omega arith in
         at-selector
         ∙ ap tested (eq-eqb (block % 4) 0 h)
-        ∙ ap₂ (λ (t : Bool) (k : ℕ). cond t (refused (past_end (at + 2))) (parse s (named at (template_of k)) (at + 2 + 8)))
+        ∙ ap₂ (λ (t : Bool) (k : ℕ). cond t (Err (PastEnd (at + 2))) (parse s (named at (template_of k)) (at + 2 + 8)))
         (le-ltb s.bits (at + 2 + 8) (omega arith)) number_is
         ∙ ap₂ (λ o (k : ℕ). parse s (named at o) k) (sym g) n
 
-    pub block-named : {template : Template} → y ≡ Is template → good (parsed template (at + block_bits)) ≡ parse s first_block at
-    block-named k = sym (at_name ∙ ap (λ u. parse s (named at (template_said u)) (at + block_bits)) k)
+    pub block-named : {template : Template} → y ≡ Some template → Ok (parsed template (at + block_bits)) ≡ parse s first_block at
+    block-named k = sym (at_name ∙ ap (λ u. parse s (named at (u)) (at + block_bits)) k)
 
-    pub block-unknown : y ≡ Unknown → refused (wrong_block at) ≡ parse s first_block at
-    block-unknown k = sym (at_name ∙ ap (λ u. parse s (named at (template_said u)) (at + block_bits)) k)
+    pub block-unknown : y ≡ None → Err (WrongBlock at) ≡ parse s first_block at
+    block-unknown k = sym (at_name ∙ ap (λ u. parse s (named at (u)) (at + block_bits)) k)

@@ -1,6 +1,6 @@
 -- Laws of the numbers that refuse a stream: never 15, which no row has, or 17, a blank chip's.
-use Rattle.layout.proofs.Names.{Bool, true, false, not, ◌||◌, ◌&&◌, cond, List, [], ◌∷◌, Option, none, some, ℕ, zero, suc, ◌+◌, ◌/◌, arith, eqb, ltb, leb, binary32, of_bits, le_z, Refusal, Outcome, good, refused}
-use Rattle.layout.proofs.Names.{wrong_block, outside_table, not_finite, not_rising, sums_not_rising, wrong_curve, too_many_terms, Elsewhere, Other, other-cond, other_test, other-then, Row, Rule, Plain, Stepped, Geometric}
+use Rattle.layout.proofs.Names.{row_number, Bool, true, false, not, ◌||◌, ◌&&◌, cond, List, [], ◌∷◌, Option, None, Some, ℕ, zero, suc, ◌+◌, ◌/◌, arith, eqb, ltb, leb, binary32, of_bits, le_z, Refusal, Outcome, Ok, Err}
+use Rattle.layout.proofs.Names.{WrongBlock, OutsideTable, NotFinite, NotRising, SumsNotRising, WrongCurve, TooManyTerms, Elsewhere, Other, other-cond, other_test, other-then, Row, Rule, Plain, Stepped, Geometric}
 use Rattle.layout.proofs.Names.{Single, Template, Codes, Domain, all_ones, top_code, finite, meaning, decode, Line, chose, basic, template_lines, template_of, cal_domain, point_count, cal_point, cal_deviation, domain_of}
 use Rattle.layout.proofs.Names.{is_physical, stored_sum, follows, curve_domain, segment_count, segment_start, term_count, exponent, coefficient, is_segment_count, is_term_count, most_terms, start_follows, tenths_of}
 use Rattle.layout.proofs.Names.{tenths_before, exponent_follows, Format, ends, stops, takes, looks, ◌>>=◌, given, reject◌if◌, repeated, Stream, parse, field_of, fields_of, selector_of, named, first_block, paired}
@@ -10,7 +10,7 @@ use Rattle.layout.proofs.Names.{ending_of, sheet_of}
 -- No refusal of a format has number 15 or 17.
 abbrev Others : {A : Type 0} → Format A → Type 0
 Others (ends a) = Unit {0}
-Others (stops r) = Elsewhere r.number
+Others (stops r) = Elsewhere (row_number r)
 Others (takes w next) = (code : ℕ) → Others (next code)
 Others (looks next) = (at left : ℕ) → Others (next at left)
 
@@ -23,10 +23,10 @@ others-bind (takes w step) next h g = λ code. others-bind (step code) next (h c
 others-bind (looks step) next h g = λ at left. others-bind (step at left) next (h at left) g
 
 others-given : {A : Type 0} (o : Outcome A) → Other o → Others (given o)
-others-given (good a) h = tt
-others-given (refused r) h = h
+others-given (Ok a) h = tt
+others-given (Err r) h = h
 
-others-test : (r : Refusal) (t : Bool) → Elsewhere r.number → Others (reject r if t)
+others-test : (r : Refusal) (t : Bool) → Elsewhere (row_number r) → Others (reject r if t)
 others-test r true h = h
 others-test r false h = tt
 
@@ -43,12 +43,12 @@ parse-other s (looks next) at h = parse-other s (next _ _) at (h _ _)
 -- ---- the sheet's format
 
 meaning-other : (rule : Rule) (w at code : ℕ) → Other (meaning rule w at code)
-meaning-other (Plain least greatest) w at code = other-then (outside_table at) (ltb code least || ltb greatest code) _ (omega arith) tt
-meaning-other (Stepped start step) w at code = other-then (outside_table at) (ltb (top_code w) code) _ (omega arith) tt
-meaning-other (Geometric scale) w at code = other-then (outside_table at) (ltb (top_code w) code) _ (omega arith) tt
+meaning-other (Plain least greatest) w at code = other-then (OutsideTable at) (ltb code least || ltb greatest code) _ (omega arith) tt
+meaning-other (Stepped start step) w at code = other-then (OutsideTable at) (ltb (top_code w) code) _ (omega arith) tt
+meaning-other (Geometric scale) w at code = other-then (OutsideTable at) (ltb (top_code w) code) _ (omega arith) tt
 meaning-other Single w at code =
-    other-then (outside_table at) (eqb code (all_ones w)) _ (omega arith)
-    (other-then (not_finite at) (not (finite (of_bits binary32 code))) _ (omega arith) tt)
+    other-then (OutsideTable at) (eqb code (all_ones w)) _ (omega arith)
+    (other-then (NotFinite at) (not (finite (of_bits binary32 code))) _ (omega arith) tt)
 
 decode-other : (row : Row) (at code : ℕ) → Other (decode row at code)
 unfolding decode
@@ -56,10 +56,10 @@ decode-other row at code = other-cond (row.missing && eqb code (all_ones row.wid
 
 follows-other : (domain : Domain) (before : Option Codes) (at : ℕ) (next : Codes) → Other (follows domain before at next)
 unfolding follows
-follows-other domain none at next = tt
-follows-other domain (some before) at next =
-    other-then (not_rising at) (leb next.point before.point) _ (omega arith)
-    (other_test (sums_not_rising at) (is_physical domain && le_z (stored_sum next) (stored_sum before)) (omega arith))
+follows-other domain None at next = tt
+follows-other domain (Some before) at next =
+    other-then (NotRising at) (leb next.point before.point) _ (omega arith)
+    (other_test (SumsNotRising at) (is_physical domain && le_z (stored_sum next) (stored_sum before)) (omega arith))
 
 field-others : (row : Row) → Others (field_of row)
 unfolding field_of
@@ -74,11 +74,11 @@ fields-others (line ∷ lines) latest =
 
 selector-others : (wanted : ℕ) → Others (selector_of wanted)
 unfolding selector_of
-selector-others wanted = λ at left. λ code. others-test (wrong_block at) (not (eqb code wanted)) (omega arith)
+selector-others wanted = λ at left. λ code. others-test (WrongBlock at) (not (eqb code wanted)) (omega arith)
 
 named-others : (at : ℕ) (o : Option Template) → Others (named at o)
-named-others at none = omega arith
-named-others at (some t) = tt
+named-others at None = omega arith
+named-others at (Some t) = tt
 
 block-others : Others first_block
 unfolding first_block
@@ -95,20 +95,20 @@ pairs-others : (domain : Domain) (n : ℕ) (before : Option Codes) → Others (p
 unfolding pairs_of
 pairs-others domain zero before = tt
 pairs-others domain (suc n) before =
-    others-bind (pair_of domain before) _ (pair-others domain before) (λ p. others-bind (pairs_of domain n (some (codes_in p))) _ (pairs-others domain n (some (codes_in p))) (λ rest. tt))
+    others-bind (pair_of domain before) _ (pair-others domain before) (λ p. others-bind (pairs_of domain n (Some (codes_in p))) _ (pairs-others domain n (Some (codes_in p))) (λ rest. tt))
 
 table-others : Others table_of
 unfolding table_of
 table-others =
     others-bind (field_of cal_domain) _ (field-others cal_domain) (λ d.
     others-bind (field_of point_count) _ (field-others point_count) (λ n.
-    others-bind (pairs_of (domain_of d.code) n.code none) _ (pairs-others (domain_of d.code) n.code none) (λ pairs. tt)))
+    others-bind (pairs_of (domain_of d.code) n.code None) _ (pairs-others (domain_of d.code) n.code None) (λ pairs. tt)))
 
 ruled-others : (row : Row) (rule : ℕ → Bool) → Others (ruled_of row rule)
 unfolding ruled_of
 ruled-others row rule =
     others-bind (field_of row) _ (field-others row) (λ x.
-    others-bind (reject wrong_curve x.at if not (rule x.code)) _ (others-test (wrong_curve x.at) (not (rule x.code)) (omega arith)) (λ u. tt))
+    others-bind (reject WrongCurve x.at if not (rule x.code)) _ (others-test (WrongCurve x.at) (not (rule x.code)) (omega arith)) (λ u. tt))
 
 repeated-others : {A B : Type 0} (one : B → Format A) (behind : B → A → B) → ((before : B) → Others (one before)) → (n : ℕ) (before : B) → Others (repeated one behind n before)
 unfolding repeated
@@ -128,8 +128,8 @@ segment-others before =
     others-bind (ruled_of segment_start (start_follows before.start)) _ (ruled-others segment_start _) (λ start.
     others-bind (ruled_of term_count is_term_count) _ (ruled-others term_count is_term_count) (λ count.
     let total = before.terms + count.code in
-    others-bind (reject too_many_terms total if ltb most_terms total) _ (others-test (too_many_terms total) (ltb most_terms total) (omega arith)) (λ u.
-    others-bind (terms_of count.code) _ (repeated-others term_of behind_term term-others count.code none) (λ terms. tt))))
+    others-bind (reject TooManyTerms total if ltb most_terms total) _ (others-test (TooManyTerms total) (ltb most_terms total) (omega arith)) (λ u.
+    others-bind (terms_of count.code) _ (repeated-others term_of behind_term term-others count.code None) (λ terms. tt))))
 
 curve-others : Others curve_of
 unfolding curve_of segments_of
@@ -147,7 +147,7 @@ unfolding calibration_of
 calibration-others = λ at left. λ selector.
     others-cond (eqb selector 0) _ _
     (others-bind (block_at at) _ (only-others at) (λ k. others-bind (selector_of 3) _ (selector-others 3) (λ u. tt)))
-    (others-bind (reject wrong_block at if not (eqb selector 3)) _ (others-test (wrong_block at) (not (eqb selector 3)) (omega arith)) (λ u. tt))
+    (others-bind (reject WrongBlock at if not (eqb selector 3)) _ (others-test (WrongBlock at) (not (eqb selector 3)) (omega arith)) (λ u. tt))
 
 text-others : (n : ℕ) → Others (characters_of n)
 unfolding characters_of

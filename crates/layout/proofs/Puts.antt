@@ -1,7 +1,7 @@
 -- Laws of a sheet with another code in one field:
 -- the format still allows it, and one piece differs.
 use Rattle.layout.proofs.Names.{◌≡◌, refl, sym, ap, ◌∙◌, subst, subst₂, List, [], ◌∷◌, ◌++◌, map, append_assoc, ℕ, zero, suc, ◌-◌, ◌^◌, ◌≤◌, ◌<◌, zero-add, arith, dec_lt, length, get_or, set, length-append}
-use Rattle.layout.proofs.Names.{good, Piece, piece, needed, put_at, Fit, Holds, needed-append, holds-put, Value, decode, Line, basic, template_lines, number_of, lines_of, no_line, Stream, Found, Contents, nothing}
+use Rattle.layout.proofs.Names.{Ok, Piece, piece, needed, put_at, Fit, Holds, needed-append, holds-put, Value, decode, Line, basic, template_lines, number_of, lines_of, no_line, Stream, Found, Contents, nothing}
 use Rattle.layout.proofs.Names.{block_pieces}
 use Rattle.layout.proofs.Fields.{piece_of, recoded, Laid, laid-length, Keeps, laid-put, laid-split}
 use Rattle.layout.proofs.Sheets.{Formed, rest_pieces, sheet_pieces}
@@ -66,7 +66,7 @@ same-needed : (ps qs : List Piece) (p q : Piece) → p.width ≡ q.width → nee
 same-needed ps qs p q e = omega (arith, needed-append ps (p ∷ qs), needed-append ps (q ∷ qs))
 
 module _ {S : ℕ} {c : Contents} (h : Formed S c) (i : ℕ) (l : i < length c.fields) (code : ℕ) (v : Value) (keeps : Keeps (line_at c i) code (get_or c.fields i nothing).code)
-    (fits : code < 2 ^ (get_or c.fields i nothing).row.width) (means : decode (get_or c.fields i nothing).row (get_or c.fields i nothing).at code ≡ good v) where
+    (fits : code < 2 ^ (get_or c.fields i nothing).row.width) (means : decode (get_or c.fields i nothing).row (get_or c.fields i nothing).at code ≡ Ok v) where
   abbrev lines : List Line
   lines = template_lines c.template
 
@@ -148,7 +148,7 @@ module _ {S : ℕ} {c : Contents} (h : Formed S c) (i : ℕ) (l : i < length c.f
 -- A field with another code that keeps the choice: it alone is parsed differently.
 pub holding-put : (s : Stream) (c : Contents) → Holding s c → (i : ℕ) → i < length c.fields → (code : ℕ) (v : Value) →
     let x = get_or c.fields i nothing in
-    Keeps (line_at c i) code x.code → code < 2 ^ x.row.width → decode x.row x.at code ≡ good v →
+    Keeps (line_at c i) code x.code → code < 2 ^ x.row.width → decode x.row x.at code ≡ Ok v →
     Holding (record { bits = s.bits; number = put_at s.number x.at x.row.width code }) (with_field c i (recoded x code v))
 holding-put s c h i l code v keeps fits means =
     let x : Found = get_or c.fields i nothing in

@@ -1,5 +1,5 @@
 -- Laws of a whole sheet: what the format allows, and its pieces.
-use Rattle.layout.proofs.Names.{◌≡◌, refl, sym, ap, ap₂, ◌∙◌, subst, List, [], ◌∷◌, ◌++◌, map, append-nil, Option, none, some, ℕ, ◌+◌, arith, wrong_block, Piece, piece, needed, needed-append, Template, basic}
+use Rattle.layout.proofs.Names.{◌≡◌, refl, sym, ap, ap₂, ◌∙◌, subst, List, [], ◌∷◌, ◌++◌, map, append-nil, Option, None, Some, ℕ, ◌+◌, arith, WrongBlock, Piece, piece, needed, needed-append, Template, basic}
 use Rattle.layout.proofs.Names.{template_lines, number_of, template_of, number_lt, number-known, known-number, Format, ends, ◌>>=◌, bits, place, Found, Calibration, Contents, Ending, fields_of, selector_of, named}
 use Rattle.layout.proofs.Names.{first_block, calibration_of, ending_of, sheet_of, block_pieces}
 use Rattle.layout.proofs.Formats.{Parses, parses-bind, parses-halves, ends-pieces, fixed-pieces}
@@ -16,13 +16,13 @@ module _ (S at : ℕ) where
 
   named-pieces : (n : ℕ) (o : Option Template) → template_of n ≡ o → (ps : List Piece) (t : Template) → Parses S (named at o) (at + 2 + 8) ps t →
       (ps ≡ []) × (n ≡ number_of t)
-  named-pieces n (some u) e ps t l = let (z, f) = ends-pieces S u 0 ps t l in (z, known-number n t (e ∙ ap some f))
-  named-pieces n none e ps t l = absurd l
+  named-pieces n (Some u) e ps t l = let (z, f) = ends-pieces S u 0 ps t l in (z, known-number n t (e ∙ ap Some f))
+  named-pieces n None e ps t l = absurd l
 
   block-pieces : (ps : List Piece) (t : Template) → Parses S first_block at ps t → ps ≡ block_pieces (number_of t)
   unfolding first_block selector_of
   block-pieces ps t l =
-      let (qs, e, m) = fixed-pieces S 2 0 (wrong_block at) (bits 8 >>= λ number. named at (template_of number)) at ps t l in
+      let (qs, e, m) = fixed-pieces S 2 0 (WrongBlock at) (bits 8 >>= λ number. named at (template_of number)) at ps t l in
       e ∙ ap (λ q. piece 2 0 ∷ q) (number qs m)
     where
       number : (qs : List Piece) → Parses S (bits 8 >>= λ number. named at (template_of number)) (at + 2) qs t → qs ≡ piece 8 (number_of t) ∷ []

@@ -1,6 +1,6 @@
 -- Laws of the stream of a sheet at the places of its fields, its pairs and its characters.
-use Rattle.layout.proofs.Names.{◌≡◌, refl, sym, ap, ap₂, ◌∙◌, subst, Bool, cond, List, [], ◌∷◌, ◌++◌, map, append_assoc, Option, none_before, some, ℕ, zero, suc, ◌+◌, ◌-◌, ◌*◌, ◌^◌, ◌≤◌, ◌<◌, zero-add, arith, ltb}
-use Rattle.layout.proofs.Names.{length, get_or, le-ltb, good, refused, past_end, field_at, Piece, piece, needed, Fit, Holds, needed-append, fit-split, holds-front, holds-back, holds-piece, holds-uncons, Row, Codes}
+use Rattle.layout.proofs.Names.{◌≡◌, refl, sym, ap, ap₂, ◌∙◌, subst, Bool, cond, List, [], ◌∷◌, ◌++◌, map, append_assoc, Option, none_before, Some, ℕ, zero, suc, ◌+◌, ◌-◌, ◌*◌, ◌^◌, ◌≤◌, ◌<◌, zero-add, arith, ltb}
+use Rattle.layout.proofs.Names.{length, get_or, le-ltb, Ok, Err, PastEnd, field_at, Piece, piece, needed, Fit, Holds, needed-append, fit-split, holds-front, holds-back, holds-piece, holds-uncons, Row, Codes}
 use Rattle.layout.proofs.Names.{Domain, decode, domain_code, cal_point, cal_deviation, number_of, last_field, row_of, ends, ◌>>=◌, given, Stream, parse, Found, FoundPair, Calibration, bare, table, curve, Contents}
 use Rattle.layout.proofs.Names.{codes_in, field_of, field, layout_of, pairs_in, segments_in, all_terms, field_place, pair_place, behind_block, block_pieces, end_code}
 use Rattle.layout.proofs.Formats.{parsed}
@@ -20,13 +20,13 @@ pub record Valid (s : Stream) (row : Row) (at : ℕ) (x : Found) : Type 0 where
   pub code : field_at s.number at row.width ≡ x.code
   pub inside : at + row.width ≤ s.bits
 
-pub stands-parse : {s : Stream} {row : Row} {at : ℕ} {x : Found} → Valid s row at x → parse s (field_of row) at ≡ good (parsed x (at + row.width))
+pub stands-parse : {s : Stream} {row : Row} {at : ℕ} {x : Found} → Valid s row at x → parse s (field_of row) at ≡ Ok (parsed x (at + row.width))
 unfolding field_of
 stands-parse {s} {row} {at} {x} h =
-    ap₂ (λ (t : Bool) (k : ℕ). cond t (refused (past_end at)) (parse s (given (decode row at k) >>= λ v. ends (found row at k v)) (at + row.width)))
+    ap₂ (λ (t : Bool) (k : ℕ). cond t (Err (PastEnd at)) (parse s (given (decode row at k) >>= λ v. ends (found row at k v)) (at + row.width)))
     (le-ltb s.bits (at + row.width) h.inside) h.code
     ∙ ap (λ o. parse s (given o >>= λ v. ends (found row at x.code v)) (at + row.width)) h.field.means
-    ∙ ap (λ u. good (parsed u (at + row.width))) (sym h.field.is)
+    ∙ ap (λ u. Ok (parsed u (at + row.width))) (sym h.field.is)
 
 -- ---- pairs and characters in order
 
@@ -61,7 +61,7 @@ pairs-stand s domain before at (p ∷ pairs) h f k inside zero none l =
 pairs-stand s domain before at (p ∷ pairs) h f k inside (suc i) none l =
     let e : at + 37 + 37 * i ≡ at + 37 * suc i = omega arith in
     subst (λ (n : ℕ). PairStands s n (get_or pairs i none)) e
-    (pairs-stand s domain (some (codes_in p)) (at + 37) pairs h.1 f.1.1 (pair-stands s domain before at p (found_pairs_pieces pairs) h.0 f k (omega arith)).1 (omega arith) i none (omega arith))
+    (pairs-stand s domain (Some (codes_in p)) (at + 37) pairs h.1 f.1.1 (pair-stands s domain before at p (found_pairs_pieces pairs) h.0 f k (omega arith)).1 (omega arith) i none (omega arith))
 
 characters-stand : (N at : ℕ) (text : List ℕ) → Fit (map (piece 7) text) → Holds N at (map (piece 7) text) → (i : ℕ) → i < length text →
     field_at N (at + 7 * i) 7 ≡ get_or text i 0

@@ -2,8 +2,8 @@
 -- "the stream from its start". One format defines all that a sheet may hold, in the
 -- order of the stream, with its refusals; a check parses an image's stream by it.
 use Rattle.std.specs.Prelude.{Bool, not, cond, List, [], ◌∷◌, ◌++◌, ℕ, zero, suc, ◌+◌, ◌/◌, eqb, ltb}
-use Rattle.std.proofs.Math.Option.{Option, none, some}
-use Rattle.refusal.specs.Rows.{wrong_block, wrong_curve, too_many_terms}
+use Rattle.std.specs.Prelude.{Option, None, Some}
+use Rattle.refusal.specs.declared.Refusal.TheVariants.{WrongBlock, WrongCurve, TooManyTerms}
 use Rattle.codes.specs.declared.Value.{Value}
 use Rattle.codes.specs.declared.Row.{Row}
 use Rattle.templates.specs.declared.Template.{Template}
@@ -81,12 +81,12 @@ unfoldable pub selector_of : ℕ → Format (Unit {0})
 selector_of wanted = do
   at ← place
   selector ← bits 2
-  reject wrong_block at if not (eqb selector wanted)
+  reject WrongBlock at if not (eqb selector wanted)
 
 -- Row 4: a known template, in the block whose selector is at a place.
 abbrev pub named : ℕ → Option Template → Format Template
-named at (some template) = ends template
-named at none = stops (wrong_block at)
+named at (Some template) = ends template
+named at None = stops (WrongBlock at)
 
 -- Selector 0 and the template's number.
 unfoldable pub first_block : Format Template
@@ -117,7 +117,7 @@ unfoldable pub pairs_of : Domain → ℕ → Option Codes → Format (List Found
 pairs_of domain zero before = ends []
 pairs_of domain (suc n) before = do
   pair ← pair_of domain before
-  rest ← pairs_of domain n (some (codes_in pair))
+  rest ← pairs_of domain n (Some (codes_in pair))
   ends (pair ∷ rest)
 
 -- The domain, the count and the pairs.
@@ -125,7 +125,7 @@ unfoldable pub table_of : Format Calibration
 table_of = do
   x ← field_of cal_domain
   count ← field_of point_count
-  pairs ← pairs_of (domain_of x.code) count.code none
+  pairs ← pairs_of (domain_of x.code) count.code None
   ends (table (domain_of x.code) pairs)
 
 -- ---- block 41
@@ -134,7 +134,7 @@ table_of = do
 unfoldable pub ruled_of : Row → (ℕ → Bool) → Format Found
 ruled_of row rule = do
   x ← field_of row
-  reject wrong_curve x.at if not (rule x.code)
+  reject WrongCurve x.at if not (rule x.code)
   ends x
 
 -- A term after the one before it in its segment: 3, 5
@@ -146,11 +146,11 @@ term_of before = do
   ends (record { exponent = x; coefficient = c })
 
 abbrev pub behind_term : Option ℕ → FoundTerm → Option ℕ
-behind_term before t = some t.exponent.code
+behind_term before t = Some t.exponent.code
 
 -- n terms in order.
 unfoldable pub terms_of : ℕ → Format (List FoundTerm)
-terms_of n = repeated term_of behind_term n none
+terms_of n = repeated term_of behind_term n None
 
 -- What comes before a segment: the start of the last one, if any, and the number of terms so far.
 pub record Passed : Type 0 where
@@ -163,15 +163,15 @@ segment_of before = do
   start ← ruled_of segment_start (start_follows before.start)
   count ← ruled_of term_count is_term_count
   let total = before.terms + count.code
-  reject too_many_terms total if ltb most_terms total
+  reject TooManyTerms total if ltb most_terms total
   terms ← terms_of count.code
   ends (record { start = start; count = count; terms = terms })
 
 abbrev pub behind_segment : Passed → FoundSegment → Passed
-behind_segment before s = record { start = some s.start.code; terms = before.terms + s.count.code }
+behind_segment before s = record { start = Some s.start.code; terms = before.terms + s.count.code }
 
 abbrev pub nothing_passed : Passed
-nothing_passed = record { start = none; terms = 0 }
+nothing_passed = record { start = None; terms = 0 }
 
 -- n segments in order.
 unfoldable pub segments_of : ℕ → Format (List FoundSegment)
@@ -189,7 +189,7 @@ curve_of = do
 
 -- Row 4: the block of a template's number, if it is 40 or 41; its selector is at a place.
 abbrev pub block_of : ℕ → ℕ → Format Calibration
-block_of at number = cond (eqb number 40) table_of (cond (eqb number 41) curve_of (stops (wrong_block at)))
+block_of at number = cond (eqb number 40) table_of (cond (eqb number 41) curve_of (stops (WrongBlock at)))
 
 -- The block whose selector 0 was read at a place: template 40 or 41.
 unfoldable pub block_at : ℕ → Format Calibration
@@ -204,7 +204,7 @@ calibration_of = do
   selector ← bits 2
   cond (eqb selector 0)
       (block_at at >>= λ calibration. selector_of 3 >> ends calibration)
-      (reject wrong_block at if not (eqb selector 3) >> ends bare)
+      (reject WrongBlock at if not (eqb selector 3) >> ends bare)
 
 -- ---- the ending
 

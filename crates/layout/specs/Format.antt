@@ -3,8 +3,8 @@
 -- from its start" is a format, and a check parses the stream by it.
 use Rattle.std.specs.Prelude.{Bool, true, false, cond, List, [], ◌∷◌, ℕ, zero, suc, ◌+◌, ◌-◌, ltb}
 use Rattle.refusal.specs.declared.Refusal.{Refusal}
-use Rattle.refusal.specs.Outcome.{Outcome, good, refused}
-use Rattle.refusal.specs.Rows.{past_end}
+use Rattle.refusal.specs.Outcome.{Outcome, Ok, Err}
+use Rattle.refusal.specs.declared.Refusal.TheVariants.{PastEnd}
 use Rattle.memory.specs.Bits.{field_at}
 
 pub data Format (A : Type 0) : Type 0 where
@@ -43,8 +43,8 @@ remaining = looks (λ at left. ends left)
 
 -- The outcome of a rule.
 abbrev pub given : {A : Type 0} → Outcome A → Format A
-given (good a) = ends a
-given (refused r) = stops r
+given (Ok a) = ends a
+given (Err r) = stops r
 
 -- The test of a row: if it holds, the row's refusal.
 infix 2 reject◌if◌
@@ -74,7 +74,7 @@ pub record Parsed (A : Type 0) : Type 0 where
 
 -- Parses from a place on. Row 3: a field that would pass the end.
 abbrev pub parse : {A : Type 0} → Stream → Format A → ℕ → Outcome (Parsed A)
-parse s (ends a) at = good (record { found = a; next = at })
-parse s (stops r) at = refused r
-parse s (takes w next) at = cond (ltb s.bits (at + w)) (refused (past_end at)) (parse s (next (field_at s.number at w)) (at + w))
+parse s (ends a) at = Ok (record { found = a; next = at })
+parse s (stops r) at = Err r
+parse s (takes w next) at = cond (ltb s.bits (at + w)) (Err (PastEnd at)) (parse s (next (field_at s.number at w)) (at + w))
 parse s (looks next) at = parse s (next at (s.bits - at)) at

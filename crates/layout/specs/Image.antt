@@ -2,8 +2,8 @@
 -- refused. Every call that checks an image starts here.
 use Rattle.std.specs.Prelude.{◌||◌, List, [], ◌∷◌, ◌++◌, map, ℕ, ◌-◌, ◌/◌, eqb, ltb, length, get_or, ℤ, pos, nat_abs, Float}
 use Rattle.std.specs.Float.{nan}
-use Rattle.refusal.specs.Outcome.{Outcome, good, ◌>>◌, ◌>>=◌, refuse◌if◌}
-use Rattle.refusal.specs.Rows.{no_such}
+use Rattle.refusal.specs.Outcome.{Outcome, Ok, ◌>>◌, ◌>>=◌, refuse◌if◌}
+use Rattle.refusal.specs.declared.Refusal.TheVariants.{NoSuch}
 use Rattle.memory.specs.declared.Sizes.{Sizes}
 use Rattle.memory.specs.Image.{image_sizes, sums, stream_bits, stream_number}
 use Rattle.codes.specs.declared.Value.{Value}
@@ -26,7 +26,7 @@ contents kind image = do
   z ← image_sizes kind (length image)
   sums z image
   parsed ← parse (stream_in z image) sheet_of 0
-  good parsed.found
+  Ok parsed.found
 
 -- ---- parts of the contents
 
@@ -44,8 +44,8 @@ field c f = get_or c.fields (f - 1) nothing
 -- Row 8: the field's number is one of the template's.
 abbrev pub numbered : Contents → ℕ → Outcome Found
 numbered c f = do
-  refuse no_such f if eqb f 0 || ltb (length c.fields) f
-  good (field c f)
+  refuse NoSuch f if eqb f 0 || ltb (length c.fields) f
+  Ok (field c f)
 
 -- The latest choice after these fields.
 abbrev pub last_choice : List Line → List Found → ℕ → ℕ

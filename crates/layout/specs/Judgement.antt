@@ -1,6 +1,6 @@
 -- Only inner contracts need this: fields judged at their places, without parsing those before them.
 use Rattle.std.specs.Prelude.{List, [], ◌∷◌, ℕ, ◌+◌, ◌-◌, length, take}
-use Rattle.refusal.specs.Outcome.{Outcome, good, ◌>>◌}
+use Rattle.refusal.specs.Outcome.{Outcome, Ok, ◌>>◌}
 use Rattle.memory.specs.Bits.{field_at}
 use Rattle.templates.specs.declared.Template.{Template}
 use Rattle.codes.specs.Validity.{judge}
@@ -9,7 +9,7 @@ use Rattle.layout.specs.Format.{Stream}
 
 -- The test of the codes from a place on, by the rows of these lines at a choice.
 abbrev pub judged : Stream → List Line → ℕ → ℕ → Outcome (Unit {0})
-judged s [] choice at = good tt
+judged s [] choice at = Ok tt
 judged s (l ∷ lines) choice at =
     let row = l.row_at choice in judge row at (field_at s.number at row.width) >> judged s lines choice (at + row.width)
 

@@ -1,6 +1,6 @@
 -- Laws of the places of a curve's segments and terms, from its own counts.
 use Rattle.sheet.proofs.Names.{◌≡◌, refl, sym, ap, ap₂, ◌∙◌, Bool, cond, List, [], ◌∷◌, ◌++◌, ℕ, zero, suc, ◌+◌, ◌-◌, ◌*◌, ◌/◌, ◌^◌, ◌≤◌, ◌<◌, arith, dec_lt, ltb, ℤ, pos, nat_abs, length, get_or, length-append}
-use Rattle.sheet.proofs.Names.{le-ltb, lt-ltb, ltb-false, Outcome, good, refused, past_end, Value, Term, most_terms, bits, Stream, Parsed, parse, FoundTerm, FoundSegment, Calibration, bare, table, curve, Passed}
+use Rattle.sheet.proofs.Names.{le-ltb, lt-ltb, ltb-false, Outcome, Ok, Err, PastEnd, Value, Term, most_terms, bits, Stream, Parsed, parse, FoundTerm, FoundSegment, Calibration, bare, table, curve, Passed}
 use Rattle.sheet.proofs.Names.{behind_segment, nothing_passed, segments_in, segment_in, all_terms, term_in, figure, float, parsed, SegmentsAt, CalibrationAt, get-front, get-back, stands-parse, TermStands, SegmentStands}
 use Rattle.sheet.proofs.Names.{CurveStands, value_in, number_in, segment_at, term_at, segment_end, behind_segments, term_place}
 use Rattle.sheet.proofs.Steps.{bits-lt}
@@ -22,10 +22,10 @@ curve-few at (curve segments) h = (h.most, omega (arith, terms-few nothing_passe
 -- ---- a segment and a term at their places
 
 module _ {s : Stream} {x : FoundSegment} (h : SegmentStands s x) where
-  terms-read : parse s (bits 7) (x.start.at + 13) ≡ good (parsed x.count.code (x.start.at + 13 + 7))
+  terms-read : parse s (bits 7) (x.start.at + 13) ≡ Ok (parsed x.count.code (x.start.at + 13 + 7))
   terms-read =
       let at : ℕ = x.start.at + 13 in
-      ap₂ (λ (b : Bool) (v : ℕ). cond b (refused (past_end at)) (good (parsed v (at + 7)))) (le-ltb s.bits (at + 7) h.count.inside) h.count.code
+      ap₂ (λ (b : Bool) (v : ℕ). cond b (Err (PastEnd at)) (Ok (parsed v (at + 7)))) (le-ltb s.bits (at + 7) h.count.inside) h.count.code
 
   pub segment-is : segment_at s x.start.at ≡ segment_in x
   segment-is =
@@ -42,8 +42,8 @@ pub terms-lt : (s : Stream) (at : ℕ) → (segment_at s at).terms < 2 ^ 7
 terms-lt s at = go (parse s (bits 7) (at + 13)) refl
   where
     go : (o : Outcome (Parsed ℕ)) → o ≡ parse s (bits 7) (at + 13) → number_in o < 2 ^ 7
-    go (good x) e = bits-lt s (at + 13) 7 e
-    go (refused r) e = omega arith
+    go (Ok x) e = bits-lt s (at + 13) 7 e
+    go (Err r) e = omega arith
 
 -- ---- segments in order
 

@@ -1,6 +1,6 @@
 -- Laws of the values of an opened sheet: each is in the image where the check found it.
 use Rattle.sheet.proofs.Names.{◌≡◌, refl, sym, ap, ap₂, ◌∙◌, subst, Bool, cond, List, [], ◌∷◌, map, ℕ, zero, suc, ◌+◌, ◌*◌, ◌/◌, ◌%◌, ◌^◌, ◌≤◌, ◌<◌, arith, length, get_or, length-map, get_or-map, ℤ, pos, le-ltb}
-use Rattle.sheet.proofs.Names.{good, refused, past_end, field_at, WholeImage, field_lt, field-add, sizes-whole, sizes-chip, Layout, Template, Bridge, Stepped, stepped_value, always, bridge_end, Line, last_field}
+use Rattle.sheet.proofs.Names.{Ok, Err, PastEnd, field_at, WholeImage, field_lt, field-add, sizes-whole, sizes-chip, Layout, Template, Bridge, Stepped, stepped_value, always, bridge_end, Line, last_field}
 use Rattle.sheet.proofs.Names.{line_of, row_of, D, R, least_deviation, no_pair, no_segment, no_term, stepped-whole, span_lines, Unscaled, bits, Stream, parse, Found, Contents, FoundPair, FoundTerm, FoundSegment}
 use Rattle.sheet.proofs.Names.{field_of, stream_in, nothing, field, layout_of, pairs_in, pair_in, segments_in, segment_in, all_terms, term_in, figure, points, segments, terms, field_place, behind_fields, table_start}
 use Rattle.sheet.proofs.Names.{pair_bits, table_bits, pair_place, curve_bits, behind_block, character_place, parsed, Holding, accepted-at, field-stands, stands-parse, PairStands, pair-here, character-here, pair_from}
@@ -100,11 +100,11 @@ module _ {kind : ℕ} {image : List ℕ} {o : Opened} {c : Contents} (h : Opens 
   index-few i l = omega (arith, (pair-stands i l).point.inside, bits-few)
 
   pub held-pair : (i : ℕ) → i < o.summary.points → {at : ℕ} → at ≡ o.behind.at + table_start + pair_bits * i →
-      (parse s (bits pair_bits) at ≡ good (parsed (field_at s.number at pair_bits) (at + pair_bits))) × (pair_in (pair_from at (field_at s.number at pair_bits)) ≡ get_or (points c) i no_pair)
+      (parse s (bits pair_bits) at ≡ Ok (parsed (field_at s.number at pair_bits) (at + pair_bits))) × (pair_in (pair_from at (field_at s.number at pair_bits)) ≡ get_or (points c) i no_pair)
   held-pair i l {at} e' =
       let p = pair-stands i l in
       let e : at ≡ pair_place o.layout i = omega (arith, e', behind-is) in (
-        ap (λ (b : Bool). cond b (refused (past_end at)) (good (parsed (field_at s.number at pair_bits) (at + pair_bits)))) (le-ltb s.bits (at + pair_bits) (omega (arith, e, p.deviation.inside))),
+        ap (λ (b : Bool). cond b (Err (PastEnd at)) (Ok (parsed (field_at s.number at pair_bits) (at + pair_bits)))) (le-ltb s.bits (at + pair_bits) (omega (arith, e, p.deviation.inside))),
         pair-from (subst (λ (n : ℕ). PairStands s n (get_or (pairs_in c.calibration) i no_found)) (sym e) p) ∙ sym (get_or-map pair_in (pairs_in c.calibration) i no_found),
       )
 
@@ -137,11 +137,11 @@ module _ {kind : ℕ} {image : List ℕ} {o : Opened} {c : Contents} (h : Opens 
       )
 
   pub held-character : (i : ℕ) → i < o.summary.characters → {at : ℕ} →
-      at ≡ o.behind.at + table_bits o.summary.points + curve_bits o.summary.segments o.summary.terms + 3 + 7 * i → parse s (bits 7) at ≡ good (parsed (get_or c.text i 0) (at + 7))
+      at ≡ o.behind.at + table_bits o.summary.points + curve_bits o.summary.segments o.summary.terms + 3 + 7 * i → parse s (bits 7) at ≡ Ok (parsed (get_or c.text i 0) (at + 7))
   held-character i l {at} e' =
       let (is, inside) = character-stands i l in
       let e : at ≡ place i = omega (arith, e', behind-is) in
-      ap₂ (λ (b : Bool) (v : ℕ). cond b (refused (past_end at)) (good (parsed v (at + 7)))) (le-ltb s.bits (at + 7) (omega (arith, e, inside))) (ap (λ (n : ℕ). field_at s.number n 7) e ∙ is)
+      ap₂ (λ (b : Bool) (v : ℕ). cond b (Err (PastEnd at)) (Ok (parsed v (at + 7)))) (le-ltb s.bits (at + 7) (omega (arith, e, inside))) (ap (λ (n : ℕ). field_at s.number n 7) e ∙ is)
 
   -- ---- a segment and a term
 

@@ -1,22 +1,22 @@
 -- Laws of the reads of an accepted image, and of their refusals.
-use Rattle.sheet.proofs.Names.{◌≡◌, List, ⊎_elim, ℕ, ◌≤◌, ◌<◌, arith, length, get_or, eq-eqb, ne_eqb, lt-ltb, le-ltb, le-leb, lt-leb, Refusal, good, refused, no_such, no_pair, no_segment, no_term, last_field}
+use Rattle.sheet.proofs.Names.{◌≡◌, List, ⊎_elim, ℕ, ◌≤◌, ◌<◌, arith, length, get_or, eq-eqb, ne_eqb, lt-ltb, le-ltb, le-leb, lt-leb, Refusal, Ok, Err, NoSuch, no_pair, no_segment, no_term, last_field}
 use Rattle.sheet.proofs.Names.{Contents, contents, points, fields-count, contents-accepted, summary, check, indexed, read_field, read_pair, read_character, read_segment, read_term, ReadsEach, ReadsNone}
 use Rattle.layout.specs.Image.{segments as segments_of, terms as terms_of}
 
 -- The item of an index, and an index past the last.
 module _ {A : Type 0} (items : List A) (none : A) (i : ℕ) where
-  indexed-good : i < length items → indexed items none i ≡ good (get_or items i none)
+  indexed-good : i < length items → indexed items none i ≡ Ok (get_or items i none)
   indexed-good h = rw (lt-leb (length items) i h)
 
-  indexed-none : length items ≤ i → indexed items none i ≡ refused (no_such i)
+  indexed-none : length items ≤ i → indexed items none i ≡ Err (NoSuch i)
   indexed-none h = rw (le-leb (length items) i h)
 
-module _ (kind : ℕ) (image : List ℕ) (c : Contents) (e : contents kind image ≡ good c) where
+module _ (kind : ℕ) (image : List ℕ) (c : Contents) (e : contents kind image ≡ Ok c) where
   -- An accepted image has all fields of its template.
   pub fields-are : length c.fields ≡ last_field c.template
   fields-are = fields-count (contents-accepted kind image c e).holding.formed
 
-  pub accepted-checked : check kind image ≡ good (summary c)
+  pub accepted-checked : check kind image ≡ Ok (summary c)
   unfolding check
   accepted-checked = rw e
 
@@ -40,10 +40,10 @@ module _ (kind : ℕ) (image : List ℕ) (c : Contents) (e : contents kind image
   }
 
 -- Nothing is read of a refused image.
-pub refused-checked : (kind : ℕ) (image : List ℕ) (r : Refusal) → contents kind image ≡ refused r → check kind image ≡ refused r
+pub refused-checked : (kind : ℕ) (image : List ℕ) (r : Refusal) → contents kind image ≡ Err r → check kind image ≡ Err r
 unfolding check
 refused-checked kind image r e = rw e
 
-pub refused-reads : (kind : ℕ) (image : List ℕ) (r : Refusal) → contents kind image ≡ refused r → ReadsNone kind image r
+pub refused-reads : (kind : ℕ) (image : List ℕ) (r : Refusal) → contents kind image ≡ Err r → ReadsNone kind image r
 unfolding read_field read_pair read_character read_segment read_term
 refused-reads kind image r e = record { field = λ f. rw e; pair = λ i. rw e; character = λ i. rw e; segment = λ i. rw e; term = λ i. rw e }

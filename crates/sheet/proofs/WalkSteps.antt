@@ -1,7 +1,7 @@
 -- Laws of the check of fields and blocks.
 use Rattle.sheet.proofs.Names.{◌≡◌, refl, sym, ap, ap₂, ◌∙◌, subst, not, List, [], ◌∷◌, ℕ, suc, ◌+◌, ◌-◌, ◌≤◌, ◌<◌, arith, eqb, length, take, drop, get_or, length-append, drop-cons, take_at, drop_at, lt-ltb, le-ltb}
-use Rattle.sheet.proofs.Names.{eq-eqb, ne_eqb, Refusal, Outcome, good, refused, past_end, wrong_block, no_value_lem, said_of, then-good, then-refused, Sizes, field_at, stream_bits, stream_number, WholeImage, field_lt}
-use Rattle.sheet.proofs.Names.{Value, Row, Template, Layout, Judged, Valid, Turned, judged_said, judge, Open, OpenBehind, Line, chose, basic, template_lines, lines_of, last_field, line_of, row_of, no_line, decode, Sound}
+use Rattle.sheet.proofs.Names.{eq-eqb, ne_eqb, Refusal, Outcome, Ok, Err, PastEnd, WrongBlock, no_value_lem, same_of, then-good, then-refused, Sizes, field_at, stream_bits, stream_number, WholeImage, field_lt}
+use Rattle.sheet.proofs.Names.{Value, Row, Template, Layout, Outcome, Ok, Err, judge, Open, OpenBehind, Line, chose, basic, template_lines, lines_of, last_field, line_of, row_of, no_line, decode, Sound}
 use Rattle.sheet.proofs.Names.{row-sound, Format, ends, ◌>>=◌, bits, given, reject◌if◌, Stream, parse, Found, field_of, fields_of, stream_in, first_selector, field_place, behind_fields, judged, front_lines, parsed}
 use Rattle.sheet.proofs.Names.{parse-next, parse-refused, found, JudgedUpTo, come-open, come-inside, come-halt, come-next, behind-open, basic-end, basic-judged, last-sets, last-open, front-end, own-judged}
 use Rattle.sheet.proofs.Names.{keeping, choice_on, Roomy, basic_choice, own_start, own_judged, own_choice, mark_of, stood_to, basic-most}
@@ -12,20 +12,20 @@ use Rattle.refusal.specs.Outcome as outcome
 
 module _ (s : Stream) (w wanted place at : ℕ) where
   abbrev tested : ℕ → Format (Unit {0})
-  tested code = reject wrong_block place if not (eqb code wanted)
+  tested code = reject WrongBlock place if not (eqb code wanted)
 
-  pub mark-past : {r : Refusal} → refused r ≡ parse s (bits w) at → refused r ≡ parse s (mark_of w wanted place) at
+  pub mark-past : {r : Refusal} → Err r ≡ parse s (bits w) at → Err r ≡ parse s (mark_of w wanted place) at
   mark-past e = sym (parse-refused s (bits w) tested at e)
 
-  module _ {code n : ℕ} (e : good (parsed code n) ≡ parse s (bits w) at) where
+  module _ {code n : ℕ} (e : Ok (parsed code n) ≡ parse s (bits w) at) where
     at_test : parse s (mark_of w wanted place) at ≡ parse s (tested code) n
     at_test = parse-next s (bits w) tested at e
 
-    pub mark-right : code ≡ wanted → good (parsed tt n) ≡ parse s (mark_of w wanted place) at
-    mark-right h = sym (at_test ∙ ap (λ b. parse s (reject wrong_block place if not b) n) (eq-eqb code wanted h))
+    pub mark-right : code ≡ wanted → Ok (parsed tt n) ≡ parse s (mark_of w wanted place) at
+    mark-right h = sym (at_test ∙ ap (λ b. parse s (reject WrongBlock place if not b) n) (eq-eqb code wanted h))
 
-    pub mark-wrong : (code ≡ wanted → ⊥) → refused (wrong_block place) ≡ parse s (mark_of w wanted place) at
-    mark-wrong h = sym (at_test ∙ ap (λ b. parse s (reject wrong_block place if not b) n) (ne_eqb code wanted h))
+    pub mark-wrong : (code ≡ wanted → ⊥) → Err (WrongBlock place) ≡ parse s (mark_of w wanted place) at
+    mark-wrong h = sym (at_test ∙ ap (λ b. parse s (reject WrongBlock place if not b) n) (ne_eqb code wanted h))
 
 -- ---- fields judged at their places
 
@@ -83,7 +83,7 @@ own-start layout z image e =
 
 -- The loop is past the last field that can refuse a code.
 pub judged-all : {s : Stream} {choice end : ℕ} {answer : Outcome (Unit {0})} (t : Template) (f last at : ℕ) → JudgedUpTo s choice end answer (lines_from t f last) at →
-    {closed most : ℕ} → OpenBehind t closed most → last ≤ most → closed < f → good tt ≡ answer
+    {closed most : ℕ} → OpenBehind t closed most → last ≤ most → closed < f → Ok tt ≡ answer
 judged-all {choice = choice} t f last at h {closed} all m l = come-open h (behind-open (lines_of t) no_line choice (f - 1) (suc last - f) rows)
   where
     rows : (j : ℕ) → f - 1 ≤ j → j < f - 1 + (suc last - f) → Open ((get_or (lines_of t) j no_line).row_at choice)
@@ -95,8 +95,8 @@ judged-all {choice = choice} t f last at h {closed} all m l = come-open h (behin
 -- a refusal is the answer, else the loop goes on.
 pub record Turn (z : Sizes) (image : List ℕ) (row : Row) (at : ℕ) (answer : Outcome (Unit {0})) (Next : ℕ → Type 0) : Type 0 where
   pub fits : WholeImage z image × Sound row × (at + row.width ≤ stream_bits z)
-  pub halt : (j : Judged) → judged_said j ≡ judge row at (field_at (stream_number z image) at row.width) → {r : Refusal} → j ≡ Turned r → refused r ≡ answer
-  pub next : (j : Judged) → judged_said j ≡ judge row at (field_at (stream_number z image) at row.width) → j ≡ Valid → Next (at + row.width)
+  pub halt : (j : (Outcome (Unit {0}))) → j ≡ judge row at (field_at (stream_number z image) at row.width) → {r : Refusal} → j ≡ Err r → Err r ≡ answer
+  pub next : (j : (Outcome (Unit {0}))) → j ≡ judge row at (field_at (stream_number z image) at row.width) → j ≡ (Ok tt) → Next (at + row.width)
 
 turn_at : {z : Sizes} {image : List ℕ} {choice end : ℕ} {answer : Outcome (Unit {0})} → WholeImage z image → end ≤ stream_bits z →
     (t : Template) (least f last at : ℕ) → (least < f) × JudgedUpTo (stream_in z image) choice end answer (lines_from t f last) at → f ≤ last → last ≤ last_field t →
@@ -127,34 +127,34 @@ own_turn layout w f at h hi l =
 -- ---- the result of judging
 
 -- Basic, which is inside every stream.
-pub basic-stood : {z : Sizes} {image : List ℕ} → WholeImage z image → (j : Judged) → let s = stream_in z image in
-    judged_said j ≡ judged s basic 0 0 → stood_to 0 first_selector j ≡ basic_choice s
+pub basic-stood : {z : Sizes} {image : List ℕ} → WholeImage z image → (j : (Outcome (Unit {0}))) → let s = stream_in z image in
+    j ≡ judged s basic 0 0 → stood_to 0 first_selector j ≡ basic_choice s
 basic-stood {z} {image} w j e =
     let s : Stream = stream_in z image in
-    go j ∙ ap (λ o. outcome.◌>>◌ o (good (parsed 0 first_selector))) e
+    go j ∙ ap (λ o. outcome.◌>>◌ o (Ok (parsed 0 first_selector))) e
     ∙ sym (keep-bind (choice_on basic 0) (parse s (fields_of basic 0) 0) ∙ basic-judged s (stream-holds w (omega arith)))
   where
-    go : (x : Judged) → stood_to 0 first_selector x ≡ outcome.◌>>◌ (judged_said x) (good (parsed 0 first_selector))
-    go Valid = refl
-    go (Turned r) = refl
+    go : (x : (Outcome (Unit {0}))) → stood_to 0 first_selector x ≡ outcome.◌>>◌ (x) (Ok (parsed 0 first_selector))
+    go (Ok tt) = refl
+    go (Err r) = refl
 
 -- A field that passes the end, and one inside the stream that takes every code.
 module _ (s : Stream) (row : Row) (at : ℕ) where
-  field_past : s.bits < at + row.width → parse s (field_of row) at ≡ refused (past_end at)
+  field_past : s.bits < at + row.width → parse s (field_of row) at ≡ Err (PastEnd at)
   unfolding field_of
   field_past h = rw (lt-ltb s.bits (at + row.width) h)
 
-  field_open : Open row → at + row.width ≤ s.bits → (p : ℕ) → keeping (λ x. p) (parse s (field_of row) at) ≡ good (parsed p (at + row.width))
+  field_open : Open row → at + row.width ≤ s.bits → (p : ℕ) → keeping (λ x. p) (parse s (field_of row) at) ≡ Ok (parsed p (at + row.width))
   unfolding field_of
   field_open all h p = rw (le-ltb s.bits (at + row.width) h) (go (decode row at code) (all at code (field_lt s.number at row.width)))
     where
       code : ℕ
       code = field_at s.number at row.width
 
-      go : (o : Outcome Value) → outcome.◌>>◌ o (good (tt {0})) ≡ good tt →
-          keeping (λ x. p) (parse s (given o >>= λ v. ends (found row at code v)) (at + row.width)) ≡ good (parsed p (at + row.width))
-      go (good v) e = refl
-      go (refused r) e = no_value_lem e
+      go : (o : Outcome Value) → outcome.◌>>◌ o (Ok (tt {0})) ≡ Ok tt →
+          keeping (λ x. p) (parse s (given o >>= λ v. ends (found row at code v)) (at + row.width)) ≡ Ok (parsed p (at + row.width))
+      go (Ok v) e = refl
+      go (Err r) e = no_value_lem e
 
 -- A template's own fields: all but the last are judged, and the last may pass the end.
 module _ {z : Sizes} {image : List ℕ} (w : Roomy z image) (layout : Layout) (e : layout.precision ≡ field_at (stream_number z image) (field_place layout 9) 2) where
@@ -182,21 +182,21 @@ module _ {z : Sizes} {image : List ℕ} (w : Roomy z image) (layout : Layout) (e
       ∙ keep-made (choice_on lines p) (λ x. x ∷ []) s (field_of last) place
       ∙ ap (λ b. keeping (λ (x : Found). chose b x.code p) (parse s (field_of last) place)) (last-sets t))
 
-  module _ (j : Judged) (i : judged_said j ≡ own_judged s layout) where
-    pub own-turned : {r : Refusal} → j ≡ Turned r → refused r ≡ own_choice s t
-    own-turned h = sym (behind-front ∙ then-refused _ (sym (said_of judged_said h i)))
+  module _ (j : Outcome (Unit {0})) (i : j ≡ own_judged s layout) where
+    pub own-turned : {r : Refusal} → j ≡ Err r → Err r ≡ own_choice s t
+    own-turned h = sym (behind-front ∙ then-refused _ (sym (same_of h i)))
 
-    module _ (h : j ≡ Valid) where
+    module _ (h : j ≡ (Ok tt)) where
       at_last : own_choice s t ≡ keeping (λ x. layout.precision) (parse s (field_of last) place)
-      at_last = behind-front ∙ then-good _ (sym (said_of judged_said h i))
+      at_last = behind-front ∙ then-good _ (sym (same_of h i))
 
-      pub own-past : {at : ℕ} → at ≡ place → stream_bits z < behind_fields layout → refused (past_end at) ≡ own_choice s t
+      pub own-past : {at : ℕ} → at ≡ place → stream_bits z < behind_fields layout → Err (PastEnd at) ≡ own_choice s t
       own-past a l =
-          ap (λ (n : ℕ). refused (past_end n)) a
+          ap (λ (n : ℕ). Err (PastEnd n)) a
           ∙ sym (at_last ∙ ap (keeping (λ x. layout.precision)) (field_past s last place (omega (arith, (front-end t layout.precision).1))))
 
-      pub own-stands : {end : ℕ} → end ≡ behind_fields layout → end ≤ stream_bits z → good (parsed layout.precision end) ≡ own_choice s t
+      pub own-stands : {end : ℕ} → end ≡ behind_fields layout → end ≤ stream_bits z → Ok (parsed layout.precision end) ≡ own_choice s t
       own-stands a l =
           let b = (front-end t layout.precision).1 in
-          ap (λ (n : ℕ). good (parsed layout.precision n)) (a ∙ sym b)
+          ap (λ (n : ℕ). Ok (parsed layout.precision n)) (a ∙ sym b)
           ∙ sym (at_last ∙ field_open s last place (last-open t layout.precision) (omega (arith, a, b)) layout.precision)

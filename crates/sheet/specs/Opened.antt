@@ -1,7 +1,7 @@
 -- Only inner contracts need this: an accepted sheet opened once, and what holds of it.
 use Rattle.std.specs.Prelude.{◌≡◌, List, ℕ, leb, length}
-use Rattle.refusal.specs.Outcome.{Outcome, good, refused, ◌>>=◌, ◌>>◌, refuse◌if◌}
-use Rattle.refusal.specs.Rows.{no_such}
+use Rattle.refusal.specs.Outcome.{Outcome, Ok, ◌>>=◌, ◌>>◌, refuse◌if◌}
+use Rattle.refusal.specs.declared.Refusal.TheVariants.{NoSuch}
 use Rattle.memory.specs.declared.Sizes.{Sizes}
 use Rattle.memory.specs.Image.{image_sizes}
 use Rattle.layout.specs.Contents.{Contents}
@@ -11,8 +11,6 @@ use Rattle.sheet.specs.declared.Summary.{Summary}
 use Rattle.sheet.specs.declared.opening.Item.{Item}
 use Rattle.sheet.specs.declared.opening.Item.TheVariants.{Pair, Character, Segment, Term}
 use Rattle.sheet.specs.declared.opening.Opened.{Opened}
-use Rattle.sheet.specs.declared.opening.OpenedAnswer.{OpenedAnswer}
-use Rattle.sheet.specs.declared.opening.OpenedAnswer.TheVariants.{Sheet, Refused}
 use Rattle.sheet.specs.Check.{summary}
 
 -- The sizes of an accepted image, what its rows depend on,
@@ -24,11 +22,7 @@ unfoldable pub opened : ℕ → List ℕ → Outcome Opened
 opened kind image = do
   z ← image_sizes kind (length image)
   c ← contents kind image
-  good (opened_as z c)
-
-abbrev pub opened_said : OpenedAnswer → Outcome Opened
-opened_said (Sheet o) = good o
-opened_said (Refused r) = refused r
+  Ok (opened_as z c)
 
 -- ---- an element of an accepted sheet by its index: check, then 8
 
@@ -41,15 +35,15 @@ counted Term s = s.terms
 abbrev pub opened_at : ℕ → List ℕ → Item → ℕ → Outcome Opened
 opened_at kind image item i = do
   o ← opened kind image
-  refuse no_such i if leb (counted item o.summary) i
-  good o
+  refuse NoSuch i if leb (counted item o.summary) i
+  Ok o
 
 -- ---- what holds of it
 
 -- An image of a kind that was accepted and opened as o.
 pub record Opens (kind : ℕ) (image : List ℕ) (o : Opened) (c : Contents) : Type 0 where
-  pub sized : image_sizes kind (length image) ≡ good o.sizes
-  pub accepted : contents kind image ≡ good c
+  pub sized : image_sizes kind (length image) ≡ Ok o.sizes
+  pub accepted : contents kind image ≡ Ok c
   pub is : o ≡ opened_as o.sizes c
 
 -- An accepted image that was opened as o, for any kind and contents.

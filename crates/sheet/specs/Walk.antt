@@ -1,28 +1,20 @@
 -- Only inner contracts need this: the check's functions, which parse the
 -- stream by the formats of `layout` and keep only what a check returns.
 use Rattle.std.specs.Prelude.{◌≡◌, Bool, true, not, cond, List, [], ◌∷◌, ℕ, zero, suc, ◌+◌, ◌-◌, ◌*◌, ◌/◌, ◌%◌, ◌^◌, ◌≤◌, eqb, ltb, pos, nat_abs, length}
-use Rattle.std.proofs.Math.Option.{Option, none, some}
-use Rattle.refusal.specs.Outcome.{Outcome, good, refused}
-use Rattle.refusal.specs.Rows.{wrong_block, too_many_terms}
+use Rattle.std.specs.Prelude.{Option, None, Some}
+use Rattle.refusal.specs.Outcome.{Outcome, Ok, Err}
+use Rattle.refusal.specs.declared.Refusal.TheVariants.{WrongBlock, TooManyTerms}
 use Rattle.memory.specs.declared.Sizes.{Sizes}
 use Rattle.memory.specs.Image.{stream_bits}
 use Rattle.memory.specs.Answers.{WholeImage}
 use Rattle.stream.specs.declared.cursor.Cursor.{Cursor}
-use Rattle.stream.specs.declared.cursor.Taken.{Taken}
-use Rattle.stream.specs.declared.cursor.Taken.TheVariants.{Field, Refused as NotTaken}
 use Rattle.codes.specs.declared.Value.{Value}
 use Rattle.codes.specs.declared.Value.TheVariants.{Missing}
-use Rattle.codes.specs.declared.Row.{Row}
 use Rattle.templates.specs.declared.Template.{Template}
 use Rattle.templates.specs.declared.Layout.{Layout}
-use Rattle.codes.specs.declared.Judged.{Judged}
-use Rattle.codes.specs.declared.Judged.TheVariants.{Valid, Refused as Turned}
-use Rattle.templates.specs.declared.Codes.{Codes}
 use Rattle.templates.specs.declared.Domain.{Domain}
-use Rattle.templates.specs.declared.Earlier.{Earlier}
 use Rattle.templates.specs.declared.Segment.{Segment}
 use Rattle.templates.specs.declared.Term.{Term}
-use Rattle.templates.specs.Answers.{earlier_said}
 use Rattle.templates.specs.Curves.{segment_start, term_count, exponent, coefficient, is_term_count, most_terms, tenths_of, tenths_before, exponent_follows}
 use Rattle.codes.specs.Validity.{judge}
 use Rattle.templates.specs.Lines.{Line, basic, template_lines}
@@ -32,27 +24,7 @@ use Rattle.layout.specs.Image.{stream_in, last_choice, pairs_in, segments_in, al
 use Rattle.layout.specs.Places.{block_bits, first_selector, behind_fields, segment_head, term_bits}
 use Rattle.layout.specs.Judgement.{judged, front_lines}
 use Rattle.sheet.specs.declared.opening.Opened.{Opened}
-use Rattle.sheet.specs.declared.walk.CodeStep.{CodeStep}
-use Rattle.sheet.specs.declared.walk.CodeStep.TheVariants.{Code, Refused as NoCode}
-use Rattle.sheet.specs.declared.walk.MarkStep.{MarkStep}
-use Rattle.sheet.specs.declared.walk.MarkStep.TheVariants.{Behind, Refused as NoMark}
-use Rattle.sheet.specs.declared.walk.ChoiceStep.{ChoiceStep}
-use Rattle.sheet.specs.declared.walk.ChoiceStep.TheVariants.{Chosen, Refused as NoChoice}
-use Rattle.sheet.specs.declared.walk.TemplateStep.{TemplateStep}
-use Rattle.sheet.specs.declared.walk.TemplateStep.TheVariants.{Named, Refused as NoTemplate}
-use Rattle.sheet.specs.declared.table.CodesStep.{CodesStep}
-use Rattle.sheet.specs.declared.table.CodesStep.TheVariants.{Stand, Refused as NoCodes}
-use Rattle.sheet.specs.declared.table.CountStep.{CountStep}
-use Rattle.sheet.specs.declared.table.CountStep.TheVariants.{Counted, Refused as NoCount}
 use Rattle.sheet.specs.declared.block.Counts.{Counts}
-use Rattle.sheet.specs.declared.block.BlockStep.{BlockStep}
-use Rattle.sheet.specs.declared.block.BlockStep.TheVariants.{Found as FoundBlock, Refused as NoBlock}
-use Rattle.sheet.specs.declared.curve_block.EarlierStep.{EarlierStep}
-use Rattle.sheet.specs.declared.curve_block.EarlierStep.TheVariants.{Behind as Before, Refused as NoTerm}
-use Rattle.sheet.specs.declared.curve_block.SegmentStep.{SegmentStep}
-use Rattle.sheet.specs.declared.curve_block.SegmentStep.TheVariants.{Behind as BeforeSegment, Refused as NoSegment}
-use Rattle.sheet.specs.declared.ending.EndStep.{EndStep}
-use Rattle.sheet.specs.declared.ending.EndStep.TheVariants.{Ended, Refused as NoEnd}
 use Rattle.sheet.specs.Check.{domain_in}
 use Rattle.sheet.specs.Opened.{opened_as}
 use Rattle.refusal.specs.Outcome as outcome
@@ -61,8 +33,8 @@ use Rattle.refusal.specs.Outcome as outcome
 
 -- A part of what was parsed, with the place after it.
 abbrev pub keeping : {A B : Type 0} → (A → B) → Outcome (Parsed A) → Outcome (Parsed B)
-keeping part (good x) = good (record { found = part x.found; next = x.next })
-keeping part (refused r) = refused r
+keeping part (Ok x) = Ok (record { found = part x.found; next = x.next })
+keeping part (Err r) = Err r
 
 -- What is kept of a field: its first bit and its code.
 pub record Coded : Type 0 where
@@ -90,8 +62,8 @@ abbrev pub passed_by : {A B : Type 0} → (B → A → B) → B → List A → B
 passed_by behind before [] = before
 passed_by behind before (x ∷ xs) = passed_by behind (behind before x) xs
 
-abbrev pub passed : Earlier → ℕ → Passed
-passed start terms = record { start = earlier_said start; terms = terms }
+abbrev pub passed : Option ℕ → ℕ → Passed
+passed start terms = record { start = start; terms = terms }
 
 -- What is kept of an ending: the end bit and the number of its characters.
 pub record EndCount : Type 0 where
@@ -103,7 +75,7 @@ end_count e = record { end_bit = e.end_bit; characters = length e.text }
 
 -- What is kept of a sheet: its opened form.
 abbrev pub walked : Sizes → List ℕ → Outcome Opened
-walked z image = outcome.◌>>=◌ (parse (stream_in z image) sheet_of 0) (λ x. good (opened_as z x.found))
+walked z image = outcome.◌>>=◌ (parse (stream_in z image) sheet_of 0) (λ x. Ok (opened_as z x.found))
 
 -- The opened form of a sheet, from the parts that are kept.
 abbrev pub opened_of : Sizes → Layout → ℕ → Counts → EndCount → ℕ → Opened
@@ -125,13 +97,13 @@ opened_of z layout behind counts ending end = record {
 
 -- The value of a parsed field.
 abbrev pub value_in : Outcome (Parsed Found) → Value
-value_in (good x) = x.found.value
-value_in (refused r) = Missing
+value_in (Ok x) = x.found.value
+value_in (Err r) = Missing
 
 -- The code of parsed bits.
 abbrev pub number_in : Outcome (Parsed ℕ) → ℕ
-number_in (good x) = x.found
-number_in (refused r) = 0
+number_in (Ok x) = x.found
+number_in (Err r) = 0
 
 -- ---- what is parsed
 
@@ -160,11 +132,11 @@ pub record Roomy (z : Sizes) (image : List ℕ) : Type 0 where
 
 -- Row 4: a code that has to be the expected one, in the block whose selector is at a place.
 abbrev pub mark_of : ℕ → ℕ → ℕ → Format (Unit {0})
-mark_of width wanted at = bits width >>= λ code. reject wrong_block at if not (eqb code wanted)
+mark_of width wanted at = bits width >>= λ code. reject WrongBlock at if not (eqb code wanted)
 
 -- A table of n pairs, in its domain.
 abbrev pub table_from : Domain → ℕ → Format Calibration
-table_from domain n = pairs_of domain n none >>= λ pairs. ends (table domain pairs)
+table_from domain n = pairs_of domain n None >>= λ pairs. ends (table domain pairs)
 
 -- The block whose selector 0 was read at a place, and selector 3 after it.
 abbrev pub only_block : ℕ → Format Calibration
@@ -175,7 +147,7 @@ only_block at = block_at at >>= λ calibration. selector_of 3 >> ends calibratio
 -- From the ending on, after a calibration; from the calibration on, after the
 -- fields of a layout; from a template's own fields on; from the first block on.
 abbrev pub ending_opened : Sizes → Stream → Layout → Counts → ℕ → Outcome Opened
-ending_opened z s layout counts at = outcome.◌>>=◌ (keeping end_count (parse s ending_of at)) (λ e. good (opened_of z layout (behind_fields layout) counts e.found e.next))
+ending_opened z s layout counts at = outcome.◌>>=◌ (keeping end_count (parse s ending_of at)) (λ e. Ok (opened_of z layout (behind_fields layout) counts e.found e.next))
 
 abbrev pub calibration_opened : Sizes → Stream → Layout → ℕ → Outcome Opened
 calibration_opened z s layout at = outcome.◌>>=◌ (keeping counts_of (parse s calibration_of at)) (λ c. ending_opened z s layout c.found c.next)
@@ -193,15 +165,15 @@ block_opened z s at = outcome.◌>>=◌ (parse s first_block at) (λ t. own_open
 -- The codes of a term as one number, the exponent's bits
 -- lowest. Both are valid at a place after the term before.
 pub record TermCodes (before : Option ℕ) (at both : ℕ) : Type 0 where
-  pub power : judge exponent at (both % 2 ^ 7) ≡ good tt
+  pub power : judge exponent at (both % 2 ^ 7) ≡ Ok tt
   pub rising : exponent_follows (tenths_before before) (tenths_of (both % 2 ^ 7)) ≡ true
-  pub factor : judge coefficient (at + 7) (both / 2 ^ 7) ≡ good tt
+  pub factor : judge coefficient (at + 7) (both / 2 ^ 7) ≡ Ok tt
 
 -- From its terms on, this many, which make a total; from their number on, after this many terms.
 abbrev pub terms_behind : Stream → ℕ → ℕ → ℕ → ℕ → Outcome (Parsed Passed)
 terms_behind s start total n at =
-    outcome.◌>>◌ (outcome.refuse◌if◌ (too_many_terms total) (ltb most_terms total))
-    (keeping (λ terms. record { start = some start; terms = total }) (parse s (terms_of n) at))
+    outcome.◌>>◌ (outcome.refuse◌if◌ (TooManyTerms total) (ltb most_terms total))
+    (keeping (λ terms. record { start = Some start; terms = total }) (parse s (terms_of n) at))
 
 abbrev pub count_behind : Stream → ℕ → ℕ → ℕ → Outcome (Parsed Passed)
 count_behind s start terms at =
@@ -237,59 +209,40 @@ term_place s at (suc n) i =
 -- ---- the answers: what is kept and the place after it, for each case
 
 abbrev pub behind : {A : Type 0} → A → Cursor → Outcome (Parsed A)
-behind a cursor = good (record { found = a; next = cursor.at })
+behind a cursor = Ok (record { found = a; next = cursor.at })
 
--- The code of a field at a place; and a code that was read there, judged by its row.
-abbrev pub code_said : ℕ → CodeStep → Outcome (Parsed Coded)
-code_said at (Code code cursor) = behind (record { at = at; code = code }) cursor
-code_said at (NoCode r) = refused r
+-- What was read, and the place after it.
+abbrev pub step_said : {A : Type 0} → Outcome (A × Cursor) → Outcome (Parsed A)
+step_said (Ok x) = behind x.0 x.1
+step_said (Err r) = Err r
 
-abbrev pub judged_at : Row → ℕ → Taken → Outcome (Parsed Coded)
-judged_at row at (Field code cursor) = outcome.◌>>◌ (judge row at code) (behind (record { at = at; code = code }) cursor)
-judged_at row at (NotTaken r) = refused r
+-- The code of a field at a place.
+abbrev pub code_said : ℕ → Outcome (ℕ × Cursor) → Outcome (Parsed Coded)
+code_said at (Ok x) = behind (record { at = at; code = x.0 }) x.1
+code_said at (Err r) = Err r
 
-abbrev pub mark_said : MarkStep → Outcome (Parsed (Unit {0}))
-mark_said (Behind cursor) = behind tt cursor
-mark_said (NoMark r) = refused r
-
-abbrev pub choice_said : ChoiceStep → Outcome (Parsed ℕ)
-choice_said (Chosen code cursor) = behind code cursor
-choice_said (NoChoice r) = refused r
+abbrev pub mark_said : Outcome Cursor → Outcome (Parsed (Unit {0}))
+mark_said (Ok cursor) = behind tt cursor
+mark_said (Err r) = Err r
 
 -- A template's own fields end where the fields of the chosen layout do.
-abbrev pub EndsBehind : Template → ChoiceStep → Type 0
-EndsBehind template (Chosen code cursor) = cursor.at ≡ behind_fields (layout_at template code)
-EndsBehind template (NoChoice r) = Unit {0}
+abbrev pub EndsBehind : Template → Outcome (ℕ × Cursor) → Type 0
+EndsBehind template (Ok x) = x.1.at ≡ behind_fields (layout_at template x.0)
+EndsBehind template (Err r) = Unit {0}
 
 -- Fields judged at their places: the choice and the place after them, if all are valid.
-abbrev pub stood_to : ℕ → ℕ → Judged → Outcome (Parsed ℕ)
-stood_to choice end Valid = good (record { found = choice; next = end })
-stood_to choice end (Turned r) = refused r
+abbrev pub stood_to : ℕ → ℕ → Outcome (Unit {0}) → Outcome (Parsed ℕ)
+stood_to choice end (Ok u) = Ok (record { found = choice; next = end })
+stood_to choice end (Err r) = Err r
 
-abbrev pub template_step_said : TemplateStep → Outcome (Parsed Template)
-template_step_said (Named template) = good (record { found = template; next = own_start })
-template_step_said (NoTemplate r) = refused r
+abbrev pub template_step_said : Outcome Template → Outcome (Parsed Template)
+template_step_said (Ok template) = Ok (record { found = template; next = own_start })
+template_step_said (Err r) = Err r
 
-abbrev pub codes_said : CodesStep → Outcome (Parsed Codes)
-codes_said (Stand codes cursor) = behind codes cursor
-codes_said (NoCodes r) = refused r
+abbrev pub segment_step_said : Outcome (Option ℕ × ℕ × Cursor) → Outcome (Parsed Passed)
+segment_step_said (Ok x) = behind (passed x.0 x.1) x.2
+segment_step_said (Err r) = Err r
 
-abbrev pub count_said : CountStep → Outcome (Parsed ℕ)
-count_said (Counted n cursor) = behind n cursor
-count_said (NoCount r) = refused r
-
-abbrev pub earlier_step_said : EarlierStep → Outcome (Parsed (Option ℕ))
-earlier_step_said (Before last cursor) = behind (earlier_said last) cursor
-earlier_step_said (NoTerm r) = refused r
-
-abbrev pub segment_step_said : SegmentStep → Outcome (Parsed Passed)
-segment_step_said (BeforeSegment start terms cursor) = behind (passed start terms) cursor
-segment_step_said (NoSegment r) = refused r
-
-abbrev pub block_said : BlockStep → Outcome (Parsed Counts)
-block_said (FoundBlock counts cursor) = behind counts cursor
-block_said (NoBlock r) = refused r
-
-abbrev pub end_said : EndStep → Outcome (Parsed EndCount)
-end_said (Ended end_bit characters cursor) = behind (record { end_bit = end_bit; characters = characters }) cursor
-end_said (NoEnd r) = refused r
+abbrev pub end_said : Outcome (Bool × ℕ × Cursor) → Outcome (Parsed EndCount)
+end_said (Ok x) = behind (record { end_bit = x.0; characters = x.1 }) x.2
+end_said (Err r) = Err r

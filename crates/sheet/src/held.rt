@@ -13,9 +13,9 @@ ghost use Rattle.sheet.specs.Opened.{Opens, Held};
 ghost use Rattle.sheet.specs.Walk.{value_in};
 
 use crate::Opened;
-use codes::{Decoded, Row, Value};
+use codes::{Row, Value};
 use memory::Sizes;
-use stream::{Cursor, Taken};
+use stream::Cursor;
 use templates::Pair;
 
 // The value of the field of a row at a cursor; missing if the stream has none there.
@@ -24,10 +24,10 @@ pub fn value_at(sizes: Sizes, image: &[u8], cursor: Cursor, row: Row) -> Value
     ensures { result ≡ value_in (parse (stream_in sizes image.now) (field_of row) cursor.at) }
 {
     match cursor.take(sizes, image, row.width as usize) {
-        Taken::Refused(_) => Value::Missing,
-        Taken::Field(code, _) => match codes::decode(row, cursor.at as u64, code) {
-            Decoded::Refused(_) => Value::Missing,
-            Decoded::Means(value) => value,
+        Err(_) => Value::Missing,
+        Ok((code, _)) => match codes::decode(row, cursor.at as u64, code) {
+            Err(_) => Value::Missing,
+            Ok(value) => value,
         },
     }
 }
@@ -39,10 +39,10 @@ pub fn unscaled_at(sizes: Sizes, image: &[u8], cursor: Cursor, row: Row) -> Valu
     ensures { result ≡ value_in (parse (stream_in sizes image.now) (field_of row) cursor.at) }
 {
     match cursor.take(sizes, image, row.width as usize) {
-        Taken::Refused(_) => Value::Missing,
-        Taken::Field(code, _) => match codes::decode_unscaled(row, cursor.at as u64, code) {
-            Decoded::Refused(_) => Value::Missing,
-            Decoded::Means(value) => value,
+        Err(_) => Value::Missing,
+        Ok((code, _)) => match codes::decode_unscaled(row, cursor.at as u64, code) {
+            Err(_) => Value::Missing,
+            Ok(value) => value,
         },
     }
 }
@@ -95,11 +95,11 @@ pub fn pair_in(sheet: Opened, image: &[u8], index: u64) -> Pair
         at: layout::locate_pair(sheet.behind.at, index),
     };
     match cursor.take(sizes, image, layout::PAIR_BITS) {
-        Taken::Refused(_) => Pair {
+        Err(_) => Pair {
             point: 0,
             deviation: 0,
         },
-        Taken::Field(code, _) => templates::pair_of(code),
+        Ok((code, _)) => templates::pair_of(code),
     }
 }
 
@@ -120,7 +120,7 @@ pub fn character_in(sheet: Opened, image: &[u8], index: u64) -> u8
         ),
     };
     match cursor.take(sizes, image, layout::CHARACTER_BITS) {
-        Taken::Refused(_) => 0,
-        Taken::Field(character, _) => character as u8,
+        Err(_) => 0,
+        Ok((character, _)) => character as u8,
     }
 }

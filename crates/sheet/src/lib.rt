@@ -16,18 +16,11 @@ mod walk; // walk.rt: fields and blocks
 pub use calls::{check, read_character, read_field, read_pair, read_segment, read_term};
 use codes::Value;
 pub use held::{character_in, pair_in, unscaled_in, value_in};
-pub use opening::{Opened, OpenedAnswer, open};
+pub use opening::{Opened, open};
 use refusal::Refusal;
 pub use segments::{curve_in, segment_at, segment_end, segment_in, term_at, term_in};
 use templates::{Domain, Template};
 pub use templates::{Pair, Segment, Term};
-
-// The domain of a calibration table, if there is one.
-#[derive(Clone, Copy)]
-pub enum TableDomain {
-    NoTable,
-    Is(Domain),
-}
 
 // What an accepted check returns: the bits up to the end ("a zero that ends the
 // text counted"), and the numbers of points and characters with the end bit. Then
@@ -39,45 +32,7 @@ pub struct Summary {
     pub end_bit: bool,
     pub characters: u64,
     pub template: Template,
-    pub domain: TableDomain,
+    pub domain: Option<Domain>,
     pub segments: u64,
     pub terms: u64,
-}
-
-// The answer of a check.
-#[derive(Clone, Copy)]
-pub enum Checked {
-    Accepted(Summary),
-    Refused(Refusal),
-}
-
-// The answers of the reads.
-#[derive(Clone, Copy)]
-pub enum FieldAnswer {
-    Holds(Value),
-    Refused(Refusal),
-}
-
-#[derive(Clone, Copy)]
-pub enum PairAnswer {
-    Holds(Pair),
-    Refused(Refusal),
-}
-
-#[derive(Clone, Copy)]
-pub enum CharacterAnswer {
-    Holds(u8),
-    Refused(Refusal),
-}
-
-#[derive(Clone, Copy)]
-pub enum SegmentAnswer {
-    Holds(Segment),
-    Refused(Refusal),
-}
-
-#[derive(Clone, Copy)]
-pub enum TermAnswer {
-    Holds(Term),
-    Refused(Refusal),
 }

@@ -13,7 +13,7 @@ ghost use Rattle.sheet.specs.Walk.{number_in, segment_at, term_at, segment_end, 
 use crate::{Opened, held};
 use codes::Value;
 use memory::Sizes;
-use stream::{Cursor, Taken};
+use stream::Cursor;
 use templates::{Segment, Term};
 
 // The number of terms of the segment at a cursor.
@@ -26,8 +26,8 @@ fn terms_at(sizes: Sizes, image: &[u8], cursor: Cursor) -> u64
         .next
         .take(sizes, image, templates::TERM_COUNT_BITS as usize)
     {
-        Taken::Refused(_) => 0,
-        Taken::Field(count, _) => count,
+        Err(_) => 0,
+        Ok((count, _)) => count,
     }
 }
 

@@ -1,37 +1,20 @@
 // Block 40, the calibration table.
 ghost use Rattle.std.specs.Prelude.{◌≡◌, true, ◌+◌, ◌*◌, ◌≤◌, length};
-ghost use Rattle.std.proofs.Math.Option.{none};
+ghost use Rattle.std.specs.Prelude.{None};
 ghost use Rattle.memory.specs.Image.{stream_bits};
 ghost use Rattle.memory.specs.Answers.{WholeImage};
-ghost use Rattle.templates.specs.Answers.{previous_said};
 ghost use Rattle.layout.specs.Format.{parse};
 ghost use Rattle.layout.specs.Contents.{codes_in, pair_of, pairs_of, table_of};
 ghost use Rattle.layout.specs.Image.{stream_in};
 ghost use Rattle.layout.specs.Places.{pair_bits};
-ghost use Rattle.sheet.specs.Walk.{keeping, counts_of, table_from, behind, codes_said, count_said, block_said};
+ghost use Rattle.sheet.specs.Walk.{keeping, counts_of, table_from, behind, step_said};
 
-use crate::block::{BlockStep, Counts};
-use crate::walk::CodeStep;
-use crate::{TableDomain, walk};
-use codes::Judged;
+use crate::block::Counts;
+use crate::walk;
 use memory::Sizes;
 use refusal::Refusal;
 use stream::Cursor;
-use templates::{Codes, Domain, Previous};
-
-// The codes of a pair.
-#[derive(Clone, Copy)]
-pub enum CodesStep {
-    Stand(Codes, Cursor),
-    Refused(Refusal),
-}
-
-// The number of pairs, or of characters.
-#[derive(Clone, Copy)]
-pub enum CountStep {
-    Counted(u64, Cursor),
-    Refused(Refusal),
-}
+use templates::{Codes, Domain};
 
 // A pair after the one before it: 3 and 5 of the point,
 // 3 and 5 of its deviation, then 7, and 22 in domain 1.
@@ -40,32 +23,19 @@ fn take_codes(
     image: &[u8],
     cursor: Cursor,
     domain: Domain,
-    before: Previous,
-) -> CodesStep
+    before: Option<Codes>,
+) -> Result<(Codes, Cursor), Refusal>
     requires { WholeImage sizes image.now }
-    ensures { codes_said result ≡ keeping codes_in (parse (stream_in sizes image.now) (pair_of domain (previous_said before)) cursor.at) }
+    ensures { step_said result ≡ keeping codes_in (parse (stream_in sizes image.now) (pair_of domain (before)) cursor.at) }
 {
-    match walk::take_code(sizes, image, cursor, templates::cal_point()) {
-        CodeStep::Refused(r) => CodesStep::Refused(r),
-        CodeStep::Code(point, middle) => match walk::take_code(
-            sizes,
-            image,
-            middle,
-            templates::cal_deviation(),
-        ) {
-            CodeStep::Refused(r) => CodesStep::Refused(r),
-            CodeStep::Code(deviation, next) => {
-                let codes = Codes {
-                    point: point as u16,
-                    deviation: deviation as u32,
-                };
-                match templates::follows(domain, before, cursor.at as u64, codes) {
-                    Judged::Refused(r) => CodesStep::Refused(r),
-                    Judged::Valid => CodesStep::Stand(codes, next),
-                }
-            }
-        },
-    }
+    let (point, middle) = walk::take_code(sizes, image, cursor, templates::cal_point())?;
+    let (deviation, next) = walk::take_code(sizes, image, middle, templates::cal_deviation())?;
+    let codes = Codes {
+        point: point as u16,
+        deviation: deviation as u32,
+    };
+    templates::follows(domain, before, cursor.at as u64, codes)?;
+    Ok((codes, next))
 }
 
 // Whether this many pairs inside the stream are all valid and rise. A pair
@@ -73,7 +43,7 @@ fn take_codes(
 // value. `least` and `floor` are the least point and sum that may follow.
 fn all_rise(sizes: Sizes, image: &[u8], start: Cursor, domain: Domain, count: u64) -> bool
     requires { WholeImage sizes image.now × (start.at + pair_bits * count ≤ stream_bits sizes) }
-    ensures { result ≡ true → behind count (record { at = start.at + pair_bits * count }) ≡ keeping length (parse (stream_in sizes image.now) (pairs_of domain count none) start.at) }
+    ensures { result ≡ true → behind count (record { at = start.at + pair_bits * count }) ≡ keeping length (parse (stream_in sizes image.now) (pairs_of domain count None) start.at) }
 {
     let mut cursor = start;
     let mut least: u64 = 0;
@@ -111,33 +81,39 @@ fn all_rise(sizes: Sizes, image: &[u8], start: Cursor, domain: Domain, count: u6
 }
 
 // Reads `count` pairs, one by one.
-fn take_each(sizes: Sizes, image: &[u8], start: Cursor, domain: Domain, count: u64) -> CountStep
+fn take_each(
+    sizes: Sizes,
+    image: &[u8],
+    start: Cursor,
+    domain: Domain,
+    count: u64,
+) -> Result<(u64, Cursor), Refusal>
     requires { WholeImage sizes image.now }
-    ensures { count_said result ≡ keeping length (parse (stream_in sizes image.now) (pairs_of domain count none) start.at) }
+    ensures { step_said result ≡ keeping length (parse (stream_in sizes image.now) (pairs_of domain count None) start.at) }
 {
     let mut cursor = start;
-    let mut before = Previous::Nothing;
+    let mut before = None;
     let mut left = count;
     while 0 < left {
-        match take_codes(sizes, image, cursor, domain, before) {
-            CodesStep::Refused(r) => {
-                return CountStep::Refused(r);
-            }
-            CodesStep::Stand(codes, next) => {
-                before = Previous::Pair(codes);
-                cursor = next;
-            }
-        }
+        let (codes, next) = take_codes(sizes, image, cursor, domain, before)?;
+        before = Some(codes);
+        cursor = next;
         left -= 1;
     }
-    CountStep::Counted(count, cursor)
+    Ok((count, cursor))
 }
 
 // Reads `count` pairs. Fast path: most tables rise, and `all_rise`
 // is three times as fast; `take_each` finds the refusal of the rest.
-fn take_pairs(sizes: Sizes, image: &[u8], start: Cursor, domain: Domain, count: u64) -> CountStep
+fn take_pairs(
+    sizes: Sizes,
+    image: &[u8],
+    start: Cursor,
+    domain: Domain,
+    count: u64,
+) -> Result<(u64, Cursor), Refusal>
     requires { WholeImage sizes image.now }
-    ensures { count_said result ≡ keeping length (parse (stream_in sizes image.now) (pairs_of domain count none) start.at) }
+    ensures { step_said result ≡ keeping length (parse (stream_in sizes image.now) (pairs_of domain count None) start.at) }
 {
     let at = start.at;
     let bits = memory::stream_bits(sizes);
@@ -146,7 +122,7 @@ fn take_pairs(sizes: Sizes, image: &[u8], start: Cursor, domain: Domain, count: 
             if all_rise(sizes, image, start, domain, count) {
                 let pairs = start.over(layout::PAIR_BITS * (count as usize));
                 let end = pairs.next;
-                return CountStep::Counted(count, end);
+                return Ok((count, end));
             }
         }
     }
@@ -154,41 +130,32 @@ fn take_pairs(sizes: Sizes, image: &[u8], start: Cursor, domain: Domain, count: 
 }
 
 // The counts of a table of this many pairs, in its domain.
-fn take_listed(sizes: Sizes, image: &[u8], start: Cursor, domain: Domain, count: u64) -> BlockStep
+fn take_listed(
+    sizes: Sizes,
+    image: &[u8],
+    start: Cursor,
+    domain: Domain,
+    count: u64,
+) -> Result<(Counts, Cursor), Refusal>
     requires { WholeImage sizes image.now }
-    ensures { block_said result ≡ keeping counts_of (parse (stream_in sizes image.now) (table_from domain count) start.at) }
+    ensures { step_said result ≡ keeping counts_of (parse (stream_in sizes image.now) (table_from domain count) start.at) }
 {
-    match take_pairs(sizes, image, start, domain, count) {
-        CountStep::Refused(r) => BlockStep::Refused(r),
-        CountStep::Counted(n, end) => {
-            let counts = Counts {
-                domain: TableDomain::Is(domain),
-                points: n,
-                segments: 0,
-                terms: 0,
-            };
-            BlockStep::Found(counts, end)
-        }
-    }
+    let (n, end) = take_pairs(sizes, image, start, domain, count)?;
+    let counts = Counts {
+        domain: Some(domain),
+        points: n,
+        segments: 0,
+        terms: 0,
+    };
+    Ok((counts, end))
 }
 
 // Block 40 after its template number: domain, count and pairs.
-pub fn take_table(sizes: Sizes, image: &[u8], cursor: Cursor) -> BlockStep
+pub fn take_table(sizes: Sizes, image: &[u8], cursor: Cursor) -> Result<(Counts, Cursor), Refusal>
     requires { WholeImage sizes image.now }
-    ensures { block_said result ≡ keeping counts_of (parse (stream_in sizes image.now) table_of cursor.at) }
+    ensures { step_said result ≡ keeping counts_of (parse (stream_in sizes image.now) table_of cursor.at) }
 {
-    match walk::take_code(sizes, image, cursor, templates::cal_domain()) {
-        CodeStep::Refused(r) => BlockStep::Refused(r),
-        CodeStep::Code(code, count) => match walk::take_code(
-            sizes,
-            image,
-            count,
-            templates::point_count(),
-        ) {
-            CodeStep::Refused(r) => BlockStep::Refused(r),
-            CodeStep::Code(n, pairs) => {
-                take_listed(sizes, image, pairs, templates::domain_of(code), n)
-            }
-        },
-    }
+    let (code, count) = walk::take_code(sizes, image, cursor, templates::cal_domain())?;
+    let (n, pairs) = walk::take_code(sizes, image, count, templates::point_count())?;
+    take_listed(sizes, image, pairs, templates::domain_of(code), n)
 }

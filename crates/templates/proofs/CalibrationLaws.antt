@@ -1,6 +1,6 @@
 -- Laws of the domain of the calibration table, and of its neighbouring pairs.
-use Rattle.templates.proofs.Names.{◌≡◌, refl, true, false, ◌&&◌, Option, none, some, ℕ, zero, suc, ◌+◌, ◌*◌, ◌≤◌, ◌<◌, arith, leb-false, leb, pos, le_z, ◌<ℤ◌, up, dn, add_parts, le-le_z, lt-le_z, nle_z-parts}
-use Rattle.templates.proofs.Names.{parts-<ℤ, is_false, good, not_rising, sums_not_rising, passed, Codes, Domain, Electrical, Physical, stepped_value, D, R, least_deviation, domain_code, domain_of, is_physical, stored_sum}
+use Rattle.templates.proofs.Names.{◌≡◌, refl, true, false, ◌&&◌, Option, None, Some, ℕ, zero, suc, ◌+◌, ◌*◌, ◌≤◌, ◌<◌, arith, leb-false, leb, pos, le_z, ◌<ℤ◌, up, dn, add_parts, le-le_z, lt-le_z, nle_z-parts}
+use Rattle.templates.proofs.Names.{parts-<ℤ, is_false, Ok, NotRising, SumsNotRising, passed, Codes, Domain, Electrical, Physical, stepped_value, D, R, least_deviation, domain_code, domain_of, is_physical, stored_sum}
 use Rattle.templates.proofs.Names.{follows}
 use Rattle.codes.proofs.DecodeLaws.{tested}
 
@@ -48,20 +48,20 @@ module _ (b n : Codes) where
 -- ---- neighbours
 
 -- Whether a pair may follow does not depend on the place of the refusal.
-pub follows-anywhere : (domain : Domain) (before : Option Codes) (i j : ℕ) (n : Codes) → follows domain before i n ≡ good tt → follows domain before j n ≡ good tt
+pub follows-anywhere : (domain : Domain) (before : Option Codes) (i j : ℕ) (n : Codes) → follows domain before i n ≡ Ok tt → follows domain before j n ≡ Ok tt
 unfolding follows
-follows-anywhere domain none i j n e = refl
-follows-anywhere domain (some b) i j n e =
-    let (t, f) = passed (not_rising i) (leb n.point b.point) _ tt e in
-    let u = tested (sums_not_rising i) (is_physical domain && le_z (stored_sum n) (stored_sum b)) f in
+follows-anywhere domain None i j n e = refl
+follows-anywhere domain (Some b) i j n e =
+    let (t, f) = passed (NotRising i) (leb n.point b.point) _ tt e in
+    let u = tested (SumsNotRising i) (is_physical domain && le_z (stored_sum n) (stored_sum b)) f in
     rw (t, u)
 
-pub follows-rises : (domain : Domain) (b : Codes) (place : ℕ) (n : Codes) → follows domain (some b) place n ≡ good tt → b.point < n.point
+pub follows-rises : (domain : Domain) (b : Codes) (place : ℕ) (n : Codes) → follows domain (Some b) place n ≡ Ok tt → b.point < n.point
 unfolding follows
-follows-rises domain b place n e = leb-false n.point b.point (passed (not_rising place) (leb n.point b.point) _ tt e).0
+follows-rises domain b place n e = leb-false n.point b.point (passed (NotRising place) (leb n.point b.point) _ tt e).0
 
-pub follows-climbs : (b : Codes) (place : ℕ) (n : Codes) → follows Physical (some b) place n ≡ good tt → stored_sum b <ℤ stored_sum n
+pub follows-climbs : (b : Codes) (place : ℕ) (n : Codes) → follows Physical (Some b) place n ≡ Ok tt → stored_sum b <ℤ stored_sum n
 unfolding follows
 follows-climbs b place n e =
-    let t = tested (sums_not_rising place) (le_z (stored_sum n) (stored_sum b)) (passed (not_rising place) (leb n.point b.point) _ tt e).1 in
+    let t = tested (SumsNotRising place) (le_z (stored_sum n) (stored_sum b)) (passed (NotRising place) (leb n.point b.point) _ tt e).1 in
     parts-<ℤ (stored_sum b) (stored_sum n) (nle_z-parts (stored_sum n) (stored_sum b) (is_false t))

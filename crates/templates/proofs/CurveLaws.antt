@@ -1,7 +1,7 @@
 -- Laws of the exponents of a curve: tenths, codes and whole numbers.
-use Rattle.templates.proofs.Names.{◌≡◌, refl, sym, ◌∙◌, Bool, true, false, not, ◌&&◌, ◌||◌, beq, true≢false, Option, none, some, ℕ, ◌+◌, ◌*◌, ◌/◌, ◌%◌, ◌≤◌, ◌<◌, arith, dec_lt, le-leb, leb-true, le-ltb}
+use Rattle.templates.proofs.Names.{◌≡◌, refl, sym, ◌∙◌, Bool, true, false, not, ◌&&◌, ◌||◌, beq, true≢false, Option, None, Some, ℕ, ◌+◌, ◌*◌, ◌/◌, ◌%◌, ◌≤◌, ◌<◌, arith, dec_lt, le-leb, leb-true, le-ltb}
 use Rattle.templates.proofs.Names.{ltb-true, ltb-false, eqb, leb, ltb, ltb→lt, eqb→eq, and_yes, ℤ, pos, negsuc, nat_abs, ◌*ℤ◌, lt_z, up, dn, same, add_parts, mul-parts, lt_z-parts, nlt_z-parts, le-le_z, lt-le_z, lt-lt_z}
-use Rattle.templates.proofs.Names.{le-lt_z, is_true, is_false, good, refused, wrong_curve, both, Whole, decode, encode, least_exponent, exponent, is_term_count, is_exponent, exponent_follows, exponent_code, tenths_of}
+use Rattle.templates.proofs.Names.{le-lt_z, is_true, is_false, Ok, Err, WrongCurve, both, Whole, decode, encode, least_exponent, exponent, is_term_count, is_exponent, exponent_follows, exponent_code, tenths_of}
 use Rattle.templates.proofs.RowLaws.{agree, exponent-sound}
 use Rattle.codes.proofs.Table.{at}
 use Rattle.codes.proofs.StoredLaws.{stored-again}
@@ -38,13 +38,13 @@ tenths-order b c = go (ltb b c) refl
 
 -- A number that is not an exponent follows none.
 pub follows-none : (before : Option ℤ) (z : ℤ) → is_exponent z ≡ false → exponent_follows before z ≡ false
-follows-none none z h = h
-follows-none (some b) z h = rw h
+follows-none None z h = h
+follows-none (Some b) z h = rw h
 
 -- A number that follows another exponent is an exponent.
 pub follows-some : (before : Option ℤ) (z : ℤ) → exponent_follows before z ≡ true → is_exponent z ≡ true
-follows-some none z h = h
-follows-some (some b) z h = (both (is_exponent z) (lt_z b z) h).0
+follows-some None z h = h
+follows-some (Some b) z h = (both (is_exponent z) (lt_z b z) h).0
 
 -- The whole number that an exponent's code means.
 abbrev pub power : ℕ → ℕ
@@ -64,7 +64,7 @@ module _ (code : ℕ) (h : is_exponent (tenths_of code) ≡ true) where
   pub power-back : pos 10 *ℤ pos (power code) ≡ tenths_of code
   power-back = same (pos 10 *ℤ pos (power code)) (tenths_of code) (omega (arith, mul-parts (pos 10) (pos (power code)), tenths-parts code, power-is.1))
 
-pub power-rises : (b code : ℕ) → is_exponent (tenths_of b) ≡ true → exponent_follows (some (tenths_of b)) (tenths_of code) ≡ true → power b < power code
+pub power-rises : (b code : ℕ) → is_exponent (tenths_of b) ≡ true → exponent_follows (Some (tenths_of b)) (tenths_of code) ≡ true → power b < power code
 power-rises b code h e =
     let (own, above) = both (is_exponent (tenths_of code)) (lt_z (tenths_of b) (tenths_of code)) e in
     omega (arith, (power-is b h).1, (power-is code own).1, ltb-true b code (tenths-order b code ∙ above))
@@ -90,7 +90,7 @@ module _ (e : ℤ) where
   between l h =
       let low = nlt_z-parts e (pos 0) (is_false l) in
       let high = nlt_z-parts (pos 5) e (is_false h) in
-      let none : dn e ≡ 0 = nonnegative e low in
+      let None : dn e ≡ 0 = nonnegative e low in
       (omega arith, same (tenths_of (64 + 2 * up e)) (pos 10 *ℤ e) (omega (arith, tenths-parts (64 + 2 * up e), mul-parts (pos 10) e)))
     where
       nonnegative : (z : ℤ) → 0 + dn z ≤ up z + 0 → dn z ≡ 0
@@ -98,25 +98,25 @@ module _ (e : ℤ) where
       nonnegative (negsuc n) h = absurd (omega arith)
 
 -- The code of an exponent's tenths.
-pub exponent-coded : (place code : ℕ) → code ≤ 74 → encode exponent place (Whole (tenths_of code)) ≡ good code
+pub exponent-coded : (place code : ℕ) → code ≤ 74 → encode exponent place (Whole (tenths_of code)) ≡ Ok code
 unfolding decode
 exponent-coded place code h = stored-again exponent place 0 code (Whole (tenths_of code)) exponent-sound (omega arith) meant
   where
-    meant : decode exponent 0 code ≡ good (Whole (tenths_of code))
+    meant : decode exponent 0 code ≡ Ok (Whole (tenths_of code))
     meant = rw (le-ltb 126 code (omega arith))
 
 -- ---- the code of an exponent, or 24
 
 module _ (before : Option ℤ) (place : ℕ) where
-  pub exponent-refused : (z : ℤ) → exponent_follows before z ≡ false → refused (wrong_curve place) ≡ exponent_code before place z
+  pub exponent-refused : (z : ℤ) → exponent_follows before z ≡ false → Err (WrongCurve place) ≡ exponent_code before place z
   exponent-refused z h = rw h
 
   module _ (e : ℤ) (l : lt_z e (pos 0) ≡ false) (h : lt_z (pos 5) e ≡ false) where
-    pub exponent-taken : true ≡ exponent_follows before (tenths_of (64 + 2 * up e)) → good (64 + 2 * up e) ≡ exponent_code before place (pos 10 *ℤ e)
+    pub exponent-taken : true ≡ exponent_follows before (tenths_of (64 + 2 * up e)) → Ok (64 + 2 * up e) ≡ exponent_code before place (pos 10 *ℤ e)
     exponent-taken t =
         let (most, same) = between e l h in
         let coded = exponent-coded place (64 + 2 * up e) (omega arith) in
         rw (← same, ← t) (sym coded)
 
-    pub exponent-turned : false ≡ exponent_follows before (tenths_of (64 + 2 * up e)) → refused (wrong_curve place) ≡ exponent_code before place (pos 10 *ℤ e)
+    pub exponent-turned : false ≡ exponent_follows before (tenths_of (64 + 2 * up e)) → Err (WrongCurve place) ≡ exponent_code before place (pos 10 *ℤ e)
     exponent-turned t = exponent-refused (pos 10 *ℤ e) (rw (← (between e l h).1) (sym t))

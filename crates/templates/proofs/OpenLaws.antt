@@ -1,5 +1,5 @@
 -- Laws of rows that can hold every code, by one computed test over a run of fields.
-use Rattle.templates.proofs.Names.{◌≡◌, refl, subst, Bool, true, false, ◌&&◌, cond, ℕ, ◌+◌, ◌-◌, ◌^◌, ◌≤◌, ◌<◌, arith, eqb-false, le-ltb, T, eqb, leb, eqb→eq, leb→le, and_yes, good, ◌>>◌, Missing, Rule, Plain}
+use Rattle.templates.proofs.Names.{◌≡◌, refl, subst, Bool, true, false, ◌&&◌, cond, ℕ, ◌+◌, ◌-◌, ◌^◌, ◌≤◌, ◌<◌, arith, eqb-false, le-ltb, T, eqb, leb, eqb→eq, leb→le, and_yes, Ok, ◌>>◌, Missing, Rule, Plain}
 use Rattle.templates.proofs.Names.{Stepped, Geometric, Ieee, Row, Template, all_ones, top_code, meaning, decode, line_of, Open}
 use Rattle.codes.proofs.Table.{each, at}
 
@@ -16,17 +16,17 @@ is_open row = opens row.rule row.width row.missing
 
 module _ (w at code : ℕ) (h : code < 2 ^ w) where
   abbrev Stood : Rule → Bool → Type 0
-  Stood rule missing = (cond (missing && eqb code (all_ones w)) (good Missing) (meaning rule w at code) >> good (tt {0})) ≡ good tt
+  Stood rule missing = (cond (missing && eqb code (all_ones w)) (Ok Missing) (meaning rule w at code) >> Ok (tt {0})) ≡ Ok tt
 
   -- All ones is missing, and the row can hold every other code.
-  optional : (rule : Rule) → ((code ≡ all_ones w → ⊥) → (meaning rule w at code >> good (tt {0})) ≡ good tt) → Stood rule true
+  optional : (rule : Rule) → ((code ≡ all_ones w → ⊥) → (meaning rule w at code >> Ok (tt {0})) ≡ Ok tt) → Stood rule true
   optional rule others = go (eqb code (all_ones w)) refl
     where
-      go : (b : Bool) → eqb code (all_ones w) ≡ b → (cond b (good Missing) (meaning rule w at code) >> good (tt {0})) ≡ good tt
+      go : (b : Bool) → eqb code (all_ones w) ≡ b → (cond b (Ok Missing) (meaning rule w at code) >> Ok (tt {0})) ≡ Ok tt
       go true e = refl
       go false e = others (eqb-false code (all_ones w) e)
 
-  plain : (least greatest : ℕ) → least ≡ 0 → code ≤ greatest → (meaning (Plain least greatest) w at code >> good (tt {0})) ≡ good tt
+  plain : (least greatest : ℕ) → least ≡ 0 → code ≤ greatest → (meaning (Plain least greatest) w at code >> Ok (tt {0})) ≡ Ok tt
   plain least greatest l g = rw (l, le-ltb code 0 (omega arith), le-ltb greatest code g)
 
   stood : (rule : Rule) (missing : Bool) → T (opens rule w missing) → Stood rule missing

@@ -5,11 +5,11 @@ use Rattle.templates.proofs.Names.{point_count, cal_point, cal_deviation, curve_
 use Rattle.codes.proofs.Table.{at}
 
 -- f is none of the n numbers from `first` on.
-abbrev pub None : ℕ → ℕ → ℕ → Type 0
-None first zero f = Unit {0}
-None first (suc n) f = None first n f × (f ≡ first + n → ⊥)
+abbrev pub NoneOf : ℕ → ℕ → ℕ → Type 0
+NoneOf first zero f = Unit {0}
+NoneOf first (suc n) f = NoneOf first n f × (f ≡ first + n → ⊥)
 
-pub past : (first n : ℕ) {f : ℕ} → first ≤ f → None first n f → first + n ≤ f
+pub past : (first n : ℕ) {f : ℕ} → first ≤ f → NoneOf first n f → first + n ≤ f
 past first zero h none = omega arith
 past first (suc n) h none = omega (arith, past first n h none.0, none.1)
 
@@ -27,12 +27,12 @@ sets-at Bridge f h = agree _ _ (at (λ f. beq (eqb f 9) (line_of Bridge f).sets)
 sets-at Resistance f h = agree _ _ (at (λ f. beq (eqb f 9) (line_of Resistance f).sets) 19 f tt h)
 
 -- Every greater precision has the row of the last one that is named.
-pub bridge-single : (p : ℕ) → None 0 2 p → optional 32 Ieee ≡ bridge_end p
+pub bridge-single : (p : ℕ) → NoneOf 0 2 p → optional 32 Ieee ≡ bridge_end p
 bridge-single zero none = absurd (none.0.1 refl)
 bridge-single (suc zero) none = absurd (none.1 refl)
 bridge-single (suc (suc p)) none = refl
 
-pub resistance-single : (p : ℕ) → None 0 3 p → optional 32 Ieee ≡ resistance_end p
+pub resistance-single : (p : ℕ) → NoneOf 0 3 p → optional 32 Ieee ≡ resistance_end p
 resistance-single zero none = absurd (none.0.0.1 refl)
 resistance-single (suc zero) none = absurd (none.0.1 refl)
 resistance-single (suc (suc zero)) none = absurd (none.1 refl)

@@ -1,6 +1,6 @@
 -- Laws of every template, computed from its lines. The crates
 -- above cite these, and look at no template's lines themselves.
-use Rattle.templates.proofs.Names.{◌≡◌, refl, Bool, true, false, cond, none, some, ℕ, zero, suc, ◌+◌, ◌*◌, ◌^◌, ◌≤◌, ◌<◌, arith, eqb-true, eqb, Cal, Template, Bridge, Resistance, physical, bridge_precision}
+use Rattle.templates.proofs.Names.{◌≡◌, refl, Bool, true, false, cond, None, Some, ℕ, zero, suc, ◌+◌, ◌*◌, ◌^◌, ◌≤◌, ◌<◌, arith, eqb-true, eqb, Cal, Template, Bridge, Resistance, physical, bridge_precision}
 use Rattle.templates.proofs.Names.{bridge_end, line, choice, chosen, basic, template33, template32, number_of, template_of, lines_of, last_field, line_of, bits_before, length, length-append, template_lines, ◌-◌, subst}
 use Rattle.templates.proofs.Names.{Layout, row_of}
 
@@ -9,14 +9,14 @@ pub number_lt : (t : Template) → number_of t < 2 ^ 8
 number_lt Bridge = omega arith
 number_lt Resistance = omega arith
 
-pub number-known : (t : Template) → template_of (number_of t) ≡ some t
+pub number-known : (t : Template) → template_of (number_of t) ≡ Some t
 number-known Bridge = refl
 number-known Resistance = refl
 
-pub known-number : (n : ℕ) (t : Template) → template_of n ≡ some t → n ≡ number_of t
+pub known-number : (n : ℕ) (t : Template) → template_of n ≡ Some t → n ≡ number_of t
 known-number n t e = go (eqb n 33) (eqb n 32) refl refl e
   where
-    go : (a b : Bool) → eqb n 33 ≡ a → eqb n 32 ≡ b → cond a (some Bridge) (cond b (some Resistance) none) ≡ some t → n ≡ number_of t
+    go : (a b : Bool) → eqb n 33 ≡ a → eqb n 32 ≡ b → cond a (Some Bridge) (cond b (Some Resistance) None) ≡ Some t → n ≡ number_of t
     go true b p q e = let same : Bridge ≡ t = cc in rw (← same) (eqb-true n 33 p)
     go false true p q e = let same : Resistance ≡ t = cc in rw (← same) (eqb-true n 32 q)
     go false false p q e = absurd (let z : ◌≡◌ {A = ℕ} 0 1 = cc in omega arith)

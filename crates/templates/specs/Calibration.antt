@@ -2,10 +2,10 @@
 -- template 40. The rows of its fields, in billionths of the span, and
 -- the rules between neighbouring pairs, for checks and builds.
 use Rattle.std.specs.Prelude.{Bool, true, false, ◌&&◌, ℕ, zero, suc, leb, ℤ, pos, neg_ℤ, ◌+ℤ◌}
-use Rattle.std.proofs.Math.Option.{Option, none, some}
+use Rattle.std.specs.Prelude.{Option, None, Some}
 use Rattle.std.specs.Int.Signed.{le_z}
-use Rattle.refusal.specs.Outcome.{Outcome, good, ◌>>◌, refuse◌if◌}
-use Rattle.refusal.specs.Rows.{not_rising, sums_not_rising}
+use Rattle.refusal.specs.Outcome.{Outcome, Ok, ◌>>◌, refuse◌if◌}
+use Rattle.refusal.specs.declared.Refusal.TheVariants.{NotRising, SumsNotRising}
 use Rattle.codes.specs.declared.Rule.TheVariants.{Plain, Stepped}
 use Rattle.codes.specs.declared.Row.{Row}
 use Rattle.templates.specs.declared.Pair.{Pair}
@@ -67,7 +67,7 @@ stored_sum c = stepped_value (pos 0) D c.point +ℤ stepped_value least_deviatio
 -- Rows 7 and 22, of a pair after the one before it, if there is one. "Points rise strictly",
 -- as codes; in domain 1 "Points plus deviations, as stored, must rise strictly" too.
 unfoldable pub follows : Domain → Option Codes → ℕ → Codes → Outcome (Unit {0})
-follows domain none place next = good tt
-follows domain (some before) place next = do
-  refuse not_rising place if leb next.point before.point
-  refuse sums_not_rising place if is_physical domain && le_z (stored_sum next) (stored_sum before)
+follows domain None place next = Ok tt
+follows domain (Some before) place next = do
+  refuse NotRising place if leb next.point before.point
+  refuse SumsNotRising place if is_physical domain && le_z (stored_sum next) (stored_sum before)

@@ -1,9 +1,7 @@
 -- Only inner contracts need this: the fields of a curve whose codes
 -- obey a rule of their own (24), each with its row and its rule.
-use Rattle.std.specs.Prelude.{Bool, ℕ}
+use Rattle.std.specs.Prelude.{Option, Bool, ℕ}
 use Rattle.codes.specs.declared.Row.{Row}
-use Rattle.templates.specs.declared.Earlier.{Earlier}
-use Rattle.templates.specs.Answers.{earlier_said}
 use Rattle.templates.specs.Curves.{segment_count, segment_start, term_count, exponent, is_segment_count, is_term_count, start_follows, tenths_of, tenths_before, exponent_follows}
 use Rattle.templates.specs.declared.curves.CurveField.{CurveField}
 use Rattle.templates.specs.declared.curves.CurveField.TheVariants.{SegmentCount, Start, TermCount, Exponent}
@@ -15,8 +13,8 @@ curve_row TermCount = term_count
 curve_row Exponent = exponent
 
 -- A start and an exponent are compared with the one before them.
-abbrev pub curve_rule : CurveField → Earlier → ℕ → Bool
+abbrev pub curve_rule : CurveField → Option ℕ → ℕ → Bool
 curve_rule SegmentCount before = is_segment_count
-curve_rule Start before = start_follows (earlier_said before)
+curve_rule Start before = start_follows (before)
 curve_rule TermCount before = is_term_count
-curve_rule Exponent before = λ code. exponent_follows (tenths_before (earlier_said before)) (tenths_of code)
+curve_rule Exponent before = λ code. exponent_follows (tenths_before (before)) (tenths_of code)

@@ -2,11 +2,11 @@
 -- rules of a curve, for checks and builds. Starts and steps are those of the
 -- template's lines in document 000, Annex A; the limits are document 002's.
 use Rattle.std.specs.Prelude.{Bool, not, ◌&&◌, ℕ, ◌%◌, eqb, leb, ltb, ℤ, pos, neg_ℤ, nat_abs}
-use Rattle.std.proofs.Math.Option.{Option, none, some}
+use Rattle.std.specs.Prelude.{Option, None, Some}
 use Rattle.std.specs.Int.Signed.{le_z, lt_z}
 use Rattle.std.specs.Float.{nan}
 use Rattle.refusal.specs.Outcome.{Outcome, ◌>>◌, refuse◌if◌}
-use Rattle.refusal.specs.Rows.{wrong_curve}
+use Rattle.refusal.specs.declared.Refusal.TheVariants.{WrongCurve}
 use Rattle.codes.specs.declared.Value.TheVariants.{Whole}
 use Rattle.codes.specs.declared.Rule.TheVariants.{Plain, Stepped, Single as Ieee}
 use Rattle.codes.specs.declared.Row.{Row}
@@ -59,24 +59,24 @@ most_terms = 30
 -- A segment's start after the one before it, if there is
 -- one: "segment starts rise as stored, the first at 0".
 abbrev pub start_follows : Option ℕ → ℕ → Bool
-start_follows none code = eqb code 0
-start_follows (some before) code = ltb before code
+start_follows None code = eqb code 0
+start_follows (Some before) code = ltb before code
 
 -- An exponent in tenths, as stored; and of the term before, if there is one.
 abbrev pub tenths_of : ℕ → ℤ
 tenths_of code = stepped_value least_exponent 5 code
 
 abbrev pub tenths_before : Option ℕ → Option ℤ
-tenths_before none = none
-tenths_before (some before) = some (tenths_of before)
+tenths_before None = None
+tenths_before (Some before) = Some (tenths_of before)
 
 -- "The exponents we take are the whole numbers 0 to 5, rising inside a segment"; here in tenths.
 abbrev pub is_exponent : ℤ → Bool
 is_exponent tenths = le_z (pos 0) tenths && le_z tenths (pos 50) && eqb (nat_abs tenths % 10) 0
 
 abbrev pub exponent_follows : Option ℤ → ℤ → Bool
-exponent_follows none tenths = is_exponent tenths
-exponent_follows (some before) tenths = is_exponent tenths && lt_z before tenths
+exponent_follows None tenths = is_exponent tenths
+exponent_follows (Some before) tenths = is_exponent tenths && lt_z before tenths
 
 -- ---- the segment and the term in place of one that is not there
 
@@ -89,5 +89,5 @@ no_term = record { exponent = pos 0; coefficient = nan }
 -- The code of a term's exponent in tenths, after the one before it; 24 if it breaks the rules.
 abbrev pub exponent_code : Option ℤ → ℕ → ℤ → Outcome ℕ
 exponent_code before place tenths = do
-  refuse wrong_curve place if not (exponent_follows before tenths)
+  refuse WrongCurve place if not (exponent_follows before tenths)
   encode exponent place (Whole tenths)

@@ -1,4 +1,3 @@
-pub mod Answers
 pub mod Levels
 pub mod Rows
 pub mod Calibration

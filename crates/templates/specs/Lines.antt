@@ -3,7 +3,7 @@
 -- the lines of the template that the first block names. The count of fields, the
 -- numbers and marks, and the field that sets widths all follow from these lists.
 use Rattle.std.specs.Prelude.{Bool, true, false, cond, List, [], ◌∷◌, ◌++◌, map, ℕ, zero, suc, ◌+◌, ◌-◌, eqb, length, get_or}
-use Rattle.std.proofs.Math.Option.{Option, none, some}
+use Rattle.std.specs.Prelude.{Option, None, Some}
 use Rattle.codes.specs.declared.Row.{Row}
 use Rattle.templates.specs.declared.Mark.{Mark}
 use Rattle.templates.specs.declared.Mark.TheVariants.{Id, Cal, Usr}
@@ -71,7 +71,7 @@ number_of Resistance = 32
 -- The template of a number, if there is one.
 abbrev pub template_of : ℕ → Option Template
 template_of number =
-    cond (eqb number (number_of Bridge)) (some Bridge) (cond (eqb number (number_of Resistance)) (some Resistance) none)
+    cond (eqb number (number_of Bridge)) (Some Bridge) (cond (eqb number (number_of Resistance)) (Some Resistance) None)
 
 -- ---- all fields, counted from 1
 

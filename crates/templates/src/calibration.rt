@@ -4,16 +4,15 @@
 ghost use Rattle.std.specs.Prelude.{◌≡◌, ◌&&◌, ◌+◌, ◌*◌, ◌/◌, ◌%◌, ◌^◌, ◌<◌, pos};
 ghost use Rattle.std.specs.Int.Signed.{le_z};
 ghost use Rattle.refusal.specs.Outcome.{refuse◌if◌};
-ghost use Rattle.refusal.specs.Rows.{sums_not_rising};
+ghost use Rattle.refusal.specs.declared.Refusal.TheVariants.{SumsNotRising};
 ghost use Rattle.codes.specs.Rules.{stepped_value, encode as encode_of};
-ghost use Rattle.codes.specs.Answers.{encoded_said, judged_said};
-ghost use Rattle.templates.specs.Answers.{previous_said};
 ghost use Rattle.templates.specs.Calibration as spec;
 
 use crate::blocks::{COUNT_BITS, D, DEVIATION_BITS, DOMAIN_BITS, LEAST_DEVIATION, POINT_BITS, R};
 use crate::rows::always;
-use crate::{Codes, Domain, Pair, Previous};
-use codes::{Encoded, Judged, Row, Rule, Value, nearest_step};
+use crate::{Codes, Domain, Pair};
+use codes::{Row, Rule, Value, nearest_step};
+use refusal::Refusal;
 
 // The row of a table's domain.
 pub fn cal_domain() -> Row
@@ -65,15 +64,15 @@ pub fn cal_deviation() -> Row
 
 // The code of a calibration point's figure: `encode` of its row, a
 // constant here. That makes a build of a long table nearly twice as fast.
-pub fn encode_point(place: u64, figure: i64) -> Encoded
-    ensures { encoded_said result ≡ encode_of spec.cal_point place (Value.Whole figure) }
+pub fn encode_point(place: u64, figure: i64) -> Result<u64, Refusal>
+    ensures { result ≡ encode_of spec.cal_point place (Value.Whole figure) }
 {
     nearest_step(0, D, POINT_BITS, place, figure)
 }
 
 // The code of a deviation's figure: `encode` of its row, a constant here.
-pub fn encode_deviation(place: u64, figure: i64) -> Encoded
-    ensures { encoded_said result ≡ encode_of spec.cal_deviation place (Value.Whole figure) }
+pub fn encode_deviation(place: u64, figure: i64) -> Result<u64, Refusal>
+    ensures { result ≡ encode_of spec.cal_deviation place (Value.Whole figure) }
 {
     nearest_step(LEAST_DEVIATION, R, DEVIATION_BITS, place, figure)
 }
@@ -97,30 +96,35 @@ pub fn sum_above(codes: Codes) -> u64
 }
 
 // Row 22: whether a pair's sum is above that of the one before it, in domain 1.
-fn climbs(domain: Domain, before: Codes, place: u64, next: Codes) -> Judged
-    ensures { judged_said result ≡ (refuse (sums_not_rising place) if spec.is_physical domain && le_z (spec.stored_sum next) (spec.stored_sum before)) }
+fn climbs(domain: Domain, before: Codes, place: u64, next: Codes) -> Result<(), Refusal>
+    ensures { result ≡ (refuse (SumsNotRising place) if spec.is_physical domain && le_z (spec.stored_sum next) (spec.stored_sum before)) }
 {
     match domain {
-        Domain::Electrical => Judged::Valid,
+        Domain::Electrical => Ok(()),
         Domain::Physical => {
             if sum_above(next) <= sum_above(before) {
-                return Judged::Refused(refusal::sums_not_rising(place));
+                return Err(Refusal::SumsNotRising(place));
             }
-            Judged::Valid
+            Ok(())
         }
     }
 }
 
 // Rows 7 and 22: whether a pair may follow the one before it. Points rise
 // strictly, as codes; in domain 1 points plus deviations rise too, as stored.
-pub fn follows(domain: Domain, before: Previous, place: u64, next: Codes) -> Judged
-    ensures { judged_said result ≡ spec.follows domain (previous_said before) place next }
+pub fn follows(
+    domain: Domain,
+    before: Option<Codes>,
+    place: u64,
+    next: Codes,
+) -> Result<(), Refusal>
+    ensures { result ≡ spec.follows domain (before) place next }
 {
     match before {
-        Previous::Nothing => Judged::Valid,
-        Previous::Pair(codes) => {
+        None => Ok(()),
+        Some(codes) => {
             if next.point <= codes.point {
-                return Judged::Refused(refusal::not_rising(place));
+                return Err(Refusal::NotRising(place));
             }
             climbs(domain, codes, place, next)
         }

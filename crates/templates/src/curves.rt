@@ -1,22 +1,20 @@
 // Document 02, Note 11: curves, template 41. The rows of its fields, the codes of a
 // start, an exponent and a coefficient, and the rules of a curve, for checks and builds.
 ghost use Rattle.std.specs.Prelude.{◌≡◌, ◌/◌, ltb, pos, nat_abs, ◌*ℤ◌};
-ghost use Rattle.refusal.specs.Outcome.{refused};
-ghost use Rattle.refusal.specs.Rows.{wrong_curve};
+ghost use Rattle.refusal.specs.Outcome.{Err};
+ghost use Rattle.refusal.specs.declared.Refusal.TheVariants.{WrongCurve};
 ghost use Rattle.codes.specs.Rules.{encode as encode_of};
-ghost use Rattle.codes.specs.Answers.{encoded_said};
-ghost use Rattle.templates.specs.Answers.{earlier_said};
 ghost use Rattle.templates.specs.CurveRules.{curve_row, curve_rule};
 ghost use Rattle.templates.specs.Curves as spec;
 
-use crate::Earlier;
 use crate::blocks::{
     COEFFICIENT_BITS, DOMAIN_BITS, EXPONENT_BITS, EXPONENT_STEP, LEAST_EXPONENT,
     SEGMENT_COUNT_BITS, START_BITS, START_STEP, TERM_COUNT_BITS,
 };
 use crate::rows::{always, any};
-use codes::{Encoded, Row, Rule, Value, nearest_step, single_bits};
+use codes::{Row, Rule, Value, nearest_step, single_bits};
 use integers::{minus, plus};
+use refusal::Refusal;
 
 // The codes of the exponents 0 and 5. Neighbouring codes are
 // half a power apart, so whole exponents have every second code.
@@ -81,23 +79,16 @@ pub fn term_coefficient() -> Row
     always(COEFFICIENT_BITS, Rule::Single)
 }
 
-// The refusal of row 24.
-fn wrong_curve(place: u64) -> Encoded
-    ensures { encoded_said result ≡ refused (wrong_curve place) }
-{
-    Encoded::Refused(refusal::wrong_curve(place))
-}
-
 // The code of a start in billionths of the span, or 10: `encode` of its row.
-pub fn encode_start(place: u64, figure: i64) -> Encoded
-    ensures { encoded_said result ≡ encode_of spec.segment_start place (Value.Whole figure) }
+pub fn encode_start(place: u64, figure: i64) -> Result<u64, Refusal>
+    ensures { result ≡ encode_of spec.segment_start place (Value.Whole figure) }
 {
     nearest_step(0, START_STEP, START_BITS, place, figure)
 }
 
 // The code of a coefficient, or 10: `encode` of its row.
-pub fn encode_coefficient(place: u64, x: f32) -> Encoded
-    ensures { encoded_said result ≡ encode_of spec.coefficient place (Value.Single x) }
+pub fn encode_coefficient(place: u64, x: f32) -> Result<u64, Refusal>
+    ensures { result ≡ encode_of spec.coefficient place (Value.Single x) }
 {
     single_bits(place, x)
 }
@@ -116,33 +107,33 @@ fn is_exponent(code: u64) -> bool
 }
 
 // Whether an exponent's code may follow the one before it in its segment.
-pub fn exponent_follows(before: Earlier, code: u64) -> bool
-    ensures { result ≡ spec.exponent_follows (spec.tenths_before (earlier_said before)) (spec.tenths_of code) }
+pub fn exponent_follows(before: Option<u64>, code: u64) -> bool
+    ensures { result ≡ spec.exponent_follows (spec.tenths_before (before)) (spec.tenths_of code) }
 {
     if is_exponent(code) {
         return match before {
-            Earlier::Nothing => true,
-            Earlier::Code(last) => last < code,
+            None => true,
+            Some(last) => last < code,
         };
     }
     false
 }
 
 // The code of an exponent, or 24 if it may not follow the one before it in its segment.
-pub fn encode_exponent(before: Earlier, place: u64, exponent: i64) -> Encoded
-    ensures { encoded_said result ≡ spec.exponent_code (spec.tenths_before (earlier_said before)) place (pos 10 *ℤ exponent) }
+pub fn encode_exponent(before: Option<u64>, place: u64, exponent: i64) -> Result<u64, Refusal>
+    ensures { result ≡ spec.exponent_code (spec.tenths_before (before)) place (pos 10 *ℤ exponent) }
 {
     if exponent < 0 {
-        return wrong_curve(place);
+        return Err(Refusal::WrongCurve(place));
     }
     if 5 < exponent {
-        return wrong_curve(place);
+        return Err(Refusal::WrongCurve(place));
     }
     let code = FIRST_EXPONENT + 2 * plus(exponent);
     if exponent_follows(before, code) {
-        return Encoded::Code(code);
+        return Ok(code);
     }
-    wrong_curve(place)
+    Err(Refusal::WrongCurve(place))
 }
 
 // The exponent whose tenths these are.
@@ -153,12 +144,12 @@ pub fn exponent_of(tenths: i64) -> i64
 }
 
 // Whether a start's code may follow the one before it.
-pub fn start_follows(before: Earlier, code: u64) -> bool
-    ensures { result ≡ spec.start_follows (earlier_said before) code }
+pub fn start_follows(before: Option<u64>, code: u64) -> bool
+    ensures { result ≡ spec.start_follows (before) code }
 {
     match before {
-        Earlier::Nothing => code == 0,
-        Earlier::Code(last) => last < code,
+        None => code == 0,
+        Some(last) => last < code,
     }
 }
 
@@ -204,7 +195,7 @@ pub fn curve_row(field: CurveField) -> Row
 // Whether the field's rule accepts a code; a start and an exponent are
 // compared with the one before them. `before` is not part of
 // `CurveField`, so that the compiler knows the field where it is named.
-pub fn obeys(field: CurveField, before: Earlier, code: u64) -> bool
+pub fn obeys(field: CurveField, before: Option<u64>, code: u64) -> bool
     ensures { result ≡ curve_rule field before code }
 {
     match field {

@@ -2,16 +2,16 @@
 ghost use Rattle.std.specs.Prelude.{◌≡◌, ◌≤◌};
 ghost use Rattle.codes.specs.Rules.{encode as encode_of};
 ghost use Rattle.templates.specs.Lines.{last_field, row_of};
-ghost use Rattle.codes.specs.Answers.{encoded_said};
 
 use crate::Layout;
 use crate::lines::row_of;
-use codes::{Encoded, Value, encode_by};
+use codes::{Value, encode_by};
+use refusal::Refusal;
 
 // The code of a field's value, each refusal at the field.
-pub fn encode(layout: Layout, field: u64, value: Value) -> Encoded
+pub fn encode(layout: Layout, field: u64, value: Value) -> Result<u64, Refusal>
     requires { (1 ≤ field) × (field ≤ last_field layout.template) }
-    ensures { encoded_said result ≡ encode_of (row_of layout field) field value }
+    ensures { result ≡ encode_of (row_of layout field) field value }
 {
     encode_by(row_of(layout, field), field, value)
 }

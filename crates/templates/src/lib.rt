@@ -87,13 +87,6 @@ pub struct Codes {
     pub deviation: u32,
 }
 
-// The codes of the pair before another, if there is one.
-#[derive(Clone, Copy)]
-pub enum Previous {
-    Nothing,
-    Pair(Codes),
-}
-
 // A curve's segment: its start in billionths of the span, and the number of its terms.
 #[repr(C)]
 #[derive(Clone, Copy)]
@@ -118,18 +111,4 @@ pub struct Curve {
     pub count: u64,
     pub segments: [Segment; 20],
     pub terms: [Term; 30],
-}
-
-// The code of the start or exponent before another, if there is one.
-#[derive(Clone, Copy)]
-pub enum Earlier {
-    Nothing,
-    Code(u64),
-}
-
-// The template of a number, if there is one.
-#[derive(Clone, Copy)]
-pub enum TemplateAnswer {
-    Is(Template),
-    Unknown,
 }

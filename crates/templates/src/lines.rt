@@ -4,10 +4,9 @@ ghost use Rattle.std.specs.Prelude.{◌≡◌, ℕ, min, ◌+◌, ◌-◌, ◌*�
 ghost use Rattle.templates.specs.Rows.{bridge_end, resistance_end};
 ghost use Rattle.templates.specs.Lines.{basic, lines_of, line_of, last_field, ending, number_of, template_of, row_of, bits_before};
 ghost use Rattle.templates.specs.Open.{OpenBehind};
-ghost use Rattle.templates.specs.Answers.{template_said};
 
 use crate::rows::{always, any, bridge_end, optional, resistance_end, scaled};
-use crate::{Layout, Mark, Template, TemplateAnswer};
+use crate::{Layout, Mark, Template};
 use codes::{Row, Rule, Scale};
 
 // The number of fields of Basic.
@@ -28,16 +27,16 @@ pub fn template_number(template: Template) -> u64
 }
 
 // The template of a number, if there is one.
-pub fn template_of(number: u64) -> TemplateAnswer
-    ensures { template_said result ≡ template_of number }
+pub fn template_of(number: u64) -> Option<Template>
+    ensures { result ≡ template_of number }
 {
     if number == template_number(Template::Bridge) {
-        return TemplateAnswer::Is(Template::Bridge);
+        return Some(Template::Bridge);
     }
     if number == template_number(Template::Resistance) {
-        return TemplateAnswer::Is(Template::Resistance);
+        return Some(Template::Resistance);
     }
-    TemplateAnswer::Unknown
+    None
 }
 
 // The number of the template's last field.

@@ -1,5 +1,5 @@
 -- Laws of letter codes: the 32 letters differ, and so do the texts of different codes.
-use Rattle.texts.proofs.Names.{◌≡◌, refl, sym, ap, subst, Bool, true, false, not, ◌||◌, List, ℕ, zero, suc, ◌+◌, ◌*◌, ◌/◌, ◌%◌, ◌^◌, ◌-◌, ◌<◌, ◌≤◌, pow-suc, one-le-pow, arith, T, eqb, eqb→eq, lit<, length, get_or}
+use Rattle.texts.proofs.Names.{◌≡◌, refl, sym, ap, ◌∙◌, subst, Bool, true, false, not, ◌||◌, List, ℕ, zero, suc, ◌+◌, ◌*◌, ◌/◌, ◌%◌, ◌^◌, ◌-◌, ◌<◌, ◌≤◌, pow-suc, one-le-pow, arith, T, eqb, eqb→eq, lit<, length, get_or, zero-le, Option, None, Some, MatchOption, unwrap_or, AllWithin, HoldsAt}
 use Rattle.texts.proofs.Names.{drop, eq-eqb, letters, letters_text, OnlyCode}
 use Rattle.texts.proofs.Below.{below, at}
 
@@ -22,15 +22,21 @@ distinct i j hi hj e =
 abbrev pub LetterCode : ℕ → ℕ → Type 0
 LetterCode character r = OnlyCode (λ code. get_or letters code 0) character 31 r
 
+-- The place of a character among the letters is its code.
+pub first-letter : (character : ℕ) (r : Option ℕ) → MatchOption r (AllWithin (λ x. x ≡ character → ⊥) letters 0 32) (λ i. (i < 32) × HoldsAt (λ x. x ≡ character) letters i × AllWithin (λ x. x ≡ character → ⊥) letters 0 i)
+    → (unwrap_or r 0 < 32) × LetterCode character (unwrap_or r 0)
+first-letter character None none = (omega arith, λ code le e. absurd (none code 0 zero-le (omega arith) e))
+first-letter character (Some i) p = (p.0, λ code le e. distinct i code p.0 (omega arith) (p.1 0 ∙ sym e))
+
 pub only_one : (text : List ℕ) (a : ℕ) → LetterCode (get_or text 0 0) a → OnlyCode (letters_text 1) text 31 a
 unfolding letters_text
 only_one text a ha code le e =
     let p : a ≡ code % 32 = ha (code % 32) (omega arith) (ap (λ (l : List ℕ). get_or l 0 0) e) in
     omega arith
 
-pub only-three : (text : List ℕ) (a b c : ℕ) → LetterCode (get_or text 0 0) a → LetterCode (get_or text 1 0) b → LetterCode (get_or text 2 0) c → OnlyCode (letters_text 3) text 32_767 (a + 32 * (b + 32 * c))
+pub only_three : (text : List ℕ) (a b c : ℕ) → LetterCode (get_or text 0 0) a → LetterCode (get_or text 1 0) b → LetterCode (get_or text 2 0) c → OnlyCode (letters_text 3) text 32_767 (a + 32 * (b + 32 * c))
 unfolding letters_text
-only-three text a b c ha hb hc code le e =
+only_three text a b c ha hb hc code le e =
     let p : a ≡ code % 32 = ha (code % 32) (omega arith) (ap (λ (l : List ℕ). get_or l 0 0) e) in
     let q : b ≡ code / 32 % 32 = hb (code / 32 % 32) (omega arith) (ap (λ (l : List ℕ). get_or l 1 0) e) in
     let s : c ≡ code / 32 / 32 % 32 = hc (code / 32 / 32 % 32) (omega arith) (ap (λ (l : List ℕ). get_or l 2 0) e) in

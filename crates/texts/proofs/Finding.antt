@@ -1,5 +1,5 @@
 -- Laws of the search for a date and for its code.
-use Rattle.texts.proofs.Names.{◌≡◌, subst, ℕ, ◌+◌, ◌-◌, ◌<◌, ◌≤◌, le_of_suc-le-suc, add-one, arith, by_contra, Date, month_length, date_of, days_of_year, days_before_year, days_before_month}
+use Rattle.texts.proofs.Names.{◌≡◌, subst, ℕ, ◌+◌, ◌-◌, ◌<◌, ◌≤◌, add-one, arith, Date, month_length, date_of, days_of_year, days_before_year, days_before_month}
 use Rattle.texts.proofs.Rising.{risen}
 use Rattle.texts.proofs.Months.{month-range, month-suc, months-rise, year-suc, year-range, years-range}
 use Rattle.texts.proofs.Calendar.{dated, Real, count, counted, real-date}
@@ -7,14 +7,6 @@ use Rattle.texts.proofs.Calendar.{dated, Real, count, counted, real-date}
 -- A year with few days before it is before 2178.
 pub year-near : (year : ℕ) → days_before_year year < 65_536 → year < 2178
 year-near year h = omega (arith, years-range (year - 1998))
-
--- One step of the search for a month.
-pub month-turn : (year month day before : ℕ) → 1 ≤ month → month ≤ 12 → before ≡ days_before_month year month → day < before
-    → (1 ≤ month - 1) × (month - 1 ≤ 12) × (day < days_before_month year (month - 1 + 1))
-month-turn year month day before low high e past =
-    let s : month - 1 + 1 ≡ month = omega arith in
-    let later : 2 ≤ month = by_contra 2 month (λ l. omega (arith, e, risen (days_before_month year) (months-rise year) month 1 (le_of_suc-le-suc l))) in
-    (omega arith, omega arith, rw s (omega arith))
 
 -- The rest of a code after the year's first day is within the year.
 pub rest-of-year : (code year before : ℕ) → 1998 ≤ year → before ≡ days_before_year year → before ≤ code → code < days_before_year (year + 1) → code - before < days_of_year year

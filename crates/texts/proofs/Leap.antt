@@ -48,7 +48,7 @@ years-formula (suc n) =
     rw (year-days (1998 + n), e, s, multiples 4 (1997 + n) (lit< tt) _ refl, multiples 100 (1997 + n) (lit< tt) _ refl, multiples 400 (1997 + n) (lit< tt) _ refl)
     (one_more _ _ n _ _ _ _ _ _ (leap-day (suc (1997 + n)) _ _ _ refl refl refl) (years-formula n))
 
-pub year-formula : (year : ℕ) → 1998 ≤ year → days_before_year year + ((year - 1) / 100 + 484) ≡ 365 * (year - 1998) + ((year - 1) / 4 + (year - 1) / 400)
-year-formula year h =
+pub year_formula : (year : ℕ) → 1998 ≤ year → days_before_year year + ((year - 1) / 100 + 484) ≡ 365 * (year - 1998) + ((year - 1) / 4 + (year - 1) / 400)
+year_formula year h =
     let e : 1997 + (year - 1998) ≡ year - 1 = omega arith in
     rw e at (years-formula (year - 1998))

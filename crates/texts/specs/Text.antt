@@ -1,16 +1,13 @@
 -- Document 01, "Layout" and "Turning down": "Text and codes
 -- are turned by value into each other." Order: 8, 9, 10.
 use Rattle.std.specs.Prelude.{Bool, true, false, not, ◌&&◌, cond, List, [], ◌∷◌, ◌++◌, ℕ, zero, suc, ◌-◌, eqb, length, replicate, pos}
-use Rattle.refusal.specs.Outcome.{Outcome, good, refused, ◌>>◌, ◌>>=◌, refuse◌if◌}
-use Rattle.refusal.specs.Rows.{no_such, wrong_sort, out_of_range}
+use Rattle.refusal.specs.Outcome.{Outcome, Ok, Err, ◌>>◌, ◌>>=◌, refuse◌if◌}
+use Rattle.refusal.specs.declared.Refusal.TheVariants.{NoSuch, WrongSort, OutOfRange}
 use Rattle.codes.specs.declared.Value.TheVariants.{Whole}
 use Rattle.codes.specs.declared.Row.{Row}
 use Rattle.codes.specs.Rules.{all_ones, encode}
 use Rattle.templates.specs.Rows.{version_letter, cal_date, cal_initials}
 use Rattle.texts.specs.declared.Text.{Text}
-use Rattle.texts.specs.declared.TextAnswer.TheVariants.{Length, Refused}
-use Rattle.texts.specs.declared.CodeAnswer.{CodeAnswer}
-use Rattle.texts.specs.declared.CodeAnswer.TheVariants.{Code, Refused as NoCode}
 use Rattle.texts.specs.Letters.{letters_text}
 use Rattle.texts.specs.Dates.{date_text}
 
@@ -23,17 +20,17 @@ pub record Texted : Type 0 where
 -- "one character for field 3, three for 19", ten for 18; no other field has a text.
 abbrev pub texted : ℕ → Outcome Texted
 texted field =
-    cond (eqb field 3) (good (record { row = version_letter; length = 1; text_of = letters_text 1 }))
-    (cond (eqb field 18) (good (record { row = cal_date; length = 10; text_of = date_text }))
-    (cond (eqb field 19) (good (record { row = cal_initials; length = 3; text_of = letters_text 3 }))
-    (refused (no_such field))))
+    cond (eqb field 3) (Ok (record { row = version_letter; length = 1; text_of = letters_text 1 }))
+    (cond (eqb field 18) (Ok (record { row = cal_date; length = 10; text_of = date_text }))
+    (cond (eqb field 19) (Ok (record { row = cal_initials; length = 3; text_of = letters_text 3 }))
+    (Err (NoSuch field))))
 
 -- The text of a code that the field can hold and that does not mean missing.
 unfoldable pub text_of : ℕ → ℕ → Outcome (List ℕ)
 text_of field code = do
   t ← texted field
   held ← encode t.row field (Whole (pos code))
-  good (t.text_of held)
+  Ok (t.text_of held)
 
 abbrev pub same : List ℕ → List ℕ → Bool
 same [] [] = true
@@ -43,24 +40,20 @@ same (c ∷ l) (d ∷ m) = eqb c d && same l m
 
 -- Of codes 0 to n, the one whose text this is.
 unfoldable pub whose_text : (ℕ → List ℕ) → List ℕ → Outcome ℕ → ℕ → Outcome ℕ
-whose_text text_of text none zero = cond (same (text_of 0) text) (good 0) none
-whose_text text_of text none (suc n) = cond (same (text_of (suc n)) text) (good (suc n)) (whose_text text_of text none n)
+whose_text text_of text none zero = cond (same (text_of 0) text) (Ok 0) none
+whose_text text_of text none (suc n) = cond (same (text_of (suc n)) text) (Ok (suc n)) (whose_text text_of text none n)
 
 -- The code whose text this is, if the field can hold it.
 unfoldable pub code_of : ℕ → List ℕ → Outcome ℕ
 code_of field text = do
   t ← texted field
-  refuse wrong_sort field if not (eqb (length text) t.length)
-  code ← whose_text t.text_of text (refused (out_of_range field)) (all_ones t.row.width)
+  refuse WrongSort field if not (eqb (length text) t.length)
+  code ← whose_text t.text_of text (Err (OutOfRange field)) (all_ones t.row.width)
   encode t.row field (Whole (pos code))
 
 -- ---- the answers
 
--- The characters, then zeros, and their number; or document 01's number and place, and zeros.
-abbrev pub text_said : Outcome (List ℕ) → Text
-text_said (good text) = record { answer = Length (length text); characters = text ++ replicate (10 - length text) 0 }
-text_said (refused r) = record { answer = Refused r; characters = replicate 10 0 }
-
-abbrev pub code_said : CodeAnswer → Outcome ℕ
-code_said (Code code) = good code
-code_said (NoCode r) = refused r
+-- The length, and the characters, then zeros; or the refusal.
+abbrev pub text_said : Outcome (List ℕ) → Outcome Text
+text_said (Ok text) = Ok (record { length = length text; characters = text ++ replicate (10 - length text) 0 })
+text_said (Err r) = Err r

@@ -16,17 +16,12 @@ struct Date {
 fn leap(year: u64) -> bool
     ensures { result ≡ leap_year year }
 {
-    if year % 4 != 0 {
-        return false;
-    }
-    if year % 100 != 0 {
-        return true;
-    }
-    year % 400 == 0
+    year % 4 == 0 && (year % 100 != 0 || year % 400 == 0)
 }
 
 // The days from 1 January 1998 to 1 January of a year: 365 a year,
 // and one for each leap year. Up to 1997 there are 484 leap years.
+#[tactic(auto, using(crate::proofs::Leap::year_formula))]
 fn days_before_year(year: u64) -> u64
     requires { (1998 ≤ year) × (year < 10_000) }
     ensures { result ≡ days_before_year year }
@@ -43,40 +38,33 @@ fn days_before_month(month: u64, long: bool) -> u64
     requires { (1 ≤ month) × (month ≤ 12) }
     ensures { (year : ℕ) → leap_year year ≡ long → result ≡ days_before_month year month }
 {
-    let days = DAYS_BEFORE[(month - 1) as usize] as u64;
-    if month < 3 {
-        return days;
-    }
-    if long {
-        return days + 1;
-    }
-    days
+    let days = u64::from(DAYS_BEFORE[(month - 1) as usize]);
+    if long && 2 < month { days + 1 } else { days }
 }
 
-// The year of a code: the last one whose first day is not after it.
+// The last year that has a code.
+const LAST_YEAR: u64 = 2177;
+
+// The year of a code: the first one that ends after it.
 fn year_of(code: u64) -> u64
     requires { code < 65_536 }
-    ensures { (1998 ≤ result) × (days_before_year result ≤ code) × (code < days_before_year (result + 1)) }
+    ensures { (1998 ≤ result) × (result ≤ 2177) × (days_before_year result ≤ code) × (code < days_before_year (result + 1)) }
 {
-    let mut year = 1998;
-    while days_before_year(year + 1) <= code {
-        year += 1;
-    }
-    year
+    (1998..LAST_YEAR)
+        .find(|year| code < days_before_year(*year + 1))
+        .unwrap_or(LAST_YEAR)
 }
 
 // The month of a day of the year, days counted from
-// 0: the last month whose first day is not after it.
+// 0: the first month that ends after it.
 fn month_of(year: u64, day: u64) -> u64
     requires { day < days_of_year year }
     ensures { (1 ≤ result) × (result ≤ 12) × (days_before_month year result ≤ day) × (day < days_before_month year (result + 1)) }
 {
     let long = leap(year);
-    let mut month = 12;
-    while day < days_before_month(month, long) {
-        month -= 1;
-    }
-    month
+    (1..12)
+        .find(|month| day < days_before_month(*month + 1, long))
+        .unwrap_or(12)
 }
 
 // The date of a code.
@@ -95,27 +83,25 @@ fn date_of(code: u64) -> Date
 fn digit(n: u64) -> u8
     ensures { result ≡ 48 + n % 10 }
 {
-    (48 + n % 10) as u8
+    b'0' + (n % 10) as u8
 }
 
 // The text of a code, as 2018-01-02.
+#[tactic(auto, unfolding(crate::specs::Dates::date_text))]
 pub fn text_of(code: u64) -> [u8; 10]
     requires { code < 65_536 }
     ensures { result ≡ date_text code }
 {
-    let date = date_of(code);
-    let year = date.year;
-    let month = date.month;
-    let day = date.day;
+    let Date { year, month, day } = date_of(code);
     [
         digit(year / 1000),
         digit(year / 100),
         digit(year / 10),
         digit(year),
-        45,
+        b'-',
         digit(month / 10),
         digit(month),
-        45,
+        b'-',
         digit(day / 10),
         digit(day),
     ]
@@ -125,10 +111,7 @@ pub fn text_of(code: u64) -> [u8; 10]
 fn figure(character: u8) -> u64
     ensures { result ≡ character - 48 }
 {
-    if character < 48 {
-        return 0;
-    }
-    (character - 48) as u64
+    u64::from(character.saturating_sub(b'0'))
 }
 
 // The number that two digits spell.
@@ -147,22 +130,7 @@ const NO_DATE: u64 = 65_535;
 fn day_code(year: u64, month: u64, day: u64) -> u64
     ensures { OnlyCode date_of (record { year = year; month = month; day = day }) 65_535 result }
 {
-    if year < 1998 {
-        return NO_DATE;
-    }
-    if 2177 < year {
-        return NO_DATE;
-    }
-    if month < 1 {
-        return NO_DATE;
-    }
-    if 12 < month {
-        return NO_DATE;
-    }
-    if day < 1 {
-        return NO_DATE;
-    }
-    if 31 < day {
+    if year < 1998 || LAST_YEAR < year || month < 1 || 12 < month || day < 1 || 31 < day {
         return NO_DATE;
     }
     days_before_year(year) + days_before_month(month, leap(year)) + day - 1

@@ -5,10 +5,7 @@ ghost use Rattle.texts.specs.Letters.{letters, letters_text};
 ghost use Rattle.texts.specs.Whose.{OnlyCode};
 
 // Space, A to Z, comma, point, slash, underscore, at sign.
-const LETTERS: [u8; 32] = [
-    32, 65, 66, 67, 68, 69, 70, 71, 72, 73, 74, 75, 76, 77, 78, 79, 80, 81, 82, 83, 84, 85, 86, 87,
-    88, 89, 90, 44, 46, 47, 95, 64,
-];
+const LETTERS: [u8; 32] = *b" ABCDEFGHIJKLMNOPQRSTUVWXYZ,./_@";
 
 // The letter of a code's lowest five bits.
 fn letter(code: u64) -> u8
@@ -22,17 +19,14 @@ fn letter(code: u64) -> u8
 fn letter_code(character: u8) -> u64
     ensures { (result < 32) × OnlyCode (λ code. get_or letters code 0) character 31 result }
 {
-    let mut at: usize = 0;
-    while at < 32 {
-        if LETTERS[at] == character {
-            return at as u64;
-        }
-        at += 1;
-    }
-    0
+    LETTERS
+        .iter()
+        .position(|letter| *letter == character)
+        .unwrap_or(0) as u64
 }
 
 // The text of one letter, then zeros.
+#[tactic(auto, unfolding(crate::specs::Letters::letters_text))]
 pub fn one_text(code: u64) -> [u8; 10]
     ensures { result ≡ letters_text 1 code ++ replicate 9 0 }
 {
@@ -41,6 +35,7 @@ pub fn one_text(code: u64) -> [u8; 10]
 }
 
 // The text of three letters, first lowest, then zeros.
+#[tactic(auto, unfolding(crate::specs::Letters::letters_text))]
 pub fn three_text(code: u64) -> [u8; 10]
     ensures { result ≡ letters_text 3 code ++ replicate 7 0 }
 {

@@ -1,27 +1,27 @@
 -- Laws of an accepted call and its images.
-use Rattle.writing.proofs.Names.{◌≡◌, sym, ◌∙◌, not, List, ℕ, zero, suc, ◌%◌, ◌≤◌, arith, eqb, length, Refusal, good, refused, wrong_image, good-same, no_value_lem, good-bind, passed, bind-good, bind-refused, Sizes}
+use Rattle.writing.proofs.Names.{◌≡◌, sym, ◌∙◌, not, List, ℕ, zero, suc, ◌%◌, ◌≤◌, arith, eqb, length, Refusal, Ok, Err, WrongImage, good-same, no_value_lem, good-bind, passed, bind-good, bind-refused, Sizes}
 use Rattle.writing.proofs.Names.{sizes_of, image_bytes, image_sizes, SumsRight, sizes-chip, sums-right, Contents, contents, contents-accepted, Summary, check, summary, Step, step, next_row, Fits}
 
 -- A kind has one size.
-kind-sizes : (kind bytes : ℕ) (z : Sizes) → image_sizes kind bytes ≡ good z → sizes_of kind ≡ good z
+kind-sizes : (kind bytes : ℕ) (z : Sizes) → image_sizes kind bytes ≡ Ok z → sizes_of kind ≡ Ok z
 unfolding image_sizes
 kind-sizes kind bytes z e =
     let (x, first, others) = good-bind (sizes_of kind) _ z e in
-    let (long, same) = passed wrong_image (not (eqb bytes (image_bytes x))) (good x) z others in
+    let (long, same) = passed WrongImage (not (eqb bytes (image_bytes x))) (Ok x) z others in
     first ∙ same
 
 -- A register is a row, or none.
-kind-whole : (kind : ℕ) (z : Sizes) → sizes_of kind ≡ good z → z.register % 8 ≡ 0
+kind-whole : (kind : ℕ) (z : Sizes) → sizes_of kind ≡ Ok z → z.register % 8 ≡ 0
 kind-whole zero z e = rw (← good-same e)
 kind-whole (suc zero) z e = rw (← good-same e)
 kind-whole (suc (suc zero)) z e = rw (← good-same e)
 kind-whole (suc (suc (suc k))) z e = no_value_lem e
 
 -- Kinds 1 and 2 have two pages or more.
-pub kind-pages : (kind bytes : ℕ) (z : Sizes) → image_sizes kind bytes ≡ good z → 1 ≤ kind → 2 ≤ z.pages
+pub kind-pages : (kind bytes : ℕ) (z : Sizes) → image_sizes kind bytes ≡ Ok z → 1 ≤ kind → 2 ≤ z.pages
 kind-pages kind bytes z e some = go kind (kind-sizes kind bytes z e) some
   where
-    go : (k : ℕ) → sizes_of k ≡ good z → 1 ≤ k → 2 ≤ z.pages
+    go : (k : ℕ) → sizes_of k ≡ Ok z → 1 ≤ k → 2 ≤ z.pages
     go zero d h = absurd (omega arith)
     go (suc zero) d h = rw (← good-same d) (omega arith)
     go (suc (suc zero)) d h = rw (← good-same d) (omega arith)
@@ -32,10 +32,10 @@ pub record Asked (z : Sizes) (present wanted : List ℕ) : Type 0 where
   pub fits : Fits z present wanted
   pub right : SumsRight z wanted
 
-module _ (kind : ℕ) (present wanted : List ℕ) (s : Summary) (z : Sizes) (accepted : check kind wanted ≡ good s) (held : image_sizes kind (length present) ≡ good z) where
-  read : (c : Contents) × (contents kind wanted ≡ good c)
+module _ (kind : ℕ) (present wanted : List ℕ) (s : Summary) (z : Sizes) (accepted : check kind wanted ≡ Ok s) (held : image_sizes kind (length present) ≡ Ok z) where
+  read : (c : Contents) × (contents kind wanted ≡ Ok c)
   unfolding check
-  read = let (c, e, d) = good-bind (contents kind wanted) (λ c. good (summary c)) s accepted in (c, e)
+  read = let (c, e, d) = good-bind (contents kind wanted) (λ c. Ok (summary c)) s accepted in (c, e)
 
   pub checked-asked : Asked z present wanted
   checked-asked =
@@ -59,28 +59,28 @@ module _ (kind : ℕ) (present wanted : List ℕ) (s : Summary) (z : Sizes) (acc
 pub record Called (kind : ℕ) (present wanted : List ℕ) (x : Step) : Type 0 where
   pub sizes : Sizes
   pub shown : Summary
-  pub accepted : check kind wanted ≡ good shown
-  pub sized : image_sizes kind (length present) ≡ good sizes
+  pub accepted : check kind wanted ≡ Ok shown
+  pub sized : image_sizes kind (length present) ≡ Ok sizes
   pub asked : Asked sizes present wanted
   pub is : step sizes present wanted ≡ x
 
-pub called : (kind : ℕ) (present wanted : List ℕ) (x : Step) → next_row kind present wanted ≡ good x → Called kind present wanted x
+pub called : (kind : ℕ) (present wanted : List ℕ) (x : Step) → next_row kind present wanted ≡ Ok x → Called kind present wanted x
 unfolding next_row
 called kind present wanted x e =
     let (s, accepted, t) = good-bind (check kind wanted) _ x e in
     let (z, sized, u) = good-bind (image_sizes kind (length present)) _ x t in
     record { sizes = z; shown = s; accepted = accepted; sized = sized; asked = checked-asked kind present wanted s z accepted sized; is = good-same u }
 
-pub calls : (kind : ℕ) (present wanted : List ℕ) (s : Summary) (z : Sizes) → check kind wanted ≡ good s → image_sizes kind (length present) ≡ good z
-    → next_row kind present wanted ≡ good (step z present wanted)
+pub calls : (kind : ℕ) (present wanted : List ℕ) (s : Summary) (z : Sizes) → check kind wanted ≡ Ok s → image_sizes kind (length present) ≡ Ok z
+    → next_row kind present wanted ≡ Ok (step z present wanted)
 unfolding next_row
 calls kind present wanted s z accepted held = bind-good _ accepted ∙ bind-good _ held
 
-pub call-refused : (kind : ℕ) (present wanted : List ℕ) (r : Refusal) → check kind wanted ≡ refused r → next_row kind present wanted ≡ refused r
+pub call-refused : (kind : ℕ) (present wanted : List ℕ) (r : Refusal) → check kind wanted ≡ Err r → next_row kind present wanted ≡ Err r
 unfolding next_row
 call-refused kind present wanted r e = bind-refused _ e
 
-pub call-other-length : (kind : ℕ) (present wanted : List ℕ) (s : Summary) (r : Refusal) → check kind wanted ≡ good s → image_sizes kind (length present) ≡ refused r
-    → next_row kind present wanted ≡ refused r
+pub call-other-length : (kind : ℕ) (present wanted : List ℕ) (s : Summary) (r : Refusal) → check kind wanted ≡ Ok s → image_sizes kind (length present) ≡ Err r
+    → next_row kind present wanted ≡ Err r
 unfolding next_row
 call-other-length kind present wanted s r accepted held = bind-good _ accepted ∙ bind-refused _ held

@@ -1,8 +1,8 @@
 -- Laws of the numbers below n for which a test holds.
 use Rattle.writing.proofs.Names.{◌≡◌, refl, sym, ap, ◌∙◌, Bool, true, false, not, ◌&&◌, cond, true≢false, ◌⊎◌, inl, inr, ℕ, zero, suc, ◌+◌, ◌≤◌, ◌<◌, arith, ℕ_discrete, dec_lt, eqb, eq-eqb, ne_eqb, count, last}
 
-abbrev pub None : (ℕ → Bool) → ℕ → Type 0
-None test n = (k : ℕ) → k < n → test k ≡ false
+abbrev pub Never : (ℕ → Bool) → ℕ → Type 0
+Never test n = (k : ℕ) → k < n → test k ≡ false
 
 pub record Last (test : ℕ → Bool) (n i : ℕ) : Type 0 where
   pub below : i < n
@@ -17,20 +17,20 @@ more P n k here before h = go (ℕ_discrete n k)
     go (yes e) = rw e at here
     go (no e) = before (omega arith)
 
-pub last_or : (test : ℕ → Bool) (n : ℕ) → Last test n (last test n) ⊎ None test n
+pub last_or : (test : ℕ → Bool) (n : ℕ) → Last test n (last test n) ⊎ Never test n
 last_or test zero = inr (λ k h. absurd (omega arith))
 last_or test (suc n) = go (test n) refl (last_or test n)
   where
-    go : (b : Bool) → test n ≡ b → Last test n (last test n) ⊎ None test n → Last test (suc n) (last test (suc n)) ⊎ None test (suc n)
+    go : (b : Bool) → test n ≡ b → Last test n (last test n) ⊎ Never test n → Last test (suc n) (last test (suc n)) ⊎ Never test (suc n)
     go true e o = inl (rw e (record { below = omega arith; holds = e; behind = λ k h l. absurd (omega arith) }))
     go false e (inl o) =
         inl (rw e (record { below = omega (arith, o.below); holds = o.holds; behind = λ k h. more (λ i. test i ≡ false) n k e (o.behind k h) }))
     go false e (inr o) = inr (λ k. more (λ i. test i ≡ false) n k e (o k))
 
-pub last-is : (test : ℕ → Bool) (n : ℕ) → (None test n → ⊥) → Last test n (last test n)
+pub last-is : (test : ℕ → Bool) (n : ℕ) → (Never test n → ⊥) → Last test n (last test n)
 last-is test n h = go (last_or test n)
   where
-    go : Last test n (last test n) ⊎ None test n → Last test n (last test n)
+    go : Last test n (last test n) ⊎ Never test n → Last test n (last test n)
     go (inl o) = o
     go (inr o) = absurd (h o)
 
@@ -77,11 +77,11 @@ count_less s t r n f h a b =
     ap (λ x. count s n + cond x 1 0) (sym b) ∙ count-change s t r n f h ∙ ap (λ x. count t n + cond x 1 0) a in
     omega arith
 
-pub count-false : (test : ℕ → Bool) (n : ℕ) → None test n → count test n ≡ 0
+pub count-false : (test : ℕ → Bool) (n : ℕ) → Never test n → count test n ≡ 0
 count-false test zero f = refl
 count-false test (suc n) f = rw (f n (omega arith)) (omega (arith, count-false test n (λ k h. f k (omega arith))))
 
-pub count_none : (test : ℕ → Bool) (n : ℕ) → count test n ≡ 0 → None test n
+pub count_none : (test : ℕ → Bool) (n : ℕ) → count test n ≡ 0 → Never test n
 count_none test zero e k h = absurd (omega arith)
 count_none test (suc n) e k h = go (test n) refl (λ z. count_none test n z k)
   where

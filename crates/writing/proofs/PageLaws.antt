@@ -1,6 +1,6 @@
 -- Laws of a raised byte, of the sums of pages 0 and 1, and of the rows of images that fit.
-use Rattle.writing.proofs.Names.{◌≡◌, refl, sym, ap, ◌∙◌, List, ℕ, ◌+◌, ◌-◌, ◌*◌, ◌/◌, ◌%◌, ◌≤◌, ◌<◌, arith, ℕ_discrete, dec_lt, length, take, drop, get_or, set, length-set, length-drop, get_or-eq_default}
-use Rattle.writing.proofs.Names.{length-take-le, ext_get_or, get_or-take, get_or-drop, get_or-set_same, get_or-set_other, Outcome, good, refused, Sizes, Bytes, image_bytes, page_at, total, page_sum, sums, sums-right, row}
+use Rattle.writing.proofs.Names.{false, eqb, ne_eqb, ◌≡◌, refl, sym, ap, ◌∙◌, List, ℕ, ◌+◌, ◌-◌, ◌*◌, ◌/◌, ◌%◌, ◌≤◌, ◌<◌, arith, ℕ_discrete, dec_lt, length, take, drop, get_or, set, length-set, length-drop, get_or-eq_default}
+use Rattle.writing.proofs.Names.{length-take-le, ext_get_or, get_or-take, get_or-drop, get_or-set_same, get_or-set_other, Outcome, Ok, Err, Sizes, Bytes, image_bytes, page_at, total, page_sum, sums, sums-right, row}
 use Rattle.writing.proofs.Names.{rows, check_row, written, differs, differing, raised, Refuses, Fits}
 use Rattle.writing.proofs.NumberLaws.{count-false, count_none}
 use Rattle.writing.proofs.RowLaws.{over-length, over-in, over-out, alike, differs-not, total-set}
@@ -71,8 +71,8 @@ pub refused-by : (z : Sizes) (image : List ℕ) (q : ℕ) → q < z.pages → (p
 refused-by z image q h n = go (sums z image) refl
   where
     go : (o : Outcome (Unit {0})) → sums z image ≡ o → Refuses z image
-    go (good tt) e = absurd (n (sums-right z image e q h))
-    go (refused why) e = (why, e)
+    go (Ok tt) e = absurd (n (sums-right z image e q h))
+    go (Err why) e = (why, e)
 
 -- ---- a byte raised
 
@@ -170,6 +170,9 @@ module _ (z : Sizes) (p w : List ℕ) (fits : Fits z p w) where
   none-differs e =
       ext_get_or 0 p w (sym alike-length)
       (λ i h. alike p w (i / 8) (count_none (differs p w) (rows z) e (i / 8) (row_below i (omega (arith, fits.held)))) i refl)
+
+  pub some_differ : (p ≡ w → ⊥) → false ≡ eqb (differing z p w) 0
+  some_differ n = sym (ne_eqb (differing z p w) 0 (λ e. n (none-differs e)))
 
   pub not_yet : (differing z p w ≡ 0 → ⊥) → p ≡ w → ⊥
   not_yet n e = n (rw e (same_none z w))

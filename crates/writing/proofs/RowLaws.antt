@@ -1,7 +1,11 @@
 -- Laws of rows: the bytes of an image after a row is written, and which rows differ.
 use Rattle.writing.proofs.Names.{◌≡◌, refl, sym, ap, ◌∙◌, true, false, not, List, [], ◌∷◌, ◌++◌, ℕ, zero, suc, ◌+◌, ◌-◌, ◌*◌, ◌/◌, ◌%◌, ◌≤◌, ◌<◌, arith, ℕ_discrete, dec_lt, eqb, length, take, drop, get_or, set}
 use Rattle.writing.proofs.Names.{length-append, length-drop, length-take, length-take-le, get_or-take, get_or-drop, ext_get_or, eqb-true, eq-eqb, not-false, both, Sizes, total, page_sum, get_d_front, get_d_past, row}
-use Rattle.writing.proofs.Names.{written, same, differs}
+use Rattle.writing.proofs.Names.{written, same, differs, Bool, pointwise, nat_eq, slice_eq-Decides, true≢false}
+use Rattle.std.specs.Bool.{Decides}
+
+pub byte-of : (l : List ℕ) (r i : ℕ) → i < 8 → get_or (row r l) i 0 ≡ get_or l (8 * r + i) 0
+byte-of l r i h = get_or-take 8 (drop (8 * r) l) i 0 h ∙ get_or-drop (8 * r) l i 0
 
 -- ---- a row written
 
@@ -35,7 +39,7 @@ module _ (r : ℕ) (t l : List ℕ) (alike : length t ≡ length l) (h : 8 * r +
       let b : i - 8 * r < 8 = omega arith in
       let f : 8 * r + (i - 8 * r) ≡ i = omega arith in
       past i (omega arith) ∙ get_d_front (row r t) (drop (8 * r + 8) l) 8 (i - 8 * r) row-length b
-      ∙ get_or-take 8 (drop (8 * r) t) (i - 8 * r) 0 b ∙ get_or-drop (8 * r) t (i - 8 * r) 0 ∙ ap (λ (j : ℕ). get_or t j 0) f
+      ∙ byte-of t r (i - 8 * r) b ∙ ap (λ (j : ℕ). get_or t j 0) f
 
   pub over-out : (i : ℕ) → (i / 8 ≡ r → ⊥) → get_or (written r (row r t) l) i 0 ≡ get_or l i 0
   over-out i n = go (dec_lt i (8 * r))
@@ -53,9 +57,17 @@ pub row-byte : (p w : List ℕ) (r : ℕ) → row r p ≡ row r w → (i : ℕ) 
 row-byte p w r e i d = sym (one p) ∙ ap (λ (l : List ℕ). get_or l (i - 8 * r) 0) e ∙ one w
   where
     one : (l : List ℕ) → get_or (row r l) (i - 8 * r) 0 ≡ get_or l i 0
-    one l =
-        let f : 8 * r + (i - 8 * r) ≡ i = omega arith in
-        get_or-take 8 (drop (8 * r) l) (i - 8 * r) 0 (omega arith) ∙ get_or-drop (8 * r) l (i - 8 * r) 0 ∙ ap (λ (j : ℕ). get_or l j 0) f
+    one l = let f : 8 * r + (i - 8 * r) ≡ i = omega arith in byte-of l r (i - 8 * r) (omega arith) ∙ ap (λ (j : ℕ). get_or l j 0) f
+
+-- Rows of which all bytes are equal.
+pub row-ext : (p w : List ℕ) (r : ℕ) → 8 * r + 8 ≤ length p → 8 * r + 8 ≤ length w → ((i : ℕ) → i / 8 ≡ r → get_or p i 0 ≡ get_or w i 0) → row r p ≡ row r w
+row-ext p w r h k f = ext_get_or 0 _ _ (long p h ∙ sym (long w k)) (λ i l. at i (omega (arith, long p h)))
+  where
+    long : (l : List ℕ) → 8 * r + 8 ≤ length l → length (row r l) ≡ 8
+    long l h = length-take-le 8 (drop (8 * r) l) (omega (arith, length-drop (8 * r) l))
+
+    at : (i : ℕ) → i < 8 → get_or (row r p) i 0 ≡ get_or (row r w) i 0
+    at i l = byte-of p r i l ∙ f (8 * r + i) (omega arith) ∙ sym (byte-of w r i l)
 
 -- ---- rows that differ
 
@@ -84,6 +96,27 @@ module _ (p w : List ℕ) where
 
   pub differs-not : (r : ℕ) → ((i : ℕ) → i / 8 ≡ r → get_or p i 0 ≡ get_or w i 0) → differs p w r ≡ false
   differs-not r f = rw (true_same 8 (8 * r) (λ k h l. f k (omega arith)))
+
+-- `==` of bytes.
+bytes-eq : (l m : List ℕ) (b : Bool) → b ≡ pointwise nat_eq l m → Decides b (l ≡ m)
+bytes-eq l m = slice_eq-Decides (λ x y. (eqb-true x y, eq-eqb x y)) l m
+
+pub equal-bytes : (l m : List ℕ) (b : Bool) → b ≡ pointwise nat_eq l m → b ≡ true → l ≡ m
+equal-bytes l m b e = (bytes-eq l m b e).0
+
+pub unequal-bytes : (l m : List ℕ) (b : Bool) → b ≡ pointwise nat_eq l m → b ≡ false → l ≡ m → ⊥
+unequal-bytes l m b e f d = true≢false (sym ((bytes-eq l m b e).1 d) ∙ f)
+
+pub row-same : (p w : List ℕ) (r : ℕ) → 8 * r + 8 ≤ length p → 8 * r + 8 ≤ length w → (b : Bool) → b ≡ pointwise nat_eq (row r p) (row r w) → b ≡ same p w 8 (8 * r)
+row-same p w r h k b e = go b (same p w 8 (8 * r)) (λ t. true_same p w 8 (8 * r) (λ i l m. row-byte p w r (d.0 t) i (omega arith))) (λ t. d.1 (row-ext p w r h k (λ i f. same_true p w 8 (8 * r) t i (omega arith) (omega arith))))
+  where
+    d : Decides b (row r p ≡ row r w)
+    d = bytes-eq (row r p) (row r w) b e
+
+    go : (s t : Bool) → (s ≡ true → t ≡ true) → (t ≡ true → s ≡ true) → s ≡ t
+    go true t f g = sym (f refl)
+    go false true f g = g refl
+    go false false f g = refl
 
 -- Whether a row differs depends only on its bytes.
 same-same : (p q w : List ℕ) (n i : ℕ) → ((k : ℕ) → i ≤ k → k < i + n → get_or p k 0 ≡ get_or q k 0) → same p w n i ≡ same q w n i

@@ -1,19 +1,24 @@
 -- The answer of `next_row`; and what only inner contracts need.
-use Rattle.std.specs.Prelude.{◌≡◌, ℕ, ◌+◌, ◌*◌, ◌%◌, ◌≤◌, Bool, cond, not, ◌&&◌, List, length, replicate, ◌==◌}
-use Rattle.refusal.specs.Outcome.{Outcome, good, refused}
+use Rattle.std.specs.Prelude.{◌≡◌, ℕ, ◌+◌, ◌*◌, ◌%◌, ◌≤◌, Bool, cond, not, ◌&&◌, List, length, ◌==◌, Option, None, Some}
+use Rattle.refusal.specs.Outcome.{Outcome, Ok, ◌>>=◌}
 use Rattle.memory.specs.declared.Sizes.{Sizes}
 use Rattle.memory.specs.Image.{image_bytes}
-use Rattle.writing.specs.declared.Answer.TheVariants.{Done, Write, Refused}
-use Rattle.writing.specs.declared.NextRow.{NextRow}
+use Rattle.writing.specs.declared.rows.Row.{Row}
 use Rattle.writing.specs.declared.rows.Tally.{Tally}
 use Rattle.writing.specs.Numbers.{count, last}
 use Rattle.writing.specs.Steps.{Step, done, write, differs}
 
--- A row by its first byte's offset; zeros if nothing is to be written.
-abbrev pub answered : Outcome Step → NextRow
-answered (good done) = record { answer = Done; offset = 0; bytes = replicate 8 0 }
-answered (good (write r bytes)) = record { answer = Write; offset = 8 * r; bytes = bytes }
-answered (refused r) = record { answer = Refused r; offset = 0; bytes = replicate 8 0 }
+-- Row r, named by its first byte's offset.
+abbrev pub row_at : ℕ → List ℕ → Row
+row_at r bytes = record { offset = 8 * r; bytes = bytes }
+
+-- The row that a step writes, if any.
+abbrev pub to_write : Step → Option Row
+to_write done = None
+to_write (write r bytes) = Some (row_at r bytes)
+
+abbrev pub answered : Outcome Step → Outcome (Option Row)
+answered o = o >>= λ s. Ok (to_write s)
 
 -- Two images of one chip, whose register, if any, is a row.
 pub record Fits (z : Sizes) (present wanted : List ℕ) : Type 0 where
@@ -33,10 +38,10 @@ tally_to present wanted check n = record {
   other = last (λ r. differs present wanted r && not (r == check)) n;
 }
 
--- The tally with one more row, row i, which differs or not.
-abbrev pub tallied : Tally → ℕ → ℕ → Bool → Tally
-tallied t i check differs = record { rows = cond differs 1 0 + t.rows; last = cond differs i t.last; other = cond (differs && not (i == check)) i t.other }
+-- The tally with one more row that differs, row i.
+abbrev pub tallied : Tally → ℕ → ℕ → Tally
+tallied t i check = record { rows = 1 + t.rows; last = i; other = cond (not (i == check)) i t.other }
 
--- 0 if a test holds for no number below n, else one more than the last for which it holds.
-abbrev pub behind_last : (ℕ → Bool) → ℕ → ℕ
-behind_last test n = cond (count test n == 0) 0 (1 + last test n)
+-- The last number below n for which a test holds, if any.
+abbrev pub last_for : (ℕ → Bool) → ℕ → Option ℕ
+last_for test n = cond (count test n == 0) None (Some (last test n))

@@ -1,7 +1,7 @@
 -- What a chip holds after a step, carried out whole or torn.
 use Rattle.std.specs.Prelude.{◌≡◌, ℕ, ◌<◌, ◌⊎◌, List, length, ◌≢◌, slice_index}
 use Rattle.refusal.specs.declared.Refusal.{Refusal}
-use Rattle.refusal.specs.Outcome.{refused}
+use Rattle.refusal.specs.Outcome.{Err}
 use Rattle.memory.specs.declared.Sizes.{Sizes}
 use Rattle.memory.specs.Bits.{Bytes}
 use Rattle.memory.specs.Image.{sums}
@@ -25,7 +25,7 @@ Changes z image (write r bytes) = (r < rows z) × (length bytes ≡ 8) × (row r
 
 -- The page sums refuse an image.
 abbrev pub Refuses : Sizes → List ℕ → Type 0
-Refuses z image = (why : Refusal) × (sums z image ≡ refused why)
+Refuses z image = (why : Refusal) × (sums z image ≡ Err why)
 
 abbrev pub WantedOrRefused : Sizes → List ℕ → List ℕ → Type 0
 WantedOrRefused z wanted image = (image ≡ wanted) ⊎ Refuses z image

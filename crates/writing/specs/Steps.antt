@@ -1,7 +1,7 @@
 -- How an image is written to a chip row by row, so that a chip pulled out halfway
 -- is refused. The next row depends on what the chip holds and what it shall hold.
 use Rattle.std.specs.Prelude.{ℕ, zero, suc, ◌+◌, ◌*◌, ◌/◌, ◌%◌, Bool, true, cond, not, ◌&&◌, ◌||◌, List, ◌++◌, length, take, drop, ◌==◌, nat_lt, slice_index, slice_set}
-use Rattle.refusal.specs.Outcome.{Outcome, good, ◌>>=◌}
+use Rattle.refusal.specs.Outcome.{Outcome, Ok, ◌>>=◌}
 use Rattle.memory.specs.declared.Sizes.{Sizes}
 use Rattle.memory.specs.Image.{image_bytes, image_sizes, page_at, page_sum}
 use Rattle.sheet.specs.Check.{check}
@@ -117,4 +117,4 @@ unfoldable pub next_row : ℕ → List ℕ → List ℕ → Outcome Step
 next_row kind present wanted = do
   accepted ← check kind wanted
   z ← image_sizes kind (length present)
-  good (step z present wanted)
+  Ok (step z present wanted)

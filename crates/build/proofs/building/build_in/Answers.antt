@@ -1,4 +1,4 @@
-use Rattle.build.proofs.Names.{sym, ap, ◌∙◌, ℕ, ◌^◌, arith, Refused, written-refused, replicate, length-replicate, listed, SheetPlanned}
+use Rattle.build.proofs.Names.{refl, sym, ◌∙◌, ℕ, ◌^◌, arith, written-refused, replicate, length-replicate, listed, SheetPlanned}
 use Rattle.templates.specs.declared.Level.TheVariants.{Owner}
 use Rattle.build.proofs.Coding.{packed_none}
 use Rattle.build.proofs.Listing.{fit-listed}
@@ -10,18 +10,18 @@ use Rattle.build.proofs.building.build_in.Goals.{After-codes-then-n-eq0-1}
 -- What a sheet without points leaves.
 plain : (c : After-codes-then-n-eq0-1) →
     let a = c.args in
-    SheetPlanned a.options a.tags.now a.wholes.now a.singles.now a.text.now (listed a.options.domain a.points.now) c.plan_front-planned.new.codes c.plan_front-planned.result
+    SheetPlanned a.options a.values.tags.now a.values.wholes.now a.values.singles.now a.text.now (listed a.options.domain a.points.now) c.plan_front-planned.new.codes c.plan_front-planned.result
 plain c =
     let a = c.args in
     let n : ℕ = 2 ^ 56 in
     let right = list_right a.options.domain a.points.now (sym c.is_wrong_list.ensures ∙ c.if-is_wrong_list.false) in
-    sheet-plain a.options a.tags.now a.wholes.now a.singles.now a.text.now (listed a.options.domain a.points.now) right c.plan_front-planned.new.codes c.plan_front-planned.ensures (table_none a.options.domain a.points.now 0 (omega (arith, c.if-n-eq0.true))) Owner (omega (arith, length-replicate 21 n))
+    sheet-plain a.options a.values.tags.now a.values.wholes.now a.values.singles.now a.text.now (listed a.options.domain a.points.now) right c.plan_front-planned.new.codes c.plan_front-planned.ensures (table_none a.options.domain a.points.now 0 (omega (arith, c.if-n-eq0.true))) Owner (omega (arith, length-replicate 21 n))
 
 pub returns-then-is_wrong_list : goal.returns-then-is_wrong_list
 returns-then-is_wrong_list c level =
     let a = c.args in
     let wrong = list-wrong a.options.domain a.points.now (sym c.is_wrong_list.ensures ∙ c.if-is_wrong_list.true) in
-    written-refused _ (ap Refused c.wrong_list.ensures) (built-list a.sizes _ a.text.now (listed a.options.domain a.points.now) wrong)
+    written-refused _ refl (built-list a.sizes _ a.text.now (listed a.options.domain a.points.now) wrong)
 
 pub plan_front-planned-requires : goal.plan_front-planned-requires
 plan_front-planned-requires c =

@@ -1,9 +1,10 @@
-use Rattle.build.proofs.Names.{refl, sym, ap, ◌∙◌, ltb-true, ltb-false, written-refused, written-done, Refused, stream_bits, unpacked}
+use Rattle.build.proofs.Names.{refl, sym, ◌∙◌, ltb-true, ltb-false, written-refused, written-done, stream_bits, unpacked}
 use Rattle.build.proofs.BuiltIn.{too_many, inside, fits}
+use Rattle.build.proofs.Handed.{handed}
 use Rattle.build.proofs.building.finish.Goals as goal
 
 pub bits_needed-bits-requires : goal.bits_needed-bits-requires
-bits_needed-bits-requires c = (c.requires.ready _ c.in-Are.is).small
+bits_needed-bits-requires c = (c.requires.ready _ c.in_ok-listed.was).small
 
 pub is_too_long-requires : goal.is_too_long-requires
 is_too_long-requires c = c.requires.whole_image.1
@@ -11,25 +12,25 @@ is_too_long-requires c = c.requires.whole_image.1
 pub returns-then-is_too_long : goal.returns-then-is_too_long
 returns-then-is_too_long c =
     let a = c.args in
-    let r = c.requires.ready _ c.in-Are.is in
+    let r = c.requires.ready _ c.in_ok-listed.was in
     let bits = rw r.count at c.bits_needed-bits.ensures in
-    rw c.in-Are.is
-    (written-refused a.image.now (ap Refused c.too_long.ensures) (too_many a.options.template (unpacked a.codes.now) c.in-Are.listed.count a.options.end_bit a.text.now a.sizes c.requires.whole_image.1 _ bits (ltb-true (stream_bits a.sizes) _ (sym c.is_too_long.ensures ∙ c.if-is_too_long.true))))
+    rw c.in_ok-listed.was
+    (written-refused a.image.now (refl) (too_many a.options.template (unpacked a.codes.now) c.in_ok-listed.listed.count a.options.end_bit a.text.now a.sizes c.requires.whole_image.1 _ bits (ltb-true (stream_bits a.sizes) _ (sym c.is_too_long.ensures ∙ c.if-is_too_long.true))))
 
 pub write_image-requires : goal.write_image-requires
 write_image-requires c =
     let a = c.args in
-    let r = c.requires.ready _ c.in-Are.is in
+    let r = c.requires.ready _ c.in_ok-listed.was in
     let bits = rw r.count at c.bits_needed-bits.ensures in
-    record { whole_image = (c.requires.whole_image.0, r); text_bound = inside a.options.template (unpacked a.codes.now) c.in-Are.listed.count a.options.end_bit a.text.now a.sizes c.requires.whole_image.1 _ bits (ltb-false (stream_bits a.sizes) _ (sym c.is_too_long.ensures ∙ c.if-is_too_long.false)) }
+    record { whole_image = (c.requires.whole_image.0, r); text_bound = inside a.options.template (unpacked a.codes.now) c.in_ok-listed.listed.count a.options.end_bit a.text.now a.sizes c.requires.whole_image.1 _ bits (ltb-false (stream_bits a.sizes) _ (sym c.is_too_long.ensures ∙ c.if-is_too_long.false)) }
 
-pub returns-in-Refused : goal.returns-in-Refused
-returns-in-Refused c = rw c.in-Refused.is (written-refused _ refl refl)
+pub returns-in_err-listed : goal.returns-in_err-listed
+returns-in_err-listed c = rw (handed c.from_residual.result c.from_residual.ensures) (rw c.in_err-listed.was (written-refused _ refl refl))
 
-pub returns-else-is_too_long : goal.returns-else-is_too_long
-returns-else-is_too_long c =
+pub returns : goal.returns
+returns c =
     let a = c.args in
-    let r = c.requires.ready _ c.in-Are.is in
+    let r = c.requires.ready _ c.in_ok-listed.was in
     let bits = rw r.count at c.bits_needed-bits.ensures in
-    rw c.in-Are.is
-    (written-done a.image.now (fits a.options.template (unpacked a.codes.now) c.in-Are.listed.count a.options.end_bit a.text.now a.sizes c.requires.whole_image.1 _ bits (ltb-false (stream_bits a.sizes) _ (sym c.is_too_long.ensures ∙ c.if-is_too_long.false))) c.write_image.ensures)
+    rw c.in_ok-listed.was
+    (written-done a.image.now (fits a.options.template (unpacked a.codes.now) c.in_ok-listed.listed.count a.options.end_bit a.text.now a.sizes c.requires.whole_image.1 _ bits (ltb-false (stream_bits a.sizes) _ (sym c.is_too_long.ensures ∙ c.if-is_too_long.false))) c.write_image.ensures)

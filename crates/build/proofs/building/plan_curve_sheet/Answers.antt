@@ -3,20 +3,18 @@ use Rattle.templates.specs.declared.Level.TheVariants.{Owner}
 use Rattle.build.proofs.Coding.{packed-long}
 use Rattle.build.proofs.Listing.{part-long, part-fit, part-back}
 use Rattle.build.proofs.BuiltIn.{sheet-front, sheet-behind, sheet-done}
+use Rattle.build.proofs.Handed.{handed}
 use Rattle.build.proofs.building.plan_curve_sheet.Goals as goal
-use Rattle.build.proofs.building.plan_curve_sheet.Goals.{In-Are}
+use Rattle.build.proofs.building.plan_curve_sheet.Goals.{In_ok-front}
 
 -- The part from the fields' end on is inside the list.
-inside : (c : In-Are) → c.in-Are.front.count ≤ length c.plan_front.new.codes
+inside : (c : In_ok-front) → c.in_ok-front.front.count ≤ length c.plan_front.new.codes
 inside c =
     let f = c.plan_front.ensures Owner in
-    omega (arith, (f.count _ c.in-Are.is).1, packed-long c.plan_front.new.codes f.fit, c.requires.in_bounds)
-
-pub plan_front-requires : goal.plan_front-requires
-plan_front-requires c = (c.requires.lent_lengths.0, omega (arith, c.requires.in_bounds), c.requires.lent_lengths.1)
+    omega (arith, (f.count _ c.in_ok-front.was).1, packed-long c.plan_front.new.codes f.fit, c.requires.in_bounds)
 
 pub offset_bounds-codes-at : goal.offset_bounds-codes-at
-offset_bounds-codes-at c = omega (arith, ((c.plan_front.ensures Owner).count _ c.in-Are.is).1)
+offset_bounds-codes-at c = omega (arith, ((c.plan_front.ensures Owner).count _ c.in_ok-front.was).1)
 
 pub slice_bounds-plan_curve-count : goal.slice_bounds-plan_curve-count
 slice_bounds-plan_curve-count c = omega (arith, inside c)
@@ -28,8 +26,8 @@ pub plan_curve-requires : goal.plan_curve-requires
 plan_curve-requires c =
     let f = c.plan_front.ensures Owner in
     let codes = c.plan_front.new.codes in
-    let at = c.in-Are.front.count in
-    let most = (f.count _ c.in-Are.is).1 in
+    let at = c.in_ok-front.front.count in
+    let most = (f.count _ c.in_ok-front.was).1 in
     let long = packed-long codes f.fit in
     (omega (arith, part-long codes at, most, long, c.requires.in_bounds), part-fit codes at f.fit (omega (arith, most, c.requires.in_bounds)))
 
@@ -37,23 +35,23 @@ pub both_listed-requires : goal.both_listed-requires
 both_listed-requires c =
     let f = c.plan_front.ensures Owner in
     let codes = c.plan_front.new.codes in
-    let front = f.count _ c.in-Are.is in
-    let block = c.plan_curve.ensures.count _ c.in-Are-plan_curve.is in
-    (omega (arith, front.1), omega (arith, block.0, part-long codes c.in-Are.front.count, packed-long codes f.fit, c.requires.lent_lengths.2), front.3, block.2)
+    let front = f.count _ c.in_ok-front.was in
+    let block = c.plan_curve.ensures.count _ c.in_ok-block.was in
+    (omega (arith, front.1), omega (arith, block.0, part-long codes c.in_ok-front.front.count, packed-long codes f.fit, c.requires.lent_lengths.2), front.3, block.2)
 
-pub returns-in-Refused : goal.returns-in-Refused
-returns-in-Refused c =
+pub returns-in_err-front : goal.returns-in_err-front
+returns-in_err-front c =
     let a = c.args in
-    sheet-front a.options a.tags.now a.wholes.now a.singles.now a.text.now (by_curve a.curve) refl c.plan_front.new.codes c.plan_front.ensures c.in-Refused.is
+    rw (handed c.from_residual.result c.from_residual.ensures) (sheet-front a.options a.values.tags.now a.values.wholes.now a.values.singles.now a.text.now (by_curve a.curve) refl c.plan_front.new.codes c.plan_front.ensures c.in_err-front.was)
 
-pub returns-in-Refused-plan_curve : goal.returns-in-Refused-plan_curve
-returns-in-Refused-plan_curve c =
+pub returns-in_err-block : goal.returns-in_err-block
+returns-in_err-block c =
     let a = c.args in
-    sheet-behind a.options a.tags.now a.wholes.now a.singles.now a.text.now (by_curve a.curve) refl c.plan_front.new.codes c.plan_front.ensures c.in-Are.is c.plan_curve.new.codes c.plan_curve.ensures c.in-Refused-plan_curve.is
+    rw (handed c.from_residual-in_err-block.result c.from_residual-in_err-block.ensures) (sheet-behind a.options a.values.tags.now a.values.wholes.now a.values.singles.now a.text.now (by_curve a.curve) refl c.plan_front.new.codes c.plan_front.ensures c.in_ok-front.was c.plan_curve.new.codes c.plan_curve.ensures c.in_err-block.was)
 
-pub returns-in-Are-plan_curve : goal.returns-in-Are-plan_curve
-returns-in-Are-plan_curve c =
+pub returns : goal.returns
+returns c =
     let a = c.args in
     let codes = c.plan_front.new.codes in
-    rw (part-back codes c.in-Are.front.count c.plan_curve.new.codes, c.both_listed.ensures)
-    (sheet-done a.options a.tags.now a.wholes.now a.singles.now a.text.now (by_curve a.curve) refl codes c.plan_front.ensures c.in-Are.is c.plan_curve.new.codes c.plan_curve.ensures c.in-Are-plan_curve.is Owner (omega (arith, c.requires.in_bounds)))
+    rw (part-back codes c.in_ok-front.front.count c.plan_curve.new.codes, c.both_listed.ensures)
+    (sheet-done a.options a.values.tags.now a.values.wholes.now a.values.singles.now a.text.now (by_curve a.curve) refl codes c.plan_front.ensures c.in_ok-front.was c.plan_curve.new.codes c.plan_curve.ensures c.in_ok-block.was Owner (omega (arith, c.requires.in_bounds)))

@@ -10,7 +10,7 @@ pub loop-i-preserved : goal.loop-i-preserved
 loop-i-preserved c =
     let s = c.loop-i.invariant in
     let h = c.loop-i-test.true in
-    elim c.match-value.branch [
+    elim c.match-slot.branch [
       | in-Whole w ↦ rw (w.tags-is, w.wholes-is, w.singles-is) (spread-whole s h (w.in-Whole.is ∙ ap Whole (sym (to_z-of_z {w = w64} {z = w.in-Whole.figure} (search rules)))))
       | in-Single w ↦ rw (w.tags-is, w.wholes-is, w.singles-is) (spread-single s h w.in-Single.is)
       | in-Missing w ↦ rw (w.tags-is, w.wholes-is, w.singles-is) (spread-missing s h w.in-Missing.is)

@@ -1,8 +1,5 @@
-use Rattle.build.proofs.Names.{◌∙◌, arith, back-same, back-listed}
+use Rattle.build.proofs.Names.{◌∙◌, back-same, back-listed}
 use Rattle.build.proofs.plan.back_row.Goals as goal
-
-pub overflow_add-j : goal.overflow_add-j
-overflow_add-j c = omega (arith, c.requires)
 
 pub bridge_row-requires : goal.bridge_row-requires
 bridge_row-requires c = back-listed c.requires

@@ -9,7 +9,7 @@ pub returns-then-end_bit : goal.returns-then-end_bit
 returns-then-end_bit c = rw c.if-end_bit.true (open-ending _ _ (rw (c.last_field-field.ensures, add-one _) at c.check_characters.ensures))
 
 pub returns-then-text-gt0 : goal.returns-then-text-gt0
-returns-then-text-gt0 c = rw (c.if-end_bit.false, c.wrong_sort.ensures, c.last_field-field.ensures, add-one _) (shut-ending _ _ c.if-text-gt0.true)
+returns-then-text-gt0 c = rw (c.if-end_bit.false, c.last_field-field.ensures, add-one _) (shut-ending _ _ c.if-text-gt0.true)
 
 pub returns : goal.returns
 returns c = rw c.if-end_bit.false (no-ending _ _ c.if-text-gt0.false)

@@ -1,15 +1,9 @@
 use Rattle.build.proofs.Names.{arith, front-most}
-use Rattle.build.proofs.Coding.{quick-asked, quick-here, coded-up, stopped}
+use Rattle.build.proofs.Coding.{quick-asked, quick-here}
 use Rattle.build.proofs.plan.code_front.Goals as goal
 
 pub loop-i-init : goal.loop-i-init
 loop-i-init c = rw c.basic_fields-first.ensures (omega arith, (front-most c.args.template).0, c.requires)
-
-pub overflow_add-i : goal.overflow_add-i
-overflow_add-i c = omega (arith, c.loop-i-test.true)
-
-pub front_row-requires : goal.front_row-requires
-front_row-requires c = (omega (arith, c.loop-i.invariant.0), omega (arith, c.loop-i-test.true))
 
 pub quick_code-quick-requires : goal.quick_code-quick-requires
 quick_code-quick-requires c =
@@ -23,17 +17,5 @@ code_field-requires c =
     let l = c.loop-i in
     record { fields_coded = (l.invariant.2, omega (arith, c.loop-i-test.true, (front-most t).1)); quick = quick-here (record { template = t; precision = l.precision }) (c.front_row.ensures _) c.quick_code-quick.ensures }
 
-pub returns-in-Refused : goal.returns-in-Refused
-returns-in-Refused c = stopped c.code_field.ensures c.in-Refused.is
-
-pub overflow_step-i : goal.overflow_step-i
-overflow_step-i c = omega arith
-
-pub loop-i-smaller : goal.loop-i-smaller
-loop-i-smaller c = omega arith
-
 pub loop-i-preserved : goal.loop-i-preserved
-loop-i-preserved c = (omega (arith, c.loop-i.invariant.0), omega (arith, c.loop-i-test.true), c.code_field.ensures.done _ c.in-Next.is)
-
-pub returns : goal.returns
-returns c = let l = c.loop-i in coded-up l.invariant.2 (omega (arith, c.loop-i-test.false)) l.invariant.1
+loop-i-preserved c = (omega (arith, c.loop-i.invariant.0), omega (arith, c.loop-i-test.true), c.code_field.ensures.done _ c.in_ok-precision.was)

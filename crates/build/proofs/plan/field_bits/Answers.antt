@@ -5,9 +5,6 @@ use Rattle.build.proofs.plan.field_bits.Goals as goal
 pub overflow_add-last_field : goal.overflow_add-last_field
 overflow_add-last_field c = omega (arith, c.last_field.ensures, last-most c.args.layout.template)
 
-pub bits_before-requires : goal.bits_before-requires
-bits_before-requires c = omega (arith, c.last_field.ensures)
-
 pub returns : goal.returns
 returns c =
     let l = c.args.layout in

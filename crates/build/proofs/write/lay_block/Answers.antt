@@ -1,11 +1,6 @@
 use Rattle.build.proofs.Names.{refl, [], arith, block_pieces}
-use Rattle.build.proofs.Filling.{filling-none, joined-inside, joined-more, filled}
+use Rattle.build.proofs.Filling.{filling-none, joined-more, filled}
 use Rattle.build.proofs.write.lay_block.Goals as goal
-
-pub append-requires : goal.append-requires
-append-requires c =
-    let z = c.args.sizes in
-    record { in_stream = (joined-inside z (block_pieces c.args.number) [] refl (filling-none z c.requires.room) (omega arith) (omega arith), omega (arith, c.requires.number_bound)); image_bound = c.requires.room.free.below }
 
 pub returns : goal.returns
 returns c =

@@ -1,6 +1,6 @@
-use Rattle.build.proofs.Names.{◌≡◌, refl, ◌∷◌, map, ◌+◌, ◌%◌, ◌^◌, arith, bit_and, and_mask, get_or, slice, field_piece, unpack, unpacked, Fitting}
+use Rattle.build.proofs.Names.{◌≡◌, ◌∷◌, map, ◌+◌, ◌%◌, ◌^◌, arith, bit_and, and_mask, get_or, slice, field_piece, unpack, unpacked, Fitting}
 use Rattle.build.proofs.Coding.{packed-left, packed-fits, packed-long, fields-end}
-use Rattle.build.proofs.Filling.{gathering-none, gathering-ready, gathering-put, gather, gather-next, filled}
+use Rattle.build.proofs.Filling.{gathering-ready, gathering-put, gather, gather-next, filled}
 use Rattle.build.proofs.write.lay_codes.Goals as goal
 use Rattle.build.proofs.write.lay_codes.Goals.{After-shared_slice_known-in-loop-i-1}
 
@@ -24,30 +24,6 @@ code : (c : After-shared_slice_known-in-loop-i-1) → let field = get_or c.args.
     bit_and field 0xff_ffff_ffff_ffff ≡ field % 2 ^ 56
 code c = and_mask _ 56
 
-pub loop-i-init : goal.loop-i-init
-loop-i-init c = ((omega (arith, c.requires.first_lt_end.0), λ h. omega arith), (refl, gathering-none _ c.requires.room))
-
-pub offset_bounds-codes-i : goal.offset_bounds-codes-i
-offset_bounds-codes-i c = omega arith
-
-pub bounds-codes-i : goal.bounds-codes-i
-bounds-codes-i c = omega (arith, packed-long c.args.codes.now c.requires.first_lt_end.2)
-
-pub overflow_add-width : goal.overflow_add-width
-overflow_add-width c = omega (arith, (fits c).most, c.loop-i.invariant.1.1.most)
-
-pub overflow_shl-code : goal.overflow_shl-code
-overflow_shl-code c = omega arith
-
-pub overflow_add-width-then-width-more-le49 : goal.overflow_add-width-then-width-more-le49
-overflow_add-width-then-width-more-le49 c = omega arith
-
-pub overflow_add-i : goal.overflow_add-i
-overflow_add-i c = omega arith
-
-pub loop-i-smaller-then-width-more-le49 : goal.loop-i-smaller-then-width-more-le49
-loop-i-smaller-then-width-more-le49 c = omega arith
-
 pub loop-i-preserved-then-width-more-le49 : goal.loop-i-preserved-then-width-more-le49
 loop-i-preserved-then-width-more-le49 c =
     let l = c.loop-i in
@@ -59,23 +35,10 @@ append-cursor-requires c =
     let ready = gathering-ready _ g (omega (arith, (fits (goal.at.append-cursor-requires c).After-shared_slice_known-in-loop-i-1).most, c.if-width-more-le49.false)) in
     record { in_stream = ready.0; image_bound = ready.1 }
 
-pub overflow_add-i-else-width-more-le49 : goal.overflow_add-i-else-width-more-le49
-overflow_add-i-else-width-more-le49 c = omega arith
-
-pub loop-i-smaller : goal.loop-i-smaller
-loop-i-smaller c = omega arith
-
 pub loop-i-preserved : goal.loop-i-preserved
 loop-i-preserved c =
     let l = c.loop-i in
     ((omega (arith, c.loop-i-test.true), λ _. (fits (goal.at.loop-i-preserved c).After-shared_slice_known-in-loop-i-1).some), (omega (arith, c.append-cursor.auto, l.invariant.1.0), rw (code (goal.at.loop-i-preserved c).After-shared_slice_known-in-loop-i-1) (gather-next _ l.invariant.1.1 (turn (goal.at.loop-i-preserved c).After-shared_slice_known-in-loop-i-1) (fits (goal.at.loop-i-preserved c).After-shared_slice_known-in-loop-i-1).fits (omega (arith, (fits (goal.at.loop-i-preserved c).After-shared_slice_known-in-loop-i-1).most)) c.append-cursor.ensures)))
-
-pub append-requires : goal.append-requires
-append-requires c =
-    let l = c.loop-i in
-    let g = l.invariant.1.1 in
-    let ready = gathering-ready _ g (l.invariant.0.1 (omega (arith, c.requires.first_lt_end.0, c.loop-i-test.false))) in
-    record { in_stream = ready.0; image_bound = ready.1 }
 
 pub returns : goal.returns
 returns c =

@@ -1,16 +1,15 @@
-use Rattle.change.proofs.Names.{sym, ap, ◌∙◌, rules, refused}
+use Rattle.change.proofs.Names.{arith, sym, ◌∙◌, rules}
 use Rattle.change.proofs.PartLaws.{allowed-none, allowed-past, allowed-choice, allowed-by-level}
 use Rattle.change.proofs.changing.may_change.Goals as goal
+use Rattle.change.proofs.changing.may_change.Goals.{then-field-lt1-via-then-field-lt1, then-field-lt1-via-else-field-lt1+then-last_field-field}
 
 pub returns-then-field-lt1 : goal.returns-then-field-lt1
 returns-then-field-lt1 c =
     let a = c.args in
-    ap refused c.no_such.ensures ∙ allowed-none a.template a.level a.field (search rules)
-
-pub returns-then-last_field-field : goal.returns-then-last_field-field
-returns-then-last_field-field c =
-    let a = c.args in
-    ap refused c.no_such-then-last_field-field.ensures ∙ allowed-past a.template a.level a.field (search rules) (search rules)
+    elim c.then-field-lt1.branch [
+      | then-field-lt1-via-then-field-lt1 w ↦ allowed-none a.template a.level a.field w.if-field-lt1.true
+      | then-field-lt1-via-else-field-lt1+then-last_field-field w ↦ allowed-past a.template a.level a.field (omega (arith, w.if-field-lt1.false)) (omega (arith, w.last_field.ensures, w.if-last_field-field.true))
+    ]
 
 pub returns-then-is_choice : goal.returns-then-is_choice
 returns-then-is_choice c =

@@ -1,4 +1,5 @@
-use Rattle.change.proofs.Names.{sym, ap₂, ◌∙◌, subst, ◌^◌, ◌<◌, arith, said_of, bind-good, bind-refused, decoded_said, decode, Sound, row-sound}
+use Rattle.refusal.proofs.Outcomes.{exits}
+use Rattle.change.proofs.Names.{sym, ap₂, ◌∙◌, subst, ◌^◌, ◌<◌, arith, same_of, bind-good, bind-refused, decode, Sound, row-sound}
 use Rattle.change.proofs.proposing.proposed.Goals as goal
 
 pub row_of-row-requires : goal.row_of-row-requires
@@ -13,12 +14,12 @@ decode-requires c =
     let e = sym c.row_of-row.ensures in
     (subst Sound e (row-sound a.layout a.field c.requires.0 c.requires.1), subst (λ r. a.new < 2 ^ r.width) e c.requires.2)
 
-pub returns-in-Refused : goal.returns-in-Refused
-returns-in-Refused c =
+pub returns-in_err-value : goal.returns-in_err-value
+returns-in_err-value c =
     let a = c.args in
-    sym (bind-refused _ (sym (said_of decoded_said c.in-Refused.is c.decode.ensures ∙ ap₂ (λ r n. decode r n a.new) c.row_of-row.ensures c.locate-at.ensures)))
+    exits _ c.from_residual.ensures ∙ sym (bind-refused _ (sym (same_of c.in_err-value.was c.decode.ensures ∙ ap₂ (λ r n. decode r n a.new) c.row_of-row.ensures c.locate-at.ensures)))
 
-pub returns-in-Means : goal.returns-in-Means
-returns-in-Means c =
+pub returns : goal.returns
+returns c =
     let a = c.args in
-    sym (bind-good _ (sym (said_of decoded_said c.in-Means.is c.decode.ensures ∙ ap₂ (λ r n. decode r n a.new) c.row_of-row.ensures c.locate-at.ensures)))
+    sym (bind-good _ (sym (same_of c.in_ok-value.was c.decode.ensures ∙ ap₂ (λ r n. decode r n a.new) c.row_of-row.ensures c.locate-at.ensures)))

@@ -14,18 +14,18 @@ take-requires c =
     let s = row-sound c.args.sheet.layout c.args.field c.requires.1 c.requires.2 in
     (held_whole c.requires.0.opens, omega (arith, w, s.some), omega (arith, w, s.most))
 
-pub returns-in-Refused : goal.returns-in-Refused
-returns-in-Refused c =
+pub returns-in_default : goal.returns-in_default
+returns-in_default c =
     let a = c.args in
     λ kind x h.
     no_value_lem
-    (past a.sheet.sizes a.image.now _ _ _ c.take.ensures c.in-Refused.is
+    (past a.sheet.sizes a.image.now _ _ _ c.take.ensures c.in_default.is
     ∙ field-taken h a.field c.requires.1 c.requires.2 c.locate.ensures (ap (λ r. r.width) c.row_of-row.ensures))
 
-pub returns-in-Field : goal.returns-in-Field
-returns-in-Field c =
+pub returns : goal.returns
+returns c =
     let a = c.args in
     λ kind x h.
     ap (λ y. y.found) (good-same
-    (got a.sheet.sizes a.image.now _ _ _ c.take.ensures c.in-Field.is
+    (got a.sheet.sizes a.image.now _ _ _ c.take.ensures c.in-Ok.is
     ∙ field-taken h a.field c.requires.1 c.requires.2 c.locate.ensures (ap (λ r. r.width) c.row_of-row.ensures)))

@@ -1,4 +1,4 @@
-use Rattle.codes.proofs.Names.{rules, w64, to_z-of_z, encode}
+use Rattle.codes.proofs.Names.{refl, rules, w64, to_z-of_z, encode}
 use Rattle.codes.proofs.SoundLaws.{plain-small}
 use Rattle.codes.proofs.encoding.encode_plain.Goals as goal
 
@@ -12,7 +12,7 @@ returns-in-Whole c = let figure = to_z-of_z {w = w64} {z = c.in-Whole.figure} (s
 
 pub returns-in-Single : goal.returns-in-Single
 unfolding encode
-returns-in-Single c = rw (c.in-Single.is, c.requires.1) c.wrong_sort.ensures
+returns-in-Single c = rw (c.in-Single.is, c.requires.1) refl
 
 pub returns-in-Missing : goal.returns-in-Missing
 unfolding encode

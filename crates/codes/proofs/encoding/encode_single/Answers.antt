@@ -1,9 +1,9 @@
-use Rattle.codes.proofs.Names.{encode}
+use Rattle.codes.proofs.Names.{refl, encode}
 use Rattle.codes.proofs.encoding.encode_single.Goals as goal
 
 pub returns-in-Whole : goal.returns-in-Whole
 unfolding encode
-returns-in-Whole c = rw (c.in-Whole.is, c.requires.1) c.wrong_sort.ensures
+returns-in-Whole c = rw (c.in-Whole.is, c.requires.1) refl
 
 pub returns-in-Single : goal.returns-in-Single
 unfolding encode

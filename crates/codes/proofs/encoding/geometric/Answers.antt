@@ -1,4 +1,4 @@
-use Rattle.codes.proofs.Names.{◌≡◌, sym, ap, ◌∙◌, ◌≤◌, pos, nat_abs, to_z-of_z, parts-of-word, good, top_code, progression, geometric_value, outside}
+use Rattle.codes.proofs.Names.{refl, ◌≡◌, sym, ap, ◌∙◌, ◌≤◌, pos, nat_abs, to_z-of_z, parts-of-word, Ok, top_code, progression, geometric_value, outside}
 use Rattle.codes.proofs.EncodeLaws.{same-range, handed-on, in-range}
 use Rattle.codes.proofs.encoding.geometric.Goals as goal
 use Rattle.codes.proofs.encoding.geometric.Goals.{After-is_outside, After-plus}
@@ -15,10 +15,10 @@ number c =
     (c.plus.ensures.0 ∙ ((parts-of-word c.ranges.figure).0 ∙ p.0), p.1)
 
 pub returns-then-is_outside : goal.returns-then-is_outside
-returns-then-is_outside c = rw (← (range (goal.at.returns-then-is_outside c).After-is_outside), c.if-is_outside.true) c.out_of_range.ensures
+returns-then-is_outside c = rw (← (range (goal.at.returns-then-is_outside c).After-is_outside), c.if-is_outside.true) refl
 
 pub stored_code-requires : goal.stored_code-requires
 stored_code-requires c = rw ((number c).0, ← c.requires.width_value) (number c).1
 
 pub returns : goal.returns
-returns c = rw (sym (range (goal.at.returns c).After-is_outside) ∙ c.if-is_outside.false) (ap good (c.stored_code.ensures ∙ rw ((number (goal.at.returns c).After-plus).0, c.requires.width_value)))
+returns c = rw (sym (range (goal.at.returns c).After-is_outside) ∙ c.if-is_outside.false) (ap Ok (c.stored_code.ensures ∙ rw ((number (goal.at.returns c).After-plus).0, c.requires.width_value)))

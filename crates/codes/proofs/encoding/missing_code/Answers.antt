@@ -1,4 +1,4 @@
-use Rattle.codes.proofs.Names.{encode}
+use Rattle.codes.proofs.Names.{refl, encode}
 use Rattle.codes.proofs.encoding.missing_code.Goals as goal
 
 pub returns-then-row : goal.returns-then-row
@@ -7,4 +7,4 @@ returns-then-row c = rw (c.if-row.true, c.all_ones.ensures)
 
 pub returns : goal.returns
 unfolding encode
-returns c = rw c.if-row.false c.wrong_sort.ensures
+returns c = rw c.if-row.false refl

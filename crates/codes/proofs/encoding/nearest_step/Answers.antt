@@ -1,4 +1,4 @@
-use Rattle.codes.proofs.Names.{◌≡◌, sym, ap, ◌∙◌, lt_z, to_z-of_z, good, neither, top_code, stepped_value, outside}
+use Rattle.codes.proofs.Names.{refl, ◌≡◌, sym, ap, ◌∙◌, lt_z, to_z-of_z, Ok, neither, top_code, stepped_value, outside}
 use Rattle.codes.proofs.EncodeLaws.{same-range, handed-on}
 use Rattle.codes.proofs.CodeLaws.{top_below, product}
 use Rattle.codes.proofs.encoding.nearest_step.Goals as goal
@@ -14,10 +14,10 @@ pub step_value-highest-requires : goal.step_value-highest-requires
 step_value-highest-requires c = rw (to_z-of_z c.ranges.start) (c.requires.step_nonzero.1.0, product c.args.step c.args.width (top_below c.args.width c.top_code.ensures) c.requires.step_nonzero.1.1)
 
 pub returns-then-is_outside : goal.returns-then-is_outside
-returns-then-is_outside c = rw (← (range (goal.at.returns-then-is_outside c).After-is_outside), c.if-is_outside.true) c.out_of_range.ensures
+returns-then-is_outside c = rw (← (range (goal.at.returns-then-is_outside c).After-is_outside), c.if-is_outside.true) refl
 
 pub step_code-requires : goal.step_code-requires
 step_code-requires c = rw (to_z-of_z c.ranges.figure, to_z-of_z c.ranges.start) (c.requires.step_nonzero.0, (neither (lt_z c.args.figure c.args.start) _ (sym (range (goal.at.step_code-requires c).After-is_outside) ∙ c.if-is_outside.false)).0)
 
 pub returns : goal.returns
-returns c = rw (sym (range (goal.at.returns c).After-is_outside) ∙ c.if-is_outside.false) (ap good (rw (to_z-of_z c.ranges.figure, to_z-of_z c.ranges.start) at c.step_code.ensures))
+returns c = rw (sym (range (goal.at.returns c).After-is_outside) ∙ c.if-is_outside.false) (ap Ok (rw (to_z-of_z c.ranges.figure, to_z-of_z c.ranges.start) at c.step_code.ensures))

@@ -1,5 +1,5 @@
 -- A code that its rule refuses may still mean missing.
-use Rattle.codes.proofs.Names.{ap, sym, ◌∙◌, decode, judged_said}
+use Rattle.codes.proofs.Names.{sym, ◌∙◌, decode}
 use Rattle.codes.proofs.DecodeLaws.{stands-by-rule}
 use Rattle.codes.proofs.judging.judge.Goals as goal
 
@@ -7,10 +7,10 @@ pub returns-then-is_missing : goal.returns-then-is_missing
 unfolding decode
 returns-then-is_missing c = rw (← c.is_missing.ensures, c.if-is_missing.true)
 
-pub returns-in-Valid : goal.returns-in-Valid
+pub returns-in-Ok : goal.returns-in-Ok
 unfolding decode
-returns-in-Valid c = let a = c.args in stands-by-rule a.row a.at a.code (ap judged_said (sym c.in-Valid.is) ∙ c.by_rule.ensures)
+returns-in-Ok c = let a = c.args in stands-by-rule a.row a.at a.code ((sym c.in-Ok.is) ∙ c.by_rule.ensures)
 
 pub returns-else-is_missing : goal.returns-else-is_missing
 unfolding decode
-returns-else-is_missing c = rw (← c.is_missing.ensures, c.if-is_missing.false) (ap judged_said (sym c.in-Refused.is) ∙ c.by_rule.ensures)
+returns-else-is_missing c = rw (← c.is_missing.ensures, c.if-is_missing.false) ((sym c.in-Err.is) ∙ c.by_rule.ensures)

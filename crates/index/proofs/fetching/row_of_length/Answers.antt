@@ -1,4 +1,4 @@
-use Rattle.index.proofs.Names.{rules, refl, sym, ap, ◌∙◌, add-one, arith, good, refused, line_of}
+use Rattle.index.proofs.Names.{rules, refl, sym, ap, ◌∙◌, add-one, arith, Ok, line_of}
 use Rattle.index.proofs.FetchLaws.{length_found, length-next, length_none}
 use Rattle.index.proofs.fetching.row_of_length.Goals as goal
 
@@ -10,7 +10,7 @@ returns-then-row-entry c =
     let a = c.args in
     let l = c.loop-precision in
     let row = c.row_of-row.ensures in
-    ap good row
+    ap Ok row
     ∙ length_found (line_of a.template a.field) a.entry l.precision c.loop-precision-test.true (sym (ap (λ r. r.width) row) ∙ c.if-row-entry.true)
     ∙ l.invariant.1
 
@@ -29,4 +29,4 @@ pub returns : goal.returns
 returns c =
     let a = c.args in
     let l = c.loop-precision in
-    ap refused c.outside_table.ensures ∙ length_none (line_of a.template a.field) a.entry l.precision (omega arith) ∙ l.invariant.1
+    length_none (line_of a.template a.field) a.entry l.precision (omega arith) ∙ l.invariant.1

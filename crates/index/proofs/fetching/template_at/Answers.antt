@@ -3,9 +3,9 @@ use Rattle.index.proofs.Names.{ltb-true, ap, ◌∙◌, arith, stream_bits, take
 use Rattle.index.proofs.FetchLaws.{took, missed}
 use Rattle.index.proofs.fetching.template_at.Goals as goal
 
-pub returns-in-Refused : goal.returns-in-Refused
-returns-in-Refused c = absurd (omega (arith, ltb-true (stream_bits c.args.sizes) 74 (missed c.args.sizes c.args.image.now 66 8 _ c.take.ensures c.in-Refused.is)))
+pub returns-in_default : goal.returns-in_default
+returns-in_default c = absurd (omega (arith, ltb-true (stream_bits c.args.sizes) 74 (missed c.args.sizes c.args.image.now 66 8 _ c.take.ensures c.in_default.is)))
 
-pub returns-in-Field : goal.returns-in-Field
+pub returns : goal.returns
 unfolding template_at
-returns-in-Field c = c.taken_as.ensures ∙ ap taken_as (took c.args.sizes c.args.image.now 66 8 _ c.take.ensures c.in-Field.is).1
+returns c = c.taken_as.ensures ∙ ap taken_as (took c.args.sizes c.args.image.now 66 8 _ c.take.ensures c.in-Ok.is).1

@@ -13,35 +13,33 @@ overflow_add-i c = omega (arith, c.basic_fields-last.ensures, basic-most Bridge,
 pub basic_row-row-requires : goal.basic_row-row-requires
 basic_row-row-requires c = omega (arith, c.basic_fields-last.ensures)
 
-pub over-passed-requires : goal.over-passed-requires
-over-passed-requires c =
+pub write_entry-cursor-requires : goal.write_entry-cursor-requires
+write_entry-cursor-requires c =
     let layout = layout_at Bridge 0 in
     let i = c.loop-i.i in
-    let h : i < length basic = omega (arith, c.basic_fields-last.ensures) in
-    omega (
-      arith,
-      (c.loop-i.invariant.2 layout).0,
-      field_next layout i (omega (arith, basic-most Bridge)) (c.basic_row-row.ensures layout),
-      place-few layout (i + 1),
+    let h : i < length basic = omega (arith, c.basic_fields-last.ensures) in (
+      omega arith,
+      omega (
+        arith,
+        (c.loop-i.invariant.2 layout).0,
+        field_next layout i (omega (arith, basic-most Bridge)) (c.basic_row-row.ensures layout),
+        place-few layout (i + 1),
+      ),
     )
-
-pub put_entry-requires : goal.put_entry-requires
-put_entry-requires c = omega (arith, c.basic_fields-last.ensures)
 
 pub loop-i-preserved : goal.loop-i-preserved
 loop-i-preserved c =
     let row = c.basic_row-row in
     let a = c.args in
     let i = c.loop-i.i in
-    let here = ap (λ p. p.field.at) c.over-passed.ensures in
-    let next = ap (λ p. p.next.at) c.over-passed.ensures in
+    let (step, next) = c.write_entry-cursor.ensures in
     let h : i < length basic = omega (arith, c.basic_fields-last.ensures) in (
       omega arith,
       search rules,
       λ layout. (
         next ∙ ap (λ (n : ℕ). n + row.result.width) (c.loop-i.invariant.2 layout).0 ∙ field_next layout i (omega (arith, basic-most layout.template)) (row.ensures layout),
-        first_more layout a.buffer.now i (omega arith) (c.loop-i.invariant.2 layout).1 (basic-entry layout i h (row.ensures layout) (here ∙ (c.loop-i.invariant.2 layout).0))
-            c.put_entry.ensures,
+        first_more layout a.buffer.now i (omega arith) (c.loop-i.invariant.2 layout).1 (basic-entry layout i h (row.ensures layout) (c.loop-i.invariant.2 layout).0)
+            step,
       ),
     )
 

@@ -1,4 +1,5 @@
-use Rattle.sheet.proofs.Names.{sym, ap, ◌∙◌, ⊎_elim, arith, good, refused, Segment}
+use Rattle.refusal.proofs.Outcomes.{exits}
+use Rattle.sheet.proofs.Names.{sym, ap, ◌∙◌, ⊎_elim, arith, Ok, Err, Segment}
 use Rattle.sheet.proofs.OpenLaws.{item-opens, item-held, item-none}
 use Rattle.sheet.proofs.HeldLaws.{segments-are}
 use Rattle.sheet.proofs.ReadLaws.{accepted-reads, refused-reads}
@@ -7,17 +8,17 @@ use Rattle.sheet.proofs.calls.read_segment.Goals as goal
 pub segment_in-requires : goal.segment_in-requires
 segment_in-requires c =
     let a = c.args in
-    item-held a.kind a.image.now Segment a.index _ c.open_at.ensures c.in-Sheet.is
+    item-held a.kind a.image.now Segment a.index _ c.open_at.ensures c.in_ok-sheet.was
 
-pub returns-in-Refused : goal.returns-in-Refused
-returns-in-Refused c =
+pub returns-in_err-sheet : goal.returns-in_err-sheet
+returns-in_err-sheet c =
     let a = c.args in
-    ⊎_elim (λ e. sym ((refused-reads a.kind a.image.now _ e).segment a.index))
-    (λ w. ap refused w.3 ∙ sym ((accepted-reads a.kind a.image.now w.0 w.1).no_segments a.index w.2))
-    (item-none a.kind a.image.now Segment a.index _ c.open_at.ensures c.in-Refused.is)
+    exits _ c.from_residual.ensures ∙ (⊎_elim (λ e. sym ((refused-reads a.kind a.image.now _ e).segment a.index))
+    (λ w. ap Err w.3 ∙ sym ((accepted-reads a.kind a.image.now w.0 w.1).no_segments a.index w.2))
+    (item-none a.kind a.image.now Segment a.index _ c.open_at.ensures c.in_err-sheet.was))
 
-pub returns-in-Sheet : goal.returns-in-Sheet
-returns-in-Sheet c =
+pub returns : goal.returns
+returns c =
     let a = c.args in
-    let (x, p, l) = item-opens a.kind a.image.now Segment a.index _ c.open_at.ensures c.in-Sheet.is in
-    ap good (c.segment_in.ensures a.kind x p) ∙ sym ((accepted-reads a.kind a.image.now x p.accepted).segments a.index (omega (arith, segments-are p)))
+    let (x, p, l) = item-opens a.kind a.image.now Segment a.index _ c.open_at.ensures c.in_ok-sheet.was in
+    ap Ok (c.segment_in.ensures a.kind x p) ∙ sym ((accepted-reads a.kind a.image.now x p.accepted).segments a.index (omega (arith, segments-are p)))

@@ -1,4 +1,5 @@
-use Rattle.sheet.proofs.Names.{sym, ap, ◌∙◌, ⊎_elim, arith, good, refused}
+use Rattle.refusal.proofs.Outcomes.{exits}
+use Rattle.sheet.proofs.Names.{sym, ap, ◌∙◌, ⊎_elim, arith, Ok, Err}
 use Rattle.sheet.specs.declared.opening.Item.TheVariants.{Term}
 use Rattle.sheet.proofs.OpenLaws.{item-opens, item-held, item-none}
 use Rattle.sheet.proofs.HeldLaws.{terms-are}
@@ -8,17 +9,17 @@ use Rattle.sheet.proofs.calls.read_term.Goals as goal
 pub term_in-requires : goal.term_in-requires
 term_in-requires c =
     let a = c.args in
-    item-held a.kind a.image.now Term a.index _ c.open_at.ensures c.in-Sheet.is
+    item-held a.kind a.image.now Term a.index _ c.open_at.ensures c.in_ok-sheet.was
 
-pub returns-in-Refused : goal.returns-in-Refused
-returns-in-Refused c =
+pub returns-in_err-sheet : goal.returns-in_err-sheet
+returns-in_err-sheet c =
     let a = c.args in
-    ⊎_elim (λ e. sym ((refused-reads a.kind a.image.now _ e).term a.index))
-    (λ w. ap refused w.3 ∙ sym ((accepted-reads a.kind a.image.now w.0 w.1).no_terms a.index w.2))
-    (item-none a.kind a.image.now Term a.index _ c.open_at.ensures c.in-Refused.is)
+    exits _ c.from_residual.ensures ∙ (⊎_elim (λ e. sym ((refused-reads a.kind a.image.now _ e).term a.index))
+    (λ w. ap Err w.3 ∙ sym ((accepted-reads a.kind a.image.now w.0 w.1).no_terms a.index w.2))
+    (item-none a.kind a.image.now Term a.index _ c.open_at.ensures c.in_err-sheet.was))
 
-pub returns-in-Sheet : goal.returns-in-Sheet
-returns-in-Sheet c =
+pub returns : goal.returns
+returns c =
     let a = c.args in
-    let (x, p, l) = item-opens a.kind a.image.now Term a.index _ c.open_at.ensures c.in-Sheet.is in
-    ap good (c.term_in.ensures a.kind x p) ∙ sym ((accepted-reads a.kind a.image.now x p.accepted).terms a.index (omega (arith, terms-are p)))
+    let (x, p, l) = item-opens a.kind a.image.now Term a.index _ c.open_at.ensures c.in_ok-sheet.was in
+    ap Ok (c.term_in.ensures a.kind x p) ∙ sym ((accepted-reads a.kind a.image.now x p.accepted).terms a.index (omega (arith, terms-are p)))

@@ -12,18 +12,18 @@ take-requires c = (held_whole c.requires.0.opens, search rules, search rules)
 pub overflow_cast-result : goal.overflow_cast-result
 overflow_cast-result c =
     let a = c.args in
-    omega (arith, bits-lt (stream_in a.sheet.sizes a.image.now) _ 7 (got a.sheet.sizes a.image.now _ 7 _ c.take.ensures c.in-Field.is))
+    omega (arith, bits-lt (stream_in a.sheet.sizes a.image.now) _ 7 (got a.sheet.sizes a.image.now _ 7 _ c.take.ensures c.in-Ok.is))
 
-pub returns-in-Refused : goal.returns-in-Refused
-returns-in-Refused c =
+pub returns-in-Err : goal.returns-in-Err
+returns-in-Err c =
     let a = c.args in
     λ kind x h.
     no_value_lem
-    (past a.sheet.sizes a.image.now _ 7 _ c.take.ensures c.in-Refused.is ∙ held-character h a.index c.requires.1 c.locate_character.ensures)
+    (past a.sheet.sizes a.image.now _ 7 _ c.take.ensures c.in-Err.is ∙ held-character h a.index c.requires.1 c.locate_character.ensures)
 
-pub returns-in-Field : goal.returns-in-Field
-returns-in-Field c =
+pub returns-in-Ok : goal.returns-in-Ok
+returns-in-Ok c =
     let a = c.args in
     λ kind x h.
     ap (λ y. y.found) (good-same
-    (got a.sheet.sizes a.image.now _ 7 _ c.take.ensures c.in-Field.is ∙ held-character h a.index c.requires.1 c.locate_character.ensures))
+    (got a.sheet.sizes a.image.now _ 7 _ c.take.ensures c.in-Ok.is ∙ held-character h a.index c.requires.1 c.locate_character.ensures))

@@ -12,20 +12,20 @@ take-requires c = (held_whole c.requires.0.opens, search rules, search rules)
 pub pair_of-requires : goal.pair_of-requires
 pair_of-requires c =
     let a = c.args in
-    bits-lt (stream_in a.sheet.sizes a.image.now) _ 37 (got a.sheet.sizes a.image.now _ 37 _ c.take.ensures c.in-Field.is)
+    bits-lt (stream_in a.sheet.sizes a.image.now) _ 37 (got a.sheet.sizes a.image.now _ 37 _ c.take.ensures c.in-Ok.is)
 
-pub returns-in-Refused : goal.returns-in-Refused
-returns-in-Refused c =
+pub returns-in-Err : goal.returns-in-Err
+returns-in-Err c =
     let a = c.args in
     λ kind x h.
     no_value_lem
-    (past a.sheet.sizes a.image.now _ 37 _ c.take.ensures c.in-Refused.is ∙ (held-pair h a.index c.requires.1 c.locate_pair.ensures).0)
+    (past a.sheet.sizes a.image.now _ 37 _ c.take.ensures c.in-Err.is ∙ (held-pair h a.index c.requires.1 c.locate_pair.ensures).0)
 
-pub returns-in-Field : goal.returns-in-Field
-returns-in-Field c =
+pub returns-in-Ok : goal.returns-in-Ok
+returns-in-Ok c =
     let a = c.args in
     λ kind x h.
     let (stands, is) = held-pair h a.index c.requires.1 c.locate_pair.ensures in
     c.pair_of.ensures
-    ∙ ap (λ y. pair_in (pair_from 0 y.found)) (good-same (got a.sheet.sizes a.image.now _ 37 _ c.take.ensures c.in-Field.is ∙ stands))
+    ∙ ap (λ y. pair_in (pair_from 0 y.found)) (good-same (got a.sheet.sizes a.image.now _ 37 _ c.take.ensures c.in-Ok.is ∙ stands))
     ∙ is

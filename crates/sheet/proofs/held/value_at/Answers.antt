@@ -5,19 +5,19 @@ use Rattle.sheet.proofs.held.value_at.Goals as goal
 pub decode-requires : goal.decode-requires
 decode-requires c =
     let a = c.args in
-    (c.requires.1, field-lies a.sizes a.image.now a.cursor.at a.row _ c.take.ensures c.in-Field.is)
+    (c.requires.1, field-lies a.sizes a.image.now a.cursor.at a.row _ c.take.ensures c.in-Ok.is)
 
-pub returns-in-Refused : goal.returns-in-Refused
-returns-in-Refused c =
+pub returns-in-Err : goal.returns-in-Err
+returns-in-Err c =
     let a = c.args in
-    ap value_in (field-missed a.sizes a.image.now a.cursor.at a.row _ c.take.ensures c.in-Refused.is)
+    ap value_in (field-missed a.sizes a.image.now a.cursor.at a.row _ c.take.ensures c.in-Err.is)
 
-pub returns-in-Refused-decode : goal.returns-in-Refused-decode
-returns-in-Refused-decode c =
+pub returns-in-Err-decode : goal.returns-in-Err-decode
+returns-in-Err-decode c =
     let a = c.args in
-    value-refused a.sizes a.image.now a.cursor.at a.row _ c.take.ensures c.in-Field.is _ c.decode.ensures c.in-Refused-decode.is
+    value-refused a.sizes a.image.now a.cursor.at a.row _ c.take.ensures c.in-Ok.is _ c.decode.ensures c.in-Err-decode.is
 
-pub returns-in-Means : goal.returns-in-Means
-returns-in-Means c =
+pub returns-in-Ok-decode : goal.returns-in-Ok-decode
+returns-in-Ok-decode c =
     let a = c.args in
-    value-means a.sizes a.image.now a.cursor.at a.row _ c.take.ensures c.in-Field.is _ c.decode.ensures c.in-Means.is
+    value-means a.sizes a.image.now a.cursor.at a.row _ c.take.ensures c.in-Ok.is _ c.decode.ensures c.in-Ok-decode.is

@@ -10,13 +10,13 @@ behind-start c =
     let a = c.args in
     ap (λ p. number_in (parse (stream_in a.sizes a.image.now) (bits 7) p.next.at)) c.over-start.ensures
 
-pub returns-in-Refused : goal.returns-in-Refused
-returns-in-Refused c =
+pub returns-in-Err : goal.returns-in-Err
+returns-in-Err c =
     let a = c.args in
-    (ap number_in (past a.sizes a.image.now _ 7 _ c.take.ensures c.in-Refused.is) ∙ behind-start (goal.at.returns-in-Refused c).After-over-start, omega arith)
+    (ap number_in (past a.sizes a.image.now _ 7 _ c.take.ensures c.in-Err.is) ∙ behind-start (goal.at.returns-in-Err c).After-over-start, omega arith)
 
-pub returns-in-Field : goal.returns-in-Field
-returns-in-Field c =
+pub returns-in-Ok : goal.returns-in-Ok
+returns-in-Ok c =
     let a = c.args in
-    let e = got a.sizes a.image.now _ 7 _ c.take.ensures c.in-Field.is in
-    (ap number_in e ∙ behind-start (goal.at.returns-in-Field c).After-over-start, bits-lt (stream_in a.sizes a.image.now) _ 7 e)
+    let e = got a.sizes a.image.now _ 7 _ c.take.ensures c.in-Ok.is in
+    (ap number_in e ∙ behind-start (goal.at.returns-in-Ok c).After-over-start, bits-lt (stream_in a.sizes a.image.now) _ 7 e)

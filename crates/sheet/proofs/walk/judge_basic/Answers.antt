@@ -1,4 +1,5 @@
-use Rattle.sheet.proofs.Names.{◌+◌, arith, length, Bridge, Valid, Turned, basic, last-most, stream_in, judged, layout_at, basic-most}
+use Rattle.refusal.proofs.Outcomes.{exits}
+use Rattle.sheet.proofs.Names.{ap, first_selector, stood_to, ◌∙◌, ◌+◌, arith, length, Bridge, Ok, Err, basic, last-most, stream_in, judged, layout_at, basic-most}
 use Rattle.sheet.proofs.WalkSteps.{BasicJudgedUpTo, basic-start, basic-turn, judged-all, Turn, basic-stood}
 use Rattle.sheet.proofs.walk.judge_basic.Goals as goal
 use Rattle.sheet.proofs.walk.judge_basic.Goals.{After-basic_row-row}
@@ -21,10 +22,10 @@ over-passed-requires c = let (w, s, fits) = (turn c).fits in omega (arith, w.sma
 pub judge_at-requires : goal.judge_at-requires
 judge_at-requires c = rw c.over-passed.ensures (turn (goal.at.judge_at-requires c).After-basic_row-row).fits
 
-pub returns-in-Refused : goal.returns-in-Refused
-returns-in-Refused c =
+pub returns-in_err-judge_at : goal.returns-in_err-judge_at
+returns-in_err-judge_at c =
     let w = c.requires in
-    basic-stood w (Turned _) ((turn (goal.at.returns-in-Refused c).After-basic_row-row).halt _ (rw c.over-passed.ensures at c.judge_at.ensures) c.in-Refused.is)
+    ap (stood_to 0 first_selector) (exits _ c.from_residual.ensures) ∙ (basic-stood w (Err _) ((turn (goal.at.returns-in_err-judge_at c).After-basic_row-row).halt _ (rw c.over-passed.ensures at c.judge_at.ensures) c.in_err-judge_at.was))
 
 pub overflow_add-field : goal.overflow_add-field
 overflow_add-field c = omega (arith, c.basic_closed-last.ensures.0, basic-most Bridge, last-most Bridge)
@@ -33,7 +34,7 @@ pub loop-field-smaller : goal.loop-field-smaller
 loop-field-smaller c = omega arith
 
 pub loop-field-preserved : goal.loop-field-preserved
-loop-field-preserved c = rw c.over-passed.ensures ((turn (goal.at.loop-field-preserved c).After-basic_row-row).next _ (rw c.over-passed.ensures at c.judge_at.ensures) c.in_default.is)
+loop-field-preserved c = rw c.over-passed.ensures ((turn (goal.at.loop-field-preserved c).After-basic_row-row).next _ (rw c.over-passed.ensures at c.judge_at.ensures) c.in_ok-judge_at.was)
 
 pub returns : goal.returns
-returns c = basic-stood c.requires Valid (judged-all Bridge _ (length basic) _ c.loop-field.invariant.1 (c.basic_closed-last.ensures.1 Bridge) (omega arith) c.loop-field-test.false)
+returns c = basic-stood c.requires (Ok tt) (judged-all Bridge _ (length basic) _ c.loop-field.invariant.1 (c.basic_closed-last.ensures.1 Bridge) (omega arith) c.loop-field-test.false)

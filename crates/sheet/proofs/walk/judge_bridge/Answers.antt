@@ -1,4 +1,5 @@
-use Rattle.sheet.proofs.Names.{◌-◌, arith, Bridge, last_field, last-most, basic-most, layout_at}
+use Rattle.refusal.proofs.Outcomes.{exits}
+use Rattle.sheet.proofs.Names.{◌∙◌, ◌-◌, arith, Bridge, last_field, last-most, basic-most, layout_at}
 use Rattle.sheet.proofs.WalkSteps.{own-start, OwnTurn, own_turn, judged-all}
 use Rattle.sheet.proofs.walk.judge_bridge.Goals as goal
 use Rattle.sheet.proofs.walk.judge_bridge.Goals.{After-bridge_row-row}
@@ -23,8 +24,9 @@ over-passed-requires c = let (w, s, fits) = (turn c).fits in omega (arith, w.sma
 pub judge_at-requires : goal.judge_at-requires
 judge_at-requires c = rw c.over-passed.ensures (turn (goal.at.judge_at-requires c).After-bridge_row-row).fits
 
-pub returns-in-Refused : goal.returns-in-Refused
-returns-in-Refused c = (turn (goal.at.returns-in-Refused c).After-bridge_row-row).halt _ (rw c.over-passed.ensures at c.judge_at.ensures) c.in-Refused.is
+pub returns-in_err-judge_at : goal.returns-in_err-judge_at
+returns-in_err-judge_at c =
+    exits _ c.from_residual.ensures ∙ ((turn (goal.at.returns-in_err-judge_at c).After-bridge_row-row).halt _ (rw c.over-passed.ensures at c.judge_at.ensures) c.in_err-judge_at.was)
 
 pub overflow_add-field-in-loop-field : goal.overflow_add-field-in-loop-field
 overflow_add-field-in-loop-field c = omega (arith, c.last_closed-last.ensures.0, last-most Bridge)
@@ -33,7 +35,7 @@ pub loop-field-smaller : goal.loop-field-smaller
 loop-field-smaller c = omega arith
 
 pub loop-field-preserved : goal.loop-field-preserved
-loop-field-preserved c = rw c.over-passed.ensures ((turn (goal.at.loop-field-preserved c).After-bridge_row-row).next _ (rw c.over-passed.ensures at c.judge_at.ensures) c.in_default.is)
+loop-field-preserved c = rw c.over-passed.ensures ((turn (goal.at.loop-field-preserved c).After-bridge_row-row).next _ (rw c.over-passed.ensures at c.judge_at.ensures) c.in_ok-judge_at.was)
 
 pub returns : goal.returns
 returns c = judged-all Bridge _ (last_field Bridge - 1) _ c.loop-field.invariant.1 c.last_closed-last.ensures.1 (omega arith) c.loop-field-test.false

@@ -5,7 +5,7 @@ use Rattle.templates.proofs.calibration.climbs.Goals as goal
 pub returns-then-sum_above : goal.returns-then-sum_above
 returns-then-sum_above c =
     let a = c.args in
-    rw (c.in-Physical.is, c.sums_not_rising.ensures, sum-falls a.before a.next (omega (arith, c.sum_above.ensures, c.sum_above-in-Physical.ensures, c.if-sum_above.true)))
+    rw (c.in-Physical.is, sum-falls a.before a.next (omega (arith, c.sum_above.ensures, c.sum_above-in-Physical.ensures, c.if-sum_above.true)))
 
 pub returns-else-sum_above : goal.returns-else-sum_above
 returns-else-sum_above c =

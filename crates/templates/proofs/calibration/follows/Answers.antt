@@ -3,12 +3,12 @@ use Rattle.templates.proofs.calibration.follows.Goals as goal
 
 pub returns-then-next-codes : goal.returns-then-next-codes
 unfolding follows
-returns-then-next-codes c = rw (c.in-Pair.is, le-leb _ _ c.if-next-codes.true, c.not_rising.ensures)
+returns-then-next-codes c = rw (c.in-Some.is, le-leb _ _ c.if-next-codes.true)
 
-pub returns-in-Nothing : goal.returns-in-Nothing
+pub returns-in-None : goal.returns-in-None
 unfolding follows
-returns-in-Nothing c = search rules
+returns-in-None c = search rules
 
 pub returns-else-next-codes : goal.returns-else-next-codes
 unfolding follows
-returns-else-next-codes c = rw (c.in-Pair.is, lt-leb _ _ c.if-next-codes.false) c.climbs.ensures
+returns-else-next-codes c = rw (c.in-Some.is, lt-leb _ _ c.if-next-codes.false) c.climbs.ensures

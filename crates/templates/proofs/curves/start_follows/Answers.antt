@@ -1,7 +1,7 @@
 use Rattle.templates.proofs.curves.start_follows.Goals as goal
 
-pub returns-in-Nothing : goal.returns-in-Nothing
-returns-in-Nothing c = rw c.in-Nothing.is
+pub returns-in-None : goal.returns-in-None
+returns-in-None c = rw c.in-None.is
 
-pub returns-in-Code : goal.returns-in-Code
-returns-in-Code c = rw c.in-Code.is
+pub returns-in-Some : goal.returns-in-Some
+returns-in-Some c = rw c.in-Some.is

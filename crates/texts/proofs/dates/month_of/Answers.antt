@@ -1,12 +1,11 @@
-use Rattle.texts.proofs.Names.{sym, arith, rules}
-use Rattle.texts.proofs.Finding.{month-turn}
+use Rattle.texts.proofs.Names.{◌+◌, ◌<◌, ◌≤◌, arith, rules, tests, first_from_Range, days_before_month}
+use Rattle.texts.proofs.Rising.{first_past}
 use Rattle.texts.proofs.dates.month_of.Goals as goal
 
-pub loop-month-init : goal.loop-month-init
-loop-month-init c = (search rules, search rules, c.requires)
-
-pub loop-month-preserved : goal.loop-month-preserved
-loop-month-preserved c = month-turn c.args.year _ _ _ c.loop-month.invariant.0 c.loop-month.invariant.1 (c.days_before_month.ensures c.args.year (sym c.leap-long.ensures)) c.loop-month-test.true
-
 pub returns : goal.returns
-returns c = (c.loop-month.invariant.0, c.loop-month.invariant.1, omega (arith, c.days_before_month.ensures c.args.year (sym c.leap-long.ensures)), c.loop-month.invariant.2)
+returns c =
+    let f = days_before_month c.args.year in
+    rw c.unwrap_or.ensures (
+    first_past f 1 c.args.day (omega arith) 12 c.find.result (omega arith) c.requires
+    (first_from_Range _ _ _ c.find.result (λ m. c.args.day < f (m + 1)) (λ m. f (m + 1) ≤ c.args.day) c.find.ensures.ran (λ x q k. search (rules, tests)) (λ x q k. search (rules, tests)))
+    )

@@ -1,19 +1,12 @@
-use Rattle.texts.proofs.Names.{arith, rules, days_of_years}
-use Rattle.texts.proofs.Finding.{year-near}
+use Rattle.texts.proofs.Names.{◌+◌, ◌<◌, ◌≤◌, arith, rules, tests, first_from_Range, days_of_years, days_before_year}
+use Rattle.texts.proofs.Rising.{first_past}
+use Rattle.texts.proofs.Months.{years-range}
 use Rattle.texts.proofs.dates.year_of.Goals as goal
 
-pub loop-year-init : goal.loop-year-init
+pub returns : goal.returns
 unfolding days_of_years
-loop-year-init c = search rules
-
-pub overflow_add-year : goal.overflow_add-year
-overflow_add-year c = omega (arith, year-near c.loop-year.year (omega arith))
-
-pub days_before_year-requires : goal.days_before_year-requires
-days_before_year-requires c = omega (arith, year-near c.loop-year.year (omega arith))
-
-pub overflow_add-year-in-loop-year : goal.overflow_add-year-in-loop-year
-overflow_add-year-in-loop-year c = omega (arith, year-near c.loop-year.year (omega arith))
-
-pub loop-year-smaller : goal.loop-year-smaller
-loop-year-smaller c = omega (arith, year-near c.loop-year.year (omega arith))
+returns c =
+    rw c.unwrap_or.ensures (
+    first_past days_before_year 1998 c.args.code (omega arith) 2177 c.find.result (omega arith) (omega (arith, years-range 180))
+    (first_from_Range _ _ _ c.find.result (λ y. c.args.code < days_before_year (y + 1)) (λ y. days_before_year (y + 1) ≤ c.args.code) c.find.ensures.ran (λ x q k. search (rules, tests)) (λ x q k. search (rules, tests)))
+    )

@@ -5,6 +5,5 @@ use Rattle.writing.proofs.rows.sum_with.Goals as goal
 pub returns : goal.returns
 returns c =
     let a = c.args in
-    sum-exchanged _ _ _ _ _ _ _ _ _ c.requires.0 (c.sum.ensures ∙ ap (λ (x : ℕ). x % 256) (part-row a.present.now a.r)) c.wrapping_sub_u8-less.ensures.value
-    (c.sum-2.ensures ∙ ap (λ (x : ℕ). x % 256) (part-row a.wanted.now a.r)) c.wrapping_add_u8.ensures.value
-    (sum_row a.present.now a.wanted.now a.r c.requires.1 c.requires.2)
+    sum-exchanged _ _ _ _ _ _ _ c.requires.0 (c.sum.ensures ∙ ap (λ (x : ℕ). x % 256) (part-row a.present.now a.r))
+    (c.sum-2.ensures ∙ ap (λ (x : ℕ). x % 256) (part-row a.wanted.now a.r)) (sum_row a.present.now a.wanted.now a.r c.requires.1 c.requires.2)

@@ -1,8 +1,0 @@
-use Rattle.build.proofs.Names.{eq-eqb, ne_eqb}
-use Rattle.build.proofs.plan.is_wrong_list.Goals as goal
-
-pub returns-then-n-eq1 : goal.returns-then-n-eq1
-returns-then-n-eq1 c = rw (eq-eqb _ 1 c.if-n-eq1.true)
-
-pub returns : goal.returns
-returns c = rw (ne_eqb _ 1 c.if-n-eq1.false)
