@@ -1,6 +1,7 @@
 -- Laws of the difference of two corrections at a point
 -- of one of them, and of the greatest over its points.
-use Rattle.conformity.proofs.Names.{◌≡◌, refl, sym, ap, ap₂, ◌∙◌, subst, List, [], ◌∷◌, inl, inr, ℕ, zero, suc, max, ◌+◌, ◌*◌, ◌/◌, ◌≤◌, ◌<◌, mul-pos, mul_comm, add-one, arith, ℤ, pos, negsuc, nat_abs, ◌-ℤ◌, ◌*ℤ◌}
+use Rattle.std.specs.Int.{abs_diff}
+use Rattle.conformity.proofs.Names.{⊎_elim, ◌≡◌, refl, sym, ap, ap₂, ◌∙◌, subst, List, [], ◌∷◌, inl, inr, ℕ, zero, suc, max, ◌+◌, ◌*◌, ◌/◌, ◌≤◌, ◌<◌, mul-pos, mul_comm, add-one, arith, ℤ, pos, negsuc, nat_abs, ◌-ℤ◌, ◌*ℤ◌}
 use Rattle.conformity.proofs.Names.{length, get_or, ◌<ℤ◌, up, dn, ◌over◌, sub-parts-ℤ, lt_z-parts, parts-≤ℤ, parts-<ℤ, Pair, no_pair, pairs_lent, pair_at, pairs-length, pairs_from, pairs-left, pairs_end, point_of, Before}
 use Rattle.conformity.proofs.Names.{Rises, Table, Correction, correction, scaled, at, Is, is_held, is_right, correction-some, first_piece, next-piece, rise-at, ceiling, Corrected, difference, difference_at}
 use Rattle.conformity.proofs.Names.{greatest_over, compared_with, Exact, Apart, upward_difference, ceiling-same}
@@ -74,6 +75,15 @@ exact-difference s e x h u d r eu ed a =
     (apart-abs (s *ℤ pos e.run -ℤ e.num) (u * x.run + x.below) (d * x.run + x.above) r a
     (omega (arith, off-parts s e, h.num, ap (λ (n : ℕ). up s * n) h.run, ap (λ (n : ℕ). dn s * n) h.run, ap (λ (n : ℕ). n * x.run) eu, ap (λ (n : ℕ). n * x.run) ed)))
     h.run
+
+-- The library's distance of two numbers.
+pub apart-is : {a b r : ℕ} → r ≡ abs_diff a b → Apart a b r
+apart-is {a} {b} {r} e = go a b r e
+  where
+    go : (m n q : ℕ) → q ≡ abs_diff m n → Apart m n q
+    go zero n q e = inr (omega (arith, e))
+    go (suc m) zero q e = inl (omega (arith, e))
+    go (suc m) (suc n) q e = ⊎_elim (λ f. inl (omega (arith, f))) (λ f. inr (omega (arith, f))) (go m n q (omega (arith, e)))
 
 -- A distance is at most the greater of the two numbers.
 pub apart-most : {a b r M : ℕ} → Apart a b r → a ≤ M → b ≤ M → r ≤ M

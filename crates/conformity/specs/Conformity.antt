@@ -2,9 +2,9 @@
 -- Order: the image's check, 4 for template 32, then the list as a build in domain 0 refuses it.
 use Rattle.std.specs.Prelude.{List, [], ◌∷◌, map, ℕ, max, ◌+◌, ◌*◌, ℤ, pos, nat_abs, ◌-ℤ◌, ◌*ℤ◌}
 use Rattle.integers.specs.Ceiling.{ceiling}
-use Rattle.std.proofs.Math.Option.{Option, none, some}
-use Rattle.refusal.specs.Outcome.{Outcome, good, refused, ◌>>◌, ◌>>=◌, refuse◌if◌}
-use Rattle.refusal.specs.Rows.{wrong_block}
+use Rattle.std.specs.Prelude.{Option, None, Some}
+use Rattle.refusal.specs.Outcome.{Outcome, Ok, ◌>>◌, ◌>>=◌, refuse◌if◌}
+use Rattle.refusal.specs.declared.Refusal.TheVariants.{WrongBlock}
 use Rattle.templates.specs.declared.Pair.{Pair}
 use Rattle.templates.specs.declared.Domain.TheVariants.{Electrical, Physical}
 use Rattle.layout.specs.Contents.{Calibration, bare, table, curve}
@@ -15,8 +15,6 @@ use Rattle.correction.specs.Line.{Correction, correction}
 use Rattle.distance.specs.declared.CertificateBound.{CertificateBound}
 use Rattle.distance.specs.Distance.{distance}
 use Rattle.reading.specs.Reading.{is_resistance}
-use Rattle.conformity.specs.declared.ConformityAnswer.{ConformityAnswer}
-use Rattle.conformity.specs.declared.ConformityAnswer.TheVariants.{Is, NotStraight, Refused}
 
 -- 2000 × the difference of two corrections at a whole position, above or below, rounded up.
 abbrev pub difference : Correction → Correction → ℕ
@@ -42,26 +40,19 @@ compared_with K stored lent = record { slope = K; bound = 2000 + K + greatest_di
 -- The stored points of a straight table: those of domain 0, and none
 -- without a block. A curve and a table of domain 1 are not straight.
 abbrev pub straight_table : Calibration → Option (List Pair)
-straight_table bare = some []
-straight_table (table Electrical pairs) = some (map pair_in pairs)
-straight_table (table Physical pairs) = none
-straight_table (curve segments) = none
+straight_table bare = Some []
+straight_table (table Electrical pairs) = Some (map pair_in pairs)
+straight_table (table Physical pairs) = None
+straight_table (curve segments) = None
 
 abbrev pub compared : ℕ → List Pair → Option (List Pair) → Option CertificateBound
-compared K lent (some stored) = some (compared_with K stored lent)
-compared K lent none = none
+compared K lent (Some stored) = Some (compared_with K stored lent)
+compared K lent None = None
 
 -- K and B; none if there is no straight table to compare.
 unfoldable pub conformity : ℕ → List ℕ → List ℤ → Outcome (Option CertificateBound)
 conformity kind image points = do
   c ← contents kind image
-  refuse wrong_block first_selector if is_resistance c.template
+  refuse WrongBlock first_selector if is_resistance c.template
   d ← distance points
-  good (compared d.slope (pairs_lent points) (straight_table c.calibration))
-
--- ---- the answer
-
-abbrev pub conformity_said : ConformityAnswer → Outcome (Option CertificateBound)
-conformity_said (Is d) = good (some d)
-conformity_said NotStraight = good none
-conformity_said (Refused r) = refused r
+  Ok (compared d.slope (pairs_lent points) (straight_table c.calibration))

@@ -1,11 +1,10 @@
 -- Only inner contracts need this: a correction in
 -- unsigned parts, small enough that nothing overflows.
-use Rattle.std.specs.Prelude.{◌≡◌, Bool, true, false, ◌⊎◌, ℕ, ◌+◌, ◌*◌, ◌^◌, ◌≤◌, ◌<◌, eqb, ℤ, pos, nat_abs, ◌-ℤ◌, ◌*ℤ◌}
+use Rattle.std.specs.Prelude.{Some, None, Option, ◌≡◌, Bool, true, false, ◌⊎◌, ℕ, ◌+◌, ◌*◌, ◌^◌, ◌≤◌, ◌<◌, eqb, ℤ, pos, nat_abs, ◌-ℤ◌, ◌*ℤ◌}
 use Rattle.integers.specs.Ceiling.{ceiling}
 use Rattle.integers.specs.Parts.{up, dn}
+use Rattle.templates.specs.declared.Domain.{Domain}
 use Rattle.templates.specs.declared.Domain.TheVariants.{Electrical, Physical}
-use Rattle.sheet.specs.declared.TableDomain.{TableDomain}
-use Rattle.sheet.specs.declared.TableDomain.TheVariants.{NoTable, Is}
 use Rattle.correction.specs.Line.{Correction}
 use Rattle.conformity.specs.declared.corrections.Corrected.{Corrected}
 
@@ -31,7 +30,7 @@ abbrev pub upward_difference : ℤ → Correction → ℕ
 upward_difference s c = ceiling (2000 * nat_abs (s *ℤ pos c.run -ℤ c.num)) c.run
 
 -- Whether a table is straight, by the domain and the number of segments that a check returns.
-abbrev pub is_straight : TableDomain → ℕ → Bool
-is_straight NoTable segments = eqb segments 0
-is_straight (Is Electrical) segments = true
-is_straight (Is Physical) segments = false
+abbrev pub is_straight : Option Domain → ℕ → Bool
+is_straight None segments = eqb segments 0
+is_straight (Some Electrical) segments = true
+is_straight (Some Physical) segments = false

@@ -1,6 +1,6 @@
 // The conformity of an image with a certificate's points, in the order of its refusals.
 ghost use Rattle.std.specs.Prelude.{◌≡◌, true, false, ℕ, ◌^◌, ◌≤◌};
-ghost use Rattle.refusal.specs.Outcome.{good};
+ghost use Rattle.refusal.specs.Outcome.{Ok};
 ghost use Rattle.build.specs.Build.{pairs_lent};
 ghost use Rattle.layout.specs.Contents.{Contents};
 ghost use Rattle.layout.specs.Image.{points as points_of};
@@ -8,26 +8,24 @@ ghost use Rattle.correction.specs.Ranges.{Table};
 ghost use Rattle.sheet.specs.Opened.{Opens, Held};
 ghost use Rattle.reading.specs.Reading.{is_resistance};
 ghost use Rattle.distance.specs.Distance.{distance as distance_of};
-ghost use Rattle.conformity.specs.Conformity.{compared_with, conformity as conformity_of, conformity_said};
+ghost use Rattle.conformity.specs.Conformity.{compared_with, conformity as conformity_of};
 ghost use Rattle.conformity.specs.Steps.{is_straight};
 
-use crate::ConformityAnswer;
-use crate::differences::{greater, greatest};
+use crate::differences::greatest;
 use crate::stored::stored_points;
-use distance::{CertificateBound, DistanceAnswer};
-use sheet::{Opened, OpenedAnswer, TableDomain};
+use distance::CertificateBound;
+use refusal::Refusal;
+use sheet::Opened;
 use templates::{Domain, Template};
 
 // Whether the sheet corrects by a straight table: one of domain 0, or none.
-fn is_straight(domain: TableDomain, segments: u64) -> bool
+fn is_straight(domain: Option<Domain>, segments: u64) -> bool
     ensures { result ≡ is_straight domain segments }
 {
     match domain {
-        TableDomain::NoTable => segments == 0,
-        TableDomain::Is(found) => match found {
-            Domain::Electrical => true,
-            Domain::Physical => false,
-        },
+        None => segments == 0,
+        Some(Domain::Electrical) => true,
+        Some(Domain::Physical) => false,
     }
 }
 
@@ -40,7 +38,7 @@ fn compared(sheet: Opened, image: &[u8], points: &[i64], slope: u64) -> Certific
     let end = 2 * summary.points as usize;
     let room = stored_points(sheet, image);
     let stored = &room[..end];
-    let most = greater(greatest(stored, points), greatest(points, stored));
+    let most = greatest(stored, points).max(greatest(points, stored));
     CertificateBound {
         slope,
         bound: 2000 + slope + most,
@@ -53,34 +51,36 @@ fn conformity_to(
     image: &[u8],
     points: &[i64],
     beforehand: CertificateBound,
-) -> ConformityAnswer
-    requires { Held sheet image.now × (is_resistance sheet.layout.template ≡ false) × (distance_of points.now ≡ good beforehand) }
-    ensures { (kind : ℕ) (c : Contents) → Opens kind image.now sheet c → conformity_said result ≡ conformity_of kind image.now points.now }
+) -> Result<Option<CertificateBound>, Refusal>
+    requires { Held sheet image.now × (is_resistance sheet.layout.template ≡ false) × (distance_of points.now ≡ Ok beforehand) }
+    ensures { (kind : ℕ) (c : Contents) → Opens kind image.now sheet c → result ≡ conformity_of kind image.now points.now }
 {
     let summary = sheet.summary;
     let domain = summary.domain;
     if is_straight(domain, summary.segments) {
-        return ConformityAnswer::Is(compared(sheet, image, points, beforehand.slope));
+        return Ok(Some(compared(sheet, image, points, beforehand.slope)));
     }
-    ConformityAnswer::NotStraight
+    Ok(None)
 }
 
 // The conformity of an opened sheet: 4 at the first selector for
 // template 32, then the list as a build in domain 0 refuses it.
-fn conformity_in(sheet: Opened, image: &[u8], points: &[i64]) -> ConformityAnswer
+fn conformity_in(
+    sheet: Opened,
+    image: &[u8],
+    points: &[i64],
+) -> Result<Option<CertificateBound>, Refusal>
     requires { Held sheet image.now }
-    ensures { (kind : ℕ) (c : Contents) → Opens kind image.now sheet c → conformity_said result ≡ conformity_of kind image.now points.now }
+    ensures { (kind : ℕ) (c : Contents) → Opens kind image.now sheet c → result ≡ conformity_of kind image.now points.now }
 {
     let layout = sheet.layout;
     let template = layout.template;
     match template {
-        Template::Resistance => ConformityAnswer::Refused(refusal::wrong_block(
-            layout::FIRST_SELECTOR as u64,
-        )),
-        Template::Bridge => match distance::distance(points) {
-            DistanceAnswer::Refused(r) => ConformityAnswer::Refused(r),
-            DistanceAnswer::Is(beforehand) => conformity_to(sheet, image, points, beforehand),
-        },
+        Template::Resistance => Err(Refusal::WrongBlock(layout::FIRST_SELECTOR as u64)),
+        Template::Bridge => {
+            let beforehand = distance::distance(points)?;
+            conformity_to(sheet, image, points, beforehand)
+        }
     }
 }
 
@@ -88,11 +88,13 @@ fn conformity_in(sheet: Opened, image: &[u8], points: &[i64]) -> ConformityAnswe
 // points: K and B, or that there is no straight table to compare. Else the
 // check's refusal; 4 for template 32; 16 for a list that is odd or over 254
 // long; then pair by pair 10 for the point, 10 for its deviation, and 7.
-pub fn conformity(kind: u8, image: &[u8], points: &[i64]) -> ConformityAnswer
-    ensures { conformity_said result ≡ conformity_of kind image.now points.now }
+pub fn conformity(
+    kind: u8,
+    image: &[u8],
+    points: &[i64],
+) -> Result<Option<CertificateBound>, Refusal>
+    ensures { result ≡ conformity_of kind image.now points.now }
 {
-    match sheet::open(kind, image) {
-        OpenedAnswer::Refused(r) => ConformityAnswer::Refused(r),
-        OpenedAnswer::Sheet(sheet) => conformity_in(sheet, image, points),
-    }
+    let sheet = sheet::open(kind, image)?;
+    conformity_in(sheet, image, points)
 }

@@ -8,18 +8,9 @@ ghost use Rattle.correction.specs.Before.{point_of, Before};
 ghost use Rattle.correction.specs.Line.{Correction};
 ghost use Rattle.correction.specs.Ranges.{Table};
 ghost use Rattle.conformity.specs.Conformity.{difference_at, greatest_over};
-ghost use Rattle.conformity.specs.Steps.{Sized, Exact, Apart, upward_difference};
+ghost use Rattle.conformity.specs.Steps.{Sized, Exact, upward_difference};
 
 use crate::corrections::{Corrected, correction_at};
-
-fn apart(a: u64, b: u64) -> u64
-    ensures { Apart a b result }
-{
-    if b <= a {
-        return a - b;
-    }
-    b - a
-}
 
 // 2000 × num / run, rounded up. The whole part and the
 // rest are computed separately, so that nothing overflows.
@@ -40,7 +31,7 @@ fn difference(s: i64, c: Corrected) -> u64
     let run = c.run;
     let above = integers::plus(s) * run + c.below;
     let below = integers::minus(s) * run + c.above;
-    upward(apart(above, below), run)
+    upward(above.abs_diff(below), run)
 }
 
 // The number of points before p, if those before `from` are.
@@ -49,24 +40,12 @@ fn passed(points: &[i64], from: usize, p: i64) -> usize
     ensures { Before point_of (pairs_lent points.now) p result }
 {
     let count = points.len() / 2;
-    let mut n = from;
-    while n < count {
+    for n in from..count {
         if p <= points[2 * n] {
             return n;
         }
-        n += 1;
     }
-    n
-}
-
-// The greater of two numbers.
-pub fn greater(a: u64, b: u64) -> u64
-    ensures { result ≡ max a b }
-{
-    if a < b {
-        return b;
-    }
-    a
+    count
 }
 
 // The greatest difference at the points of `own`. Both lists
@@ -78,15 +57,10 @@ pub fn greatest(own: &[i64], other: &[i64]) -> u64
     let count = own.len() / 2;
     let mut most: u64 = 0;
     let mut before: usize = 0;
-    let mut i: usize = 0;
-    while i < count {
+    for i in 0..count {
         let p = own[2 * i];
         before = passed(other, before, p);
-        most = greater(
-            most,
-            difference(own[2 * i + 1], correction_at(other, before, p)),
-        );
-        i += 1;
+        most = most.max(difference(own[2 * i + 1], correction_at(other, before, p)));
     }
     most
 }

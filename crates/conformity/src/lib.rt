@@ -9,15 +9,3 @@ mod differences; // differences.rt: the greatest difference of two lists
 mod stored; // stored.rt: the calibration points of an image
 
 pub use comparing::conformity;
-use distance::CertificateBound;
-use refusal::Refusal;
-
-// K and B, as in a distance: no reading of the image is further than B /
-// 2000 billionths of the span from the line through the points. Or the image
-// has a curve or a table of domain 1, and no straight table to compare.
-#[derive(Clone, Copy)]
-pub enum ConformityAnswer {
-    Is(CertificateBound),
-    NotStraight,
-    Refused(Refusal),
-}

@@ -13,18 +13,12 @@ pub fn stored_points(sheet: Opened, image: &[u8]) -> [i64; 254]
     requires { Held sheet image.now }
     ensures { (length result ≡ 254) × ((kind : ℕ) (c : Contents) → Opens kind image.now sheet c → pairs_lent (take (2 * length (points c)) result) ≡ points c) }
 {
-    let summary = sheet.summary;
-    let count = summary.points;
     let mut room = [0i64; 254];
-    let mut i: u64 = 0;
-    while i < count {
+    for i in 0..sheet.summary.points {
         let pair = pair_in(sheet, image, i);
         let at = 2 * i as usize;
-        let point = pair.point;
-        let deviation = pair.deviation;
-        room[at] = point;
-        room[at + 1] = deviation;
-        i += 1;
+        room[at] = pair.point;
+        room[at + 1] = pair.deviation;
     }
     room
 }

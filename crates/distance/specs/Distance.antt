@@ -2,14 +2,12 @@
 -- alone. Order: 16, then each pair as a build in domain 0 refuses it.
 use Rattle.std.specs.Prelude.{List, [], ◌∷◌, ℕ, max, ◌+◌, ◌*◌, ℤ, nat_abs, ◌-ℤ◌}
 use Rattle.integers.specs.Ceiling.{ceiling}
-use Rattle.refusal.specs.Outcome.{Outcome, good, refused, ◌>>◌}
+use Rattle.refusal.specs.Outcome.{Outcome, Ok, ◌>>◌}
 use Rattle.templates.specs.declared.Pair.{Pair}
 use Rattle.templates.specs.declared.Domain.TheVariants.{Electrical}
 use Rattle.templates.specs.Calibration.{D, R}
 use Rattle.build.specs.Build.{listed, pairs_lent, list_tested, table_pieces}
 use Rattle.distance.specs.declared.CertificateBound.{CertificateBound}
-use Rattle.distance.specs.declared.DistanceAnswer.{DistanceAnswer}
-use Rattle.distance.specs.declared.DistanceAnswer.TheVariants.{Is, Refused}
 
 -- For two lent neighbours: the least K with 1000 × their rise or fall at most K × their run.
 abbrev pub least_slope : Pair → Pair → ℕ
@@ -29,10 +27,6 @@ unfoldable pub distance : List ℤ → Outcome CertificateBound
 distance points = do
   list_tested (listed Electrical points)
   table_pieces Electrical (pairs_lent points)
-  good (by_slope (steepest (pairs_lent points)))
+  Ok (by_slope (steepest (pairs_lent points)))
 
 -- ---- the answer
-
-abbrev pub distance_said : DistanceAnswer → Outcome CertificateBound
-distance_said (Is d) = good d
-distance_said (Refused r) = refused r

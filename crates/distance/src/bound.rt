@@ -4,24 +4,12 @@ ghost use Rattle.integers.specs.Ceiling.{ceiling};
 ghost use Rattle.build.specs.Build.{pairs_lent};
 ghost use Rattle.build.specs.Tested.{pair_at};
 ghost use Rattle.correction.specs.Certificate.{Neighbours};
-ghost use Rattle.distance.specs.Distance.{least_slope, steepest as steepest_of, by_slope, distance as distance_of, distance_said};
+ghost use Rattle.distance.specs.Distance.{least_slope, steepest as steepest_of, by_slope, distance as distance_of};
 ghost use Rattle.distance.specs.Steps.{Step};
 
-use crate::{CertificateBound, DistanceAnswer};
-use codes::Judged;
+use crate::CertificateBound;
+use refusal::Refusal;
 use templates::{D, Domain, R};
-
-// The distance of two figures. Cannot overflow, for any two.
-fn apart(a: i64, b: i64) -> u64
-    ensures { result ≡ nat_abs (a -ℤ b) }
-{
-    let above = integers::plus(a) + integers::minus(b);
-    let below = integers::minus(a) + integers::plus(b);
-    if below <= above {
-        return above - below;
-    }
-    below - above
-}
 
 // The least whole K with 1000 × a rise or fall at most K × its run.
 fn slope(rise: u64, run: u64) -> u64
@@ -38,18 +26,9 @@ fn slope_at(points: &[i64], i: usize) -> u64
 {
     let at = 2 * i;
     let next = 2 * (i + 1);
-    let rise = apart(points[next + 1], points[at + 1]);
-    let run = apart(points[next], points[at]);
+    let rise = points[next + 1].abs_diff(points[at + 1]);
+    let run = points[next].abs_diff(points[at]);
     slope(rise, run)
-}
-
-fn greater(a: u64, b: u64) -> u64
-    ensures { result ≡ max a b }
-{
-    if a < b {
-        return b;
-    }
-    a
 }
 
 // The greatest slope over all neighbours.
@@ -59,10 +38,8 @@ fn steepest(points: &[i64]) -> u64
 {
     let n = points.len() / 2;
     let mut k: u64 = 0;
-    let mut i: usize = 0;
-    while i + 1 < n {
-        k = greater(k, slope_at(points, i));
-        i += 1;
+    for i in 0..n.saturating_sub(1) {
+        k = k.max(slope_at(points, i));
     }
     k
 }
@@ -81,15 +58,13 @@ fn by_slope(k: u64) -> CertificateBound
 // The distance that readings of a sheet with these points in domain 0 keep
 // from the certificate line. Else 16 for a list that is odd or over 254
 // long; then pair by pair 10 for the point, 10 for its deviation, and 7.
-pub fn distance(points: &[i64]) -> DistanceAnswer
-    ensures { distance_said result ≡ distance_of points.now }
+pub fn distance(points: &[i64]) -> Result<CertificateBound, Refusal>
+    ensures { result ≡ distance_of points.now }
 {
     let n = points.len();
     if build::is_wrong_list(n) {
-        return DistanceAnswer::Refused(refusal::wrong_list(n as u64));
+        return Err(Refusal::WrongList(n as u64));
     }
-    match build::check_points(Domain::Electrical, points) {
-        Judged::Refused(r) => DistanceAnswer::Refused(r),
-        Judged::Valid => DistanceAnswer::Is(by_slope(steepest(points))),
-    }
+    build::check_points(Domain::Electrical, points)?;
+    Ok(by_slope(steepest(points)))
 }

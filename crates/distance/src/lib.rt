@@ -6,7 +6,6 @@
 mod bound; // bound.rt: the steepest slope, and the distance
 
 pub use bound::distance;
-use refusal::Refusal;
 
 // K, the least whole number with 1000 × each rise or fall at most K × its
 // run, and the bound B. No reading of a sheet with these points in domain 0
@@ -15,11 +14,4 @@ use refusal::Refusal;
 pub struct CertificateBound {
     pub slope: u64,
     pub bound: u64,
-}
-
-// The distance, or the refusal of the points list.
-#[derive(Clone, Copy)]
-pub enum DistanceAnswer {
-    Is(CertificateBound),
-    Refused(Refusal),
 }

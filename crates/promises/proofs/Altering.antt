@@ -1,5 +1,5 @@
 -- Laws of fields of the stream, and of what a change or a commit leaves unchanged.
-use Rattle.promises.proofs.Names.{◌≡◌, sym, ap, ap₂, ◌∙◌, subst, List, ◌⊎◌, inl, inr, ℕ, ◌+◌, ◌^◌, ◌≤◌, ◌<◌, arith, length, good, good-same, Sizes, Bytes, bit, put_at, image_sizes, stream_bits, stream_of}
+use Rattle.promises.proofs.Names.{◌≡◌, sym, ap, ap₂, ◌∙◌, subst, List, ◌⊎◌, inl, inr, ℕ, ◌+◌, ◌^◌, ◌≤◌, ◌<◌, arith, length, Ok, good-same, Sizes, Bytes, bit, put_at, image_sizes, stream_bits, stream_of}
 use Rattle.promises.proofs.Names.{stream_number, field-bit, put-field, put-before, put-after, put-lt, bit_at, sizes-chip, stream-bytes, stream-lt, sums-right, image-number-lt, mended-check, Level, reads-back}
 use Rattle.promises.proofs.Names.{Found, Contents, contents, field, accepted-at, code_for, recoded_in, Changeable, code-found, change-made, field-sound, field-inside, Committed, stands-fits, commit-made, StreamBit}
 use Rattle.promises.proofs.Names.{FirstBitLowest, Puts, AltersNoOther, ChangeAltersNoOther, CommitAltersNoOther}
@@ -18,8 +18,8 @@ puts N n w code fits = record { stands = put-field N n w code fits; others = oth
     others i (inr h) = put-after N n w code fits i 1 h
 
 -- A field with a code that fits it.
-module _ (kind : ℕ) (image : List ℕ) (z : Sizes) (c : Contents) (level : Level) (f : ℕ) (bytes : Bytes image) (sizes : image_sizes kind (length image) ≡ good z)
-    (e : contents kind image ≡ good c) (free : Changeable c level f) where
+module _ (kind : ℕ) (image : List ℕ) (z : Sizes) (c : Contents) (level : Level) (f : ℕ) (bytes : Bytes image) (sizes : image_sizes kind (length image) ≡ Ok z)
+    (e : contents kind image ≡ Ok c) (free : Changeable c level f) where
   abbrev x : Found
   x = field c f
 
@@ -43,7 +43,7 @@ change-alters-no-other kind image after z c level f v bytes real sizes e h =
     let m = change-made kind image level f v after h in
     let same : m.held ≡ c = good-same (sym m.accepted ∙ e) in
     let sized : m.sizes ≡ z = good-same (sym m.sized ∙ sizes) in
-    let (free, stored) = code-found c level f v m.code (subst (λ d. code_for d level f v ≡ good m.code) same m.coded) in
+    let (free, stored) = code-found c level f v m.code (subst (λ d. code_for d level f v ≡ Ok m.code) same m.coded) in
     let fits = (reads-back (field c f).row f (field c f).at m.code v (field-sound kind image c z bytes e sizes level f free) real stored).0 in
     subst (AltersNoOther z (field c f) image) (sym (m.is ∙ ap₂ (λ d y. recoded_in y image (field d f) m.code) same sized))
     (recode-alters-no-other kind image z c level f bytes sizes e free m.code fits)

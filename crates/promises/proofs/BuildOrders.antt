@@ -1,6 +1,7 @@
 -- Laws of the rows of a build, with a points list or a curve, and of the distance.
-use Rattle.promises.proofs.Names.{◌≡◌, refl, Bool, not, ◌||◌, ◌&&◌, List, [], ◌∷◌, Option, none, some, ℕ, suc, ◌+◌, ◌%◌, arith, eqb, ltb, leb, ℤ, pos, ◌*ℤ◌, length, take, drop, le_z, Outcome, good, refused}
-use Rattle.promises.proofs.Names.{◌>>◌, wrong_sort, out_of_range, too_long, wrong_list, not_rising, sums_not_rising, wrong_curve, too_many_terms, By, build_order, curve_order, distance_order, Among, by-among, by-bind, by-then}
+use Prim.Native.Nat.{min}
+use Rattle.promises.proofs.Names.{◌≡◌, refl, Bool, not, ◌||◌, ◌&&◌, List, [], ◌∷◌, Option, None, Some, ℕ, suc, ◌+◌, ◌%◌, arith, eqb, ltb, leb, ℤ, pos, ◌*ℤ◌, length, take, drop, le_z, Outcome, Ok, Err}
+use Rattle.promises.proofs.Names.{◌>>◌, WrongSort, OutOfRange, TooLong, WrongList, NotRising, SumsNotRising, WrongCurve, TooManyTerms, By, build_order, curve_order, distance_order, Among, by-among, by-bind, by-then}
 use Rattle.promises.proofs.Names.{by-test, by_last, image_sizes, stream_bits, needed, Value, Whole, Single, Row, Pair, Codes, Domain, Electrical, Segment, Term, Curve, Stepped, top_code, stepped_value, stepped_code}
 use Rattle.promises.proofs.Names.{outside, encode, Line, chose, basic, template_lines, ending, D, R, least_deviation, cal_point, cal_deviation, is_physical, stored_sum, follows, segment_start, exponent, coefficient}
 use Rattle.promises.proofs.Names.{is_segment_count, is_term_count, most_terms, start_follows, exponent_follows, exponent_code, Sheet, template_in, lent, line_pieces, field_pieces, unfit, ending_tested, pairs_lent, codes_for}
@@ -30,7 +31,7 @@ module _ (rows : List ℕ) (h : Among (9 ∷ 10 ∷ []) rows) where
   ending-by : (f : ℕ) (end_bit : Bool) (text : List ℕ) → By rows (ending_tested f end_bit text)
   unfolding ending_tested
   ending-by f end_bit text =
-      by-test rows (wrong_sort f) (not end_bit && ltb 0 (length text)) _ h.0 (by_last rows (out_of_range f) (unfit text) h.1.0)
+      by-test rows (WrongSort f) (not end_bit && ltb 0 (length text)) _ h.0 (by_last rows (OutOfRange f) (unfit text) h.1.0)
 
 -- ---- points
 
@@ -39,7 +40,7 @@ module _ (rows : List ℕ) (h : Among (10 ∷ []) rows) where
   stepped_by : (row : Row) (start : ℤ) (step i : ℕ) (z : ℤ) → row.rule ≡ Stepped start step → By rows (encode row i (Whole z))
   unfolding encode
   stepped_by row start step i z e =
-      rw e (by-test rows (out_of_range i) (outside start (stepped_value start step (top_code row.width)) z) (good (stepped_code start step z)) h.0 tt)
+      rw e (by-test rows (OutOfRange i) (outside start (stepped_value start step (top_code row.width)) z) (Ok (stepped_code start step z)) h.0 tt)
 
   codes-by : (i : ℕ) (p : Pair) → By rows (codes_for i p)
   unfolding codes_for
@@ -49,15 +50,15 @@ module _ (rows : List ℕ) (h : Among (10 ∷ []) rows) where
 
 follows_by : (domain : Domain) (before : Option Codes) (i : ℕ) (next : Codes) → By (7 ∷ 22 ∷ []) (follows domain before i next)
 unfolding follows
-follows_by domain none i next = tt
-follows_by domain (some before) i next =
-    by-test (7 ∷ 22 ∷ []) (not_rising i) (leb next.point before.point) _ (omega arith)
-    (by_last (7 ∷ 22 ∷ []) (sums_not_rising i) (is_physical domain && le_z (stored_sum next) (stored_sum before)) (omega arith))
+follows_by domain None i next = tt
+follows_by domain (Some before) i next =
+    by-test (7 ∷ 22 ∷ []) (NotRising i) (leb next.point before.point) _ (omega arith)
+    (by_last (7 ∷ 22 ∷ []) (SumsNotRising i) (is_physical domain && le_z (stored_sum next) (stored_sum before)) (omega arith))
 
 straight-by : (before : Option Codes) (i : ℕ) (next : Codes) → By (7 ∷ []) (follows Electrical before i next)
 unfolding follows
-straight-by none i next = tt
-straight-by (some before) i next = by-test (7 ∷ []) (not_rising i) (leb next.point before.point) _ (omega arith) tt
+straight-by None i next = tt
+straight-by (Some before) i next = by-test (7 ∷ []) (NotRising i) (leb next.point before.point) _ (omega arith) tt
 
 module _ (rows : List ℕ) (domain : Domain) (h : Among (10 ∷ []) rows) (next : (before : Option Codes) (i : ℕ) (codes : Codes) → By rows (follows domain before i codes)) where
   pairs-by : (before : Option Codes) (i : ℕ) (pairs : List Pair) → By rows (pair_pieces domain before i pairs)
@@ -66,20 +67,20 @@ module _ (rows : List ℕ) (domain : Domain) (h : Among (10 ∷ []) rows) (next 
   pairs-by before i (p ∷ pairs) =
       by-bind rows (pair_codes domain before i p) _
       (by-bind rows (codes_for i p) _ (codes-by rows h i p) (λ codes. by-then rows (follows domain before i codes) _ (next before i codes) tt)) (λ codes.
-      by-bind rows (pair_pieces domain (some codes) (suc i) pairs) _ (pairs-by (some codes) (suc i) pairs) (λ rest. tt))
+      by-bind rows (pair_pieces domain (Some codes) (suc i) pairs) _ (pairs-by (Some codes) (suc i) pairs) (λ rest. tt))
 
   table-by : (pairs : List Pair) → By rows (table_pieces domain pairs)
   unfolding table_pieces
   table-by [] = tt
-  table-by (p ∷ pairs) = by-bind rows (pair_pieces domain none 0 (p ∷ pairs)) _ (pairs-by none 0 (p ∷ pairs)) (λ pieces. tt)
+  table-by (p ∷ pairs) = by-bind rows (pair_pieces domain None 0 (p ∷ pairs)) _ (pairs-by None 0 (p ∷ pairs)) (λ pieces. tt)
 
 listed_by : (rows : List ℕ) (domain : Domain) (points : List ℤ) → Among (16 ∷ []) rows → By rows (list_tested (listed domain points))
-listed_by rows domain points h = by_last rows (wrong_list (length points)) (eqb (length points % 2) 1 || ltb 254 (length points)) h.0
+listed_by rows domain points h = by_last rows (WrongList (length points)) (eqb (length points % 2) 1 || ltb 254 (length points)) h.0
 
 -- A step whose value is not used.
 after : {A B : Type 0} (rows : List ℕ) (m : Outcome A) (next : Outcome B) → By rows m → By rows next → By rows (m >> next)
-after rows (good a) next h k = k
-after rows (refused r) next h k = h
+after rows (Ok a) next h k = k
+after rows (Err r) next h k = h
 
 pub distance-by : (points : List ℤ) → By distance_order (distance points)
 unfolding distance
@@ -95,31 +96,31 @@ unfolding term_pieces
 terms-by before i [] = tt
 terms-by before i (t ∷ terms) =
     by-bind curve_order (exponent_code before i (pos 10 *ℤ t.exponent)) _
-    (by-test curve_order (wrong_curve i) (not (exponent_follows before (pos 10 *ℤ t.exponent))) _ (omega arith) (value-by curve_order (omega arith) exponent i (Whole (pos 10 *ℤ t.exponent)))) (λ power.
+    (by-test curve_order (WrongCurve i) (not (exponent_follows before (pos 10 *ℤ t.exponent))) _ (omega arith) (value-by curve_order (omega arith) exponent i (Whole (pos 10 *ℤ t.exponent)))) (λ power.
     by-bind curve_order (encode coefficient i (Single t.coefficient)) _ (value-by curve_order (omega arith) coefficient i (Single t.coefficient)) (λ factor.
-    by-bind curve_order (term_pieces (some (pos 10 *ℤ t.exponent)) (suc i) terms) _ (terms-by (some (pos 10 *ℤ t.exponent)) (suc i) terms) (λ rest. tt)))
+    by-bind curve_order (term_pieces (Some (pos 10 *ℤ t.exponent)) (suc i) terms) _ (terms-by (Some (pos 10 *ℤ t.exponent)) (suc i) terms) (λ rest. tt)))
 
 start-by : (before : Option ℕ) (i total : ℕ) (s : Segment) → By curve_order (start_code before i total s)
 unfolding start_code count_tested
 start-by before i total s =
     by-bind curve_order (encode segment_start i (Whole s.start)) _ (value-by curve_order (omega arith) segment_start i (Whole s.start)) (λ start.
-    by-test curve_order (wrong_curve i) (not (start_follows before start)) _ (omega arith)
+    by-test curve_order (WrongCurve i) (not (start_follows before start)) _ (omega arith)
     (by-then curve_order (count_tested i total s.terms) _
-    (by-test curve_order (wrong_curve i) (not (is_term_count s.terms)) _ (omega arith) (by_last curve_order (too_many_terms (total + s.terms)) (ltb most_terms (total + s.terms)) (omega arith))) tt))
+    (by-test curve_order (WrongCurve i) (not (is_term_count s.terms)) _ (omega arith) (by_last curve_order (TooManyTerms (total + s.terms)) (ltb most_terms (total + s.terms)) (omega arith))) tt))
 
 segments-by : (before : Option ℕ) (i total : ℕ) (segments : List Segment) (terms : List Term) → By curve_order (segment_pieces before i total segments terms)
 unfolding segment_pieces
 segments-by before i total [] terms = tt
 segments-by before i total (s ∷ segments) terms =
     by-bind curve_order (start_code before i total s) _ (start-by before i total s) (λ start.
-    by-bind curve_order (term_pieces none total (take s.terms terms)) _ (terms-by none total (take s.terms terms)) (λ own.
-    by-bind curve_order (segment_pieces (some start) (suc i) (total + s.terms) segments (drop s.terms terms)) _ (segments-by (some start) (suc i) (total + s.terms) segments (drop s.terms terms)) (λ rest. tt)))
+    by-bind curve_order (term_pieces None total (take s.terms terms)) _ (terms-by None total (take s.terms terms)) (λ own.
+    by-bind curve_order (segment_pieces (Some start) (suc i) (total + s.terms) segments (drop s.terms terms)) _ (segments-by (Some start) (suc i) (total + s.terms) segments (drop s.terms terms)) (λ rest. tt)))
 
 curve-by : (curve : Curve) → By curve_order (curve_pieces curve)
 unfolding curve_pieces
 curve-by curve =
-    by-test curve_order (wrong_curve curve.count) (not (is_segment_count curve.count)) _ (omega arith)
-    (by-bind curve_order (segment_pieces none 0 0 (take curve.count curve.segments) curve.terms) _ (segments-by none 0 0 (take curve.count curve.segments) curve.terms) (λ pieces. tt))
+    by-test curve_order (WrongCurve curve.count) (not (is_segment_count curve.count)) _ (omega arith)
+    (by-bind curve_order (segment_pieces None 0 0 (take curve.count curve.segments) curve.terms) _ (segments-by None 0 0 (take curve.count curve.segments) curve.terms) (λ pieces. tt))
 
 -- ---- a build
 
@@ -134,7 +135,7 @@ module _ (rows : List ℕ) (h : Among (1 ∷ 9 ∷ 10 ∷ 11 ∷ []) rows) (tabl
       (by-bind rows (field_pieces sheet) _ (fields-by rows codes sheet) (λ fields.
       by-then rows (ending_tested (ending (template_in sheet)) sheet.end_bit text) _ (ending-by rows codes (ending (template_in sheet)) sheet.end_bit text)
       (by-bind rows (behind_pieces table) _ behind (λ pieces. tt))))) (λ pieces.
-      by-test rows (too_long (needed pieces)) (ltb (stream_bits z) (needed pieces)) _ h.1.1.1.0 tt))
+      by-test rows (TooLong (min (needed pieces) 65_535)) (ltb (stream_bits z) (needed pieces)) _ h.1.1.1.0 tt))
 
 pub writes-by-order : (kind : ℕ) (image : List ℕ) → WritesByOrder kind image
 writes-by-order kind image = record {

@@ -1,27 +1,27 @@
 -- Proof of Note 9: a reading in domain 1 shows the crossing.
-use Rattle.promises.proofs.Names.{◌≡◌, refl, sym, ap, ap₂, ◌∙◌, subst, List, [], ◌∷◌, map, ℕ, arith, ℤ, good, good-same, Pair, Electrical, Physical, Calibration, bare, table, curve, Contents, contents, pair_in}
-use Rattle.promises.proofs.Names.{pairs_in, points, CalibrationAt, contents-accepted, TableDomain, Is, domain_in, pairs_lent, SumsRise, crossing, crosses, Reading, Dash, position, fraction, take_reading}
+use Rattle.promises.proofs.Names.{Domain, ◌≡◌, refl, sym, ap, ap₂, ◌∙◌, subst, List, [], ◌∷◌, map, ℕ, arith, ℤ, Ok, good-same, Pair, Electrical, Physical, Calibration, bare, table, curve, Contents, contents, pair_in}
+use Rattle.promises.proofs.Names.{pairs_in, points, CalibrationAt, contents-accepted, Option, Some, domain_in, pairs_lent, SumsRise, crossing, crosses, Reading, Dash, position, fraction, take_reading}
 use Rattle.promises.proofs.Names.{calibration-table, calibration-rises, shown, by-crossing, domain_lent, altered, OnlyCrossing, position_in, CrossingShown, CrossingFromLent}
 use Rattle.promises.proofs.KeptLent.{kept-lent, ends_read}
 
 -- Sums rise if the domain is not 0.
-sums-rise : (at : ℕ) (k : Calibration) → CalibrationAt at k → (domain_in k ≡ Is Electrical → ⊥) → SumsRise (map pair_in (pairs_in k))
+sums-rise : (at : ℕ) (k : Calibration) → CalibrationAt at k → (domain_in k ≡ Some Electrical → ⊥) → SumsRise (map pair_in (pairs_in k))
 sums-rise at bare h n = tt
 sums-rise at (table Electrical pairs) h n = absurd (n refl)
 sums-rise at (table Physical pairs) h n = calibration-rises at (table Physical pairs) Physical h refl
 sums-rise at (curve segments) h n = tt
 
 -- The two domains differ.
-not-electrical : (d : TableDomain) → d ≡ Is Physical → d ≡ Is Electrical → ⊥
+not-electrical : (d : (Option Domain)) → d ≡ Some Physical → d ≡ Some Electrical → ⊥
 not-electrical d e f = absurd (let z : ◌≡◌ {A = ℕ} 0 1 = cc in omega arith)
 
-none-electrical : (pairs : List Pair) → domain_lent Physical pairs ≡ Is Electrical → ⊥
+none-electrical : (pairs : List Pair) → domain_lent Physical pairs ≡ Some Electrical → ⊥
 none-electrical [] e = absurd (let z : ◌≡◌ {A = ℕ} 0 1 = cc in omega arith)
 none-electrical (p ∷ pairs) e = absurd (let z : ◌≡◌ {A = ℕ} 0 1 = cc in omega arith)
 
 -- For an image whose table, if it has one, is not of domain 0.
-crossed : (kind : ℕ) (image : List ℕ) (c : Contents) (v : ℤ) (dash : Dash) (r : Reading) → contents kind image ≡ good c → (domain_in c.calibration ≡ Is Electrical → ⊥) →
-    take_reading kind image v dash ≡ good r → OnlyCrossing (points c) (position_in kind image v) r.fraction
+crossed : (kind : ℕ) (image : List ℕ) (c : Contents) (v : ℤ) (dash : Dash) (r : Reading) → contents kind image ≡ Ok c → (domain_in c.calibration ≡ Some Electrical → ⊥) →
+    take_reading kind image v dash ≡ Ok r → OnlyCrossing (points c) (position_in kind image v) r.fraction
 crossed kind image c v dash r e n taken =
     let s = shown kind image v dash r taken in
     let same : s.holds ≡ c = good-same (sym s.accepted ∙ e) in

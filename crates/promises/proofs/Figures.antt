@@ -1,9 +1,9 @@
 -- Laws of the figure of a reading: its ends are finite Singles and
 -- its fraction is small, so that the laws of `figures` hold for it.
-use Rattle.promises.proofs.Names.{◌≡◌, refl, sym, ap, ◌∙◌, subst, Bool, true, false, not, ◌&&◌, cond, List, ℕ, ◌^◌, ◌≤◌, arith, not-false, T, eqb, ℤ, nat_abs, length, ◌<ℤ◌, binary32, of_bits, of_bits-fits, good}
-use Rattle.promises.proofs.Names.{wrong_block, outside_span, too_many_points, outside_table, not_finite, good-same, good-bind, passed, Value, Whole, Single, Missing, Ieee, Row, Template, Bridge, float_fraction}
+use Rattle.promises.proofs.Names.{◌≡◌, refl, sym, ap, ◌∙◌, subst, Bool, true, false, not, ◌&&◌, cond, List, ℕ, ◌^◌, ◌≤◌, arith, not-false, T, eqb, ℤ, nat_abs, length, ◌<ℤ◌, binary32, of_bits, of_bits-fits, Ok}
+use Rattle.promises.proofs.Names.{WrongBlock, OutsideSpan, TooManyPoints, OutsideTable, NotFinite, good-same, good-bind, passed, Value, Whole, Single, Missing, Ieee, Row, Template, Bridge, float_fraction}
 use Rattle.promises.proofs.Names.{physical_figure, Line, line_of, all_ones, finite, meaning, decode, span-listed, span_lines, Found, Calibration, bare, table, curve, Contents, contents, field, layout_of, points}
-use Rattle.promises.proofs.Names.{first_selector, field_place, Accepted, contents-accepted, CalibrationAt, FieldAt, field-at, Is, domain_in, Opens, opened_as, Physical, Dash, Reading, Span, is_resistance, too_many}
+use Rattle.promises.proofs.Names.{first_selector, field_place, Accepted, contents-accepted, CalibrationAt, FieldAt, field-at, Some, domain_in, Opens, opened_as, Physical, Dash, Reading, Span, is_resistance, too_many}
 use Rattle.promises.proofs.Names.{is_missing, least, greatest, span_of, too_far, position, fraction, serving_terms, physical_fraction, reading_at, take_reading, bridge, shown, spanned, span-ready, position-small}
 use Rattle.promises.proofs.Names.{fraction-small, NeverFalls, End, near-fraction, fraction_of, figure-finite, figure-close, figure-follows, fraction-finite, fraction-rises, NoCurve, low, high, CurveShownNear}
 use Rattle.promises.proofs.Names.{ShownNear, ShownFinite, ShownFollows, ShownRises, ShownRisesByPhysicalPoint, float}
@@ -22,11 +22,11 @@ ended : {row : Row} {at : ℕ} {x : Found} → FieldAt row at x → row.rule ≡
 unfolding decode
 ended {row} {at} {x} h r = go (row.missing && eqb x.code (all_ones row.width)) h.means
   where
-    go : (t : Bool) → cond t (good Missing) (meaning row.rule row.width at x.code) ≡ good x.value → Ended x.value
+    go : (t : Bool) → cond t (Ok Missing) (meaning row.rule row.width at x.code) ≡ Ok x.value → Ended x.value
     go true e = subst Ended (good-same e) tt
     go false e =
-        let q = passed (outside_table at) (eqb x.code (all_ones row.width)) _ x.value (rw r at e) in
-        let p = passed (not_finite at) (not (finite (of_bits binary32 x.code))) _ x.value q.1 in
+        let q = passed (OutsideTable at) (eqb x.code (all_ones row.width)) _ x.value (rw r at e) in
+        let p = passed (NotFinite at) (not (finite (of_bits binary32 x.code))) _ x.value q.1 in
         subst Ended (good-same p.1) (record { single = of_bits-fits binary32 x.code; finite = not-false (finite (of_bits binary32 x.code)) p.0 })
 
 end_of : (v : Value) → Ended v → is_missing v ≡ false → End (float v)
@@ -47,7 +47,7 @@ pub record Taken (c : Contents) (v : ℤ) (r : Reading) : Type 0 where
   pub shows : r.figure ≡ physical_figure (low c) (high c) (physical_fraction c.calibration (position v (least c) (greatest c)))
 
 -- Fields 7 and 8 of template 33.
-module _ (kind : ℕ) (image : List ℕ) (c : Contents) (accepted : contents kind image ≡ good c) (b : is_resistance c.template ≡ false) where
+module _ (kind : ℕ) (image : List ℕ) (c : Contents) (accepted : contents kind image ≡ Ok c) (b : is_resistance c.template ≡ false) where
   a : Accepted kind image c
   a = contents-accepted kind image c accepted
 
@@ -59,7 +59,7 @@ module _ (kind : ℕ) (image : List ℕ) (c : Contents) (accepted : contents kin
       subst (λ (l : Line). FieldAt (l.row_at (layout_of c).precision) (field_place (layout_of c) f) (field c f)) (ap (λ (t : Template). line_of t f) (bridge c.template b) ∙ e)
       (field-at a.holding.formed f lo (span-listed c.template hi))
 
-  module _ (s : Span) (found : span_of c ≡ good s) where
+  module _ (s : Span) (found : span_of c ≡ Ok s) where
     low_end : End (low c)
     low_end = end_of (field c 7).value (ended (stands 7 (omega arith) (omega arith) span_lines.0) refl) (spanned c s found).low
 
@@ -72,14 +72,14 @@ module _ (kind : ℕ) (image : List ℕ) (c : Contents) (accepted : contents kin
     few : (v : ℤ) → too_far v s.least s.greatest ≡ false → nat_abs (fraction c.calibration (position v s.least s.greatest)) ≤ 2 ^ 33
     few v t = fraction-small opens (position v s.least s.greatest) (within v t)
 
-pub taken : (kind : ℕ) (image : List ℕ) (c : Contents) (v : ℤ) (dash : Dash) (r : Reading) → contents kind image ≡ good c → take_reading kind image v dash ≡ good r → Taken c v r
+pub taken : (kind : ℕ) (image : List ℕ) (c : Contents) (v : ℤ) (dash : Dash) (r : Reading) → contents kind image ≡ Ok c → take_reading kind image v dash ≡ Ok r → Taken c v r
 unfolding take_reading reading_at
 taken kind image c v dash r accepted e =
     let (d, holds, f) = good-bind (contents kind image) _ r e in
-    let (b, h) = passed (wrong_block first_selector) (is_resistance d.template) _ r f in
-    let (m, j) = passed (too_many_points (length (points d))) (too_many dash (length (points d))) _ r h in
+    let (b, h) = passed (WrongBlock first_selector) (is_resistance d.template) _ r f in
+    let (m, j) = passed (TooManyPoints (length (points d))) (too_many dash (length (points d))) _ r h in
     let (s, found, g) = good-bind (span_of d) _ r j in
-    let t = passed outside_span (too_far v s.least s.greatest) _ r g in
+    let t = passed OutsideSpan (too_far v s.least s.greatest) _ r g in
     let k = spanned d s found in
     let q : r.fraction ≡ fraction d.calibration (position v s.least s.greatest) = sym (ap (λ (y : Reading). y.fraction) (good-same t.1)) in
     let x : r.figure ≡ physical_figure s.low s.high (physical_fraction d.calibration (position v s.least s.greatest)) = sym (ap (λ (y : Reading). y.figure) (good-same t.1)) in
@@ -153,7 +153,7 @@ not-curve bare h = tt
 not-curve (table domain pairs) h = tt
 not-curve (curve segments) h = absurd h
 
-table-only : (k : Calibration) → domain_in k ≡ Is Physical → NoCurve k
+table-only : (k : Calibration) → domain_in k ≡ Some Physical → NoCurve k
 table-only bare h = tt
 table-only (table domain pairs) h = tt
 table-only (curve segments) h = absurd (let z : ◌≡◌ {A = ℕ} 0 1 = cc in omega arith)

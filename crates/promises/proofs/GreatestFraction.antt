@@ -1,8 +1,8 @@
 -- Laws of the greatest fraction of a reading without a
 -- curve, and of the figure's distance known beforehand.
-use Rattle.promises.proofs.Names.{◌≡◌, refl, ap, Bool, true, false, ◌||◌, true≢false, List, [], ◌∷◌, map, Option, none, some, ℕ, ◌+◌, ◌*◌, ◌≤◌, ◌<◌, mul-le-mul_left, mul-le-mul_right, arith, ltb-false, ltb, ℤ}
+use Rattle.promises.proofs.Names.{◌≡◌, refl, ap, Bool, true, false, ◌||◌, true≢false, List, [], ◌∷◌, map, Option, None, Some, ℕ, ◌+◌, ◌*◌, ◌≤◌, ◌<◌, mul-le-mul_left, mul-le-mul_right, arith, ltb-false, ltb, ℤ}
 use Rattle.promises.proofs.Names.{pos, nat_abs, neg_ℤ, ◌+ℤ◌, ◌-ℤ◌, ◌*ℤ◌, lt_z, ◌<ℤ◌, Float, up, dn, Fraction, ◌over◌, add_parts, sub-parts-ℤ, mul-parts, abs-parts, up_neg, dn-neg, lt_z-parts, nlt_z-parts, is_false}
-use Rattle.promises.proofs.Names.{outside_table, passed, Codes, Domain, Electrical, Physical, R, least_deviation, cal_deviation, billion, top_code, stepped_value, decode, stepped-whole, Found, FoundPair, Calibration}
+use Rattle.promises.proofs.Names.{OutsideTable, passed, Codes, Domain, Electrical, Physical, R, least_deviation, cal_deviation, billion, top_code, stepped_value, decode, stepped-whole, Found, FoundPair, Calibration}
 use Rattle.promises.proofs.Names.{bare, table, curve, codes_in, figure, pair_in, contents-accepted, FieldAt, PairsAt, CalibrationAt, deviation, less, above-parts, near-abs, scaled, nearest-small, Deviations}
 use Rattle.promises.proofs.Names.{deviation-within, crossing-within, calibration-rises, least, greatest, too_far, position, fraction, pairs-table, shown, altered, least_in, greatest_in, line_for, NoCurve}
 use Rattle.promises.proofs.Names.{FigureWithin, low_in, high_in, greatest_fraction, FractionAtMost, DistanceFigure, units}
@@ -25,11 +25,11 @@ position-most v e f span near =
     let w = v -ℤ e in
     let g = f -ℤ e in
     let t = last-two (lt_z v (neg_ℤ (pos 2_000_000_000))) (lt_z (pos 2_000_000_000) v) (lt_z (pos 10 *ℤ w) (neg_ℤ g)) (lt_z (pos 11 *ℤ g) (pos 10 *ℤ w)) near in
-    let some : 0 < nat_abs g = omega (arith, lt_z-parts e f span.lt, sub-parts-ℤ f e, abs-parts g) in
+    let Some : 0 < nat_abs g = omega (arith, lt_z-parts e f span.lt, sub-parts-ℤ f e, abs-parts g) in
     let run : up g ≡ dn g + nat_abs g = omega (arith, above-parts e f (less e f span), sub-parts-ℤ f e) in
     let low = nlt_z-parts (pos 10 *ℤ w) (neg_ℤ g) (is_false t.0) in
     let high = nlt_z-parts (pos 11 *ℤ g) (pos 10 *ℤ w) (is_false t.1) in
-    nearest-small 1_100_000_000 (w *ℤ pos billion over nat_abs g) some
+    nearest-small 1_100_000_000 (w *ℤ pos billion over nat_abs g) Some
     (omega (arith, run, low, high, up_neg g, dn-neg g, mul-parts (pos 10) w, mul-parts (pos 11) g, scaled w billion))
 
 -- ---- a deviation is at most 1,097,150,000
@@ -38,12 +38,12 @@ deviation-most : {at : ℕ} {x : Found} → FieldAt cal_deviation at x → nat_a
 unfolding decode
 deviation-most {at} {x} h =
     let is = ap figure (stepped-whole 21 least_deviation R at x.code x.value h.means) in
-    let code : x.code ≤ top_code 21 = ltb-false (top_code 21) x.code (passed (outside_table at) (ltb (top_code 21) x.code) _ x.value h.means).0 in
+    let code : x.code ≤ top_code 21 = ltb-false (top_code 21) x.code (passed (OutsideTable at) (ltb (top_code 21) x.code) _ x.value h.means).0 in
     rw is (omega (arith, near-abs {b = 1_097_150_000} 1 (stepped_value least_deviation R x.code) (omega (arith, code, add_parts least_deviation (pos (R * x.code))))))
 
 deviations-most : (domain : Domain) (before : Option Codes) (at : ℕ) (pairs : List FoundPair) → PairsAt domain before at pairs → Deviations 1_097_150_000 (map pair_in pairs)
 deviations-most domain before at [] h = tt
-deviations-most domain before at (p ∷ pairs) h = (deviation-most h.0.deviation, deviations-most domain (some (codes_in p)) (at + 37) pairs h.1)
+deviations-most domain before at (p ∷ pairs) h = (deviation-most h.0.deviation, deviations-most domain (Some (codes_in p)) (at + 37) pairs h.1)
 
 -- ---- their sum
 
@@ -53,12 +53,12 @@ sum-most p d hp hd = omega (arith, near-abs {b = greatest_fraction} 1 (p +ℤ d)
 fraction-most : (at : ℕ) (k : Calibration) (p : ℤ) → CalibrationAt at k → NoCurve k → nat_abs p ≤ 1_100_000_000 → nat_abs (fraction k p) ≤ greatest_fraction
 fraction-most at bare p h s l = omega arith
 fraction-most at (table Electrical pairs) p h s l =
-    let t = pairs-table Electrical none (at + 18) pairs h.stand in
-    sum-most p (deviation (map pair_in pairs) p) l (deviation-within 1_097_150_000 (map pair_in pairs) p t.rises (deviations-most Electrical none (at + 18) pairs h.stand))
+    let t = pairs-table Electrical None (at + 18) pairs h.stand in
+    sum-most p (deviation (map pair_in pairs) p) l (deviation-within 1_097_150_000 (map pair_in pairs) p t.rises (deviations-most Electrical None (at + 18) pairs h.stand))
 fraction-most at (table Physical pairs) p h s l =
-    let t = pairs-table Physical none (at + 18) pairs h.stand in
+    let t = pairs-table Physical None (at + 18) pairs h.stand in
     crossing-within 1_097_150_000 1_100_000_000 (map pair_in pairs) p t.rises (calibration-rises at (table Physical pairs) Physical h refl)
-    (deviations-most Physical none (at + 18) pairs h.stand) l
+    (deviations-most Physical None (at + 18) pairs h.stand) l
 fraction-most at (curve segments) p h s l = absurd s
 
 pub fraction-at-most : FractionAtMost

@@ -1,5 +1,5 @@
 -- Laws of an index, and of fields fetched through it.
-use Rattle.promises.proofs.Names.{◌≡◌, refl, sym, ap, ◌∙◌, Bool, true, false, cond, List, [], ◌∷◌, ◌++◌, map, ℕ, suc, ◌-◌, ◌≤◌, ◌<◌, arith, dec_lt, eqb, length, drop, map-set_same, Outcome, good, refused, ◌>>◌}
+use Rattle.promises.proofs.Names.{◌≡◌, refl, sym, ap, ◌∙◌, Bool, true, false, cond, List, [], ◌∷◌, ◌++◌, map, ℕ, suc, ◌-◌, ◌≤◌, ◌<◌, arith, dec_lt, eqb, length, drop, map-set_same, Outcome, Ok, Err, ◌>>◌}
 use Rattle.promises.proofs.Names.{◌>>=◌, good-same, Sizes, image_sizes, sums, sizes-chip, Layout, last_field, last-most, bits-least, Contents, contents, nothing, field, layout_of, pairs_in, contents-accepted}
 use Rattle.promises.proofs.Names.{read_field, fields-end, refused-reads, Value, decode, kept, code_for, may_commit, Entry, field_entry, pair_entry, entries, entry_bytes, entry_at, index, fetch, entry_of, bytes_count}
 use Rattle.promises.proofs.Names.{of_pair, lies, entry-rises, index-unread, index_of, index_same, fetch-unsized, fetch-turned, read_back, fetched-own, Alteration, changes, commits, altered, replaced, left, held_by}
@@ -17,13 +17,13 @@ pub refused-alike : RefusedAlike
 unfolding contents
 refused-alike kind image made f r e = go (image_sizes kind (length image)) refl e
   where
-    both : contents kind image ≡ refused r → fetch kind image made f ≡ refused r → (fetch kind image made f ≡ refused r) × (read_field kind image f ≡ refused r)
+    both : contents kind image ≡ Err r → fetch kind image made f ≡ Err r → (fetch kind image made f ≡ Err r) × (read_field kind image f ≡ Err r)
     both c d = (d, (refused-reads kind image r c).field f)
 
-    go : (o : Outcome Sizes) → image_sizes kind (length image) ≡ o → (o >>= λ z. sums z image) ≡ refused r →
-        (fetch kind image made f ≡ refused r) × (read_field kind image f ≡ refused r)
-    go (refused q) h g = let same : q ≡ r = cc in both (rw h (ap refused same)) (fetch-unsized kind image made f (h ∙ ap refused same))
-    go (good z) h g = both (rw (h, g)) (fetch-turned kind image made f h g)
+    go : (o : Outcome Sizes) → image_sizes kind (length image) ≡ o → (o >>= λ z. sums z image) ≡ Err r →
+        (fetch kind image made f ≡ Err r) × (read_field kind image f ≡ Err r)
+    go (Err q) h g = let same : q ≡ r = cc in both (rw h (ap Err same)) (fetch-unsized kind image made f (h ∙ ap Err same))
+    go (Ok z) h g = both (rw (h, g)) (fetch-turned kind image made f h g)
 
 -- ---- sorted
 
@@ -79,17 +79,17 @@ module _ (c : Contents) where
   recoded-entries f code v = ap (λ (es : List Entry). es ++ map pair_entry (pairs_in c.calibration)) (map-set_same field_entry c.fields (f - 1) _ nothing refl)
 
   change-entries : (f : ℕ) (v : Value) (t : Bool) (o : Outcome ℕ) →
-      entries (cond t (left c (o >>= λ code. good (replaced c f code (kept (field c f).row v)))) c) ≡ entries c
+      entries (cond t (left c (o >>= λ code. Ok (replaced c f code (kept (field c f).row v)))) c) ≡ entries c
   change-entries f v false o = refl
-  change-entries f v true (refused r) = refl
-  change-entries f v true (good code) = recoded-entries f code _
+  change-entries f v true (Err r) = refl
+  change-entries f v true (Ok code) = recoded-entries f code _
 
   commit-entries : (f new : ℕ) (t : Bool) (o : Outcome (Unit {0})) (d : Outcome Value) →
-      entries (cond t (left c (o >> (d >>= λ v. good (replaced c f new v)))) c) ≡ entries c
+      entries (cond t (left c (o >> (d >>= λ v. Ok (replaced c f new v)))) c) ≡ entries c
   commit-entries f new false o d = refl
-  commit-entries f new true (refused r) d = refl
-  commit-entries f new true (good u) (refused r) = refl
-  commit-entries f new true (good u) (good v) = recoded-entries f new v
+  commit-entries f new true (Err r) d = refl
+  commit-entries f new true (Ok u) (Err r) = refl
+  commit-entries f new true (Ok u) (Ok v) = recoded-entries f new v
 
   one-entries : (kind : ℕ) (a : Alteration) → entries (held_by kind c a) ≡ entries c
   one-entries kind (changes ch) = change-entries ch.field ch.value (eqb ch.kind kind) (code_for c ch.level ch.field ch.value)
@@ -105,8 +105,8 @@ pub index_kept : IndexKept
 index_kept kind image buffer alterations bytes real = go (contents kind image) refl
   where
     go : (o : Outcome Contents) → contents kind image ≡ o → index kind (altered image alterations) buffer ≡ index kind image buffer
-    go (refused r) e = index-unread kind (altered image alterations) buffer r (refused-after kind r image alterations e) ∙ sym (index-unread kind image buffer r e)
-    go (good c) e =
+    go (Err r) e = index-unread kind (altered image alterations) buffer r (refused-after kind r image alterations e) ∙ sym (index-unread kind image buffer r e)
+    go (Ok c) e =
         index_same kind (altered image alterations) image buffer (held kind c alterations) c (after-alterations kind image c alterations bytes real e) e (held-entries kind c alterations)
 
 pub fetched-after-changes : FetchedAfterChanges

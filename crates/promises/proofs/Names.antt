@@ -1,7 +1,8 @@
 -- What the proofs of this crate take from the kit, from the crates below and from its own definitions.
 pub use Prim.Native.Nat.{◌%◌, ◌*◌, ◌+◌, ◌-◌, ◌/◌, ◌<◌, ◌^◌, ◌≤◌, suc, zero, zero-le, ℕ}
 pub use mathlib.Core.{Bool.Bool, Bool.◌&&◌, Bool.◌||◌, Bool.cond, Bool.false, Bool.not, Bool.true, Bool.true≢false, List.List, List.[], List.◌++◌, List.◌∷◌, List.append_assoc, List.map, List.map-append}
-pub use mathlib.Core.{Logic.◌≢◌, Logic.◌⊎◌, Logic.inl, Logic.inr, Option.Option, Option.none, Option.none as none_before, Option.some, Path.◌∙◌, Path.◌≡◌, Path.ap, Path.ap₂, Path.refl, Path.subst, Path.subst₂, Path.sym}
+pub use mathlib.Core.{Logic.◌≢◌, Logic.◌⊎◌, Logic.inl, Logic.inr, Path.◌∙◌, Path.◌≡◌, Path.ap, Path.ap₂, Path.refl, Path.subst, Path.subst₂, Path.sym}
+pub use Rattle.std.specs.declared.option.Option.{Option, TheVariants.None, TheVariants.None as none_before, TheVariants.Some}
 pub use native.Mathlib.Nat.{le-mul_of_pos_right, le_of_eq, le_refl, lt_of_le_of_lt, lt_of_lt_of_le, mul_assoc, mul-le-mul_left, mul-le-mul_right, mul-lt-mul_of_pos_left, mul-one, mul-pos, one-le-pow, pow-suc}
 pub use native.Mathlib.{Decide.dec_lt, Numerals.add-one, Omega.arith}
 pub use lib.Ieee.{Bits.of_bits-fits, Exact.HasValue, Fits.down_pos, Float, Scale.overflow, add, binary32, binary64, down as below, fin, fits, inf, mul, nan, sub, up as above}
@@ -16,9 +17,9 @@ pub use borrow.Author.{Rules.rules, Tests.eqb-false, Tests.eqb-true, Tests.le-le
 pub use Rattle.refusal.proofs.OrderLaws.{Among, by-among, by-bind, by_cond, by_last, by_number, by-test, by-then}
 pub use Rattle.refusal.proofs.Outcomes.{Other, bind_assoc, bind-good, bind-refused, bind-same, both, good-bind, good-same, good-then, neither, no_value_lem, not-refused, other-number, passed, then-good, then-refused}
 pub use Rattle.refusal.specs.Orders.{By, build_order, change_order, check_order, commit_order, compare_order, curve_order, distance_order, fetch_order, index_order, occurs, read_order, reading_order, stream_rows, text_order}
-pub use Rattle.refusal.specs.Outcome.{Outcome, ◌>>=◌, ◌>>◌, good, refuse◌if◌, refused, tested}
-pub use Rattle.refusal.specs.Rows.{blank_chip, changed_alone, end_outside, level_too_low, no_span, no_such, not_finite, not_rising, other_code, out_of_range, outside_span, outside_table, short_index, sums_not_rising, too_long}
-pub use Rattle.refusal.specs.Rows.{too_many_points, too_many_terms, wrong_block, wrong_curve, wrong_image, wrong_list, wrong_sort, wrong_sum, wrong_ticks}
+pub use Rattle.refusal.specs.Outcome.{Outcome, ◌>>=◌, ◌>>◌, Ok, refuse◌if◌, Err, tested}
+pub use Rattle.refusal.specs.declared.Refusal.TheVariants.{BlankChip, ChangedAlone, EndOutside, LevelTooLow, NoSpan, NoSuch, NotFinite, NotRising, OtherCode, OutOfRange, OutsideSpan, OutsideTable, ShortIndex, SumsNotRising, TooLong}
+pub use Rattle.refusal.specs.declared.Refusal.TheVariants.{TooManyPoints, TooManyTerms, WrongBlock, WrongCurve, WrongImage, WrongList, WrongSort, WrongSum, WrongTicks}
 pub use Rattle.refusal.specs.Written.{afterwards, written_said}
 pub use Rattle.refusal.specs.declared.Refusal.{Refusal}
 pub use Rattle.integers.proofs.NearestLaws.{High, Low, nearest-exact, nearest-high, nearest-is, nearest-low, nearest-rises-parts}
@@ -73,7 +74,7 @@ pub use Rattle.layout.specs.Places.{behind_fields, block_bits, curve_bits, first
 unfoldable pub use Rattle.layout.specs.Contents.{block_at, calibration_of, characters_of, ending_of, field_of, fields_of, first_block, pair_of, pairs_of, selector_of, sheet_of, table_of}
 unfoldable pub use Rattle.layout.specs.{Image.contents, Places.field_place}
 pub use Rattle.sheet.proofs.{CurvePlaces.curve-few, ReadLaws.accepted-reads, ReadLaws.fields-are, ReadLaws.refused-reads}
-pub use Rattle.sheet.specs.declared.{Summary.Summary, TableDomain.TableDomain, TableDomain.TheVariants.Is}
+pub use Rattle.sheet.specs.declared.{Summary.Summary}
 pub use Rattle.sheet.specs.{Check.domain_in, Check.indexed, Check.summary, Opened.Opens, Opened.opened_as, Reads.ReadsEach, Reads.ReadsNone}
 unfoldable pub use Rattle.sheet.specs.Check.{check, read_character, read_field, read_pair, read_segment, read_term}
 pub use Rattle.index.proofs.EntryLaws.{entry-rises, lies, of_pair}
@@ -106,7 +107,7 @@ pub use Rattle.figures.specs.{Figure.float_fraction, Figures.End, Figures.units}
 unfoldable pub use Rattle.figures.specs.Figure.{physical_figure}
 pub use Rattle.reading.proofs.Opening.{bridge, calibration-rises, calibration-table, pairs-table}
 pub use Rattle.reading.proofs.{Fractions.by-crossing, Fractions.by-deviation, Fractions.fraction-small, Orders.shown, Positions.position-rises, Positions.position-small, Spans.span-ready, Spans.spanned}
-pub use Rattle.reading.specs.Reading.{fraction, greatest, is_missing, is_outside, is_resistance, least, physical_fraction, reading_said, refuse_first, serving_terms, too_far, too_many}
+pub use Rattle.reading.specs.Reading.{fraction, greatest, is_missing, is_outside, is_resistance, least, physical_fraction, refuse_first, serving_terms, too_far, too_many}
 pub use Rattle.reading.specs.declared.{Dash.Dash, Reading.Reading, span.Span.Span}
 unfoldable pub use Rattle.reading.specs.Reading.{position, reading_at, serving, span_of, take_reading}
 pub use Rattle.distance.proofs.Accepted.{distance-told, least-slope, no-slope, taking, told-by}
@@ -142,3 +143,4 @@ pub use Rattle.promises.specs.{Reads.BitsBehindNotJudged, Reads.ReadByIndex, Rou
 pub use Rattle.promises.specs.{Singles.NanovoltsOfBits, Singles.digits, Singles.exponent_field, Singles.is_negative, Singles.units_of, Stream.FirstBitLowest, Stream.Puts, Stream.StreamBit}
 pub use Rattle.promises.specs.{Texts.Calendar, Texts.Day, Texts.LeapYears, Texts.TextAndCode, declared.Answers.Answers, declared.lent.Content.Content, declared.lent.Target.Target}
 unfoldable pub use Rattle.promises.specs.Levels.{change_as_before}
+pub use Rattle.refusal.specs.Rows.{row_number}

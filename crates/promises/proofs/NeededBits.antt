@@ -1,6 +1,6 @@
 -- Laws of row 11: the bits that a build needs.
-use Rattle.promises.proofs.Names.{◌≡◌, refl, sym, ap, ap₂, ◌∙◌, Bool, true, false, cond, List, [], ◌∷◌, ◌++◌, map, Option, none_before, some, ℕ, zero, suc, ◌+◌, ◌-◌, ◌≤◌, arith, leb, pos, length, drop, length-map}
-use Rattle.promises.proofs.Names.{length-append, length-take-le, lt-ltb, leb-true, good, out_of_range, good-same, good-bind, passed, both, Piece, piece, needed, needed-append, Whole, Plain, Template, Bridge}
+use Rattle.promises.proofs.Names.{◌≡◌, refl, sym, ap, ap₂, ◌∙◌, Bool, true, false, cond, List, [], ◌∷◌, ◌++◌, map, Option, none_before, Some, ℕ, zero, suc, ◌+◌, ◌-◌, ◌≤◌, arith, leb, pos, length, drop, length-map}
+use Rattle.promises.proofs.Names.{length-append, length-take-le, lt-ltb, leb-true, Ok, OutOfRange, good-same, good-bind, passed, both, Piece, piece, needed, needed-append, Whole, Plain, Template, Bridge}
 use Rattle.promises.proofs.Names.{Resistance, outside, encode, always, bridge_precision, resistance_precision, Line, chose, basic, template33, template32, template_lines, lines_of, number_of, bits_before, Segment, Term}
 use Rattle.promises.proofs.Names.{pair_in, pairs_in, segments_in, segment_in, all_terms, term_in, block_bits, field_place, behind_fields, table_bits, curve_bits, block_pieces, end_code, Steady, basic-settled, template-steady}
 use Rattle.promises.proofs.Names.{bits-append, calibration-needed, text-needed, Sheet, lent, template_in, line_pieces, pairs_lent, segment_pieces, Table, listed, by_curve, behind_pieces, segments-planned, block-planned}
@@ -11,14 +11,14 @@ use Rattle.promises.proofs.PlannedSheet.{plan-parts, BehindStands, behind-stands
 
 module _ (sheet : Sheet) where
   -- If no line sets widths, at the latest choice.
-  settled-needed : (lines : List Line) → Steady true lines → (latest f : ℕ) (ps : List Piece) → line_pieces sheet lines latest f ≡ good ps →
+  settled-needed : (lines : List Line) → Steady true lines → (latest f : ℕ) (ps : List Piece) → line_pieces sheet lines latest f ≡ Ok ps →
       needed ps ≡ bits_before lines latest (length lines)
   unfolding line_pieces
   settled-needed [] h latest f ps e = ap needed (sym (good-same e))
   settled-needed (l ∷ lines) h latest f ps e =
       let (code, e1, e2) = good-bind (encode (l.row_at latest) f (lent sheet f)) _ ps e in
       let (rest, e3, e4) = good-bind (line_pieces sheet lines (chose l.sets code latest) (suc f)) _ ps e2 in
-      let k : line_pieces sheet lines latest (suc f) ≡ good rest = ap (λ (t : Bool). line_pieces sheet lines (chose t code latest) (suc f)) (sym h.0) ∙ e3 in
+      let k : line_pieces sheet lines latest (suc f) ≡ Ok rest = ap (λ (t : Bool). line_pieces sheet lines (chose t code latest) (suc f)) (sym h.0) ∙ e3 in
       omega (arith, ap needed (sym (good-same e4)), settled-needed lines h.1 latest (suc f) rest k)
 
   -- The choice is the code of the line that sets widths.
@@ -28,9 +28,9 @@ module _ (sheet : Sheet) where
 
   abbrev Chose : List Line → ℕ → ℕ → ℕ → Type 0
   Chose [] latest f choice = latest ≡ choice
-  Chose (l ∷ lines) latest f choice = pick l.sets (encode (l.row_at latest) f (lent sheet f) ≡ good choice) (Chose lines latest (suc f) choice)
+  Chose (l ∷ lines) latest f choice = pick l.sets (encode (l.row_at latest) f (lent sheet f) ≡ Ok choice) (Chose lines latest (suc f) choice)
 
-  steady-needed : (lines : List Line) → Steady false lines → (latest f : ℕ) (ps : List Piece) → line_pieces sheet lines latest f ≡ good ps →
+  steady-needed : (lines : List Line) → Steady false lines → (latest f : ℕ) (ps : List Piece) → line_pieces sheet lines latest f ≡ Ok ps →
       (choice : ℕ) × (needed ps ≡ bits_before lines choice (length lines)) × Chose lines latest f choice
   unfolding line_pieces
   steady-needed [] h latest f ps e = (latest, ap needed (sym (good-same e)), refl)
@@ -40,11 +40,11 @@ module _ (sheet : Sheet) where
       let n : needed ps ≡ needed rest + (l.row_at latest).width = ap needed (sym (good-same e4)) in
       go code rest e1 n (λ s k. steady-needed lines s latest (suc f) rest k) l.sets h.1 e3
     where
-      go : (code : ℕ) (rest : List Piece) → encode (l.row_at latest) f (lent sheet f) ≡ good code → needed ps ≡ needed rest + (l.row_at latest).width →
-          (Steady false lines → line_pieces sheet lines latest (suc f) ≡ good rest → (choice : ℕ) × (needed rest ≡ bits_before lines choice (length lines)) × Chose lines latest (suc f) choice) →
-          (t : Bool) → Steady t lines → line_pieces sheet lines (chose t code latest) (suc f) ≡ good rest →
+      go : (code : ℕ) (rest : List Piece) → encode (l.row_at latest) f (lent sheet f) ≡ Ok code → needed ps ≡ needed rest + (l.row_at latest).width →
+          (Steady false lines → line_pieces sheet lines latest (suc f) ≡ Ok rest → (choice : ℕ) × (needed rest ≡ bits_before lines choice (length lines)) × Chose lines latest (suc f) choice) →
+          (t : Bool) → Steady t lines → line_pieces sheet lines (chose t code latest) (suc f) ≡ Ok rest →
           (choice : ℕ) × (needed ps ≡ (l.row_at choice).width + bits_before lines choice (length lines)) ×
-          pick t (encode (l.row_at latest) f (lent sheet f) ≡ good choice) (Chose lines latest (suc f) choice)
+          pick t (encode (l.row_at latest) f (lent sheet f) ≡ Ok choice) (Chose lines latest (suc f) choice)
       go code rest e1 n others true s k =
           (code, omega (arith, n, settled-needed lines s code (suc f) rest k, ap (λ r. r.width) (h.0 latest code)), e1)
       go code rest e1 n others false s k =
@@ -59,10 +59,10 @@ unfolding basic
 basic-bits latest = refl
 
 -- The choice of a sheet is the precision that is lent.
-plain-choice : (least greatest precision choice : ℕ) → encode (always 2 (Plain least greatest)) 9 (Whole (pos precision)) ≡ good choice → precision ≡ choice
+plain-choice : (least greatest precision choice : ℕ) → encode (always 2 (Plain least greatest)) 9 (Whole (pos precision)) ≡ Ok choice → precision ≡ choice
 unfolding encode
 plain-choice least greatest precision choice e =
-    good-same (passed (out_of_range 9) (outside (pos least) (pos greatest) (pos precision)) (good precision) choice e).1
+    good-same (passed (OutOfRange 9) (outside (pos least) (pos greatest) (pos precision)) (Ok precision) choice e).1
 
 lent-choice : (sheet : Sheet) (t : Template) (precision choice : ℕ) → lent sheet 9 ≡ Whole (pos precision) → Chose sheet (template_lines t) 0 (suc (length basic)) choice → precision ≡ choice
 unfolding basic template33 template32
@@ -81,7 +81,7 @@ fields-needed t choice =
     )
 
 -- The bits of what follows the fields.
-behind-bits : (table : Table) → LendableTable table → (ps : List Piece) → behind_pieces table ≡ good ps → (k : BehindStands 0 table ps) →
+behind-bits : (table : Table) → LendableTable table → (ps : List Piece) → behind_pieces table ≡ Ok ps → (k : BehindStands 0 table ps) →
     table_bits (length (pairs_in k.calibration)) + curve_bits (length (segments_in k.calibration)) (length (all_terms (segments_in k.calibration))) ≡ behind_bits table
 behind-bits (listed domain points) lendable ps e k =
     let count : length (pairs_in k.calibration) ≡ length (pairs_lent points) =
@@ -100,12 +100,12 @@ behind-bits (by_curve given) lendable ps e k =
     ∙ length-take-le (terms_in (segments_lent given)) given.terms (omega (arith, lendable.terms, terms-few none_before 0 0 (segments_lent given) given.terms b.pieces b.plans (omega arith))) in
     omega (arith, ap table_bits none, ap₂ curve_bits count all)
   where
-    terms-few : (before : Option ℕ) (i total : ℕ) (segments : List Segment) (terms : List Term) (ps : List Piece) → segment_pieces before i total segments terms ≡ good ps → total ≤ 30 → total + terms_in segments ≤ 30
+    terms-few : (before : Option ℕ) (i total : ℕ) (segments : List Segment) (terms : List Term) (ps : List Piece) → segment_pieces before i total segments terms ≡ Ok ps → total ≤ 30 → total + terms_in segments ≤ 30
     terms-few before i total [] terms ps e few = omega arith
     terms-few before i total (s ∷ segments) terms ps e few =
         let d = segments-planned before i total s segments terms ps e in
         let p = start-planned before i total s d.start d.start_coded in
-        omega (arith, terms-few (some d.start) (suc i) (total + s.terms) segments (drop s.terms terms) d.rest d.others p.few)
+        omega (arith, terms-few (Some d.start) (suc i) (total + s.terms) segments (drop s.terms terms) d.rest d.others p.few)
 
 pub bits-needed : BitsNeeded
 bits-needed sheet text table precision pieces lendable v e =

@@ -1,6 +1,6 @@
 -- Proof of Note 14: the position never falls, and the fraction follows it.
-use Rattle.promises.proofs.Names.{◌≡◌, refl, sym, ap, ◌∙◌, subst₂, List, map, ℕ, arith, ℤ, ◌≤ℤ◌, good, good-same, Electrical, Physical, Calibration, bare, table, curve, Contents, contents, pair_in, CalibrationAt}
-use Rattle.promises.proofs.Names.{contents-accepted, Is, domain_in, deviated-never-falls, crossing-never-falls, least, greatest, position, fraction, calibration-table, calibration-rises, shown, position-rises}
+use Rattle.promises.proofs.Names.{◌≡◌, refl, sym, ap, ◌∙◌, subst₂, List, map, ℕ, arith, ℤ, ◌≤ℤ◌, Ok, good-same, Electrical, Physical, Calibration, bare, table, curve, Contents, contents, pair_in, CalibrationAt}
+use Rattle.promises.proofs.Names.{contents-accepted, Some, domain_in, deviated-never-falls, crossing-never-falls, least, greatest, position, fraction, calibration-table, calibration-rises, shown, position-rises}
 use Rattle.promises.proofs.Names.{NeverFalls, NeverDrops, ReadingMonotone, MonotoneByPhysicalPoint}
 
 -- A greater position never has a smaller fraction.
@@ -13,7 +13,7 @@ in-domain-0 at (table Electrical pairs) h falls p r le = deviated-never-falls (m
 in-domain-0 at (table Physical pairs) h falls p r le = absurd falls
 in-domain-0 at (curve segments) h falls p r le = absurd falls
 
-in-domain-1 : (at : ℕ) (k : Calibration) → CalibrationAt at k → domain_in k ≡ Is Physical → Follows k
+in-domain-1 : (at : ℕ) (k : Calibration) → CalibrationAt at k → domain_in k ≡ Some Physical → Follows k
 in-domain-1 at bare h e p r le = le
 in-domain-1 at (table Electrical pairs) h e p r le = absurd (let z : ◌≡◌ {A = ℕ} 0 1 = cc in omega arith)
 in-domain-1 at (table Physical pairs) h e p r le =
@@ -21,7 +21,7 @@ in-domain-1 at (table Physical pairs) h e p r le =
 in-domain-1 at (curve segments) h e p r le = le
 
 -- Readings follow their inputs.
-never-drops : (kind : ℕ) (image : List ℕ) (c : Contents) → contents kind image ≡ good c → Follows c.calibration → NeverDrops kind image
+never-drops : (kind : ℕ) (image : List ℕ) (c : Contents) → contents kind image ≡ Ok c → Follows c.calibration → NeverDrops kind image
 never-drops kind image c e follows v w one other r s taken later le =
     let x = shown kind image v one r taken in
     let y = shown kind image w other s later in

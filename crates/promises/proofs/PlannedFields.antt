@@ -1,6 +1,6 @@
 -- Laws of fields, for any lines: the format allows what
 -- a build plans, and parsed fields are planned again.
-use Rattle.promises.proofs.Names.{◌≡◌, refl, sym, ap, ◌∙◌, subst, List, [], ◌∷◌, ◌++◌, map, ℕ, suc, ◌+◌, arith, length, get_or, good, good-same, good-bind, Piece, piece, Value, Missing, Row, encode}
+use Rattle.promises.proofs.Names.{◌≡◌, refl, sym, ap, ◌∙◌, subst, List, [], ◌∷◌, ◌++◌, map, ℕ, suc, ◌+◌, arith, length, get_or, Ok, good-same, good-bind, Piece, piece, Value, Missing, Row, encode}
 use Rattle.promises.proofs.Names.{kept, Real, AllSound, Line, chose, rows_of, reads-back, stored-again, Found, piece_of, found, row_is, Laid, Slot, Sheet, slot, lent, line_pieces}
 
 -- The rows are sound at every choice.
@@ -25,7 +25,7 @@ pub record LinesStand (sheet : Sheet) (lines : List Line) (latest f at : ℕ) (p
   pub keeps : KeptFrom sheet f fields
 
 pub lines-stand : (sheet : Sheet) → ((f : ℕ) → Real (lent sheet f)) → (lines : List Line) (latest f at : ℕ) (ps : List Piece) → SoundLines lines →
-    line_pieces sheet lines latest f ≡ good ps → LinesStand sheet lines latest f at ps
+    line_pieces sheet lines latest f ≡ Ok ps → LinesStand sheet lines latest f at ps
 unfolding line_pieces
 lines-stand sheet real [] latest f at ps sound e = record { fields = []; pieces = sym (good-same e); laid = tt; keeps = tt }
 lines-stand sheet real (l ∷ lines) latest f at ps sound e =
@@ -44,17 +44,17 @@ lines-stand sheet real (l ∷ lines) latest f at ps sound e =
 
 -- Parsed fields are planned again.
 pub lines-again : (sheet : Sheet) (lines : List Line) (latest f at : ℕ) (xs : List Found) → SoundLines lines → Laid lines latest at xs → LentFrom sheet f xs →
-    line_pieces sheet lines latest f ≡ good (map piece_of xs)
+    line_pieces sheet lines latest f ≡ Ok (map piece_of xs)
 unfolding line_pieces
 lines-again sheet [] latest f at [] sound h k = refl
 lines-again sheet [] latest f at (x ∷ xs) sound h k = absurd h
 lines-again sheet (l ∷ lines) latest f at [] sound h k = absurd h
 lines-again sheet (l ∷ lines) latest f at (x ∷ xs) sound h k =
     let row : Row = l.row_at latest in
-    let e : encode row f (lent sheet f) ≡ good x.code =
+    let e : encode row f (lent sheet f) ≡ Ok x.code =
     ap (encode row f) k.0 ∙ stored-again row f at x.code x.value (sound latest).0 h.0.fits h.0.means in
     rw (e, lines-again sheet lines (chose l.sets x.code latest) (suc f) (at + row.width) xs (λ c. (sound c).1) h.1 k.1)
-    (ap (λ r. good (piece r.width x.code ∷ map piece_of xs)) (sym (row_is h.0)))
+    (ap (λ r. Ok (piece r.width x.code ∷ map piece_of xs)) (sym (row_is h.0)))
 
 -- ---- the lent values, from a list of slots
 

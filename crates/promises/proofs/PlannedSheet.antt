@@ -1,7 +1,7 @@
 -- Laws of a whole plan: the format allows what it writes, with the
 -- zero that may end the text, and a parsed sheet is planned again.
 use Rattle.promises.proofs.Names.{◌≡◌, refl, sym, ap, ap₂, ◌∙◌, subst, Bool, true, false, ◌&&◌, ◌||◌, List, [], ◌∷◌, ◌++◌, map, append_assoc, ℕ, suc, ◌+◌, ◌-◌, ◌*◌, ◌/◌, ◌%◌, ◌≤◌, ◌<◌, arith, eqb, ltb, leb, ℤ}
-use Rattle.promises.proofs.Names.{length, take, length-map, ltb-false, le-ltb, lt-ltb, leb-true, leb-false, ne_eqb, good, wrong_sort, out_of_range, wrong_list, good-same, good-bind, good-then, passed, neither}
+use Rattle.promises.proofs.Names.{length, take, length-map, ltb-false, le-ltb, lt-ltb, leb-true, leb-false, ne_eqb, Ok, WrongSort, OutOfRange, WrongList, good-same, good-bind, good-then, passed, neither}
 use Rattle.promises.proofs.Names.{bind-good, then-good, Piece, piece, needed, needed-append, Template, basic, template_lines, number_of, ending, Real, Domain, basic-sound, lines-sound, Calibration, bare, table_found}
 use Rattle.promises.proofs.Names.{curve_found, Contents, pair_in, pairs_in, segments_in, all_terms, segment_in, term_in, points, segments, terms, block_pieces, end_code, piece_of, laid-length, calibration_pieces}
 use Rattle.promises.proofs.Names.{CalibrationAt, Characters, zero_if, text-needed, characters_from, end_pieces, Formed, sheet_pieces, domain_in, Sheet, lent, template_in, line_pieces, field_pieces, unfit, ending_tested, ending_pieces}
@@ -35,7 +35,7 @@ zero_room S true at n = go (leb (at + 7 * n + 7) S) refl
     go false e = le-ltb n ((S - at) / 7) (omega (arith, leb-false (at + 7 * n + 7) S e))
 zero_room S false at n = le-ltb n 0 (omega arith)
 
-ending-again : (f : ℕ) (end_bit : Bool) (text : List ℕ) → stray_text end_bit text ≡ false → Characters text → ending_tested f end_bit text ≡ good tt
+ending-again : (f : ℕ) (end_bit : Bool) (text : List ℕ) → stray_text end_bit text ≡ false → Characters text → ending_tested f end_bit text ≡ Ok tt
 unfolding ending_tested
 ending-again f end_bit text stray h = rw (stray, characters-fit text h)
 
@@ -45,15 +45,15 @@ pub record PlanParts (sheet : Sheet) (text : List ℕ) (table : Table) (pieces :
   pub basics : List Piece
   pub own : List Piece
   pub behind : List Piece
-  pub tested : list_tested table ≡ good tt
-  pub basics_planned : line_pieces sheet basic 0 1 ≡ good basics
-  pub own_planned : line_pieces sheet (template_lines (template_in sheet)) 0 (suc (length basic)) ≡ good own
+  pub tested : list_tested table ≡ Ok tt
+  pub basics_planned : line_pieces sheet basic 0 1 ≡ Ok basics
+  pub own_planned : line_pieces sheet (template_lines (template_in sheet)) 0 (suc (length basic)) ≡ Ok own
   pub stray : stray_text sheet.end_bit text ≡ false
   pub characters : Characters text
-  pub behind_planned : behind_pieces table ≡ good behind
+  pub behind_planned : behind_pieces table ≡ Ok behind
   pub joined : (basics ++ (block_pieces (number_of (template_in sheet)) ++ own)) ++ (behind ++ ending_pieces sheet.end_bit text) ≡ pieces
 
-pub plan-parts : (sheet : Sheet) (text : List ℕ) (table : Table) (pieces : List Piece) → plan sheet text table ≡ good pieces →
+pub plan-parts : (sheet : Sheet) (text : List ℕ) (table : Table) (pieces : List Piece) → plan sheet text table ≡ Ok pieces →
     PlanParts sheet text table pieces
 unfolding plan field_pieces ending_tested
 plan-parts sheet text table pieces e =
@@ -65,8 +65,8 @@ plan-parts sheet text table pieces e =
     let (ts, e5, e6) = good-bind (behind_pieces table) _ pieces e4 in
     let (bs, f1, f2) = good-bind (line_pieces sheet basic 0 1) _ fs e1 in
     let (os, f3, f4) = good-bind (line_pieces sheet (template_lines (template_in sheet)) 0 (suc (length basic))) _ fs f2 in
-    let (s, g1) = passed (wrong_sort f) (stray_text b text) _ tt e3 in
-    let u = not-refused (out_of_range f) (unfit text) g1 in
+    let (s, g1) = passed (WrongSort f) (stray_text b text) _ tt e3 in
+    let u = not-refused (OutOfRange f) (unfit text) g1 in
     record {
       basics = bs;
       own = os;
@@ -87,9 +87,9 @@ half (a ∷ s ∷ lentPoints) = omega (arith, half lentPoints)
 
 -- ---- what follows the fields
 
-few-lent : (domain : Domain) (lentPoints : List ℤ) → list_tested (listed domain lentPoints) ≡ good tt → length lentPoints ≤ 254
+few-lent : (domain : Domain) (lentPoints : List ℤ) → list_tested (listed domain lentPoints) ≡ Ok tt → length lentPoints ≤ 254
 few-lent domain lentPoints e =
-    ltb-false 254 (length lentPoints) (neither (eqb (length lentPoints % 2) 1) (ltb 254 (length lentPoints)) (not-refused (wrong_list (length lentPoints)) _ e)).1
+    ltb-false 254 (length lentPoints) (neither (eqb (length lentPoints % 2) 1) (ltb 254 (length lentPoints)) (not-refused (WrongList (length lentPoints)) _ e)).1
 
 pub record BehindStands (at : ℕ) (table : Table) (ps : List Piece) : Type 0 where
   pub calibration : Calibration
@@ -100,7 +100,7 @@ pub record BehindStands (at : ℕ) (table : Table) (ps : List Piece) : Type 0 wh
   pub keeps_segments : map segment_in (segments_in calibration) ≡ kept_segments table
   pub keeps_terms : map term_in (all_terms (segments_in calibration)) ≡ kept_terms table
 
-pub behind-stands : (at : ℕ) (table : Table) (ps : List Piece) → LendableTable table → list_tested table ≡ good tt → behind_pieces table ≡ good ps → BehindStands at table ps
+pub behind-stands : (at : ℕ) (table : Table) (ps : List Piece) → LendableTable table → list_tested table ≡ Ok tt → behind_pieces table ≡ Ok ps → BehindStands at table ps
 behind-stands at (listed domain lentPoints) ps lendable t e =
     let k = table-stands at domain (pairs_lent lentPoints) ps (omega (arith, half lentPoints, few-lent domain lentPoints t)) e in
     record {
@@ -171,7 +171,7 @@ pub record PlanStands (S : ℕ) (sheet : Sheet) (text : List ℕ) (table : Table
   pub same_text : contents.text ≡ text
 
 pub plan-stands : (S : ℕ) (sheet : Sheet) (text : List ℕ) (table : Table) (pieces : List Piece) → ((f : ℕ) → Real (lent sheet f)) → LendableTable table →
-    plan sheet text table ≡ good pieces → needed pieces ≤ S → PlanStands S sheet text table pieces
+    plan sheet text table ≡ Ok pieces → needed pieces ≤ S → PlanStands S sheet text table pieces
 plan-stands S sheet text table pieces real lendable e inside =
     let d = plan-parts sheet text table pieces e in
     let t : Template = template_in sheet in
@@ -248,15 +248,15 @@ LentBehind (listed domain lentPoints) c =
 LentBehind (by_curve given) c =
     (given.count ≡ length (segments c)) × (segments_lent given ≡ segments c) × (take (length (terms c)) given.terms ≡ terms c) × (0 < length (segments c))
 
-tested-again : (at : ℕ) (c : Contents) → CalibrationAt at c.calibration → (table : Table) → LentBehind table c → list_tested table ≡ good tt
+tested-again : (at : ℕ) (c : Contents) → CalibrationAt at c.calibration → (table : Table) → LentBehind table c → list_tested table ≡ Ok tt
 tested-again at c h (listed domain lentPoints) l = rw (right-length lentPoints (length (points c)) l.1 (few-pairs at c h))
 tested-again at c h (by_curve given) l = refl
 
-behind-again : (at : ℕ) (c : Contents) → CalibrationAt at c.calibration → (table : Table) → LentBehind table c → behind_pieces table ≡ good (calibration_pieces c.calibration)
+behind-again : (at : ℕ) (c : Contents) → CalibrationAt at c.calibration → (table : Table) → LentBehind table c → behind_pieces table ≡ Ok (calibration_pieces c.calibration)
 behind-again at c h (listed domain lentPoints) l = ap (table_pieces domain) l.0 ∙ table-again at c.calibration domain h l.2 l.3
 behind-again at c h (by_curve given) l = go c.calibration refl h
   where
-    go : (k : Calibration) → c.calibration ≡ k → CalibrationAt at k → behind_pieces (by_curve given) ≡ good (calibration_pieces c.calibration)
+    go : (k : Calibration) → c.calibration ≡ k → CalibrationAt at k → behind_pieces (by_curve given) ≡ Ok (calibration_pieces c.calibration)
     go bare e h = absurd (omega (arith, l.3, ap (λ q. length (map segment_in (segments_in q))) e))
     go (table_found domain pairs) e h = absurd (omega (arith, l.3, ap (λ q. length (map segment_in (segments_in q))) e))
     go (curve_found xs) e h =
@@ -264,7 +264,7 @@ behind-again at c h (by_curve given) l = go c.calibration refl h
         let all : terms c ≡ map term_in (all_terms xs) = ap (λ q. map term_in (all_terms (segments_in q))) e in
         curve-again at xs given h (l.0 ∙ ap length same ∙ length-map xs segment_in) (l.1 ∙ same)
         (ap (λ (n : ℕ). take n given.terms) (sym (ap length all ∙ length-map (all_terms xs) term_in)) ∙ l.2 ∙ all)
-        ∙ ap (λ q. good (calibration_pieces q)) (sym e)
+        ∙ ap (λ q. Ok (calibration_pieces q)) (sym e)
 
 module _ {S : ℕ} {c : Contents} (h : Formed S c) (sheet : Sheet) (table : Table) (lents : LentFrom sheet 1 c.fields) (same_template : template_in sheet ≡ c.template)
     (same_end : sheet.end_bit ≡ c.end_bit) (lentBehind : LentBehind table c) where
@@ -280,19 +280,19 @@ module _ {S : ℕ} {c : Contents} (h : Formed S c) (sheet : Sheet) (table : Tabl
   abbrev pub again : List Piece
   again = (bs ++ (block_pieces (number_of c.template) ++ os)) ++ (ts ++ ending_pieces c.end_bit c.text)
 
-  fields-again : field_pieces sheet ≡ good (bs ++ (block_pieces (number_of c.template) ++ os))
+  fields-again : field_pieces sheet ≡ Ok (bs ++ (block_pieces (number_of c.template) ++ os))
   unfolding field_pieces
   fields-again =
       let (first, others) = lent_split sheet 1 h.basics h.own (subst (LentFrom sheet 1) h.fields lents) in
       let n : 1 + length h.basics ≡ suc (length basic) = omega (arith, laid-length basic 0 0 h.basics h.basics_laid) in
-      let own : line_pieces sheet (template_lines (template_in sheet)) 0 (suc (length basic)) ≡ good os =
+      let own : line_pieces sheet (template_lines (template_in sheet)) 0 (suc (length basic)) ≡ Ok os =
       ap (λ t. line_pieces sheet (template_lines t) 0 (suc (length basic))) same_template
       ∙ lines-again sheet (template_lines c.template) 0 (suc (length basic)) h.own_at h.own (lines-sound c.template) h.own_laid
       (subst (λ (f : ℕ). LentFrom sheet f h.own) n others) in
       bind-good _ (lines-again sheet basic 0 1 0 h.basics basic-sound h.basics_laid first) ∙ bind-good _ own
-      ∙ ap (λ t. good (bs ++ (block_pieces (number_of t) ++ os))) same_template
+      ∙ ap (λ t. Ok (bs ++ (block_pieces (number_of t) ++ os))) same_template
 
-  pub plan-again : plan sheet c.text table ≡ good again
+  pub plan-again : plan sheet c.text table ≡ Ok again
   unfolding plan
   plan-again =
       let stray = room-text S c.end_bit (h.end_at + 1) c.text h.ending.room in
@@ -300,7 +300,7 @@ module _ {S : ℕ} {c : Contents} (h : Formed S c) (sheet : Sheet) (table : Tabl
       (bind-good _ fields-again
       ∙ then-good _ (ap (λ b. ending_tested (ending (template_in sheet)) b c.text) same_end ∙ ending-again (ending (template_in sheet)) c.end_bit c.text stray h.ending.characters)
       ∙ bind-good _ (behind-again h.behind c h.calibrated table lentBehind)
-      ∙ ap (λ b. good ((bs ++ (block_pieces (number_of c.template) ++ os)) ++ (ts ++ ending_pieces b c.text))) same_end)
+      ∙ ap (λ b. Ok ((bs ++ (block_pieces (number_of c.template) ++ os)) ++ (ts ++ ending_pieces b c.text))) same_end)
 
   pub zero-behind : again ++ zero_if (c.end_bit && leb (needed again + 7) S) ≡ sheet_pieces h
   zero-behind =

@@ -1,6 +1,6 @@
 -- Proof of demand 2: read and rebuilt.
 use Rattle.promises.proofs.Names.{◌≡◌, refl, sym, ap, ◌∙◌, subst, Bool, ◌&&◌, List, [], ◌∷◌, ◌++◌, map, ℕ, suc, ◌+◌, ◌-◌, ◌*◌, ◌^◌, ◌≤◌, ◌<◌, arith, leb, length, get_or, take, replicate, length-map, ext_get_or}
-use Rattle.promises.proofs.Names.{take-append_seam, length-take-le, get_or-take, le-ltb, good, bind-good, Sizes, Bytes, image_sizes, stream_bits, stream_number, image_of, Piece, pack, needed, pack-unique, needed-append}
+use Rattle.promises.proofs.Names.{take-append_seam, length-take-le, get_or-take, le-ltb, Ok, bind-good, Sizes, Bytes, image_sizes, stream_bits, stream_number, image_of, Piece, pack, needed, pack-unique, needed-append}
 use Rattle.promises.proofs.Names.{sizes-chip, sums-right, two-views, Pair, Domain, no_pair, no_segment, no_term, Found, Calibration, bare, table_found, curve_found, Contents, contents, nothing, pair_in, pairs_in}
 use Rattle.promises.proofs.Names.{segments_in, segment_in, all_terms, term_in, points, segments, terms, zero_if, zero-pack, sheet_pieces, sheet-needed, accepted-at, contents-accepted, CalibrationAt, Summary, domain_in}
 use Rattle.promises.proofs.Names.{summary, curve-few, fields-are, accepted-reads, Slot, Sheet, slot, lent, template_in, pairs_lent, Table, listed, by_curve, built_in, build_with, pairs-length, LendableTable, sheet_read}
@@ -30,9 +30,9 @@ read-lent sheet f (x ∷ xs) more h =
 
 -- From a sheet and a table with the image's contents.
 rebuilt : (kind : ℕ) (image buffer : List ℕ) (z : Sizes) (c : Contents) (sheet : Sheet) (table : Table) → Bytes image → length buffer ≡ length image →
-    image_sizes kind (length image) ≡ good z → contents kind image ≡ good c → stream_number z image < 2 ^ c.bits →
+    image_sizes kind (length image) ≡ Ok z → contents kind image ≡ Ok c → stream_number z image < 2 ^ c.bits →
     LentFrom sheet 1 c.fields → template_in sheet ≡ c.template → sheet.end_bit ≡ c.end_bit → LentBehind table c →
-    build_with kind buffer sheet c.text table ≡ good image
+    build_with kind buffer sheet c.text table ≡ Ok image
 unfolding build_with built_in
 rebuilt kind image buffer z c sheet table bytes long hz e zeros lents template end behind =
     let (summed, h) = accepted-at kind image c z e hz in
@@ -46,8 +46,8 @@ rebuilt kind image buffer z c sheet table bytes long hz e zeros lents template e
     ∙ ap pack (sym all) ∙ zero-pack ps t in
     bind-good _ (ap (image_sizes kind) long ∙ hz)
     ∙ bind-good _ (plan-again f sheet table lents template end behind)
-    ∙ rw (le-ltb (stream_bits z) (needed ps) inside) (ap (λ (n : ℕ). good (image_of z n)) (sym number)
-    ∙ ap good (two-views z image (sizes-chip kind (length image) z hz).long bytes (sums-right z image summed)))
+    ∙ rw (le-ltb (stream_bits z) (needed ps) inside) (ap (λ (n : ℕ). Ok (image_of z n)) (sym number)
+    ∙ ap Ok (two-views z image (sizes-chip kind (length image) z hz).long bytes (sums-right z image summed)))
 
 -- What follows the fields, lent as it is read.
 read_behind : (c : Contents) (domain : Domain) (at : ℕ) → CalibrationAt at c.calibration → LentBehind (table_read c domain) c
@@ -91,7 +91,7 @@ none_left f [] e = refl
 none_left f (x ∷ l) e = absurd (omega arith)
 
 -- What follows the fields, read through the calls.
-behind-read : (kind : ℕ) (image : List ℕ) (c : Contents) (s : Summary) (table : Table) → contents kind image ≡ good c → summary c ≡ s → LendableTable table → TableReadOff kind image s table → LentBehind table c
+behind-read : (kind : ℕ) (image : List ℕ) (c : Contents) (s : Summary) (table : Table) → contents kind image ≡ Ok c → summary c ≡ s → LendableTable table → TableReadOff kind image s table → LentBehind table c
 behind-read kind image c s (listed domain pts) h g lendable r =
     let l = accepted-reads kind image c h in
     let two : length pts ≡ 2 * length (points c) = omega (arith, r.pairs, ap (λ y. y.points) g) in (
@@ -127,6 +127,6 @@ rebuilt-from-reads kind image buffer z s sheet text table bytes long hz lendable
     let lents : LentFrom sheet 1 c.fields =
     lent-from sheet 1 c.fields
     (λ i k. r.fields (1 + i) _ (l.fields (1 + i) (omega arith) (omega (arith, fields-are kind image c h))) ∙ ap (λ (n : ℕ). (get_or c.fields n nothing).value) (omega arith)) in
-    subst (λ t. build_with kind buffer sheet t table ≡ good image) (sym written)
+    subst (λ t. build_with kind buffer sheet t table ≡ Ok image) (sym written)
     (rebuilt kind image buffer z c sheet table bytes long hz h (subst (λ y. stream_number z image < 2 ^ y.bits) (sym g) zeros) lents (r.template ∙ sym (ap (λ y. y.template) g)) (r.end_bit ∙ sym (ap (λ y. y.end_bit) g))
     (behind-read kind image c s table h g lendable behind))

@@ -1,6 +1,6 @@
 -- Laws of an image that is written row by row.
-use Rattle.promises.proofs.Names.{◌≡◌, refl, sym, ap, ◌∙◌, Bool, true, false, not, List, ◌⊎◌, inl, inr, ℕ, zero, suc, ◌/◌, ◌≤◌, arith, length, ext_get_or, Refusal, Outcome, good, refused, ◌>>◌, ◌>>=◌, refuse◌if◌}
-use Rattle.promises.proofs.Names.{wrong_sum, blank_chip, no_value_lem, bind-good, then-refused, Sizes, Bytes, image_sizes, page_test, is_good, blank_from, sums_from, sums, parse, sheet_of, contents, stream_in, count, Summary}
+use Rattle.promises.proofs.Names.{◌≡◌, refl, sym, ap, ◌∙◌, Bool, true, false, not, List, ◌⊎◌, inl, inr, ℕ, zero, suc, ◌/◌, ◌≤◌, arith, length, ext_get_or, Refusal, Outcome, Ok, Err, ◌>>◌, ◌>>=◌, refuse◌if◌}
+use Rattle.promises.proofs.Names.{WrongSum, BlankChip, no_value_lem, bind-good, then-refused, Sizes, Bytes, image_sizes, page_test, is_good, blank_from, sums_from, sums, parse, sheet_of, contents, stream_in, count, Summary}
 use Rattle.promises.proofs.Names.{check, differs, differing_rows, Step, write, step, next_row, after, Torn, Refuses, WantedOrRefused, Fits, there-done, step-whole, step-torn, step-bytes, step_fits, left-none}
 use Rattle.promises.proofs.Names.{left-most, left-two, step-nearer, done-there, step-changes, Called, called, calls, kind-pages, carried_out, next, writes, Reached, start, torn, RefusedBySums, Safe, differing}
 use Rattle.promises.proofs.Names.{enough, Ends, DoneExactly, Resumes, Sparing}
@@ -10,31 +10,31 @@ use Rattle.promises.specs.Writing.{whole}
 -- ---- refused by its sums
 
 -- What the sums refuse, they refuse as blank or for a page.
-reasons : (z : Sizes) (image : List ℕ) (why : Refusal) → sums z image ≡ refused why → (why ≡ blank_chip) ⊎ ((page : ℕ) × (why ≡ wrong_sum page))
+reasons : (z : Sizes) (image : List ℕ) (why : Refusal) → sums z image ≡ Err why → (why ≡ BlankChip) ⊎ ((page : ℕ) × (why ≡ WrongSum page))
 unfolding sums_from
 reasons z image why e = go (blank_from z image z.pages 0) e
   where
-    pages : (n i : ℕ) → sums_from z image n i ≡ refused why → (page : ℕ) × (why ≡ wrong_sum page)
+    pages : (n i : ℕ) → sums_from z image n i ≡ Err why → (page : ℕ) × (why ≡ WrongSum page)
     pages zero i f = no_value_lem (sym f)
     pages (suc n) i f = test (is_good (page_test z image i)) f (pages n (suc i))
       where
-        test : (b : Bool) → ((refuse wrong_sum i if not b) >> sums_from z image n (suc i)) ≡ refused why
-            → (sums_from z image n (suc i) ≡ refused why → (page : ℕ) × (why ≡ wrong_sum page)) → (page : ℕ) × (why ≡ wrong_sum page)
+        test : (b : Bool) → ((refuse WrongSum i if not b) >> sums_from z image n (suc i)) ≡ Err why
+            → (sums_from z image n (suc i) ≡ Err why → (page : ℕ) × (why ≡ WrongSum page)) → (page : ℕ) × (why ≡ WrongSum page)
         test true g behind = behind g
         test false g behind = (i, cc)
 
-    go : (b : Bool) → (refuse blank_chip if b >> sums_from z image z.pages 0) ≡ refused why → (why ≡ blank_chip) ⊎ ((page : ℕ) × (why ≡ wrong_sum page))
+    go : (b : Bool) → (refuse BlankChip if b >> sums_from z image z.pages 0) ≡ Err why → (why ≡ BlankChip) ⊎ ((page : ℕ) × (why ≡ WrongSum page))
     go true f = inl (cc)
     go false f = inr (pages z.pages 0 f)
 
-sums-refuse : (kind : ℕ) (image : List ℕ) (z : Sizes) → image_sizes kind (length image) ≡ good z → Refuses z image → RefusedBySums kind image
+sums-refuse : (kind : ℕ) (image : List ℕ) (z : Sizes) → image_sizes kind (length image) ≡ Ok z → Refuses z image → RefusedBySums kind image
 unfolding contents
 sums-refuse kind image z sized (why, e) =
-    (why, bind-good (λ y. sums y image >> (parse (stream_in y image) sheet_of 0 >>= λ parsed. good parsed.found)) sized ∙ then-refused _ e, reasons z image why e)
+    (why, bind-good (λ y. sums y image >> (parse (stream_in y image) sheet_of 0 >>= λ parsed. Ok parsed.found)) sized ∙ then-refused _ e, reasons z image why e)
 
 -- ---- the call, carried out
 
-module _ (kind : ℕ) (present wanted : List ℕ) (s : Step) (e : next_row kind present wanted ≡ good s) where
+module _ (kind : ℕ) (present wanted : List ℕ) (s : Step) (e : next_row kind present wanted ≡ Ok s) where
   by : Called kind present wanted s
   by = called kind present wanted s e
 
@@ -42,14 +42,14 @@ module _ (kind : ℕ) (present wanted : List ℕ) (s : Step) (e : next_row kind 
   next-is = ap (λ (o : Outcome Step). carried_out o present) e ∙ ap (λ (x : Step). after x present) (sym by.is)
 
   -- Only the length of what is on the chip matters for its sizes.
-  again : (image : List ℕ) → length image ≡ length present → next_row kind image wanted ≡ good (step by.sizes image wanted)
+  again : (image : List ℕ) → length image ≡ length present → next_row kind image wanted ≡ Ok (step by.sizes image wanted)
   again image same = calls kind image wanted by.shown by.sizes by.accepted (ap (image_sizes kind) same ∙ by.sized)
 
   next-long : length (next kind wanted present) ≡ length present
   next-long = ap length next-is ∙ (step_fits by.sizes present wanted by.asked.fits).held ∙ sym by.asked.fits.held
 
 -- A refused call writes nothing.
-refused-next : (kind : ℕ) (present wanted : List ℕ) (r : Refusal) → next_row kind present wanted ≡ refused r → next kind wanted present ≡ present
+refused-next : (kind : ℕ) (present wanted : List ℕ) (r : Refusal) → next_row kind present wanted ≡ Err r → next kind wanted present ≡ present
 refused-next kind present wanted r e = ap (λ (o : Outcome Step). carried_out o present) e
 
 -- A byte that does not change is not torn.
@@ -69,8 +69,8 @@ module _ (kind : ℕ) (wanted old : List ℕ) (bw : Bytes wanted) (bo : Bytes ol
 
   module _ (present : List ℕ) (k : Kept kind wanted old present) where
     whole-kept : (o : Outcome Step) → next_row kind present wanted ≡ o → Kept kind wanted old (next kind wanted present)
-    whole-kept (refused r) e = same_kept k (refused-next kind present wanted r e)
-    whole-kept (good s) e =
+    whole-kept (Err r) e = same_kept k (refused-next kind present wanted r e)
+    whole-kept (Ok s) e =
         let c = by kind present wanted s e in
         let x = next kind wanted present in
         let is = next-is kind present wanted s e in
@@ -81,14 +81,14 @@ module _ (kind : ℕ) (wanted old : List ℕ) (bw : Bytes wanted) (bo : Bytes ol
           stands = inr (judged c.sizes x (ap (image_sizes kind) long ∙ c.sized) (rw is (step-whole c.sizes present wanted c.asked.fits c.asked.right)));
         }
       where
-        judged : (z : Sizes) (x : List ℕ) → image_sizes kind (length x) ≡ good z → WantedOrRefused z wanted x → (x ≡ wanted) ⊎ RefusedBySums kind x
+        judged : (z : Sizes) (x : List ℕ) → image_sizes kind (length x) ≡ Ok z → WantedOrRefused z wanted x → (x ≡ wanted) ⊎ RefusedBySums kind x
         judged z x sized (inl d) = inl d
         judged z x sized (inr d) = inr (sums-refuse kind x z sized d)
 
     torn-kept : (image : List ℕ) → 1 ≤ kind → (o : Outcome Step) → next_row kind present wanted ≡ o → Torn present (next kind wanted present) image → Kept kind wanted old image
-    torn-kept image some (refused r) e t =
+    torn-kept image some (Err r) e t =
         same_kept k (torn-same present image (rw (refused-next kind present wanted r e) at t))
-    torn-kept image some (good s) e t =
+    torn-kept image some (Ok s) e t =
         let c = by kind present wanted s e in
         let u : Torn present (after (step c.sizes present wanted) present) image = rw (next-is kind present wanted s e) at t in
         record {
@@ -99,7 +99,7 @@ module _ (kind : ℕ) (wanted old : List ℕ) (bw : Bytes wanted) (bo : Bytes ol
               (step-torn c.sizes present wanted c.asked.fits (kind-pages kind (length present) c.sizes c.sized some) image k.bytes bw c.asked.right u);
         }
       where
-        judged : (z : Sizes) → image_sizes kind (length image) ≡ good z → (image ≡ present) ⊎ WantedOrRefused z wanted image
+        judged : (z : Sizes) → image_sizes kind (length image) ≡ Ok z → (image ≡ present) ⊎ WantedOrRefused z wanted image
             → (image ≡ old) ⊎ ((image ≡ wanted) ⊎ RefusedBySums kind image)
         judged z sized (inl d) = rw d k.stands
         judged z sized (inr (inl d)) = inr (inl d)
@@ -115,8 +115,8 @@ safe kind wanted old bw bo image c = (kept kind wanted old bw bo c).stands
 
 -- ---- 2. ends
 
-module _ (kind : ℕ) (wanted : List ℕ) (shown : Summary) (accepted : check kind wanted ≡ good shown) (z : Sizes) where
-  by-steps : (n : ℕ) (present : List ℕ) → image_sizes kind (length present) ≡ good z → Fits z present wanted → left z wanted present ≤ n → writes kind wanted n present ≡ wanted
+module _ (kind : ℕ) (wanted : List ℕ) (shown : Summary) (accepted : check kind wanted ≡ Ok shown) (z : Sizes) where
+  by-steps : (n : ℕ) (present : List ℕ) → image_sizes kind (length present) ≡ Ok z → Fits z present wanted → left z wanted present ≤ n → writes kind wanted n present ≡ wanted
   by-steps zero present sized fits h = left-none z present wanted fits (omega arith)
   by-steps (suc n) present sized fits h =
       let e : next kind wanted present ≡ after (step z present wanted) present = ap (λ (o : Outcome Step). carried_out o present) (calls kind present wanted shown z accepted sized) in
@@ -129,7 +129,7 @@ module _ (kind : ℕ) (wanted : List ℕ) (shown : Summary) (accepted : check ki
 rows_are : (z : Sizes) (present wanted : List ℕ) → Fits z present wanted → differing_rows z present wanted ≡ differing present wanted
 rows_are z present wanted fits = ap (λ (n : ℕ). count (differs present wanted) (n / 8)) (sym fits.asked)
 
-left-enough : (kind : ℕ) (z : Sizes) (present wanted : List ℕ) → image_sizes kind (length present) ≡ good z → Fits z present wanted → left z wanted present ≤ enough kind present wanted
+left-enough : (kind : ℕ) (z : Sizes) (present wanted : List ℕ) → image_sizes kind (length present) ≡ Ok z → Fits z present wanted → left z wanted present ≤ enough kind present wanted
 left-enough zero z present wanted sized fits = omega (arith, left-most z present wanted fits, rows_are z present wanted fits)
 left-enough (suc k) z present wanted sized fits =
     omega (arith, left-two z present wanted fits (kind-pages (suc k) (length present) z sized (omega arith)), rows_are z present wanted fits)
@@ -153,8 +153,8 @@ reached-long kind wanted old start = refl
 reached-long kind wanted old (whole {present = p} c) = next-length (next_row kind p wanted) refl ∙ reached-long kind wanted old c
   where
     next-length : (o : Outcome Step) → next_row kind p wanted ≡ o → length (next kind wanted p) ≡ length p
-    next-length (good s) e = next-long kind p wanted s e
-    next-length (refused r) e = ap length (refused-next kind p wanted r e)
+    next-length (Ok s) e = next-long kind p wanted s e
+    next-length (Err r) e = ap length (refused-next kind p wanted r e)
 reached-long kind wanted old (torn some c t) = t.long ∙ reached-long kind wanted old c
 
 pub resumes : Resumes

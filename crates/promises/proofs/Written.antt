@@ -1,6 +1,7 @@
 -- Proof of demand 2: written and read again.
+use Prim.Native.Nat.{min}
 use Rattle.promises.proofs.Names.{◌≡◌, refl, sym, ap, ap₂, ◌∙◌, subst, Bool, true, false, ◌&&◌, cond, List, [], ◌∷◌, ◌++◌, map, ℕ, zero, suc, ◌+◌, ◌-◌, ◌^◌, ◌≤◌, ◌<◌, lt_of_lt_of_le, arith, leb, ltb, length}
-use Rattle.promises.proofs.Names.{pow_mono, leb-true, ltb-false, good, too_long, good-same, good-bind, passed, Sizes, image_sizes, stream_bits, image_of, Piece, pack, needed, Holds, pack-lt, holds-pack}
+use Rattle.promises.proofs.Names.{pow_mono, leb-true, ltb-false, Ok, TooLong, good-same, good-bind, passed, Sizes, image_sizes, stream_bits, image_of, Piece, pack, needed, Holds, pack-lt, holds-pack}
 use Rattle.promises.proofs.Names.{last-most, kept, Real, Found, Contents, sheet_of, contents, parses-fit, zero_if, zero-needed, zero-pack, Formed, sheet_pieces, sheet-needed, sheet-parses, fields-count, fields-rows}
 use Rattle.promises.proofs.Names.{written-contents, Slot, Sheet, Table, plan, built_in, build_with, AllReal, Lendable, LendableTable, kept_all, SameSheet, WrittenAndReadAgain, ZeroEndsText}
 use Rattle.promises.proofs.PlannedFields.{KeptFrom, value_at, Slots, slots-all, slot-first, slots-others}
@@ -36,24 +37,24 @@ kept-values sheet f (x ∷ xs) (s ∷ slots) h few k =
 pub record Built (kind : ℕ) (buffer : List ℕ) (sheet : Sheet) (text : List ℕ) (table : Table) (image : List ℕ) : Type 0 where
   pub sizes : Sizes
   pub pieces : List Piece
-  pub fitting : image_sizes kind (length buffer) ≡ good sizes
-  pub plans : plan sheet text table ≡ good pieces
+  pub fitting : image_sizes kind (length buffer) ≡ Ok sizes
+  pub plans : plan sheet text table ≡ Ok pieces
   pub inside : needed pieces ≤ stream_bits sizes
   pub made : image_of sizes (pack pieces) ≡ image
 
 pub built : (kind : ℕ) (buffer : List ℕ) (sheet : Sheet) (text : List ℕ) (table : Table) (image : List ℕ) →
-    build_with kind buffer sheet text table ≡ good image → Built kind buffer sheet text table image
+    build_with kind buffer sheet text table ≡ Ok image → Built kind buffer sheet text table image
 unfolding build_with built_in
 built kind buffer sheet text table image e =
     let (z, e1, e2) = good-bind (image_sizes kind (length buffer)) _ image e in
     let (pieces, e3, e4) = good-bind (plan sheet text table) _ image e2 in
-    let (t, e5) = passed (too_long (needed pieces)) (ltb (stream_bits z) (needed pieces)) _ image e4 in
+    let (t, e5) = passed (TooLong (min (needed pieces) 65_535)) (ltb (stream_bits z) (needed pieces)) _ image e4 in
     record { sizes = z; pieces = pieces; fitting = e1; plans = e3; inside = ltb-false (stream_bits z) (needed pieces) t; made = cc }
 
 -- ---- the image of a plan has the planned contents
 
-image-contents : (kind bytes : ℕ) (z : Sizes) (pieces : List Piece) (t : Bool) (c : Contents) (f : Formed (stream_bits z) c) → image_sizes kind bytes ≡ good z →
-    sheet_pieces f ≡ pieces ++ zero_if t → needed (pieces ++ zero_if t) ≤ stream_bits z → contents kind (image_of z (pack pieces)) ≡ good c
+image-contents : (kind bytes : ℕ) (z : Sizes) (pieces : List Piece) (t : Bool) (c : Contents) (f : Formed (stream_bits z) c) → image_sizes kind bytes ≡ Ok z →
+    sheet_pieces f ≡ pieces ++ zero_if t → needed (pieces ++ zero_if t) ≤ stream_bits z → contents kind (image_of z (pack pieces)) ≡ Ok c
 image-contents kind bytes z pieces t c f sizes same inside =
     let N : ℕ = pack pieces in
     let all : List Piece = sheet_pieces f in
@@ -70,12 +71,12 @@ image-contents kind bytes z pieces t c f sizes same inside =
 -- The contents that a check of a built image finds.
 record ReadAgain (sheet : Sheet) (text : List ℕ) (table : Table) (z : Sizes) (pieces : List Piece) (kind : ℕ) (image : List ℕ) : Type 0 where
   found : Contents
-  reads : contents kind image ≡ good found
+  reads : contents kind image ≡ Ok found
   same : SameSheet sheet text table found
   bits : found.bits ≡ needed pieces + cond (sheet.end_bit && leb (needed pieces + 7) (stream_bits z)) 7 0
 
 read_again : (kind : ℕ) (buffer : List ℕ) (sheet : Sheet) (text : List ℕ) (table : Table) (z : Sizes) (pieces : List Piece) → Lendable sheet → LendableTable table →
-    image_sizes kind (length buffer) ≡ good z → plan sheet text table ≡ good pieces → needed pieces ≤ stream_bits z →
+    image_sizes kind (length buffer) ≡ Ok z → plan sheet text table ≡ Ok pieces → needed pieces ≤ stream_bits z →
     ReadAgain sheet text table z pieces kind (image_of z (pack pieces))
 read_again kind buffer sheet text table z pieces lendable behind sizes plans inside =
     let S : ℕ = stream_bits z in

@@ -1,7 +1,7 @@
 -- Demand 2, for both templates, with points in either domain or a curve:
 -- written and read again; read and rebuilt; and the bits that a build needs.
-use Rattle.std.specs.Prelude.{◌≡◌, ◌&&◌, cond, List, [], ◌∷◌, ◌++◌, map, ℕ, zero, suc, ◌+◌, ◌-◌, ◌*◌, ◌^◌, ◌<◌, leb, ℤ, pos, length, get_or, take, replicate}
-use Rattle.refusal.specs.Outcome.{good}
+use Rattle.std.specs.Prelude.{Some, None, Option, ◌≡◌, ◌&&◌, cond, List, [], ◌∷◌, ◌++◌, map, ℕ, zero, suc, ◌+◌, ◌-◌, ◌*◌, ◌^◌, ◌<◌, leb, ℤ, pos, length, get_or, take, replicate}
+use Rattle.refusal.specs.Outcome.{Ok}
 use Rattle.memory.specs.declared.Sizes.{Sizes}
 use Rattle.memory.specs.Bits.{Bytes}
 use Rattle.memory.specs.Image.{image_sizes, stream_bits, stream_number}
@@ -23,8 +23,6 @@ use Rattle.codes.specs.Stored.{kept}
 use Rattle.layout.specs.Contents.{Calibration, bare, table as table_found, curve as curve_found, Contents}
 use Rattle.layout.specs.Image.{contents, layout_of, figure, pair_in, points, segments, terms}
 use Rattle.layout.specs.Places.{behind_fields, table_bits, curve_bits}
-use Rattle.sheet.specs.declared.TableDomain.{TableDomain}
-use Rattle.sheet.specs.declared.TableDomain.TheVariants.{NoTable, Is}
 use Rattle.sheet.specs.declared.Summary.{Summary}
 use Rattle.sheet.specs.Check.{domain_in, check, read_field, read_pair, read_character, read_segment, read_term}
 use Rattle.build.specs.declared.Slot.{Slot}
@@ -47,9 +45,9 @@ abbrev pub kept_pair : Pair → Pair
 kept_pair p = record { point = figure (kept cal_point (Whole p.point)); deviation = figure (kept cal_deviation (Whole p.deviation)) }
 
 -- The domain of lent points: "an empty list has none".
-abbrev pub domain_lent : Domain → List Pair → TableDomain
-domain_lent domain [] = NoTable
-domain_lent domain (p ∷ pairs) = Is domain
+abbrev pub domain_lent : Domain → List Pair → Option Domain
+domain_lent domain [] = None
+domain_lent domain (p ∷ pairs) = Some domain
 
 abbrev pub kept_segment : Segment → Segment
 kept_segment s = record { start = figure (kept segment_start (Whole s.start)); terms = s.terms }
@@ -71,9 +69,9 @@ abbrev pub kept_points : Table → List Pair
 kept_points (listed domain points) = map kept_pair (pairs_lent points)
 kept_points (by_curve curve) = []
 
-abbrev pub kept_domain : Table → TableDomain
+abbrev pub kept_domain : Table → Option Domain
 kept_domain (listed domain points) = domain_lent domain (pairs_lent points)
-kept_domain (by_curve curve) = NoTable
+kept_domain (by_curve curve) = None
 
 abbrev pub kept_segments : Table → List Segment
 kept_segments (listed domain points) = []
@@ -97,16 +95,16 @@ pub record SameSheet (sheet : Sheet) (text : List ℕ) (table : Table) (c : Cont
 abbrev pub WrittenAndReadAgain : Type 0
 WrittenAndReadAgain =
     (kind : ℕ) (buffer : List ℕ) (sheet : Sheet) (text : List ℕ) (table : Table) (image : List ℕ) → Lendable sheet → LendableTable table →
-    build_with kind buffer sheet text table ≡ good image →
-    (c : Contents) × (contents kind image ≡ good c) × SameSheet sheet text table c
+    build_with kind buffer sheet text table ≡ Ok image →
+    (c : Contents) × (contents kind image ≡ Ok c) × SameSheet sheet text table c
 
 -- A check of it gives the bits needed; and 7 more if the end bit is 1 and 7 bits
 -- remain: a build "ends text with a zero character wherever 7 bits remain".
 abbrev pub ZeroEndsText : Type 0
 ZeroEndsText =
     (kind : ℕ) (buffer : List ℕ) (sheet : Sheet) (text : List ℕ) (table : Table) (image : List ℕ) (z : Sizes) (pieces : List Piece) (c : Contents) →
-    Lendable sheet → LendableTable table → image_sizes kind (length buffer) ≡ good z → plan sheet text table ≡ good pieces →
-    build_with kind buffer sheet text table ≡ good image → contents kind image ≡ good c →
+    Lendable sheet → LendableTable table → image_sizes kind (length buffer) ≡ Ok z → plan sheet text table ≡ Ok pieces →
+    build_with kind buffer sheet text table ≡ Ok image → contents kind image ≡ Ok c →
     c.bits ≡ needed pieces + cond (sheet.end_bit && leb (needed pieces + 7) (stream_bits z)) 7 0
 
 -- ---- read and rebuilt
@@ -147,15 +145,15 @@ table_read c domain = table_of c domain c.calibration
 abbrev pub RebuiltSameBytes : Type 0
 RebuiltSameBytes =
     (kind : ℕ) (image buffer : List ℕ) (level : Level) (z : Sizes) (c : Contents) (domain : Domain) → Bytes image → length buffer ≡ length image →
-    image_sizes kind (length image) ≡ good z →
-    contents kind image ≡ good c →
+    image_sizes kind (length image) ≡ Ok z →
+    contents kind image ≡ Ok c →
     stream_number z image < 2 ^ c.bits →
-    build_with kind buffer (sheet_read c level) c.text (table_read c domain) ≡ good image
+    build_with kind buffer (sheet_read c level) c.text (table_read c domain) ≡ Ok image
 
 -- The domain that the check gives, or any if it gives none.
-abbrev pub InDomain : TableDomain → Domain → Type 0
-InDomain NoTable domain = Unit {0}
-InDomain (Is found) domain = found ≡ domain
+abbrev pub InDomain : Option Domain → Domain → Type 0
+InDomain None domain = Unit {0}
+InDomain (Some found) domain = found ≡ domain
 
 -- What a caller lends who read the image through the calls. The sheet has the
 -- template that the check gives and each field that is read. Text, points,
@@ -163,22 +161,22 @@ InDomain (Is found) domain = found ≡ domain
 -- in its domain. If it gives segments they are a curve, else points.
 pub record ReadOff (kind : ℕ) (image : List ℕ) (s : Summary) (sheet : Sheet) (text : List ℕ) : Type 0 where
   pub template : template_in sheet ≡ s.template
-  pub fields : (f : ℕ) (v : Value) → read_field kind image f ≡ good v → lent sheet f ≡ v
+  pub fields : (f : ℕ) (v : Value) → read_field kind image f ≡ Ok v → lent sheet f ≡ v
   pub end_bit : sheet.end_bit ≡ s.end_bit
   pub characters : length text ≡ s.characters
-  pub character : (i x : ℕ) → read_character kind image i ≡ good x → get_or text i 0 ≡ x
+  pub character : (i x : ℕ) → read_character kind image i ≡ Ok x → get_or text i 0 ≡ x
 
 pub record PointsReadOff (kind : ℕ) (image : List ℕ) (s : Summary) (domain : Domain) (pointsLent : List ℤ) : Type 0 where
   pub none : s.segments ≡ 0
   pub pairs : length pointsLent ≡ 2 * s.points
-  pub pair : (i : ℕ) (p : Pair) → read_pair kind image i ≡ good p → get_or (pairs_lent pointsLent) i no_pair ≡ p
+  pub pair : (i : ℕ) (p : Pair) → read_pair kind image i ≡ Ok p → get_or (pairs_lent pointsLent) i no_pair ≡ p
   pub in_domain : InDomain s.domain domain
 
 pub record CurveReadOff (kind : ℕ) (image : List ℕ) (s : Summary) (curve : Curve) : Type 0 where
   pub some : 0 < s.segments
   pub count : curve.count ≡ s.segments
-  pub segment : (i : ℕ) (x : Segment) → read_segment kind image i ≡ good x → get_or curve.segments i no_segment ≡ x
-  pub term : (i : ℕ) (t : Term) → read_term kind image i ≡ good t → get_or curve.terms i no_term ≡ t
+  pub segment : (i : ℕ) (x : Segment) → read_segment kind image i ≡ Ok x → get_or curve.segments i no_segment ≡ x
+  pub term : (i : ℕ) (t : Term) → read_term kind image i ≡ Ok t → get_or curve.terms i no_term ≡ t
 
 abbrev pub TableReadOff : ℕ → List ℕ → Summary → Table → Type 0
 TableReadOff kind image s (listed domain points) = PointsReadOff kind image s domain points
@@ -187,10 +185,10 @@ TableReadOff kind image s (by_curve curve) = CurveReadOff kind image s curve
 abbrev pub RebuiltFromReads : Type 0
 RebuiltFromReads =
     (kind : ℕ) (image buffer : List ℕ) (z : Sizes) (s : Summary) (sheet : Sheet) (text : List ℕ) (table : Table) → Bytes image →
-    length buffer ≡ length image → image_sizes kind (length image) ≡ good z → LendableTable table →
-    check kind image ≡ good s → ReadOff kind image s sheet text → TableReadOff kind image s table →
+    length buffer ≡ length image → image_sizes kind (length image) ≡ Ok z → LendableTable table →
+    check kind image ≡ Ok s → ReadOff kind image s sheet text → TableReadOff kind image s table →
     stream_number z image < 2 ^ s.bits →
-    build_with kind buffer sheet text table ≡ good image
+    build_with kind buffer sheet text table ≡ Ok image
 
 -- ---- row 11's bits
 
@@ -204,7 +202,7 @@ behind_bits (by_curve curve) = curve_bits curve.count (terms_in (segments_lent c
 abbrev pub BitsNeeded : Type 0
 BitsNeeded =
     (sheet : Sheet) (text : List ℕ) (table : Table) (precision : ℕ) (pieces : List Piece) → LendableTable table →
-    lent sheet 9 ≡ Whole (pos precision) → plan sheet text table ≡ good pieces →
+    lent sheet 9 ≡ Whole (pos precision) → plan sheet text table ≡ Ok pieces →
     needed pieces ≡ behind_fields (record { template = template_in sheet; precision = precision }) + behind_bits table + 3 + 7 * length text
 
 -- "Template 33 with its number takes 209, 225 or 251 bits for

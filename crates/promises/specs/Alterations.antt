@@ -2,7 +2,7 @@
 -- accepted or refused, by writers of any level. The result is defined on
 -- the contents, to compare it with a check of the altered image.
 use Rattle.std.specs.Prelude.{◌≡◌, cond, List, [], ◌∷◌, ◌⊎◌, ℕ, ◌+◌, ◌-◌, ◌≤◌, ◌<◌, eqb, length, get_or, set}
-use Rattle.refusal.specs.Outcome.{Outcome, good, refused, ◌>>◌, ◌>>=◌}
+use Rattle.refusal.specs.Outcome.{Outcome, Ok, Err, ◌>>◌, ◌>>=◌}
 use Rattle.refusal.specs.Written.{afterwards}
 use Rattle.memory.specs.declared.Sizes.{Sizes}
 use Rattle.memory.specs.Bits.{Bytes, bit}
@@ -77,19 +77,19 @@ replaced c f code v =
 abbrev pub change_in : Contents → Level → ℕ → Value → Outcome Contents
 change_in c level f v = do
   code ← code_for c level f v
-  good (replaced c f code (kept (field c f).row v))
+  Ok (replaced c f code (kept (field c f).row v))
 
 -- A commit stores its new code, with the value that the code means.
 abbrev pub commit_in : Contents → Level → ℕ → ℕ → ℕ → Outcome Contents
 commit_in c level f present new = do
   may_commit c level f present new
   v ← decode (field c f).row (field c f).at new
-  good (replaced c f new v)
+  Ok (replaced c f new v)
 
 -- The contents after a step: a refused one leaves them unchanged.
 abbrev pub left : Contents → Outcome Contents → Contents
-left c (good d) = d
-left c (refused r) = c
+left c (Ok d) = d
+left c (Err r) = c
 
 -- The contents of a sheet of a kind after an alteration:
 -- unchanged if the alteration names another kind.
@@ -106,14 +106,14 @@ held kind c (a ∷ alterations) = held kind (held_by kind c a) alterations
 abbrev pub AfterAlterations : Type 0
 AfterAlterations =
     (kind : ℕ) (image : List ℕ) (c : Contents) (alterations : List Alteration) → Bytes image → RealAlterations alterations →
-    contents kind image ≡ good c →
-    contents kind (altered image alterations) ≡ good (held kind c alterations)
+    contents kind image ≡ Ok c →
+    contents kind (altered image alterations) ≡ Ok (held kind c alterations)
 
 -- A change to the value that is already there leaves every byte unchanged.
 abbrev pub ChangedToTheSame : Type 0
 ChangedToTheSame =
     (kind : ℕ) (image after : List ℕ) (c : Contents) (level : Level) (f : ℕ) → Bytes image →
-    contents kind image ≡ good c → change kind image level f (field c f).value ≡ good after → after ≡ image
+    contents kind image ≡ Ok c → change kind image level f (field c f).value ≡ Ok after → after ≡ image
 
 -- "A change rewrites the field and the check bytes of its pages, no other bit",
 -- and so does a commit. Bits of the stream outside the field stay, and so does
@@ -126,11 +126,11 @@ pub record AltersNoOther (z : Sizes) (x : Found) (image after : List ℕ) : Type
 abbrev pub ChangeAltersNoOther : Type 0
 ChangeAltersNoOther =
     (kind : ℕ) (image after : List ℕ) (z : Sizes) (c : Contents) (level : Level) (f : ℕ) (v : Value) → Bytes image → Real v →
-    image_sizes kind (length image) ≡ good z → contents kind image ≡ good c → change kind image level f v ≡ good after →
+    image_sizes kind (length image) ≡ Ok z → contents kind image ≡ Ok c → change kind image level f v ≡ Ok after →
     AltersNoOther z (field c f) image after
 
 abbrev pub CommitAltersNoOther : Type 0
 CommitAltersNoOther =
     (kind : ℕ) (image after : List ℕ) (z : Sizes) (c : Contents) (level : Level) (f present new : ℕ) → Bytes image →
-    image_sizes kind (length image) ≡ good z → contents kind image ≡ good c → commit kind image level f present new ≡ good after →
+    image_sizes kind (length image) ≡ Ok z → contents kind image ≡ Ok c → commit kind image level f present new ≡ Ok after →
     AltersNoOther z (field c f) image after

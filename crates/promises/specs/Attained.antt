@@ -1,9 +1,9 @@
 -- Demand 3's distance is nearly attained: the last case of `met` is within
 -- a hundredth of a per cent of it. A conformity is nearly attained too.
 use Rattle.std.specs.Prelude.{◌≡◌, List, [], ◌∷◌, ℕ, ◌+◌, ◌*◌, ◌≤◌, ℤ, pos, neg_ℤ, nat_abs, ◌-ℤ◌, ◌*ℤ◌, replicate}
-use Rattle.std.proofs.Math.Option.{some}
+use Rattle.std.specs.Prelude.{Some}
 use Rattle.integers.specs.Nearest.{Fraction}
-use Rattle.refusal.specs.Outcome.{Outcome, good, ◌>>=◌}
+use Rattle.refusal.specs.Outcome.{Outcome, Ok, ◌>>=◌}
 use Rattle.templates.specs.declared.Domain.TheVariants.{Electrical}
 use Rattle.templates.specs.Calibration.{D, R}
 use Rattle.build.specs.Build.{pairs_lent, build}
@@ -41,7 +41,7 @@ built_there = build 1 (replicate 128 0) (sheet_at 0 (pos 0) (pos 1_000_000_000))
 -- there is 155,000,000, and 2000 × its distance from the line is within 2001 + K of B.
 abbrev pub ConformityAttained : Type 0
 ConformityAttained =
-    ((built_there >>= λ image. conformity 1 image certified_there) ≡ good (some (record { slope = 1; bound = 3_999_002_001 }))) ×
-    ((built_there >>= λ image. take_reading 1 image (pos 153_000_000) Large >>= λ r. good r.fraction) ≡ good (pos 155_000_000)) ×
+    ((built_there >>= λ image. conformity 1 image certified_there) ≡ Ok (Some (record { slope = 1; bound = 3_999_002_001 }))) ×
+    ((built_there >>= λ image. take_reading 1 image (pos 153_000_000) Large >>= λ r. Ok r.fraction) ≡ Ok (pos 155_000_000)) ×
     (let line = line_for certified_there (pos 153_000_000) (pos 0) (pos 1_000_000_000) in
     3_999_002_001 * line.den ≤ 2000 * nat_abs (pos 155_000_000 *ℤ pos line.den -ℤ line.num) + (2001 + 1) * line.den)

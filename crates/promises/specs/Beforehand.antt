@@ -2,7 +2,7 @@
 -- holds for every reading of every sheet that is built from them.
 use Rattle.std.specs.Prelude.{◌≡◌, List, ℕ, ◌*◌, ◌≤◌, ℤ, pos, nat_abs, ◌-ℤ◌, ◌*ℤ◌}
 use Rattle.integers.specs.Nearest.{Fraction}
-use Rattle.refusal.specs.Outcome.{good}
+use Rattle.refusal.specs.Outcome.{Ok}
 use Rattle.templates.specs.declared.Domain.TheVariants.{Electrical}
 use Rattle.build.specs.declared.Sheet.{Sheet}
 use Rattle.build.specs.Build.{build}
@@ -19,7 +19,7 @@ use Rattle.promises.specs.Certificate.{least_in, greatest_in, line_for}
 abbrev pub ToldWhereBuilt : Type 0
 ToldWhereBuilt =
     (kind : ℕ) (buffer : List ℕ) (sheet : Sheet) (text : List ℕ) (points : List ℤ) (built : List ℕ) →
-    build kind buffer sheet text Electrical points ≡ good built → (d : CertificateBound) × (distance points ≡ good d)
+    build kind buffer sheet text Electrical points ≡ Ok built → (d : CertificateBound) × (distance points ≡ Ok d)
 
 -- q is at most B / 2000 billionths of the span from a point of the line, multiplied out.
 abbrev pub StraysAtMost : ℕ → ℤ → Fraction → Type 0
@@ -33,8 +33,8 @@ abbrev pub DistanceBeforehand : Type 0
 DistanceBeforehand =
     (kind : ℕ) (buffer : List ℕ) (sheet : Sheet) (text : List ℕ) (points : List ℤ) (built : List ℕ) →
     (alterations : List Alteration) (readingKind : ℕ) (v : ℤ) (dash : Dash) (r : Reading) (d : CertificateBound) →
-    distance points ≡ good d → Lendable sheet → RealAlterations alterations →
-    build kind buffer sheet text Electrical points ≡ good built →
+    distance points ≡ Ok d → Lendable sheet → RealAlterations alterations →
+    build kind buffer sheet text Electrical points ≡ Ok built →
     let image = altered built alterations in
-    take_reading readingKind image v dash ≡ good r →
+    take_reading readingKind image v dash ≡ Ok r →
     StraysAtMost d.bound r.fraction (line_for points v (least_in readingKind image) (greatest_in readingKind image))

@@ -1,7 +1,7 @@
 -- Demand 3 on the calls themselves: a build, any number of changes, and a reading. Their
 -- answers, the image then, and the distance of the returned q from the certificate line.
+use Rattle.refusal.specs.Outcome.{Ok}
 use Rattle.std.specs.Prelude.{◌≡◌, List, ℕ, ℤ}
-use Rattle.refusal.specs.declared.Written.TheVariants.{Done}
 use Rattle.refusal.specs.Written.{written_said, afterwards}
 use Rattle.templates.specs.declared.Domain.{Domain}
 use Rattle.templates.specs.Calibration.{D, R}
@@ -10,8 +10,7 @@ use Rattle.build.specs.Build.{pairs_lent, build}
 use Rattle.correction.specs.Certificate.{Slopes, Within}
 use Rattle.reading.specs.declared.Dash.{Dash}
 use Rattle.reading.specs.declared.Reading.{Reading}
-use Rattle.reading.specs.declared.ReadingAnswer.TheVariants.{Shows}
-use Rattle.reading.specs.Reading.{take_reading, reading_said}
+use Rattle.reading.specs.Reading.{take_reading}
 use Rattle.promises.specs.declared.Answers.{Answers}
 use Rattle.promises.specs.Alterations.{Alteration, altered}
 use Rattle.promises.specs.Certificate.{least_in, greatest_in, line_for, Straight}
@@ -28,6 +27,6 @@ module _ (kind : ℕ) (buffer : List ℕ) (sheet : Sheet) (text : List ℕ) (dom
   pub record Answered (alterations : List Alteration) (readingKind : ℕ) (v : ℤ) (dash : Dash) (image : List ℕ) (r : Answers) : Type 0 where
     pub build_said : written_said r.built made ≡ build kind buffer sheet text domain points
     pub bytes : image ≡ altered made alterations
-    pub shown : reading_said r.reading ≡ take_reading readingKind image v dash
-    pub distance : (q : Reading) (K : ℕ) → Straight domain points → r.built ≡ Done → r.reading ≡ Shows q → Slopes K (pairs_lent points) →
+    pub shown : r.reading ≡ take_reading readingKind image v dash
+    pub distance : (q : Reading) (K : ℕ) → Straight domain points → r.built ≡ (Ok tt) → r.reading ≡ Ok q → Slopes K (pairs_lent points) →
         Within D R K q.fraction (line_for points v (least_in readingKind image) (greatest_in readingKind image))

@@ -1,7 +1,7 @@
 -- Demand 3, the certificate distance: "a single claim, from the points lent to the q returned".
 use Rattle.std.specs.Prelude.{◌≡◌, List, [], ◌∷◌, ℕ, ℤ, pos, nat_abs, ◌-ℤ◌, ◌*ℤ◌, ◌<ℤ◌}
 use Rattle.integers.specs.Nearest.{Fraction}
-use Rattle.refusal.specs.Outcome.{Outcome, good, refused}
+use Rattle.refusal.specs.Outcome.{Outcome, Ok, Err}
 use Rattle.codes.specs.declared.Value.{Value}
 use Rattle.templates.specs.declared.Domain.{Domain}
 use Rattle.templates.specs.declared.Domain.TheVariants.{Electrical, Physical}
@@ -20,8 +20,8 @@ use Rattle.promises.specs.Alterations.{Alteration, RealAlterations, altered}
 
 -- An electrical value as read, in whole nV/V: a Single to the nearest.
 abbrev pub whole : Outcome Value → ℤ
-whole (good v) = electrical_figure v
-whole (refused r) = pos 0
+whole (Ok v) = electrical_figure v
+whole (Err r) = pos 0
 
 -- e and f "as that reading reads them from the image".
 abbrev pub least_in : ℕ → List ℕ → ℤ
@@ -51,9 +51,9 @@ CertificateDistance =
     (kind : ℕ) (buffer : List ℕ) (sheet : Sheet) (text : List ℕ) (domain : Domain) (points : List ℤ) (built : List ℕ) →
     (alterations : List Alteration) (readingKind : ℕ) (v : ℤ) (dash : Dash) (r : Reading) (K : ℕ) →
     Lendable sheet → RealAlterations alterations → Straight domain points →
-    build kind buffer sheet text domain points ≡ good built →
+    build kind buffer sheet text domain points ≡ Ok built →
     let image = altered built alterations in
-    take_reading readingKind image v dash ≡ good r →
+    take_reading readingKind image v dash ≡ Ok r →
     Slopes K (pairs_lent points) →
     Within D R K r.fraction (line_for points v (least_in readingKind image) (greatest_in readingKind image))
 
@@ -63,12 +63,12 @@ CertificateDistance =
 abbrev pub LentPointsRise : Type 0
 LentPointsRise =
     (kind : ℕ) (buffer : List ℕ) (sheet : Sheet) (text : List ℕ) (domain : Domain) (points : List ℤ) (built : List ℕ) →
-    build kind buffer sheet text domain points ≡ good built → Rises (pairs_lent points)
+    build kind buffer sheet text domain points ≡ Ok built → Rises (pairs_lent points)
 
 -- In an accepted reading e is below f, so that f − e is above 0.
 abbrev pub EndsRise : Type 0
 EndsRise =
-    (kind : ℕ) (image : List ℕ) (v : ℤ) (dash : Dash) (r : Reading) → take_reading kind image v dash ≡ good r → least_in kind image <ℤ greatest_in kind image
+    (kind : ℕ) (image : List ℕ) (v : ℤ) (dash : Dash) (r : Reading) → take_reading kind image v dash ≡ Ok r → least_in kind image <ℤ greatest_in kind image
 
 -- The absolute values of runs and of f − e are then the differences themselves.
 abbrev pub DifferenceAbove : Type 0

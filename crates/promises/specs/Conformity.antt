@@ -1,8 +1,8 @@
 -- The conformity of a chip with its certificate: what the call answers for
 -- any accepted image and any points holds for every reading of that image.
 use Rattle.std.specs.Prelude.{◌≡◌, List, [], ◌⊎◌, ℕ, ◌+◌, ◌≤◌, ℤ}
-use Rattle.std.proofs.Math.Option.{some}
-use Rattle.refusal.specs.Outcome.{good}
+use Rattle.std.specs.Prelude.{Some}
+use Rattle.refusal.specs.Outcome.{Ok}
 use Rattle.memory.specs.Bits.{Bytes}
 use Rattle.templates.specs.declared.Domain.{Domain}
 use Rattle.templates.specs.declared.Pair.{Pair}
@@ -29,7 +29,7 @@ use Rattle.promises.specs.Figure.{low_in, high_in, FigureStraysAtMost}
 abbrev pub Conforms : Type 0
 Conforms =
     (kind : ℕ) (image : List ℕ) (lent : List ℤ) (v : ℤ) (dash : Dash) (r : Reading) (d : CertificateBound) →
-    conformity kind image lent ≡ good (some d) → take_reading kind image v dash ≡ good r →
+    conformity kind image lent ≡ Ok (Some d) → take_reading kind image v dash ≡ Ok r →
     StraysAtMost d.bound r.fraction (line_for lent v (least_in kind image) (greatest_in kind image))
 
 -- The physical figure is near the certificate line
@@ -37,16 +37,16 @@ Conforms =
 abbrev pub FigureConforms : Type 0
 FigureConforms =
     (kind : ℕ) (image : List ℕ) (lent : List ℤ) (v : ℤ) (dash : Dash) (r : Reading) (d : CertificateBound) →
-    conformity kind image lent ≡ good (some d) → take_reading kind image v dash ≡ good r →
+    conformity kind image lent ≡ Ok (Some d) → take_reading kind image v dash ≡ Ok r →
     FigureStraysAtMost d.bound (low_in kind image) (high_in kind image) r (line_for lent v (least_in kind image) (greatest_in kind image))
 
 -- For the image of a build of template 33 from these points, after any list of changes and
 -- commits. The call answers the K of the distance known beforehand, and a B that is no greater.
 pub record Keeps (kind : ℕ) (image : List ℕ) (lent : List ℤ) : Type 0 where
   pub beforehand : CertificateBound
-  pub known : distance lent ≡ good beforehand
+  pub known : distance lent ≡ Ok beforehand
   pub found : CertificateBound
-  pub conforms : conformity kind image lent ≡ good (some found)
+  pub conforms : conformity kind image lent ≡ Ok (Some found)
   pub slope : found.slope ≡ beforehand.slope
   pub bound : found.bound ≤ beforehand.bound
 
@@ -54,7 +54,7 @@ abbrev pub BeforehandIsKept : Type 0
 BeforehandIsKept =
     (kind : ℕ) (buffer : List ℕ) (sheet : Sheet) (text : List ℕ) (domain : Domain) (lent : List ℤ) (built : List ℕ) (alterations : List Alteration) →
     Lendable sheet → RealAlterations alterations → Straight domain lent → sheet.template ≡ Bridge →
-    build kind buffer sheet text domain lent ≡ good built →
+    build kind buffer sheet text domain lent ≡ Ok built →
     Keeps kind (altered built alterations) lent
 
 -- No change or commit changes the answer.
@@ -72,5 +72,5 @@ pub record Tight (stored lent : List Pair) (d : CertificateBound) : Type 0 where
 
 abbrev pub BoundTight : Type 0
 BoundTight =
-    (kind : ℕ) (image : List ℕ) (lent : List ℤ) (c : Contents) (d : CertificateBound) → contents kind image ≡ good c → conformity kind image lent ≡ good (some d) →
+    (kind : ℕ) (image : List ℕ) (lent : List ℤ) (c : Contents) (d : CertificateBound) → contents kind image ≡ Ok c → conformity kind image lent ≡ Ok (Some d) →
     Tight (points c) (pairs_lent lent) d

@@ -1,13 +1,12 @@
 -- Document 02, Note 9: tables by physical point. "the crossing itself is what a user relies on".
 -- The fraction of a reading is "the least whole q for which q plus the exact deviation at q is
 -- at least p", over the points as stored. So every number from q on meets p, and none below.
-use Rattle.std.specs.Prelude.{◌≡◌, List, map, ◌↔◌, ℕ, ℤ, ◌≤ℤ◌}
-use Rattle.refusal.specs.Outcome.{good}
+use Rattle.std.specs.Prelude.{Some, ◌≡◌, List, map, ◌↔◌, ℕ, ℤ, ◌≤ℤ◌}
+use Rattle.refusal.specs.Outcome.{Ok}
 use Rattle.templates.specs.declared.Pair.{Pair}
 use Rattle.templates.specs.declared.Domain.TheVariants.{Physical}
 use Rattle.layout.specs.Contents.{Contents}
 use Rattle.layout.specs.Image.{contents, points}
-use Rattle.sheet.specs.declared.TableDomain.TheVariants.{Is}
 use Rattle.sheet.specs.Check.{domain_in}
 use Rattle.build.specs.declared.Sheet.{Sheet}
 use Rattle.build.specs.Build.{pairs_lent, build}
@@ -35,7 +34,7 @@ position_in kind image v = position v (least_in kind image) (greatest_in kind im
 abbrev pub CrossingShown : Type 0
 CrossingShown =
     (kind : ℕ) (image : List ℕ) (c : Contents) (v : ℤ) (dash : Dash) (r : Reading) →
-    contents kind image ≡ good c → domain_in c.calibration ≡ Is Physical → take_reading kind image v dash ≡ good r →
+    contents kind image ≡ Ok c → domain_in c.calibration ≡ Some Physical → take_reading kind image v dash ≡ Ok r →
     OnlyCrossing (points c) (position_in kind image v) r.fraction
 
 -- From the points lent: if
@@ -48,7 +47,7 @@ CrossingFromLent =
     (kind : ℕ) (buffer : List ℕ) (sheet : Sheet) (text : List ℕ) (pointsLent : List ℤ) (built : List ℕ) →
     (alterations : List Alteration) (readingKind : ℕ) (v : ℤ) (dash : Dash) (r : Reading) →
     Lendable sheet → RealAlterations alterations →
-    build kind buffer sheet text Physical pointsLent ≡ good built →
+    build kind buffer sheet text Physical pointsLent ≡ Ok built →
     let image = altered built alterations in
-    take_reading readingKind image v dash ≡ good r →
+    take_reading readingKind image v dash ≡ Ok r →
     OnlyCrossing (map kept_pair (pairs_lent pointsLent)) (position_in readingKind image v) r.fraction

@@ -1,6 +1,6 @@
 -- Document 02, Note 11: the segment that serves, and the powers that a curve does not have.
 use Rattle.std.specs.Prelude.{◌≡◌, List, [], ◌∷◌, ◌++◌, ℕ, ◌-◌, ℤ, length, replicate, Float, ◌≤ℤ◌, ◌<ℤ◌}
-use Rattle.refusal.specs.Outcome.{good}
+use Rattle.refusal.specs.Outcome.{Ok}
 use Rattle.templates.specs.declared.Term.{Term}
 use Rattle.layout.specs.Contents.{FoundSegment, curve, Contents}
 use Rattle.layout.specs.Image.{contents, segment_in}
@@ -41,7 +41,7 @@ LastSegmentServes = (p : ℤ) (first : FoundSegment) (segments : List FoundSegme
 
 -- The starts of every accepted curve rise.
 abbrev pub CurveStartsRise : Type 0
-CurveStartsRise = (kind : ℕ) (image : List ℕ) (c : Contents) (segments : List FoundSegment) → contents kind image ≡ good c → c.calibration ≡ curve segments → StartsRise segments
+CurveStartsRise = (kind : ℕ) (image : List ℕ) (c : Contents) (segments : List FoundSegment) → contents kind image ≡ Ok c → c.calibration ≡ curve segments → StartsRise segments
 
 -- "absent powers as 0": a coefficient for each power up to the fifth.
 abbrev pub up_to_the_fifth : List Term → List Float
@@ -51,7 +51,7 @@ up_to_the_fifth terms = let own = coefficients 0 terms in own ++ replicate (6 - 
 -- highest. (A correction of float_zero may differ in its sign; the fraction does not.)
 abbrev pub FromTheFifth : Type 0
 FromTheFifth =
-    (kind : ℕ) (image : List ℕ) (c : Contents) (segments : List FoundSegment) (v : ℤ) (dash : Dash) (r : Reading) → contents kind image ≡ good c → c.calibration ≡ curve segments →
-    take_reading kind image v dash ≡ good r →
+    (kind : ℕ) (image : List ℕ) (c : Contents) (segments : List FoundSegment) (v : ℤ) (dash : Dash) (r : Reading) → contents kind image ≡ Ok c → c.calibration ≡ curve segments →
+    take_reading kind image v dash ≡ Ok r →
     let terms = serving_terms r.fraction segments in
     fraction_by (up_to_the_fifth terms) r.fraction ≡ fraction_of terms r.fraction

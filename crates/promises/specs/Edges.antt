@@ -5,8 +5,8 @@ use Rattle.std.specs.Prelude.{◌≡◌, false, List, [], ◌∷◌, ◌++◌, m
 use Rattle.std.specs.Float.{binary32, binary64}
 use Rattle.std.specs.Float.Ieee.{of_int, of_bits}
 use Rattle.refusal.specs.declared.Refusal.{Refusal}
-use Rattle.refusal.specs.Outcome.{good, refused, ◌>>=◌}
-use Rattle.refusal.specs.Rows.{wrong_block}
+use Rattle.refusal.specs.Outcome.{Ok, Err, ◌>>=◌}
+use Rattle.refusal.specs.declared.Refusal.TheVariants.{WrongBlock}
 use Rattle.memory.specs.Bits.{bytes_of}
 use Rattle.memory.specs.Pieces.{pack}
 use Rattle.codes.specs.declared.Value.{Value}
@@ -85,17 +85,17 @@ pub data Case : Type 0 where
 
 abbrev pub Holds : Case → Type 0
 Holds (basic_is figures bytes) =
-    (line_pieces (record { template = Bridge; fields = map (λ n. slot (Whole n)) figures; end_bit = false; level = Maker }) basic 0 1 >>= λ pieces. good (bytes_of 8 (pack pieces))) ≡ good bytes
-Holds (reads_back row figure value) = (encode row 0 (Whole figure) >>= decode row 0) ≡ good (Whole value)
-Holds (means row code value) = decode row 0 code ≡ good value
+    (line_pieces (record { template = Bridge; fields = map (λ n. slot (Whole n)) figures; end_bit = false; level = Maker }) basic 0 1 >>= λ pieces. Ok (bytes_of 8 (pack pieces))) ≡ Ok bytes
+Holds (reads_back row figure value) = (encode row 0 (Whole figure) >>= decode row 0) ≡ Ok (Whole value)
+Holds (means row code value) = decode row 0 code ≡ Ok value
 Holds (scaled progression code value) = geometric_value progression code ≡ value
 Holds (dated code year month day) = date_of code ≡ record { year = year; month = month; day = day }
 Holds (placed e f v p) = position v e f ≡ p
 Holds (deviates points p d) = deviation (pairs_lent points) p ≡ d
 Holds (reads kind bytes sheet domain points alterations v q) =
-    (build kind (replicate bytes 0) sheet [] domain points >>= λ image. take_reading kind (altered image alterations) v Small >>= λ r. good r.fraction) ≡ good q
-Holds (draws kind bytes sheet curve v r) = (build_curve kind (replicate bytes 0) sheet [] curve >>= λ image. take_reading kind image v Small) ≡ good r
-Holds (unread kind bytes sheet v r) = (build kind (replicate bytes 0) sheet [] Electrical [] >>= λ image. take_reading kind image v Large) ≡ refused r
+    (build kind (replicate bytes 0) sheet [] domain points >>= λ image. take_reading kind (altered image alterations) v Small >>= λ r. Ok r.fraction) ≡ Ok q
+Holds (draws kind bytes sheet curve v r) = (build_curve kind (replicate bytes 0) sheet [] curve >>= λ image. take_reading kind image v Small) ≡ Ok r
+Holds (unread kind bytes sheet v r) = (build kind (replicate bytes 0) sheet [] Electrical [] >>= λ image. take_reading kind image v Large) ≡ Err r
 
 -- The cases that document 01 stars.
 abbrev pub starred : List Case
@@ -204,9 +204,9 @@ dropped =
 -- precision but the Singles', and no reading is taken from it.
 abbrev pub resisted : List Case
 resisted =
-    unread 0 40 (resistance_at 0 (pos 0) (pos 1_000)) (pos 500) (wrong_block first_selector) ∷
-    unread 1 128 (resistance_at 1 (pos 0) (pos 1_000_000)) (pos 500) (wrong_block first_selector) ∷
-    unread 2 512 (resistance_at 2 (pos 0) (pos 65_534)) (pos 500) (wrong_block first_selector) ∷
+    unread 0 40 (resistance_at 0 (pos 0) (pos 1_000)) (pos 500) (WrongBlock first_selector) ∷
+    unread 1 128 (resistance_at 1 (pos 0) (pos 1_000_000)) (pos 500) (WrongBlock first_selector) ∷
+    unread 2 512 (resistance_at 2 (pos 0) (pos 65_534)) (pos 500) (WrongBlock first_selector) ∷
     []
 
 abbrev pub AllHold : List Case → Type 0

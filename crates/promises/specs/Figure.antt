@@ -1,10 +1,10 @@
 -- The physical figure of an accepted reading: finite, near the exact figure
 -- of its fraction, and never dropping back where the fraction does not.
-use Rattle.std.specs.Prelude.{◌≡◌, true, List, ℕ, ◌+◌, ◌*◌, ◌^◌, ◌≤◌, T, ℤ, pos, nat_abs, ◌-ℤ◌, ◌*ℤ◌, ◌≤ℤ◌, Float}
+use Rattle.std.specs.Prelude.{Some, ◌≡◌, true, List, ℕ, ◌+◌, ◌*◌, ◌^◌, ◌≤◌, T, ℤ, pos, nat_abs, ◌-ℤ◌, ◌*ℤ◌, ◌≤ℤ◌, Float}
 use Rattle.std.specs.Float.{nan}
 use Rattle.std.specs.Float.Ieee.{le}
 use Rattle.integers.specs.Nearest.{Fraction}
-use Rattle.refusal.specs.Outcome.{Outcome, good, refused}
+use Rattle.refusal.specs.Outcome.{Outcome, Ok, Err}
 use Rattle.codes.specs.declared.Value.{Value}
 use Rattle.templates.specs.declared.Domain.{Domain}
 use Rattle.templates.specs.Calibration.{D, R}
@@ -12,7 +12,6 @@ use Rattle.codes.specs.Units.{billion}
 use Rattle.codes.specs.Rules.{finite}
 use Rattle.layout.specs.Contents.{FoundSegment, Calibration, bare, table, curve, Contents}
 use Rattle.layout.specs.Image.{contents, field, float}
-use Rattle.sheet.specs.declared.TableDomain.TheVariants.{Is}
 use Rattle.sheet.specs.Check.{read_field, domain_in}
 use Rattle.build.specs.declared.Sheet.{Sheet}
 use Rattle.build.specs.Build.{pairs_lent, build}
@@ -51,22 +50,22 @@ pub record NearTheExact (c : Contents) (r : Reading) : Type 0 where
 
 abbrev pub ShownNear : Type 0
 ShownNear =
-    (kind : ℕ) (image : List ℕ) (c : Contents) (v : ℤ) (dash : Dash) (r : Reading) → contents kind image ≡ good c → NoCurve c.calibration →
-    take_reading kind image v dash ≡ good r → NearTheExact c r
+    (kind : ℕ) (image : List ℕ) (c : Contents) (v : ℤ) (dash : Dash) (r : Reading) → contents kind image ≡ Ok c → NoCurve c.calibration →
+    take_reading kind image v dash ≡ Ok r → NearTheExact c r
 
 -- A reading with a curve, whose q is the position: the figure
 -- is near the exact figure of the curve's own fraction.
 abbrev pub CurveShownNear : Type 0
 CurveShownNear =
-    (kind : ℕ) (image : List ℕ) (c : Contents) (segments : List FoundSegment) (v : ℤ) (dash : Dash) (r : Reading) → contents kind image ≡ good c → c.calibration ≡ curve segments →
-    take_reading kind image v dash ≡ good r → NearFraction (low c) (high c) (fraction_of (serving_terms r.fraction segments) r.fraction) r.figure
+    (kind : ℕ) (image : List ℕ) (c : Contents) (segments : List FoundSegment) (v : ℤ) (dash : Dash) (r : Reading) → contents kind image ≡ Ok c → c.calibration ≡ curve segments →
+    take_reading kind image v dash ≡ Ok r → NearFraction (low c) (high c) (fraction_of (serving_terms r.fraction segments) r.fraction) r.figure
 
 -- ---- from the certificate to the figure
 
 -- The physical ends as read from an image.
 abbrev pub single : Outcome Value → Float
-single (good v) = float v
-single (refused r) = nan
+single (Ok v) = float v
+single (Err r) = nan
 
 abbrev pub low_in : ℕ → List ℕ → Float
 low_in kind image = single (read_field kind image 7)
@@ -94,9 +93,9 @@ CertificateFigure =
     (kind : ℕ) (buffer : List ℕ) (sheet : Sheet) (text : List ℕ) (domain : Domain) (points : List ℤ) (built : List ℕ) →
     (alterations : List Alteration) (readingKind : ℕ) (v : ℤ) (dash : Dash) (r : Reading) (K : ℕ) →
     Lendable sheet → RealAlterations alterations → Straight domain points →
-    build kind buffer sheet text domain points ≡ good built →
+    build kind buffer sheet text domain points ≡ Ok built →
     let image = altered built alterations in
-    take_reading readingKind image v dash ≡ good r →
+    take_reading readingKind image v dash ≡ Ok r →
     Slopes K (pairs_lent points) →
     FigureStraysAtMost (2000 + 1000 * R + K * (D + 1)) (low_in readingKind image) (high_in readingKind image) r (line_for points v (least_in readingKind image) (greatest_in readingKind image))
 
@@ -107,18 +106,18 @@ greatest_fraction = 1_100_000_000 + 1_097_150_000
 
 abbrev pub FractionAtMost : Type 0
 FractionAtMost =
-    (kind : ℕ) (image : List ℕ) (c : Contents) (v : ℤ) (dash : Dash) (r : Reading) → contents kind image ≡ good c → NoCurve c.calibration →
-    take_reading kind image v dash ≡ good r → nat_abs r.fraction ≤ greatest_fraction
+    (kind : ℕ) (image : List ℕ) (c : Contents) (v : ℤ) (dash : Dash) (r : Reading) → contents kind image ≡ Ok c → NoCurve c.calibration →
+    take_reading kind image v dash ≡ Ok r → nat_abs r.fraction ≤ greatest_fraction
 
 -- The figure's distance, known beforehand from the points and the physical ends alone.
 abbrev pub DistanceFigure : Type 0
 DistanceFigure =
     (kind : ℕ) (buffer : List ℕ) (sheet : Sheet) (text : List ℕ) (points : List ℤ) (built : List ℕ) →
     (alterations : List Alteration) (readingKind : ℕ) (v : ℤ) (dash : Dash) (r : Reading) (d : CertificateBound) →
-    distance points ≡ good d → Lendable sheet → RealAlterations alterations →
-    build kind buffer sheet text Electrical points ≡ good built →
+    distance points ≡ Ok d → Lendable sheet → RealAlterations alterations →
+    build kind buffer sheet text Electrical points ≡ Ok built →
     let image = altered built alterations in
-    take_reading readingKind image v dash ≡ good r →
+    take_reading readingKind image v dash ≡ Ok r →
     FigureWithin d.bound greatest_fraction (low_in readingKind image) (high_in readingKind image) r.figure (line_for points v (least_in readingKind image) (greatest_in readingKind image))
 
 -- ---- every accepted reading
@@ -126,7 +125,7 @@ DistanceFigure =
 -- No accepted reading shows an infinity or a NaN, with a curve or without.
 abbrev pub ShownFinite : Type 0
 ShownFinite =
-    (kind : ℕ) (image : List ℕ) (v : ℤ) (dash : Dash) (r : Reading) → take_reading kind image v dash ≡ good r → finite r.figure ≡ true
+    (kind : ℕ) (image : List ℕ) (v : ℤ) (dash : Dash) (r : Reading) → take_reading kind image v dash ≡ Ok r → finite r.figure ≡ true
 
 -- Two readings of one image, the first with the smaller input or fraction: the
 -- figure is not smaller if the physical ends rise, and not greater if they fall.
@@ -137,18 +136,18 @@ pub record Moves (c : Contents) (r s : Reading) : Type 0 where
 -- If the second fraction is not less than the first, the figures are in this order.
 abbrev pub ShownFollows : Type 0
 ShownFollows =
-    (kind : ℕ) (image : List ℕ) (c : Contents) (v w : ℤ) (one other : Dash) (r s : Reading) → contents kind image ≡ good c → NoCurve c.calibration →
-    take_reading kind image v one ≡ good r → take_reading kind image w other ≡ good s → r.fraction ≤ℤ s.fraction → Moves c r s
+    (kind : ℕ) (image : List ℕ) (c : Contents) (v w : ℤ) (one other : Dash) (r s : Reading) → contents kind image ≡ Ok c → NoCurve c.calibration →
+    take_reading kind image v one ≡ Ok r → take_reading kind image w other ≡ Ok s → r.fraction ≤ℤ s.fraction → Moves c r s
 
 -- A greater accepted input never takes the figure back.
 abbrev pub NeverDropsBack : Contents → ℕ → List ℕ → Type 0
 NeverDropsBack c kind image =
-    (v w : ℤ) (one other : Dash) (r s : Reading) → take_reading kind image v one ≡ good r → take_reading kind image w other ≡ good s → v ≤ℤ w → Moves c r s
+    (v w : ℤ) (one other : Dash) (r s : Reading) → take_reading kind image v one ≡ Ok r → take_reading kind image w other ≡ Ok s → v ≤ℤ w → Moves c r s
 
 -- The figure never drops back where Note 14's needle does not: without a table,
 -- with a domain 0 table whose points plus deviations never fall, and in domain 1.
 abbrev pub ShownRises : Type 0
-ShownRises = (kind : ℕ) (image : List ℕ) (c : Contents) → contents kind image ≡ good c → NeverFalls c.calibration → NeverDropsBack c kind image
+ShownRises = (kind : ℕ) (image : List ℕ) (c : Contents) → contents kind image ≡ Ok c → NeverFalls c.calibration → NeverDropsBack c kind image
 
 abbrev pub ShownRisesByPhysicalPoint : Type 0
-ShownRisesByPhysicalPoint = (kind : ℕ) (image : List ℕ) (c : Contents) → contents kind image ≡ good c → domain_in c.calibration ≡ Is Physical → NeverDropsBack c kind image
+ShownRisesByPhysicalPoint = (kind : ℕ) (image : List ℕ) (c : Contents) → contents kind image ≡ Ok c → domain_in c.calibration ≡ Some Physical → NeverDropsBack c kind image

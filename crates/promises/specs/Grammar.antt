@@ -1,6 +1,6 @@
 -- One grammar: the pieces that a build writes are those of the format that a check parses by.
 use Rattle.std.specs.Prelude.{◌≡◌, List, [], ◌∷◌, map, ℕ, ◌+◌, ◌-◌, ◌≤◌}
-use Rattle.refusal.specs.Outcome.{good}
+use Rattle.refusal.specs.Outcome.{Ok}
 use Rattle.memory.specs.Pieces.{Piece, piece, needed}
 use Rattle.layout.specs.Format.{Format, ends, stops, takes, looks}
 use Rattle.layout.specs.Contents.{sheet_of}
@@ -22,4 +22,4 @@ laid S (looks next) at codes = laid S (next at (S - at)) at codes
 abbrev pub OneGrammar : Type 0
 OneGrammar =
     (S : ℕ) (sheet : Sheet) (text : List ℕ) (table : Table) (pieces : List Piece) → Lendable sheet → LendableTable table →
-    plan sheet text table ≡ good pieces → needed pieces ≤ S → laid S sheet_of 0 (map (λ p. p.code) pieces) ≡ pieces
+    plan sheet text table ≡ Ok pieces → needed pieces ≤ S → laid S sheet_of 0 (map (λ p. p.code) pieces) ≡ pieces

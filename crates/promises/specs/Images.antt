@@ -1,15 +1,15 @@
 -- Document 01, "Image and stream": a stream has "39, 124 or 496 bytes",
 -- and an image whose sums are right is determined by its stream.
 use Rattle.std.specs.Prelude.{◌≡◌, List, ℕ, ◌^◌, ◌<◌, length}
-use Rattle.refusal.specs.Outcome.{Outcome, good, refused}
+use Rattle.refusal.specs.Outcome.{Outcome, Ok, Err}
 use Rattle.memory.specs.declared.Sizes.{Sizes}
 use Rattle.memory.specs.Bits.{Bytes}
 use Rattle.memory.specs.Image.{sizes_of, image_bytes, stream_bytes, stream_bits, stream_number, image_of, SumsRight}
 
 -- The bytes of a kind's image, and of its stream.
 abbrev pub bytes_by : (Sizes → ℕ) → Outcome Sizes → ℕ
-bytes_by size (good z) = size z
-bytes_by size (refused r) = 0
+bytes_by size (Ok z) = size z
+bytes_by size (Err r) = 0
 
 pub record StreamSizes : Type 0 where
   pub image0 : bytes_by image_bytes (sizes_of 0) ≡ 40

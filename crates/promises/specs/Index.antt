@@ -2,7 +2,7 @@
 -- read straight, its offsets rise, and no one-field change or commit makes it wrong.
 use Rattle.std.specs.Prelude.{◌≡◌, List, ℕ, suc, ◌≤◌, ◌<◌, length}
 use Rattle.refusal.specs.declared.Refusal.{Refusal}
-use Rattle.refusal.specs.Outcome.{Outcome, good, refused, ◌>>=◌}
+use Rattle.refusal.specs.Outcome.{Outcome, Ok, Err, ◌>>=◌}
 use Rattle.memory.specs.Bits.{Bytes}
 use Rattle.memory.specs.Image.{image_sizes, sums}
 use Rattle.layout.specs.Contents.{Contents}
@@ -17,7 +17,7 @@ use Rattle.promises.specs.Alterations.{Alteration, RealAlterations, altered}
 -- value, and 8 for a number that no field has. The index may be in any buffer that is long enough.
 abbrev pub FetchedAsRead : Type 0
 FetchedAsRead =
-    (kind : ℕ) (image buffer made : List ℕ) (f : ℕ) → index kind image buffer ≡ good made →
+    (kind : ℕ) (image buffer made : List ℕ) (f : ℕ) → index kind image buffer ≡ Ok made →
     fetch kind image made f ≡ read_field kind image f
 
 -- 1, 17 and 2, which a fetch tests as a check does.
@@ -30,15 +30,15 @@ page_check kind image = do
 -- An image that a check refuses later, for its stream (3 to 7, 22, 24 or 25), has no index.
 abbrev pub RefusedAlike : Type 0
 RefusedAlike =
-    (kind : ℕ) (image made : List ℕ) (f : ℕ) (r : Refusal) → page_check kind image ≡ refused r →
-    (fetch kind image made f ≡ refused r) × (read_field kind image f ≡ refused r)
+    (kind : ℕ) (image made : List ℕ) (f : ℕ) (r : Refusal) → page_check kind image ≡ Err r →
+    (fetch kind image made f ≡ Err r) × (read_field kind image f ≡ Err r)
 
 -- ---- sorted by offset
 
 -- Each entry of an index begins before the next one.
 abbrev pub IndexSorted : Type 0
 IndexSorted =
-    (kind : ℕ) (image buffer made : List ℕ) (c : Contents) (i : ℕ) → contents kind image ≡ good c → index kind image buffer ≡ good made →
+    (kind : ℕ) (image buffer made : List ℕ) (c : Contents) (i : ℕ) → contents kind image ≡ Ok c → index kind image buffer ≡ Ok made →
     suc i < length (entries c) → (entry_at made i).offset < (entry_at made (suc i)).offset
 
 -- ---- its bytes
@@ -46,7 +46,7 @@ IndexSorted =
 -- 480 bytes hold any index: 4 for each of template 33's 21 fields
 -- and of the 99 points that the largest chip then has room for.
 abbrev pub IndexFits : Type 0
-IndexFits = (kind : ℕ) (image : List ℕ) (c : Contents) → contents kind image ≡ good c → length (entry_bytes (entries c)) ≤ 480
+IndexFits = (kind : ℕ) (image : List ℕ) (c : Contents) → contents kind image ≡ Ok c → length (entry_bytes (entries c)) ≤ 480
 
 -- ---- after changes and commits
 
@@ -62,5 +62,5 @@ IndexKept =
 abbrev pub FetchedAfterChanges : Type 0
 FetchedAfterChanges =
     (kind : ℕ) (image buffer made : List ℕ) (alterations : List Alteration) (f : ℕ) → Bytes image → RealAlterations alterations →
-    index kind image buffer ≡ good made →
+    index kind image buffer ≡ Ok made →
     fetch kind (altered image alterations) made f ≡ read_field kind (altered image alterations) f

@@ -1,9 +1,10 @@
 -- Document 02, Note 6: who may write what.
+use Rattle.refusal.specs.Rows.{row_number}
 use Rattle.std.specs.Prelude.{◌≡◌, false, cond, List, [], ◌∷◌, ℕ, suc, ◌≤◌, length}
 use Rattle.refusal.specs.declared.Refusal.{Refusal}
-use Rattle.refusal.specs.Outcome.{Outcome, good, refused, ◌>>◌, ◌>>=◌, refuse◌if◌}
+use Rattle.refusal.specs.Outcome.{Outcome, Ok, Err, ◌>>◌, ◌>>=◌, refuse◌if◌}
 use Rattle.refusal.specs.Written.{afterwards}
-use Rattle.refusal.specs.Rows.{changed_alone, level_too_low}
+use Rattle.refusal.specs.declared.Refusal.TheVariants.{ChangedAlone, LevelTooLow}
 use Rattle.codes.specs.declared.Value.{Value}
 use Rattle.templates.specs.declared.Level.{Level}
 use Rattle.templates.specs.declared.Level.TheVariants.{Owner, CalibrationRoom, Maker}
@@ -47,7 +48,7 @@ unfoldable pub change_as_before : ℕ → List ℕ → ℕ → Value → Outcome
 change_as_before kind image f value = do
   c ← contents kind image
   x ← numbered c f
-  refuse changed_alone f if (line_of c.template f).sets
+  refuse ChangedAlone f if (line_of c.template f).sets
   code ← encode x.row f value
   rewritten kind image x code
 
@@ -60,21 +61,21 @@ MakerAsBefore = (kind : ℕ) (image : List ℕ) (f : ℕ) (v : Value) → change
 -- A field that a level may not write is refused with 20,
 -- whatever the value and the codes, and nothing is written.
 pub record RefusedTo (level : Level) (kind : ℕ) (image : List ℕ) (f : ℕ) : Type 0 where
-  pub changed : (v : Value) → change kind image level f v ≡ refused (level_too_low f)
-  pub proposed : (v : Value) → propose kind image level f v ≡ refused (level_too_low f)
-  pub committed : (present new : ℕ) → commit kind image level f present new ≡ refused (level_too_low f)
+  pub changed : (v : Value) → change kind image level f v ≡ Err (LevelTooLow f)
+  pub proposed : (v : Value) → propose kind image level f v ≡ Err (LevelTooLow f)
+  pub committed : (present new : ℕ) → commit kind image level f present new ≡ Err (LevelTooLow f)
   pub changed_bytes : (v : Value) → afterwards image (change kind image level f v) ≡ image
   pub committed_bytes : (present new : ℕ) → afterwards image (commit kind image level f present new) ≡ image
 
 abbrev pub LowerRefused : Type 0
 LowerRefused =
-    (level : Level) (kind : ℕ) (image : List ℕ) (c : Contents) (f : ℕ) → contents kind image ≡ good c → 1 ≤ f → f ≤ length c.fields →
+    (level : Level) (kind : ℕ) (image : List ℕ) (c : Contents) (f : ℕ) → contents kind image ≡ Ok c → 1 ≤ f → f ≤ length c.fields →
     (line_of c.template f).sets ≡ false → may_write level (line_of c.template f).mark ≡ false → RefusedTo level kind image f
 
 -- A field that can be changed alone, of an accepted image, but not by this level.
 pub record NotHeld (level : Level) (kind : ℕ) (image : List ℕ) (f : ℕ) : Type 0 where
   pub holds : Contents
-  pub accepted : contents kind image ≡ good holds
+  pub accepted : contents kind image ≡ Ok holds
   pub first : 1 ≤ f
   pub last : f ≤ length holds.fields
   pub alone : (line_of holds.template f).sets ≡ false
@@ -83,17 +84,17 @@ pub record NotHeld (level : Level) (kind : ℕ) (image : List ℕ) (f : ℕ) : T
 -- 20 is returned in no other case: with `LowerRefused`,
 -- exactly if the level may not write the field.
 pub record TwentyOnlyThere (level : Level) (kind : ℕ) (image : List ℕ) (f : ℕ) (r : Refusal) : Type 0 where
-  pub changed : (v : Value) → change kind image level f v ≡ refused r → NotHeld level kind image f
-  pub proposed : (v : Value) → propose kind image level f v ≡ refused r → NotHeld level kind image f
-  pub committed : (present new : ℕ) → commit kind image level f present new ≡ refused r → NotHeld level kind image f
+  pub changed : (v : Value) → change kind image level f v ≡ Err r → NotHeld level kind image f
+  pub proposed : (v : Value) → propose kind image level f v ≡ Err r → NotHeld level kind image f
+  pub committed : (present new : ℕ) → commit kind image level f present new ≡ Err r → NotHeld level kind image f
 
 abbrev pub RefusedOnlyThere : Type 0
-RefusedOnlyThere = (level : Level) (kind : ℕ) (image : List ℕ) (f : ℕ) (r : Refusal) → r.number ≡ 20 → TwentyOnlyThere level kind image f r
+RefusedOnlyThere = (level : Level) (kind : ℕ) (image : List ℕ) (f : ℕ) (r : Refusal) → (row_number r) ≡ 20 → TwentyOnlyThere level kind image f r
 
 -- What a level may write, every higher one may write too, to the same bytes.
 pub record HigherMayToo (low high : Level) : Type 0 where
-  pub changes : (kind : ℕ) (image after : List ℕ) (f : ℕ) (v : Value) → change kind image low f v ≡ good after → change kind image high f v ≡ good after
-  pub commits : (kind : ℕ) (image after : List ℕ) (f present new : ℕ) → commit kind image low f present new ≡ good after → commit kind image high f present new ≡ good after
+  pub changes : (kind : ℕ) (image after : List ℕ) (f : ℕ) (v : Value) → change kind image low f v ≡ Ok after → change kind image high f v ≡ Ok after
+  pub commits : (kind : ℕ) (image after : List ℕ) (f present new : ℕ) → commit kind image low f present new ≡ Ok after → commit kind image high f present new ≡ Ok after
 
 abbrev pub LevelsNest : Type 0
 LevelsNest = (low high : Level) → rank low ≤ rank high → HigherMayToo low high

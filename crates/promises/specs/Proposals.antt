@@ -1,7 +1,7 @@
 -- Document 02, Note 5: proposal, then commit.
 use Rattle.std.specs.Prelude.{◌≡◌, List, ℕ}
-use Rattle.refusal.specs.Outcome.{good, refused, ◌>>=◌, tested}
-use Rattle.refusal.specs.Rows.{other_code}
+use Rattle.refusal.specs.Outcome.{Ok, Err, ◌>>=◌, tested}
+use Rattle.refusal.specs.declared.Refusal.TheVariants.{OtherCode}
 use Rattle.memory.specs.Bits.{Bytes}
 use Rattle.codes.specs.declared.Value.{Value}
 use Rattle.templates.specs.declared.Level.{Level}
@@ -30,13 +30,13 @@ ProposalRefused =
 abbrev pub CommitStores : Type 0
 CommitStores =
     (kind : ℕ) (image after : List ℕ) (c : Contents) (level : Level) (f present new : ℕ) → Bytes image →
-    contents kind image ≡ good c → commit kind image level f present new ≡ good after →
-    (v : Value) × (decode (field c f).row (field c f).at new ≡ good v) × (contents kind after ≡ good (replaced c f new v))
+    contents kind image ≡ Ok c → commit kind image level f present new ≡ Ok after →
+    (v : Value) × (decode (field c f).row (field c f).at new ≡ Ok v) × (contents kind after ≡ Ok (replaced c f new v))
 
 -- A commit is accepted only if the present code is still there: after an
 -- accepted change of that field to another code it is refused with 19.
 abbrev pub CommitAfterAnother : Type 0
 CommitAfterAnother =
     (kind : ℕ) (image after : List ℕ) (c : Contents) (level : Level) (f : ℕ) (v : Value) (code present new : ℕ) → Bytes image → Real v →
-    contents kind image ≡ good c → code_for c level f v ≡ good code → (code ≡ present → ⊥) → change kind image level f v ≡ good after →
-    commit kind after level f present new ≡ refused (other_code f)
+    contents kind image ≡ Ok c → code_for c level f v ≡ Ok code → (code ≡ present → ⊥) → change kind image level f v ≡ Ok after →
+    commit kind after level f present new ≡ Err (OtherCode f)

@@ -2,7 +2,7 @@
 -- check judges an image, and what reads of it return.
 use Rattle.std.specs.Prelude.{◌≡◌, List, ℕ, ◌%◌, ◌^◌, length}
 use Rattle.refusal.specs.declared.Refusal.{Refusal}
-use Rattle.refusal.specs.Outcome.{good, refused}
+use Rattle.refusal.specs.Outcome.{Ok, Err}
 use Rattle.memory.specs.declared.Sizes.{Sizes}
 use Rattle.memory.specs.Image.{image_sizes, sums, stream_number}
 use Rattle.layout.specs.Contents.{Contents}
@@ -16,14 +16,14 @@ use Rattle.sheet.specs.Reads.{ReadsEach, ReadsNone}
 abbrev pub BitsBehindNotJudged : Type 0
 BitsBehindNotJudged =
     (kind : ℕ) (image other : List ℕ) (z : Sizes) (c : Contents) →
-    image_sizes kind (length image) ≡ good z → contents kind image ≡ good c →
-    image_sizes kind (length other) ≡ good z → sums z other ≡ good tt →
+    image_sizes kind (length image) ≡ Ok z → contents kind image ≡ Ok c →
+    image_sizes kind (length other) ≡ Ok z → sums z other ≡ Ok tt →
     stream_number z image % 2 ^ c.bits ≡ stream_number z other % 2 ^ c.bits →
-    contents kind other ≡ good c
+    contents kind other ≡ Ok c
 
 -- Field, pair, character, segment or term read: "check, 8".
 abbrev pub ReadByIndex : Type 0
 ReadByIndex =
     (kind : ℕ) (image : List ℕ) →
-    ((s : Summary) → check kind image ≡ good s → (c : Contents) × (contents kind image ≡ good c) × ReadsEach kind image s c) ×
-    ((r : Refusal) → check kind image ≡ refused r → ReadsNone kind image r)
+    ((s : Summary) → check kind image ≡ Ok s → (c : Contents) × (contents kind image ≡ Ok c) × ReadsEach kind image s c) ×
+    ((r : Refusal) → check kind image ≡ Err r → ReadsNone kind image r)

@@ -1,7 +1,7 @@
 -- Document 01, "Image and stream", as statements about the stream of every contract. Where its
 -- bits are in the image, the order of a field's bits, and that a put leaves other bits unchanged.
 use Rattle.std.specs.Prelude.{◌≡◌, List, ◌⊎◌, ℕ, ◌+◌, ◌/◌, ◌%◌, ◌^◌, ◌≤◌, ◌<◌, length, get_or}
-use Rattle.refusal.specs.Outcome.{good}
+use Rattle.refusal.specs.Outcome.{Ok}
 use Rattle.memory.specs.declared.Sizes.{Sizes}
 use Rattle.memory.specs.Bits.{Bytes, bit, field_at, put_at}
 use Rattle.memory.specs.Image.{image_sizes, stream_of, stream_number}
@@ -9,7 +9,7 @@ use Rattle.memory.specs.Image.{image_sizes, stream_of, stream_number}
 -- "Stream bit n is bit n mod 8 of byte n / 8, bit 0 lowest."
 abbrev pub StreamBit : Type 0
 StreamBit =
-    (kind : ℕ) (image : List ℕ) (z : Sizes) → Bytes image → image_sizes kind (length image) ≡ good z →
+    (kind : ℕ) (image : List ℕ) (z : Sizes) → Bytes image → image_sizes kind (length image) ≡ Ok z →
     (n : ℕ) → bit (stream_number z image) n ≡ bit (get_or (stream_of z image) (n / 8) 0) (n % 8)
 
 -- "A field's first bit is its lowest."

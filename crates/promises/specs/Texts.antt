@@ -1,13 +1,13 @@
 -- Document 01, "Layout": text and code are each other's inverse, and
 -- dates are those of the Gregorian calendar from 1 January 1998 on.
 use Rattle.std.specs.Prelude.{◌≡◌, true, false, cond, List, ◌↔◌, ℕ, suc, ◌+◌, ◌-◌, ◌≤◌}
-use Rattle.refusal.specs.Outcome.{good}
+use Rattle.refusal.specs.Outcome.{Ok}
 use Rattle.texts.specs.Dates.{Date, leap, month_length, next, date_of, days_of_year, days_before_year, days_before_month}
 use Rattle.texts.specs.Text.{text_of, code_of}
 
 -- A text is that of a code exactly if the code is that of the text.
 abbrev pub TextAndCode : Type 0
-TextAndCode = (field code : ℕ) (text : List ℕ) → (text_of field code ≡ good text) ↔ (code_of field text ≡ good code)
+TextAndCode = (field code : ℕ) (text : List ℕ) → (text_of field code ≡ Ok text) ↔ (code_of field text ≡ Ok code)
 
 -- ---- the calendar
 

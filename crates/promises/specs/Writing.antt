@@ -2,8 +2,8 @@
 -- what the chip can hold after writing the rows that the call answers.
 use Rattle.std.specs.Prelude.{◌≡◌, List, ◌⊎◌, ◌↔◌, ℕ, zero, suc, ◌+◌, ◌*◌, ◌/◌, ◌≤◌, length}
 use Rattle.refusal.specs.declared.Refusal.{Refusal}
-use Rattle.refusal.specs.Outcome.{Outcome, good, refused}
-use Rattle.refusal.specs.Rows.{wrong_sum, blank_chip}
+use Rattle.refusal.specs.Outcome.{Outcome, Ok, Err}
+use Rattle.refusal.specs.declared.Refusal.TheVariants.{WrongSum, BlankChip}
 use Rattle.memory.specs.Bits.{Bytes}
 use Rattle.layout.specs.Image.{contents}
 use Rattle.writing.specs.Numbers.{count}
@@ -12,8 +12,8 @@ use Rattle.writing.specs.Chip.{after, Torn}
 
 -- What the chip holds after the call's answer is carried out: a refusal writes nothing.
 abbrev pub carried_out : Outcome Step → List ℕ → List ℕ
-carried_out (good s) image = after s image
-carried_out (refused r) image = image
+carried_out (Ok s) image = after s image
+carried_out (Err r) image = image
 
 abbrev pub next : ℕ → List ℕ → List ℕ → List ℕ
 next kind wanted present = carried_out (next_row kind present wanted) present
@@ -32,7 +32,7 @@ pub data Reached (kind : ℕ) (wanted old : List ℕ) : List ℕ → Type 0 wher
 
 -- A check refuses an image for its sums: 17, or 2 at some page.
 abbrev pub RefusedBySums : ℕ → List ℕ → Type 0
-RefusedBySums kind image = (why : Refusal) × (contents kind image ≡ refused why) × ((why ≡ blank_chip) ⊎ ((page : ℕ) × (why ≡ wrong_sum page)))
+RefusedBySums kind image = (why : Refusal) × (contents kind image ≡ Err why) × ((why ≡ BlankChip) ⊎ ((page : ℕ) × (why ≡ WrongSum page)))
 
 -- 1. Whatever a chip can hold then is what was there at first, the wanted
 -- image, or refused. Every call that checks an image starts from `contents`.
@@ -51,7 +51,7 @@ enough (suc k) present wanted = differing present wanted + 4
 
 -- The call is not refused: it answers a row, or done.
 abbrev pub NotRefused : ℕ → List ℕ → List ℕ → Type 0
-NotRefused kind present wanted = (s : Step) × (next_row kind present wanted ≡ good s)
+NotRefused kind present wanted = (s : Step) × (next_row kind present wanted ≡ Ok s)
 
 -- 2. This many writes or more leave the wanted image;
 -- the call answers done exactly if the chip holds it.
@@ -59,7 +59,7 @@ abbrev pub Ends : Type 0
 Ends = (kind : ℕ) (wanted present : List ℕ) → NotRefused kind present wanted → (n : ℕ) → enough kind present wanted ≤ n → writes kind wanted n present ≡ wanted
 
 abbrev pub DoneExactly : Type 0
-DoneExactly = (kind : ℕ) (wanted present : List ℕ) (s : Step) → next_row kind present wanted ≡ good s → (s ≡ done) ↔ (present ≡ wanted)
+DoneExactly = (kind : ℕ) (wanted present : List ℕ) (s : Step) → next_row kind present wanted ≡ Ok s → (s ≡ done) ↔ (present ≡ wanted)
 
 -- 3. The call depends on present and wanted alone: it answers for whatever
 -- the chip can hold, so that writing continues from there to the image.
@@ -72,5 +72,5 @@ Resumes = (kind : ℕ) (wanted old : List ℕ) → NotRefused kind old wanted �
 
 -- 4. A row that is written is 8 bytes, a row of the image, and differs from what is there.
 abbrev pub Sparing : Type 0
-Sparing = (kind : ℕ) (wanted present : List ℕ) (r : ℕ) (bytes : List ℕ) → next_row kind present wanted ≡ good (write r bytes)
+Sparing = (kind : ℕ) (wanted present : List ℕ) (r : ℕ) (bytes : List ℕ) → next_row kind present wanted ≡ Ok (write r bytes)
     → (8 * r + 8 ≤ length present) × (length bytes ≡ 8) × (row r present ≡ bytes → ⊥)

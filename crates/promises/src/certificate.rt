@@ -12,7 +12,7 @@ use templates::Domain;
 // unchanged. There are as many alterations as fields. At the index of each are its
 // kind, its writer's level (0, 1, 2), its field and its sort. By the sort there is a
 // whole number (0), a Single (1), missing (2), or for a commit (3) the present code and
-// the new one. Each slice is a parameter of its own, since no struct can hold them.
+// the new one. Each slice is a parameter, since the statement `Answered` names each.
 pub fn points_to_reading(
     kind: u8,
     image: &mut [u8],

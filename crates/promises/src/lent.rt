@@ -116,9 +116,9 @@ pub fn alter(image: &mut [u8], target: Target, content: Content)
     let level = target.level;
     let field = target.field;
     if content.sort == 3 {
-        change::commit(kind, image, level, field, content.present, content.new);
+        let _ = change::commit(kind, image, level, field, content.present, content.new);
         return;
     }
     let value = content.value;
-    change::change(kind, image, level, field, value);
+    let _ = change::change(kind, image, level, field, value);
 }

@@ -6,12 +6,12 @@ mod certificate; // certificate.rt: from the points lent to the q returned
 mod lent; // lent.rt: changes and commits lent as slices
 
 pub use certificate::points_to_reading;
-use reading::ReadingAnswer;
-use refusal::Written;
+use reading::Reading;
+use refusal::Refusal;
 
 // The answers of a build and of a reading, with changes and commits between them.
 #[derive(Clone, Copy)]
 pub struct Answers {
-    pub built: Written,
-    pub reading: ReadingAnswer,
+    pub built: Result<(), Refusal>,
+    pub reading: Result<Reading, Refusal>,
 }

@@ -1,9 +1,9 @@
 -- Laws of the fraction q that calls return: it depends on the pairs
 -- before a position, it is small, and with the figure it is the reading.
-use Rattle.reading.proofs.Names.{◌≡◌, refl, List, [], ◌∷◌, map, none, ℕ, ◌+◌, ◌^◌, ◌≤◌, ◌<◌, arith, ℤ, nat_abs, ◌+ℤ◌, length, get_or, Float, w64, SFits, to_z, of_z, to_z-of_z, add_parts, abs-parts, Pair, Domain}
+use Rattle.reading.proofs.Names.{◌≡◌, refl, List, [], ◌∷◌, map, None, ℕ, ◌+◌, ◌^◌, ◌≤◌, ◌<◌, arith, ℤ, nat_abs, ◌+ℤ◌, length, get_or, Float, w64, SFits, to_z, of_z, to_z-of_z, add_parts, abs-parts, Pair, Domain}
 use Rattle.reading.proofs.Names.{Electrical, Physical, no_pair, physical_figure, Calibration, bare, table, curve, Contents, pair_in, pairs_in, CalibrationAt, Before, correction_after, deviation, crossing_after}
 use Rattle.reading.proofs.Names.{crossing, Table, near-abs, deviation-small, crossing-small, Pieced, first_piece, last-piece, next-piece, rounded, deviation-pieced, crossing-pieced, none-deviates, none-crosses}
-use Rattle.reading.proofs.Names.{NoTable, Is, Opened, domain_in, Opens, holding, Span, position, fraction, physical_fraction, reading_at, figure_in, held_in, between_in}
+use Rattle.reading.proofs.Names.{None, Some, Opened, domain_in, Opens, holding, Span, position, fraction, physical_fraction, reading_at, figure_in, held_in, between_in}
 use Rattle.reading.specs.Reading.{fraction_by}
 use Rattle.reading.proofs.Opening.{RisesIn, pairs-table, pairs-rise}
 
@@ -37,25 +37,15 @@ module _ (domain : Domain) (p : ℤ) (pairs : List Pair) where
 
 -- ---- by a calibration
 
-pub table-shows : (k : Calibration) (domain : Domain) (p : ℤ) → domain_in k ≡ Is domain → fraction_by domain (map pair_in (pairs_in k)) p ≡ fraction k p
-table-shows bare domain p e = absurd (let z : ◌≡◌ {A = ℕ} 0 1 = cc in omega arith)
-table-shows (table found pairs) domain p e = let same : domain ≡ found = cc in rw same
-table-shows (curve segments) domain p e = absurd (let z : ◌≡◌ {A = ℕ} 0 1 = cc in omega arith)
-
-pub no-table-shows : (k : Calibration) (p : ℤ) → domain_in k ≡ NoTable → p ≡ fraction k p
-no-table-shows bare p e = refl
-no-table-shows (table found pairs) p e = absurd (let z : ◌≡◌ {A = ℕ} 0 1 = cc in omega arith)
-no-table-shows (curve segments) p e = refl
-
 -- If a calibration's table is not of domain 1, the fraction
 -- is p plus the deviation; if not of domain 0, the crossing.
-pub by-deviation : (k : Calibration) (p : ℤ) → (domain_in k ≡ Is Physical → ⊥) → fraction k p ≡ p +ℤ deviation (map pair_in (pairs_in k)) p
+pub by-deviation : (k : Calibration) (p : ℤ) → (domain_in k ≡ Some Physical → ⊥) → fraction k p ≡ p +ℤ deviation (map pair_in (pairs_in k)) p
 by-deviation bare p h = none-deviates p
 by-deviation (table Electrical pairs) p h = refl
 by-deviation (table Physical pairs) p h = absurd (h refl)
 by-deviation (curve segments) p h = none-deviates p
 
-pub by-crossing : (k : Calibration) (p : ℤ) → (domain_in k ≡ Is Electrical → ⊥) → fraction k p ≡ crossing (map pair_in (pairs_in k)) p
+pub by-crossing : (k : Calibration) (p : ℤ) → (domain_in k ≡ Some Electrical → ⊥) → fraction k p ≡ crossing (map pair_in (pairs_in k)) p
 by-crossing bare p h = none-crosses p
 by-crossing (table Electrical pairs) p h = absurd (h refl)
 by-crossing (table Physical pairs) p h = refl
@@ -75,7 +65,7 @@ fraction-small {c = c} h p small = go _ c.calibration (holding h).formed.calibra
   where
     go : (at : ℕ) (k : Calibration) → CalibrationAt at k → nat_abs (fraction k p) ≤ 2 ^ 33
     go at bare l = omega arith
-    go at (table domain pairs) l = by-small domain (map pair_in pairs) p (pairs-table domain none _ pairs l.stand) (pairs-rise domain none _ pairs l.stand) small
+    go at (table domain pairs) l = by-small domain (map pair_in pairs) p (pairs-table domain None _ pairs l.stand) (pairs-rise domain None _ pairs l.stand) small
     go at (curve segments) l = omega arith
 
 -- ---- the reading

@@ -1,7 +1,6 @@
 mod Names
 pub mod Positions
 pub mod Opening
-pub mod EndLaws
 pub mod Spans
 pub mod Orders
 pub mod Fractions

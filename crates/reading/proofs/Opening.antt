@@ -1,10 +1,10 @@
 -- Laws of an opened sheet: the sorts and sizes of the values that a reading uses.
-use Rattle.reading.proofs.Names.{◌≡◌, refl, sym, ap, ap₂, ◌∙◌, subst, Bool, true, false, not, ◌&&◌, cond, true≢false, List, [], ◌∷◌, map, Option, none, some, ℕ, zero, suc, ◌+◌, ◌*◌, ◌^◌, ◌≤◌, ◌<◌, mul-le-mul_left}
-use Rattle.reading.proofs.Names.{arith, not-false, T, eqb, ltb, ℤ, pos, nat_abs, ◌+ℤ◌, binary32, of_bits, is_nan, get_or, ◌<ℤ◌, add_parts, abs-parts, parts-≤ℤ, parts-<ℤ, good, outside_table, not_finite, good-same}
+use Rattle.reading.proofs.Names.{◌≡◌, refl, sym, ap, ap₂, ◌∙◌, subst, Bool, true, false, not, ◌&&◌, cond, true≢false, List, [], ◌∷◌, map, Option, None, Some, ℕ, zero, suc, ◌+◌, ◌*◌, ◌^◌, ◌≤◌, ◌<◌, mul-le-mul_left}
+use Rattle.reading.proofs.Names.{arith, not-false, T, eqb, ltb, ℤ, pos, nat_abs, ◌+ℤ◌, binary32, of_bits, is_nan, get_or, ◌<ℤ◌, add_parts, abs-parts, parts-≤ℤ, parts-<ℤ, Ok, OutsideTable, NotFinite, good-same}
 use Rattle.reading.proofs.Names.{passed, Value, Whole, Single, Missing, Stepped, Ieee, Row, Template, Bridge, Resistance, Codes, Pair, Domain, Electrical, Physical, all_ones, top_code, stepped_value, finite, meaning}
 use Rattle.reading.proofs.Names.{decode, bridge_end, Line, line_of, no_pair, D, R, least_deviation, cal_point, cal_deviation, stored_sum, span-listed, span_lines, no_nan, nanovolts-within, stepped-whole, follows-rises}
 use Rattle.reading.proofs.Names.{follows-climbs, Found, FoundPair, Calibration, bare, table, curve, Contents, codes_in, figure, field, layout_of, pairs_in, pair_in, points, field_place, FieldAt, PairAt, PairsAt}
-use Rattle.reading.proofs.Names.{CalibrationAt, field-at, Neighbours, sum, SumsRise, Figures, Table, near-abs, figures-at, Is, Opened, domain_in, Opens, points-are, holding, domain-is, is_resistance}
+use Rattle.reading.proofs.Names.{CalibrationAt, field-at, Neighbours, sum, SumsRise, Figures, Table, near-abs, figures-at, Some, Opened, domain_in, Opens, points-are, holding, domain-is, is_resistance}
 use Rattle.reading.proofs.Names.{electrical_figure, float, is_missing, is_outside, figure_in}
 
 -- ---- the sorts
@@ -46,18 +46,18 @@ floated-real Missing h m = absurd (subst T m tt)
 
 module _ {row : Row} {at : ℕ} {x : Found} (h : FieldAt row at x) where
   -- The value is missing, or the rule's.
-  either : (P : Value → Type 0) → P Missing → (meaning row.rule row.width at x.code ≡ good x.value → P x.value) → P x.value
+  either : (P : Value → Type 0) → P Missing → (meaning row.rule row.width at x.code ≡ Ok x.value → P x.value) → P x.value
   unfolding decode
   either P missing means = go (row.missing && eqb x.code (all_ones row.width)) h.means
     where
-      go : (t : Bool) → cond t (good Missing) (meaning row.rule row.width at x.code) ≡ good x.value → P x.value
+      go : (t : Bool) → cond t (Ok Missing) (meaning row.rule row.width at x.code) ≡ Ok x.value → P x.value
       go true e = subst P (good-same e) missing
       go false e = means e
 
   pub figured : {start : ℤ} {step : ℕ} (B : ℕ) → row.rule ≡ Stepped start step → nat_abs start + step * 2 ^ row.width ≤ B → Figured B x.value
   figured {start} {step} B r b =
       either (Figured B) tt
-      (λ e. subst (Figured B) (good-same (passed (outside_table at) (ltb (top_code row.width) x.code) _ x.value (rw r at e)).1) small)
+      (λ e. subst (Figured B) (good-same (passed (OutsideTable at) (ltb (top_code row.width) x.code) _ x.value (rw r at e)).1) small)
     where
       small : nat_abs (stepped_value start step x.code) ≤ B
       small =
@@ -68,8 +68,8 @@ module _ {row : Row} {at : ℕ} {x : Found} (h : FieldAt row at x) where
   floated r =
       either Floated tt
       (λ e.
-      let q = passed (outside_table at) (eqb x.code (all_ones row.width)) _ x.value (rw r at e) in
-      let p = passed (not_finite at) (not (finite (of_bits binary32 x.code))) _ x.value q.1 in
+      let q = passed (OutsideTable at) (eqb x.code (all_ones row.width)) _ x.value (rw r at e) in
+      let p = passed (NotFinite at) (not (finite (of_bits binary32 x.code))) _ x.value q.1 in
       subst Floated (good-same p.1) (not-false (finite (of_bits binary32 x.code)) p.0))
 
 -- ---- the calibration points: they rise, and they and their deviations are small
@@ -92,7 +92,7 @@ pub pairs-table : (domain : Domain) (before : Option Codes) (at : ℕ) (pairs : 
 pairs-table domain before at [] h = record { rises = tt; figures = tt }
 pairs-table domain before at (p ∷ []) h = record { rises = tt; figures = (pair-figures h.0, tt) }
 pairs-table domain before at (p ∷ r ∷ pairs) h =
-    let t = pairs-table domain (some (codes_in p)) (at + 37) (r ∷ pairs) h.1 in
+    let t = pairs-table domain (Some (codes_in p)) (at + 37) (r ∷ pairs) h.1 in
     record { rises = (rises, t.rises); figures = (pair-figures h.0, t.figures) }
   where
     rises : figure p.point.value <ℤ figure r.point.value
@@ -107,7 +107,7 @@ pairs-table domain before at (p ∷ r ∷ pairs) h =
 
 pub calibration-table : (at : ℕ) (c : Calibration) → CalibrationAt at c → Table (map pair_in (pairs_in c))
 calibration-table at bare h = record { rises = tt; figures = tt }
-calibration-table at (table domain pairs) h = pairs-table domain none (at + 18) pairs h.stand
+calibration-table at (table domain pairs) h = pairs-table domain None (at + 18) pairs h.stand
 calibration-table at (curve segments) h = record { rises = tt; figures = tt }
 
 -- In domain 1 the sums of pairs rise.
@@ -118,7 +118,7 @@ pairs-sums : (before : Option Codes) (at : ℕ) (pairs : List FoundPair) → Pai
 pairs-sums before at [] h = tt
 pairs-sums before at (p ∷ []) h = tt
 pairs-sums before at (p ∷ r ∷ pairs) h =
-    (rw (sum_is h.0, sum_is h.1.0) (follows-climbs (codes_in p) _ (codes_in r) h.1.0.follows), pairs-sums (some (codes_in p)) (at + 37) (r ∷ pairs) h.1)
+    (rw (sum_is h.0, sum_is h.1.0) (follows-climbs (codes_in p) _ (codes_in r) h.1.0.follows), pairs-sums (Some (codes_in p)) (at + 37) (r ∷ pairs) h.1)
 
 -- The figures that a position is compared with rise.
 abbrev pub RisesIn : Domain → List Pair → Type 0
@@ -128,11 +128,11 @@ pub pairs-rise : (domain : Domain) (before : Option Codes) (at : ℕ) (pairs : L
 pairs-rise Electrical before at pairs h = (pairs-table Electrical before at pairs h).rises
 pairs-rise Physical before at pairs h = pairs-sums before at pairs h
 
-pub calibration-rises : (at : ℕ) (c : Calibration) (domain : Domain) → CalibrationAt at c → domain_in c ≡ Is domain → RisesIn domain (map pair_in (pairs_in c))
+pub calibration-rises : (at : ℕ) (c : Calibration) (domain : Domain) → CalibrationAt at c → domain_in c ≡ Some domain → RisesIn domain (map pair_in (pairs_in c))
 calibration-rises at bare domain h e = tt
 calibration-rises at (table found pairs) domain h e =
     let same : found ≡ domain = cc in
-    subst (λ (d : Domain). RisesIn d (map pair_in pairs)) same (pairs-rise found none (at + 18) pairs h.stand)
+    subst (λ (d : Domain). RisesIn d (map pair_in pairs)) same (pairs-rise found None (at + 18) pairs h.stand)
 calibration-rises at (curve segments) domain h e = tt
 
 -- ---- the sheet
@@ -151,7 +151,7 @@ module _ {kind : ℕ} {image : List ℕ} {o : Opened} {c : Contents} (h : Opens 
   pub opened-figures : {q : Pair} (i : ℕ) → q ≡ get_or (points c) i no_pair → i < o.summary.points → Figures q
   opened-figures i e l = rw e (figures-at (points c) (opened-table h).figures i (omega (arith, points-are h)))
 
-  pub opened-rises : (domain : Domain) → o.summary.domain ≡ Is domain → RisesIn domain (points c)
+  pub opened-rises : (domain : Domain) → o.summary.domain ≡ Some domain → RisesIn domain (points c)
   opened-rises domain e = calibration-rises _ c.calibration domain (holding h).formed.calibrated (sym (domain-is h) ∙ e)
 
 -- A template that is not 32 is 33.

@@ -1,6 +1,6 @@
 -- Laws of the segment of a curve that serves, found by
 -- a loop from segment to segment, and of its terms.
-use Rattle.reading.proofs.Names.{◌≡◌, refl, sym, ap, ap₂, ◌∙◌, subst, List, [], ◌∷◌, map, true, false, ℕ, suc, ◌+◌, ◌-◌, ◌*◌, ◌≤◌, ◌<◌, arith, ℤ, length, get_or, lt_z, le-le_z, lt-le_z, lt_z-parts, nlt_z-parts, is_true}
+use Rattle.reading.proofs.Names.{◌≡◌, refl, sym, ap, ap₂, ◌∙◌, subst, List, [], ◌∷◌, map, true, false, ℕ, suc, ◌+◌, ◌*◌, ◌≤◌, ◌<◌, arith, ℤ, length, get_or, lt_z, le-le_z, lt-le_z, lt_z-parts, nlt_z-parts, is_true}
 use Rattle.reading.proofs.Names.{is_false, Segment, Stream, FoundTerm, FoundSegment, segment_in, term_in, TermStands, CurveStands, segment_at, segment_end, term_is, curve-behind, first-is, serving, serving_terms}
 use Rattle.reading.proofs.Names.{terms_from, own_terms}
 
@@ -13,20 +13,20 @@ terms-are s at (t ∷ terms) h =
     (terms-are s (at + 39) terms (λ i none l. subst (λ (n : ℕ). TermStands s n (get_or terms i none)) (omega arith) (h (suc i) none (omega arith))))
 
 module _ (p : ℤ) (s : Stream) (segments : List FoundSegment) where
-  -- The segment at a place serves among those passed, and this many segments are left from it on.
-  pub record Walked (at terms left : ℕ) : Type 0 where
+  -- The segment at a place is the last of this many that are read, and serves among them.
+  pub record Walked (at terms read : ℕ) : Type 0 where
     pub own : FoundSegment
     pub after : List FoundSegment
     pub stand : CurveStands s at (own ∷ after)
     pub many : terms ≡ length own.terms
-    pub rest : left ≡ suc (length after)
+    pub rest : read + length after ≡ length segments
     pub serves : serving_terms p segments ≡ map term_in (serving p own after).terms
 
   -- The first segment.
-  pub walked-first : {at : ℕ} → CurveStands s at segments → {n : ℕ} → n ≡ length segments → 0 < n → (x : Segment) → x ≡ segment_at s at → Walked at x.terms n
-  walked-first {at} h {n} k l x e = go segments refl
+  pub walked-first : {at : ℕ} → CurveStands s at segments → 0 < length segments → (x : Segment) → x ≡ segment_at s at → Walked at x.terms 1
+  walked-first {at} h l x e = go segments refl
     where
-      go : (xs : List FoundSegment) → segments ≡ xs → Walked at x.terms n
+      go : (xs : List FoundSegment) → segments ≡ xs → Walked at x.terms 1
       go [] f = absurd (omega (arith, ap length f))
       go (own ∷ after) f =
           let c : CurveStands s at (own ∷ after) = subst (CurveStands s at) f h in
@@ -35,11 +35,11 @@ module _ (p : ℤ) (s : Stream) (segments : List FoundSegment) where
             after = after;
             stand = c;
             many = ap (λ (y : Segment). y.terms) (e ∙ first-is own after c);
-            rest = k ∙ ap length f;
+            rest = omega (arith, ap length f);
             serves = ap (serving_terms p) f;
           }
 
-  module _ {at terms left : ℕ} (w : Walked at terms left) where
+  module _ {at terms read : ℕ} (w : Walked at terms read) where
     own-are : own_terms s at terms ≡ map term_in w.own.terms
     own-are =
         ap (own_terms s at) w.many
@@ -49,7 +49,7 @@ module _ (p : ℤ) (s : Stream) (segments : List FoundSegment) where
     serves-own e = own-are ∙ ap (λ (x : FoundSegment). map term_in x.terms) (sym e) ∙ sym w.serves
 
     -- No segment is after it.
-    pub served-last : left ≤ 1 → own_terms s at terms ≡ serving_terms p segments
+    pub served-last : length segments ≤ read → own_terms s at terms ≡ serving_terms p segments
     unfolding serving
     served-last l = go w.after refl
       where
@@ -69,7 +69,7 @@ module _ (p : ℤ) (s : Stream) (segments : List FoundSegment) where
     unfolding serving
     serves-next {x} n b = rw n.is (rw (le-le_z (segment_in n.found).start p (rw n.same at (nlt_z-parts p x.start (is_false b)))))
 
-    module _ (l : 1 < left) (x : Segment) (e : x ≡ segment_at s (segment_end at terms)) where
+    module _ (l : read < length segments) (x : Segment) (e : x ≡ segment_at s (segment_end at terms)) where
       next-is : Next x
       next-is = go w.after refl
         where
@@ -87,7 +87,7 @@ module _ (p : ℤ) (s : Stream) (segments : List FoundSegment) where
           serves-own (rw n.is (rw (lt-le_z (segment_in n.found).start p (rw n.same at (lt_z-parts p x.start (is_true b))))))
 
       -- The next segment starts at or below p, so the loop goes on.
-      pub walked_on : lt_z p x.start ≡ false → Walked (segment_end at terms) x.terms (left - 1)
+      pub walked_on : lt_z p x.start ≡ false → Walked (segment_end at terms) x.terms (read + 1)
       walked_on b =
           let n = next-is in
           record {

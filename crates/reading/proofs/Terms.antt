@@ -1,6 +1,6 @@
 -- Laws of the terms of an accepted curve: their exponents rise from
 -- 0 to 5, so that the fraction is computed from them in order.
-use Rattle.reading.proofs.Names.{◌≡◌, refl, sym, ap, ap₂, ◌∙◌, Bool, true, false, cond, List, [], ◌∷◌, map, ℕ, suc, ◌+◌, ◌-◌, ◌*◌, ◌≤◌, ◌<◌, arith, ℤ, nat_abs, length, le_z, Term, float_fraction, Stream}
+use Rattle.reading.proofs.Names.{◌≡◌, refl, sym, ap, ◌∙◌, Bool, true, false, cond, List, [], ◌∷◌, map, ℕ, suc, ◌+◌, ◌-◌, ◌*◌, ◌≤◌, ◌<◌, arith, ℤ, nat_abs, length, le_z, Term, float_fraction, Stream}
 use Rattle.reading.proofs.Names.{FoundSegment, Calibration, bare, table, curve, Passed, behind_segment, nothing_passed, segments_in, segment_in, term_in, SegmentsAt, Rises, terms-rise, CalibrationAt, term_at}
 use Rattle.reading.proofs.Names.{segment_end, Powers, fraction_by, no_powers, with_term, taken, up_to_highest, Rising, fraction-taken, fraction, serving, serving_terms, physical_fraction, terms_from, own_terms}
 
@@ -12,12 +12,6 @@ rising least [] h = tt
 rising least (t ∷ terms) h = (h.0, (h.1, rising (suc (nat_abs t.exponent)) terms h.2))
 
 -- ---- the terms of a segment, in order
-
-pub all_left : (s : Stream) (at n : ℕ) (powers : Powers) → taken powers (own_terms s (at + 39 * 0) (n - 0)) ≡ taken powers (own_terms s at n)
-all_left s at n powers =
-    let place : at + 39 * 0 ≡ at = omega arith in
-    let all : n - 0 ≡ n = omega arith in
-    ap₂ (λ (k m : ℕ). taken powers (own_terms s k m)) place all
 
 module _ (s : Stream) (at n i : ℕ) (powers : Powers) where
   -- The term after i of them, and the others.

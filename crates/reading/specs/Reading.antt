@@ -6,8 +6,8 @@ use Rattle.std.specs.Prelude.{Bool, true, false, ◌||◌, cond, List, [], ◌�
 use Rattle.std.specs.Int.Signed.{le_z, lt_z}
 use Rattle.integers.specs.Nearest.{◌over◌, nearest}
 use Rattle.refusal.specs.declared.Refusal.{Refusal}
-use Rattle.refusal.specs.Outcome.{Outcome, good, refused, ◌>>◌, ◌>>=◌, refuse◌if◌}
-use Rattle.refusal.specs.Rows.{wrong_block, no_span, outside_span, end_outside, too_many_points}
+use Rattle.refusal.specs.Outcome.{Outcome, Ok, ◌>>◌, ◌>>=◌, refuse◌if◌}
+use Rattle.refusal.specs.declared.Refusal.TheVariants.{WrongBlock, NoSpan, OutsideSpan, EndOutside, TooManyPoints}
 use Rattle.codes.specs.declared.Value.{Value}
 use Rattle.codes.specs.declared.Value.TheVariants.{Whole, Single, Missing}
 use Rattle.templates.specs.declared.Template.{Template}
@@ -28,8 +28,6 @@ use Rattle.correction.specs.Curve.{fraction_of}
 use Rattle.reading.specs.declared.Dash.{Dash}
 use Rattle.reading.specs.declared.Dash.TheVariants.{Large, Small}
 use Rattle.reading.specs.declared.Reading.{Reading}
-use Rattle.reading.specs.declared.ReadingAnswer.{ReadingAnswer}
-use Rattle.reading.specs.declared.ReadingAnswer.TheVariants.{Shows, Refused}
 use Rattle.reading.specs.declared.span.Span.{Span}
 
 -- ---- the template
@@ -73,7 +71,7 @@ is_outside Missing = false
 
 -- A row whose place is the first of some fields that has such a value.
 abbrev pub refuse_first : (ℕ → Refusal) → (Value → Bool) → Contents → List ℕ → Outcome (Unit {0})
-refuse_first row test c [] = good tt
+refuse_first row test c [] = Ok tt
 refuse_first row test c (f ∷ fs) = do
   refuse row f if test (field c f).value
   refuse_first row test c fs
@@ -81,10 +79,10 @@ refuse_first row test c (f ∷ fs) = do
 -- Rows 13 and 21, and the ends of the span: fields 7 and 8, and e below f.
 unfoldable pub span_of : Contents → Outcome Span
 span_of c = do
-  refuse_first no_span is_missing c (7 ∷ 8 ∷ 10 ∷ 11 ∷ [])
-  refuse_first end_outside is_outside c (10 ∷ 11 ∷ [])
-  refuse no_span 11 if le_z (greatest c) (least c)
-  good (record { low = float (field c 7).value; high = float (field c 8).value; least = least c; greatest = greatest c })
+  refuse_first NoSpan is_missing c (7 ∷ 8 ∷ 10 ∷ 11 ∷ [])
+  refuse_first EndOutside is_outside c (10 ∷ 11 ∷ [])
+  refuse NoSpan 11 if le_z (greatest c) (least c)
+  Ok (record { low = float (field c 7).value; high = float (field c 8).value; least = least c; greatest = greatest c })
 
 -- ---- the figures
 
@@ -138,14 +136,8 @@ reading_at k s v =
 unfoldable pub take_reading : ℕ → List ℕ → ℤ → Dash → Outcome Reading
 take_reading kind image v dash = do
   c ← contents kind image
-  refuse wrong_block first_selector if is_resistance c.template
-  refuse too_many_points (length (points c)) if too_many dash (length (points c))
+  refuse WrongBlock first_selector if is_resistance c.template
+  refuse TooManyPoints (length (points c)) if too_many dash (length (points c))
   s ← span_of c
-  refuse outside_span if too_far v s.least s.greatest
-  good (reading_at c.calibration s v)
-
--- ---- the answer: document 01's number and place, or q and the figure
-
-abbrev pub reading_said : ReadingAnswer → Outcome Reading
-reading_said (Shows r) = good r
-reading_said (Refused r) = refused r
+  refuse OutsideSpan if too_far v s.least s.greatest
+  Ok (reading_at c.calibration s v)

@@ -5,12 +5,10 @@ use Rattle.std.specs.Float.Ieee.{is_nan}
 use Rattle.std.specs.Int.Signed.{le_z}
 use Rattle.integers.specs.Parts.{up, dn}
 use Rattle.integers.specs.Nearest.{◌over◌, nearest}
-use Rattle.refusal.specs.Outcome.{Outcome, good, refused, ◌>>◌, refuse◌if◌}
-use Rattle.refusal.specs.Rows.{no_span, end_outside}
+use Rattle.refusal.specs.Outcome.{Outcome, Ok, ◌>>◌, refuse◌if◌}
+use Rattle.refusal.specs.declared.Refusal.TheVariants.{NoSpan, EndOutside}
 use Rattle.codes.specs.declared.Value.{Value}
 use Rattle.reading.specs.declared.ends.Ends.{Ends}
-use Rattle.reading.specs.declared.ends.EndsAnswer.{EndsAnswer}
-use Rattle.reading.specs.declared.ends.EndsAnswer.TheVariants.{Are, Refused as NoEnds}
 use Rattle.templates.specs.declared.Pair.{Pair}
 use Rattle.templates.specs.declared.Domain.{Domain}
 use Rattle.templates.specs.declared.Domain.TheVariants.{Electrical, Physical}
@@ -23,27 +21,17 @@ use Rattle.correction.specs.Line.{between}
 use Rattle.correction.specs.Crossing.{sum, crossing_held, crossing_between}
 use Rattle.reading.specs.declared.position.Offset.{Offset}
 use Rattle.reading.specs.declared.span.Span.{Span}
-use Rattle.reading.specs.declared.span.SpanAnswer.{SpanAnswer}
-use Rattle.reading.specs.declared.span.SpanAnswer.TheVariants.{Is, Refused}
 use Rattle.reading.specs.Reading.{electrical_figure, is_missing, is_outside}
 
 -- Rows 13 and 21 of the values of fields 10 and 11.
 unfoldable pub ends_of : Value → Value → Outcome Ends
 ends_of v w = do
-  refuse no_span 10 if is_missing v
-  refuse no_span 11 if is_missing w
-  refuse end_outside 10 if is_outside v
-  refuse end_outside 11 if is_outside w
-  refuse no_span 11 if le_z (electrical_figure w) (electrical_figure v)
-  good (record { least = electrical_figure v; greatest = electrical_figure w })
-
-abbrev pub ends_said : EndsAnswer → Outcome Ends
-ends_said (Are ends) = good ends
-ends_said (NoEnds r) = refused r
-
-abbrev pub span_said : SpanAnswer → Outcome Span
-span_said (Is s) = good s
-span_said (Refused r) = refused r
+  refuse NoSpan 10 if is_missing v
+  refuse NoSpan 11 if is_missing w
+  refuse EndOutside 10 if is_outside v
+  refuse EndOutside 11 if is_outside w
+  refuse NoSpan 11 if le_z (electrical_figure w) (electrical_figure v)
+  Ok (record { least = electrical_figure v; greatest = electrical_figure w })
 
 -- A span that a reading is taken from.
 pub record Ready (s : Span) : Type 0 where

@@ -13,11 +13,6 @@ pub fn is_too_many(dash: Dash, points: u64) -> bool
 {
     match dash {
         Dash::Large => false,
-        Dash::Small => {
-            if points <= SMALL_POINTS {
-                return false;
-            }
-            true
-        }
+        Dash::Small => SMALL_POINTS < points,
     }
 }

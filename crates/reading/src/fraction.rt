@@ -1,5 +1,5 @@
 // The fraction at a position, from the calibration points of an opened sheet.
-ghost use Rattle.std.specs.Prelude.{◌≡◌, ℕ, ◌≤◌, ◌^◌, nat_abs};
+ghost use Rattle.std.specs.Prelude.{Some, ◌≡◌, ℕ, ◌≤◌, ◌^◌, nat_abs};
 ghost use Rattle.layout.specs.Contents.{Contents};
 ghost use Rattle.layout.specs.Image.{points};
 ghost use Rattle.sheet.specs.Opened.{Opens, Held};
@@ -8,7 +8,7 @@ ghost use Rattle.correction.specs.Ranges.{Figures, Between};
 ghost use Rattle.reading.specs.Reading.{fraction_by, fraction as fraction_of};
 ghost use Rattle.reading.specs.Steps.{figure_in, held_in, between_in};
 
-use sheet::{Opened, TableDomain, pair_in};
+use sheet::{Opened, pair_in};
 use templates::{Domain, Pair};
 
 // The figure of a pair that a position is compared
@@ -28,9 +28,8 @@ fn pairs_before(sheet: Opened, image: &[u8], domain: Domain, p: i64) -> u64
     requires { Held sheet image.now }
     ensures { (result ≤ sheet.summary.points) × ((kind : ℕ) (c : Contents) → Opens kind image.now sheet c → Before (figure_in domain) (points c) p result) }
 {
-    let summary = sheet.summary;
-    let mut low: u64 = 0;
-    let mut high = summary.points;
+    let mut low = 0;
+    let mut high = sheet.summary.points;
     while low < high {
         let middle = low + (high - low) / 2;
         let figure = figure_in(domain, pair_in(sheet, image, middle));
@@ -68,11 +67,10 @@ fn between_in(domain: Domain, p: i64, before: Pair, behind: Pair) -> i64
 // The fraction by the points of a table: p plus the deviation there in domain 0, the
 // crossing in domain 1. The end deviation holds before the first and after the last point.
 fn fraction_in(sheet: Opened, image: &[u8], domain: Domain, p: i64) -> i64
-    requires { Held sheet image.now × (sheet.summary.domain ≡ TableDomain.Is domain) × (nat_abs p ≤ 2 ^ 31) }
+    requires { Held sheet image.now × (sheet.summary.domain ≡ Some domain) × (nat_abs p ≤ 2 ^ 31) }
     ensures { (kind : ℕ) (c : Contents) → Opens kind image.now sheet c → result ≡ fraction_by domain (points c) p }
 {
-    let summary = sheet.summary;
-    let count = summary.points;
+    let count = sheet.summary.points;
     if count == 0 {
         return p;
     }
@@ -92,10 +90,8 @@ pub fn fraction(sheet: Opened, image: &[u8], p: i64) -> i64
     requires { Held sheet image.now × (nat_abs p ≤ 2 ^ 31) }
     ensures { (kind : ℕ) (c : Contents) → Opens kind image.now sheet c → result ≡ fraction_of c.calibration p }
 {
-    let summary = sheet.summary;
-    let found = summary.domain;
-    match found {
-        TableDomain::NoTable => p,
-        TableDomain::Is(domain) => fraction_in(sheet, image, domain, p),
+    match sheet.summary.domain {
+        None => p,
+        Some(domain) => fraction_in(sheet, image, domain, p),
     }
 }

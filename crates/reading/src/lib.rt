@@ -29,10 +29,3 @@ pub struct Reading {
     pub fraction: i64,
     pub figure: f64,
 }
-
-// A reading, or its refusal.
-#[derive(Clone, Copy)]
-pub enum ReadingAnswer {
-    Shows(Reading),
-    Refused(Refusal),
-}

@@ -27,19 +27,16 @@ fn serving(sheet: Opened, image: &[u8], p: i64) -> Run
     ensures { (result.cursor.at < 2 ^ 32) × (result.terms < 2 ^ 7) × ((kind : ℕ) (c : Contents) → Opens kind image.now sheet c → own_terms (stream_in sheet.sizes image.now) result.cursor.at result.terms ≡ serving_terms p (segments_in c.calibration)) }
 {
     let sizes = sheet.sizes;
-    let summary = sheet.summary;
     let mut cursor = curve_in(sheet);
     let mut terms = segment_at(sizes, image, cursor).terms;
-    let mut left = summary.segments;
-    while 1 < left {
+    for _ in 1..sheet.summary.segments {
         let behind = segment_end(cursor, terms);
         let next = segment_at(sizes, image, behind);
         if p < next.start {
-            return Run { cursor, terms };
+            break;
         }
         cursor = behind;
         terms = next.terms;
-        left -= 1;
     }
     Run { cursor, terms }
 }
@@ -50,11 +47,9 @@ fn powers_of(sizes: Sizes, image: &[u8], run: Run) -> Powers
     ensures { (result.count ≤ 6) × (result ≡ taken no_powers (own_terms (stream_in sizes image.now) run.cursor.at run.terms)) }
 {
     let mut powers = Powers::none();
-    let mut index: u64 = 0;
-    while index < run.terms {
+    for index in 0..run.terms {
         let term = term_at(sizes, image, segment_end(run.cursor, index));
         powers = powers.with(term.exponent as u64, term.coefficient);
-        index += 1;
     }
     powers
 }
@@ -64,11 +59,9 @@ pub fn physical_fraction(sheet: Opened, image: &[u8], p: i64, q: i64) -> f64
     requires { Held sheet image.now × (nat_abs q ≤ 2 ^ 53) }
     ensures { (kind : ℕ) (c : Contents) → Opens kind image.now sheet c → q ≡ fraction c.calibration p → result ≡ physical_fraction_of c.calibration p }
 {
-    let summary = sheet.summary;
-    if summary.segments == 0 {
+    if sheet.summary.segments == 0 {
         return figures::float_fraction(q);
     }
-    let sizes = sheet.sizes;
     let run = serving(sheet, image, p);
-    correction::float_fraction(powers_of(sizes, image, run), p)
+    correction::float_fraction(powers_of(sheet.sizes, image, run), p)
 }

@@ -29,20 +29,15 @@ pub fn is_too_far(v: i64, span: Span) -> bool
     requires { Ready span }
     ensures { result ≡ too_far v span.least span.greatest }
 {
-    if v < -2_000_000_000 {
-        return true;
-    }
-    if 2_000_000_000 < v {
+    if !(-2_000_000_000..=2_000_000_000).contains(&v) {
         return true;
     }
     let o = offset_in(v, span);
-    if 10 * o.above + o.span < 10 * o.below {
-        return true;
-    }
-    11 * o.span + 10 * o.below < 10 * o.above
+    10 * o.above + o.span < 10 * o.below || 11 * o.span + 10 * o.below < 10 * o.above
 }
 
 // (v − e) × 1,000,000,000 / (f − e) to the nearest whole, halves upward.
+#[tactic(auto, unfolding(crate::specs::Reading::position))]
 pub fn position(v: i64, span: Span) -> i64
     requires { Ready span × (too_far v span.least span.greatest ≡ false) }
     ensures { result ≡ position_of v span.least span.greatest }

@@ -1,7 +1,7 @@
 -- Laws of the refreshes of a recording in order, and of one turn of the comparison.
-use Rattle.recordings.proofs.Names.{◌≡◌, refl, sym, ap, ap₂, ◌∙◌, Bool, true, false, not, ◌||◌, List, [], ◌∷◌, ℕ, zero, suc, ◌+◌, ◌*◌, ◌/◌, ◌%◌, ◌≤◌, ◌<◌, add-one, arith, eqb-true, eqb-false, eq-eqb, ne_eqb}
-use Rattle.recordings.proofs.Names.{not-false, w64, SFits, to_z, of_z, to_z-of_z, eqb, ℤ, pos, length, drop, get_or, length-drop, drop-cons, Refusal, good, refused, wrong_ticks, neither, Contents, contents, Reading}
-use Rattle.recordings.proofs.Names.{Large, take_reading, Refresh, refresh, refreshes, same, never, shows, pairs, right, agree, tick_fails, compared_from, unlike, compare, refresh_at}
+use Rattle.recordings.proofs.Names.{◌≡◌, refl, sym, ap, ap₂, ◌∙◌, true, false, not, ◌||◌, List, [], ◌∷◌, ℕ, zero, suc, ◌+◌, ◌*◌, ◌/◌, ◌%◌, ◌≤◌, ◌<◌, add-one, arith, eqb-true, eq-eqb, ne_eqb}
+use Rattle.recordings.proofs.Names.{not-false, w64, SFits, to_z, of_z, to_z-of_z, eqb, ℤ, pos, length, drop, get_or, length-drop, drop-cons, Refusal, Ok, Err, neither, Contents, contents}
+use Rattle.recordings.proofs.Names.{◌&&◌, int_eq, Decides-eqb, Decides-int_eq, Decides-like, same_from_decides, Refresh, refresh, refreshes, never, pairs, right, Agree, Tick, compared_from, unlike, compare, refresh_at}
 
 -- ---- by tick
 
@@ -42,18 +42,6 @@ module _ (l : List ℤ) (tick : ℕ) where
 
 -- ---- lengths
 
--- Two equivalent tests of equal numbers.
-tests : (a b x y : ℕ) → (a ≡ b → x ≡ y) → (x ≡ y → a ≡ b) → (t : Bool) → eqb a b ≡ t → t ≡ eqb x y
-tests a b x y f g true e = sym (eq-eqb x y (f (eqb-true a b e)))
-tests a b x y f g false e = sym (ne_eqb x y (λ h. eqb-false a b e (g h)))
-
--- Ticks that are a multiple of six, and the quotient.
-pub not-sixes : (ticks s : ℕ) → (ticks % 6 ≡ 0 → ⊥) → eqb ticks (6 * s) ≡ false
-not-sixes ticks s h = ne_eqb ticks (6 * s) (λ e. h (omega arith))
-
-pub sixes : (ticks s : ℕ) → ticks % 6 ≡ 0 → eqb (ticks / 6) s ≡ eqb ticks (6 * s)
-sixes ticks s h = tests (ticks / 6) s ticks (6 * s) (λ e. omega arith) (λ e. omega arith) (eqb (ticks / 6) s) refl
-
 pub six-times : (slow fast : ℕ) → unlike slow fast ≡ false → fast / 2 ≡ 6 * (slow / 2)
 six-times slow fast e =
     let t = eqb (fast / 2) (6 * (slow / 2)) in
@@ -61,38 +49,27 @@ six-times slow fast e =
 
 -- ---- one tick
 
--- Two figures that are passed to a callee.
-pub same-of-words : {a b : ℤ} → SFits w64 a → SFits w64 b → same (to_z w64 (of_z w64 a)) (to_z w64 (of_z w64 b)) ≡ same a b
-same-of-words f g = ap₂ same (to_z-of_z f) (to_z-of_z g)
+-- The test of two figures as the code has them.
+pub eq-of-words : {a b : ℤ} → SFits w64 a → SFits w64 b → eqb (of_z w64 a) (of_z w64 b) ≡ int_eq a b
+eq-of-words {a} {b} f g =
+    same_from_decides _ _ (Decides-like _ (λ e. sym (to_z-of_z f) ∙ ap (to_z w64) e ∙ to_z-of_z g) (ap (of_z w64)) (Decides-eqb (of_z w64 a) (of_z w64 b))) (Decides-int_eq a b)
 
-module _ (slow fast : List ℤ) (tick : ℕ) where
-  pub unpaired : (tick % 6 ≡ 0 → ⊥) → true ≡ pairs (refreshes slow) tick (refresh_at fast tick)
+module _ (slow : List ℤ) (tick : ℕ) (x : Refresh) where
+  pub unpaired : (tick % 6 ≡ 0 → ⊥) → true ≡ pairs (refreshes slow) tick x
   unpaired h = rw (ne_eqb (tick % 6) 0 h)
 
-  module _ (h : tick / 6 < length slow / 2) (p : tick % 6 ≡ 0) where
-    pub input-differs : same (refresh_at slow (tick / 6)).input (refresh_at fast tick).input ≡ false → false ≡ pairs (refreshes slow) tick (refresh_at fast tick)
-    input-differs e = rw (eq-eqb (tick % 6) 0 p, refresh-at slow (tick / 6) h, e)
-
-    pub input-same : same (refresh_at slow (tick / 6)).input (refresh_at fast tick).input ≡ true →
-        same (refresh_at slow (tick / 6)).shown (refresh_at fast tick).shown ≡ pairs (refreshes slow) tick (refresh_at fast tick)
-    input-same e = rw (eq-eqb (tick % 6) 0 p, refresh-at slow (tick / 6) h, e)
-
-module _ (kind : ℕ) (image : List ℕ) (x : Refresh) where
-  pub reading-refused : {r : Refusal} → take_reading kind image x.input Large ≡ refused r → false ≡ shows kind image x
-  reading-refused e = rw e
-
-  pub reading-taken : {r : Reading} → take_reading kind image x.input Large ≡ good r → same r.fraction x.shown ≡ shows kind image x
-  reading-taken e = rw e
+  pub paired : tick / 6 < length slow / 2 → tick % 6 ≡ 0 → {y : Refresh} → y ≡ refresh_at slow (tick / 6) → (int_eq y.input x.input && int_eq y.shown x.shown) ≡ pairs (refreshes slow) tick x
+  paired h p e = rw (eq-eqb (tick % 6) 0 p, refresh-at slow (tick / 6) h, e)
 
 -- ---- a turn
 
 module _ (kind : ℕ) (image : List ℕ) (slow : List Refresh) (fast : List ℤ) (tick : ℕ) where
-  pub turn_end : length fast / 2 ≤ tick → compared_from kind image slow tick (refreshes_from fast tick) ≡ agree
+  pub turn_end : length fast / 2 ≤ tick → compared_from kind image slow tick (refreshes_from fast tick) ≡ Agree
   unfolding compared_from
   turn_end h = ap (compared_from kind image slow tick) (refreshes-end fast tick h)
 
   module _ (h : tick < length fast / 2) where
-    pub turn-fails : right kind image slow tick (refresh_at fast tick) ≡ false → compared_from kind image slow tick (refreshes_from fast tick) ≡ tick_fails tick
+    pub turn-fails : right kind image slow tick (refresh_at fast tick) ≡ false → compared_from kind image slow tick (refreshes_from fast tick) ≡ Tick tick
     unfolding compared_from
     turn-fails e = ap (compared_from kind image slow tick) (refreshes-left fast tick h) ∙ rw e
 
@@ -106,15 +83,11 @@ module _ (kind : ℕ) (image : List ℕ) (slow : List Refresh) (fast : List ℤ)
 -- ---- in the order of its rows: check, 26
 
 module _ (kind : ℕ) (image : List ℕ) (slow fast : List ℤ) where
-  pub compare-refused : {r : Refusal} → contents kind image ≡ refused r → refused r ≡ compare kind image slow fast
+  pub compare-refused : {r : Refusal} → contents kind image ≡ Err r → Err r ≡ compare kind image slow fast
   unfolding compare
   compare-refused e = rw e
 
-  module _ {c : Contents} (e : contents kind image ≡ good c) where
-    pub compare-unlike : unlike (length slow) (length fast) ≡ true → refused (wrong_ticks (length fast / 2)) ≡ compare kind image slow fast
-    unfolding compare
-    compare-unlike t = rw (e, t)
-
-    pub compare-like : unlike (length slow) (length fast) ≡ false → good (compared_from kind image (refreshes slow) 0 (refreshes fast)) ≡ compare kind image slow fast
+  module _ {c : Contents} (e : contents kind image ≡ Ok c) where
+    pub compare-like : unlike (length slow) (length fast) ≡ false → Ok (compared_from kind image (refreshes slow) 0 (refreshes fast)) ≡ compare kind image slow fast
     unfolding compare
     compare-like t = rw (e, t)

@@ -1,18 +1,20 @@
 -- Document 02, Note 13: statements of what the answer
 -- of a comparison means, in the note's own words.
 use Rattle.std.specs.Prelude.{◌≡◌, false, List, [], ◌↔◌, ℕ, ◌*◌, ◌<◌, ℤ, length, get_or}
-use Rattle.refusal.specs.Outcome.{good}
+use Rattle.refusal.specs.Outcome.{Ok}
 use Rattle.layout.specs.Contents.{Contents}
 use Rattle.layout.specs.Image.{contents}
 use Rattle.reading.specs.declared.Reading.{Reading}
 use Rattle.reading.specs.declared.Dash.TheVariants.{Large}
 use Rattle.reading.specs.Reading.{take_reading}
-use Rattle.recordings.specs.Recordings.{Refresh, refreshes, never, agree, tick_fails, unlike, compare}
+use Rattle.recordings.specs.declared.Refresh.{Refresh}
+use Rattle.recordings.specs.declared.Compared.TheVariants.{Agree, Tick}
+use Rattle.recordings.specs.Recordings.{refreshes, never, unlike, compare}
 
 -- A fraction "is the reading of its input from the lent image on the large dash".
 pub record Shown (kind : ℕ) (image : List ℕ) (x : Refresh) : Type 0 where
   pub reading : Reading
-  pub taken : take_reading kind image x.input Large ≡ good reading
+  pub taken : take_reading kind image x.input Large ≡ Ok reading
   pub is : reading.fraction ≡ x.shown
 
 -- "The recordings agree if paired inputs and fractions are equal, and every fraction
@@ -37,16 +39,16 @@ pub record FirstFailing (kind : ℕ) (image : List ℕ) (slow fast : List Refres
 abbrev pub AgreesExactly : Type 0
 AgreesExactly =
     (kind : ℕ) (image : List ℕ) (c : Contents) (slow fast : List ℤ) →
-    contents kind image ≡ good c → unlike (length slow) (length fast) ≡ false →
-    (compare kind image slow fast ≡ good agree) ↔ Agrees kind image (refreshes slow) (refreshes fast)
+    contents kind image ≡ Ok c → unlike (length slow) (length fast) ≡ false →
+    (compare kind image slow fast ≡ Ok Agree) ↔ Agrees kind image (refreshes slow) (refreshes fast)
 
 -- The answer names a tick exactly if it is the first failing one.
 abbrev pub FailsFirst : Type 0
 FailsFirst =
     (kind : ℕ) (image : List ℕ) (c : Contents) (slow fast : List ℤ) (k : ℕ) →
-    contents kind image ≡ good c → unlike (length slow) (length fast) ≡ false →
-    (compare kind image slow fast ≡ good (tick_fails k)) ↔ FirstFailing kind image (refreshes slow) (refreshes fast) k
+    contents kind image ≡ Ok c → unlike (length slow) (length fast) ≡ false →
+    (compare kind image slow fast ≡ Ok (Tick k)) ↔ FirstFailing kind image (refreshes slow) (refreshes fast) k
 
 -- "Two empty lists agree", for every accepted image.
 abbrev pub EmptyAgree : Type 0
-EmptyAgree = (kind : ℕ) (image : List ℕ) (c : Contents) → contents kind image ≡ good c → compare kind image [] [] ≡ good agree
+EmptyAgree = (kind : ℕ) (image : List ℕ) (c : Contents) → contents kind image ≡ Ok c → compare kind image [] [] ≡ Ok Agree

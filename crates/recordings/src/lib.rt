@@ -7,12 +7,17 @@
 mod comparing; // comparing.rt: tick by tick
 
 pub use comparing::compare;
-use refusal::Refusal;
 
-// The recordings agree, or the first fast tick that fails; else the check's refusal, or 26.
-#[derive(Clone, Copy)]
-pub enum ComparedAnswer {
+// A refresh of a recording: its input and the fraction shown.
+#[derive(Clone, Copy, PartialEq, Eq)]
+pub struct Refresh {
+    pub input: i64,
+    pub shown: i64,
+}
+
+// What a comparison finds: the recordings agree, or the first fast tick that fails.
+#[derive(Clone, Copy, PartialEq, Eq)]
+pub enum Compared {
     Agree,
     Tick(u64),
-    Refused(Refusal),
 }

@@ -31,9 +31,9 @@ pub greatest-requires-2 : goal.greatest-requires-2
 greatest-requires-2 c = (c.requires.1, front-table (goal.at.greatest-requires-2 c).After-stored_points-room)
 
 pub overflow_add-result-2 : goal.overflow_add-result-2
-overflow_add-result-2 c = omega (arith, c.greater-most.ensures, c.greatest-2.ensures.1, c.greatest.ensures.1, c.requires.2)
+overflow_add-result-2 c = omega (arith, c.max-most.ensures, c.greatest-2.ensures.1, c.greatest.ensures.1, c.requires.2)
 
 pub returns : goal.returns
 returns c =
     λ kind x h.
-    compared_is c.args.slope _ (points x) (pairs_lent c.args.points.now) (front (goal.at.returns c).After-stored_points-room kind x h) c.greater-most.ensures c.greatest.ensures.0 c.greatest-2.ensures.0
+    compared_is c.args.slope _ (points x) (pairs_lent c.args.points.now) (front (goal.at.returns c).After-stored_points-room kind x h) c.max-most.ensures c.greatest.ensures.0 c.greatest-2.ensures.0

@@ -1,18 +1,17 @@
-use Rattle.conformity.proofs.Names.{opens, held, not_opened}
+use Rattle.refusal.proofs.Outcomes.{exits}
+use Rattle.conformity.proofs.Names.{◌∙◌, opens, held, not_opened}
 use Rattle.conformity.proofs.Orders.{compares-refused}
 use Rattle.conformity.proofs.comparing.conformity.Goals as goal
 
 pub conformity_in-requires : goal.conformity_in-requires
-conformity_in-requires c =
-    let a = c.args in
-    held a.kind a.image.now _ c.open.ensures c.in-Sheet.is
+conformity_in-requires c = held c.args.kind c.args.image.now _ c.open.ensures c.in_ok-sheet.was
 
-pub returns-in-Refused : goal.returns-in-Refused
-returns-in-Refused c =
+pub returns-in_err-sheet : goal.returns-in_err-sheet
+returns-in_err-sheet c =
     let a = c.args in
-    compares-refused a.kind a.image.now a.points.now (not_opened a.kind a.image.now _ c.open.ensures c.in-Refused.is)
+    exits _ c.from_residual.ensures ∙ compares-refused a.kind a.image.now a.points.now (not_opened a.kind a.image.now _ c.open.ensures c.in_err-sheet.was)
 
-pub returns-in-Sheet : goal.returns-in-Sheet
-returns-in-Sheet c =
-    let (x, h) = opens c.args.kind c.args.image.now _ c.open.ensures c.in-Sheet.is in
+pub returns : goal.returns
+returns c =
+    let (x, h) = opens c.args.kind c.args.image.now _ c.open.ensures c.in_ok-sheet.was in
     c.conformity_in.ensures c.args.kind x h

@@ -1,4 +1,4 @@
-use Rattle.conformity.proofs.Names.{sym, ap, ◌∙◌, some, good, pairs_lent, taking, resistance-is, compared}
+use Rattle.conformity.proofs.Names.{sym, ap, ◌∙◌, Some, Ok, pairs_lent, taking, resistance-is, compared}
 use Rattle.conformity.proofs.Orders.{compares, opened-straight, opened-bent}
 use Rattle.conformity.proofs.comparing.conformity_to.Goals as goal
 
@@ -10,12 +10,12 @@ compared-requires c =
 pub returns-then-is_straight : goal.returns-then-is_straight
 returns-then-is_straight c =
     λ kind x h.
-    ap (λ d. good (some d)) (c.compared.ensures kind x h)
-    ∙ ap (λ table. good (compared c.args.beforehand.slope (pairs_lent c.args.points.now) table)) (sym (opened-straight h (sym c.is_straight.ensures ∙ c.if-is_straight.true)))
+    ap (λ d. Ok (Some d)) (c.compared.ensures kind x h)
+    ∙ ap (λ table. Ok (compared c.args.beforehand.slope (pairs_lent c.args.points.now) table)) (sym (opened-straight h (sym c.is_straight.ensures ∙ c.if-is_straight.true)))
     ∙ compares kind c.args.image.now c.args.points.now h.accepted (resistance-is h ∙ c.requires.1) c.requires.2
 
 pub returns : goal.returns
 returns c =
     λ kind x h.
-    ap (λ table. good (compared c.args.beforehand.slope (pairs_lent c.args.points.now) table)) (sym (opened-bent h (sym c.is_straight.ensures ∙ c.if-is_straight.false)))
+    ap (λ table. Ok (compared c.args.beforehand.slope (pairs_lent c.args.points.now) table)) (sym (opened-bent h (sym c.is_straight.ensures ∙ c.if-is_straight.false)))
     ∙ compares kind c.args.image.now c.args.points.now h.accepted (resistance-is h ∙ c.requires.1) c.requires.2

@@ -1,5 +1,5 @@
 use Rattle.conformity.proofs.Names.{◌∙◌, ◌*◌, ◌^◌, ◌≤◌, mul-le-mul_right, arith, abs-parts, told-up, told-dn}
-use Rattle.conformity.proofs.Greatest.{exact-difference, apart-most}
+use Rattle.conformity.proofs.Greatest.{exact-difference, apart-most, apart-is}
 use Rattle.conformity.proofs.differences.difference.Goals as goal
 use Rattle.conformity.proofs.differences.difference.Goals.{After-minus, After-plus}
 
@@ -26,10 +26,10 @@ overflow_add-below c = omega (arith, below (goal.at.overflow_add-below c).After-
 pub upward-requires : goal.upward-requires
 upward-requires c =
     let z = c.requires.1 in
-    (z.some, z.run, apart-most c.apart.ensures (omega (arith, above (goal.at.upward-requires c).After-plus, z.below)) (omega (arith, below (goal.at.upward-requires c).After-minus, z.above)))
+    (z.some, z.run, apart-most (apart-is c.abs_diff.ensures) (omega (arith, above (goal.at.upward-requires c).After-plus, z.below)) (omega (arith, below (goal.at.upward-requires c).After-minus, z.above)))
 
 pub returns : goal.returns
 returns c = (
-  λ e h. c.upward.ensures.0 ∙ exact-difference c.args.s e c.args.c h c.plus.result c.minus.result c.apart.result (told-up c.ranges.s c.plus.ensures) (told-dn c.ranges.s c.minus.ensures) c.apart.ensures,
+  λ e h. c.upward.ensures.0 ∙ exact-difference c.args.s e c.args.c h c.plus.result c.minus.result c.abs_diff.result (told-up c.ranges.s c.plus.ensures) (told-dn c.ranges.s c.minus.ensures) (apart-is c.abs_diff.ensures),
   c.upward.ensures.1,
 )

@@ -4,12 +4,12 @@ use Rattle.conformity.proofs.Greatest.{greatest-end, greatest-next, own-at, foll
 use Rattle.conformity.proofs.differences.greatest.Goals as goal
 
 pub loop-i-init : goal.loop-i-init
-loop-i-init c = (search rules, search rules, record { most = omega arith; below = λ l k e. absurd (omega arith) }, omega arith)
+loop-i-init c = (search rules, record { most = omega arith; below = λ l k e. absurd (omega arith) }, search rules)
 
 pub passed-before-requires : goal.passed-before-requires
 passed-before-requires c =
     let f : SFits w64 (pair_at c.args.own.now c.loop-i.i).point = search rules in
-    let h = c.loop-i.invariant.2 in
+    let h = c.loop-i.invariant.1 in
     (h.most, λ k e. rw (to_z-of_z f) (h.below (omega (arith, c.loop-i-test.true)) k e))
 
 pub correction_at-requires : goal.correction_at-requires
@@ -34,11 +34,10 @@ loop-i-preserved c =
     let is : c.difference.result ≡ difference_at (pairs_lent own) (pairs_lent other) (pair_at own i).point =
     (rw (to_z-of_z fs) at (c.difference.ensures.0 _ found)) ∙ own-at own other c.requires.0 c.requires.1 i less in
     let inv = c.loop-i.invariant in (
-      omega arith,
-      omega (arith, c.greater-most.ensures, c.difference.ensures.1, inv.1),
+      omega (arith, c.max-most.ensures, c.difference.ensures.1, inv.0),
       follows_on own other c.passed-before.result i c.requires.0 (rw (to_z-of_z fp) at c.passed-before.ensures),
-      omega (arith, c.greater-most.ensures, is, greatest-next (difference_at (pairs_lent own) (pairs_lent other)) own i less, inv.3),
+      omega (arith, c.max-most.ensures, is, greatest-next (difference_at (pairs_lent own) (pairs_lent other)) own i less, inv.2),
     )
 
 pub returns : goal.returns
-returns c = (omega (arith, greatest-end (difference_at (pairs_lent c.args.own.now) (pairs_lent c.args.other.now)) c.args.own.now c.loop-i.i (omega (arith, c.loop-i-test.false)), c.loop-i.invariant.3), c.loop-i.invariant.1)
+returns c = (omega (arith, greatest-end (difference_at (pairs_lent c.args.own.now) (pairs_lent c.args.other.now)) c.args.own.now c.loop-i.i (omega (arith, c.loop-i-test.false)), c.loop-i.invariant.2), c.loop-i.invariant.0)

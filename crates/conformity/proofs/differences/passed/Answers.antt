@@ -1,4 +1,4 @@
-use Rattle.conformity.proofs.Names.{◌*◌, rules, arith, pos, get_or, w64, SFits, to_z-of_z}
+use Rattle.conformity.proofs.Names.{◌≡◌, ◌/◌, subst, length, pairs_lent, Before, point_of, ◌*◌, rules, arith, pos, get_or, w64, SFits, to_z-of_z}
 use Rattle.conformity.proofs.Exacts.{passed-stops, passed-all, passed-one}
 use Rattle.conformity.proofs.differences.passed.Goals as goal
 
@@ -17,4 +17,7 @@ loop-n-preserved c =
     (passed-one c.args.points.now c.args.p c.loop-n.n (rw (to_z-of_z c.ranges.p) at c.loop-n.invariant) (omega (arith, c.loop-n-test.true)) (rw (to_z-of_z c.ranges.p, to_z-of_z f) at c.if-p-points.false))
 
 pub returns : goal.returns
-returns c = passed-all c.args.points.now c.args.p c.loop-n.n (rw (to_z-of_z c.ranges.p) at c.loop-n.invariant) (omega (arith, c.loop-n-test.false))
+returns c =
+    let points = c.args.points.now in
+    let n : c.loop-n.n ≡ length points / 2 = omega (arith, c.loop-n-test.false, c.loop-n.auto.n-end, c.requires.0) in
+    subst (Before point_of (pairs_lent points) c.args.p) n (passed-all points c.args.p c.loop-n.n (rw (to_z-of_z c.ranges.p) at c.loop-n.invariant) (omega (arith, c.loop-n-test.false)))

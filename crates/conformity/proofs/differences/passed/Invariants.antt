@@ -1,10 +1,6 @@
 -- The loop's invariant: the last of the points passed is before p.
-use Rattle.conformity.proofs.Names.{◌-◌, ◌/◌, length}
 use Rattle.conformity.proofs.Exacts.{Passed}
 use Rattle.conformity.proofs.differences.passed.Given as goal
 
 abbrev pub invariant-loop-n : goal.invariant-loop-n
 invariant-loop-n l = Passed l.points l.p l.n
-
-abbrev pub decreases-loop-n : goal.decreases-loop-n
-decreases-loop-n l = length l.points / 2 - l.n

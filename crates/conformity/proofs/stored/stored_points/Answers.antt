@@ -8,7 +8,7 @@ fits : (c : In-loop-i) → 2 * c.loop-i.i + 1 < 254
 fits c = omega (arith, c.loop-i-test.true, points-few c.requires.opens)
 
 pub loop-i-init : goal.loop-i-init
-loop-i-init c = (omega arith, refl, λ kind x h k l. absurd (omega arith))
+loop-i-init c = (refl, λ kind x h k l. absurd (omega arith))
 
 pub overflow_mul-at : goal.overflow_mul-at
 overflow_mul-at c = omega (arith, fits (goal.at.overflow_mul-at c).In-loop-i)
@@ -28,27 +28,20 @@ offset_bounds-room-at-in-loop-i c = omega (arith, fits (goal.at.offset_bounds-ro
 pub bounds-room-at-in-loop-i : goal.bounds-room-at-in-loop-i
 bounds-room-at-in-loop-i c = omega (arith, fits (goal.at.bounds-room-at-in-loop-i c).In-loop-i)
 
-pub overflow_add-i : goal.overflow_add-i
-overflow_add-i c = omega (arith, fits (goal.at.overflow_add-i c).In-loop-i)
-
-pub loop-i-smaller : goal.loop-i-smaller
-loop-i-smaller c = omega (arith, c.loop-i-test.true)
-
 pub loop-i-preserved : goal.loop-i-preserved
 loop-i-preserved c =
     let f = to_z-of_z {w = w64} {z = c.pair_in-pair.result.point} (sfits_of (goal.at.loop-i-preserved c).After-struct_told-1.type_inv.pair.0.1) in
     let g = to_z-of_z {w = w64} {z = c.pair_in-pair.result.deviation} (sfits_of c.struct_told-in-loop-i-1.given.1.0.1) in (
-      omega (arith, c.loop-i-test.true),
-      simp length-set c.loop-i.invariant.1,
+      simp length-set c.loop-i.invariant.0,
       λ kind x h.
           rw (f, g)
-          (filled_next c.loop-i.room (points x) c.loop-i.i c.pair_in-pair.result (omega (arith, fits (goal.at.loop-i-preserved c).In-loop-i, c.loop-i.invariant.1)) (c.loop-i.invariant.2 kind x h) (c.pair_in-pair.ensures kind x h)),
+          (filled_next c.loop-i.room (points x) c.loop-i.i c.pair_in-pair.result (omega (arith, fits (goal.at.loop-i-preserved c).In-loop-i, c.loop-i.invariant.0)) (c.loop-i.invariant.1 kind x h) (c.pair_in-pair.ensures kind x h)),
     )
 
 pub returns : goal.returns
 returns c = (
-  c.loop-i.invariant.1,
+  c.loop-i.invariant.0,
   λ kind x h.
-      let n : c.loop-i.i ≡ length (points x) = omega (arith, c.loop-i-test.false, c.loop-i.invariant.0, points-are h) in
-      filled-all c.loop-i.room (points x) (omega (arith, c.loop-i.invariant.1, points-are h, points-few h)) (subst (Filled c.loop-i.room (points x)) n (c.loop-i.invariant.2 kind x h)),
+      let n : c.loop-i.i ≡ length (points x) = omega (arith, c.loop-i-test.false, c.loop-i.auto.i-end, points-are h) in
+      filled-all c.loop-i.room (points x) (omega (arith, c.loop-i.invariant.0, points-are h, points-few h)) (subst (Filled c.loop-i.room (points x)) n (c.loop-i.invariant.1 kind x h)),
 )

@@ -4,8 +4,5 @@ use Rattle.reading.proofs.physical_fraction.powers_of.Given as goal
 
 abbrev pub invariant-loop-index : goal.invariant-loop-index
 invariant-loop-index l =
-    (l.index ≤ l.run.terms) × (l.powers.count ≤ 6)
+    (l.powers.count ≤ 6)
     × (taken l.powers (own_terms (stream_in l.sizes l.image) (l.run.cursor.at + 39 * l.index) (l.run.terms - l.index)) ≡ taken no_powers (own_terms (stream_in l.sizes l.image) l.run.cursor.at l.run.terms))
-
-abbrev pub decreases-loop-index : goal.decreases-loop-index
-decreases-loop-index l = l.run.terms - l.index

@@ -22,9 +22,6 @@ small c =
     let k = c.requires.0 in
     rw (is c _ _ k.opens) (fraction-small k.opens _ (position-small c.args.input c.requires.1 c.requires.2))
 
-pub position-p-requires : goal.position-p-requires
-position-p-requires c = (c.requires.1, rw (to_z-of_z c.ranges.input) c.requires.2)
-
 pub fraction-q-requires : goal.fraction-q-requires
 fraction-q-requires c = (c.requires.0, told-small {z = c.position-p.result} (sfits_of c.position-p.type_inv) (near c))
 
