@@ -1,12 +1,12 @@
 -- Laws of a line that is read byte by byte.
-use Rattle.commands.proofs.Names.{◌≡◌, refl, Bool, true, false, not, List, Option, none, ℕ, ◌+◌, ◌≤◌, ◌<◌, add-one, arith, le-ltb, lt-ltb, length, get_or, take, drop, set, drop_of_length-le, drop-cons}
+use Rattle.commands.proofs.Names.{◌≡◌, refl, Bool, true, false, not, List, Option, None, ℕ, ◌+◌, ◌≤◌, ◌<◌, add-one, arith, le-ltb, lt-ltb, length, get_or, take, drop, set, drop_of_length-le, drop-cons}
 use Rattle.commands.proofs.Names.{length-take-le, take_all, take-suc-set, says◌if◌, more, next, after}
 
 module _ (line : List ℕ) (n : ℕ) (long : Bool) (b : ℕ) where
-  pub kept_full : length line ≤ n → none ≡ more (length line) (says take n line if not long) b
+  pub kept_full : length line ≤ n → None ≡ more (length line) (says take n line if not long) b
   kept_full h = go long
     where
-      go : (t : Bool) → none ≡ more (length line) (says take n line if not t) b
+      go : (t : Bool) → None ≡ more (length line) (says take n line if not t) b
       go true = refl
       go false = rw (take_all n line h, le-ltb (length line) (length line) (omega arith))
 

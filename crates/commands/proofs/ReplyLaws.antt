@@ -1,19 +1,25 @@
 -- What the words of a line hand to a call: the first elements of a room, and the kind and the image.
-use Rattle.commands.proofs.Names.{◌≡◌, refl, sym, ap, ◌∙◌, Bool, true, false, List, Option, none, some, ℕ, ◌≤◌, ◌<◌, arith, length, take, lt-leb, le-leb, leb, length-take-le, take-append_seam, ◌++◌, says◌if◌}
-use Rattle.commands.proofs.Names.{◌>>=◌, within, front_said, Held, Filled, To, NotFilled, filled, filled_said, every, written, is_whole, whole_room, whole-said, not-whole, written-long, filled-whole}
-use Rattle.commands.proofs.Names.{some-injective, none-ne-some, number, bytes, word_at, kind_of, Chip, chip_of, Lent, lent, lent_by, lent_said, ChipRequest, OfChip, NoChip, ChipImage, chip_image}
-use Rattle.commands.proofs.Names.{chip_image_said, map, spelt, page_bytes, ChipNumber, NumberRequest, OfNumber, NoNumber, ImageNumber, number_request, number_request_said, number_reply, page_reply}
+use Rattle.commands.proofs.Names.{◌≡◌, refl, sym, ap, ◌∙◌, Bool, true, false, List, Option, None, Some, ℕ, ◌≤◌, ◌<◌, arith, length, take, lt-leb, le-leb, leb, length-take-le, take-append_seam, ◌++◌, says◌if◌}
+use Rattle.commands.proofs.Names.{◌>>=◌, within, front_said, Held, Option, Some, None, filled, filled_said, every, written, is_whole, whole_room, whole-said, not-whole, written-long, filled-whole}
+use Rattle.commands.proofs.Names.{number, bytes, word_at, kind_of, Chip, chip_of, Lent, lent, lent_by, lent_said, Some, None, ChipImage, chip_image}
+use Rattle.commands.proofs.Names.{chip_image_said, map, spelt, page_bytes, ChipNumber, Some, None, ImageNumber, number_request, number_request_said, number_reply, page_reply}
+
+some_same : {A : Type 0} {a b : A} → ◌≡◌ {A = Option A} (Some a) (Some b) → a ≡ b
+some_same e = cc
+
+no_none : {A X : Type 0} {a : A} → ◌≡◌ {A = Option A} None (Some a) → X
+no_none e = absurd (let z : ◌≡◌ {A = ℕ} 0 1 = cc in omega arith)
 
 -- ---- a room that a word filled
 
 -- What a filled room says.
 abbrev fronted : {A : Type 0} → Held A → Option (List A)
-fronted h = h.count >>= λ n. some (take n h.all)
+fronted h = h.count >>= λ n. Some (take n h.all)
 
 module _ {A : Type 0} (said : List (Option A)) (first : List A) where
-  too_many : (o : Option (List A)) → ((l : List A) → o ≡ some l → length first < length l) → (o >>= λ (all : List A). says all if leb (length all) (length first)) ≡ none
-  too_many none h = refl
-  too_many (some l) h = rw (lt-leb (length l) (length first) (h l refl))
+  too_many : (o : Option (List A)) → ((l : List A) → o ≡ Some l → length first < length l) → (o >>= λ (all : List A). says all if leb (length all) (length first)) ≡ None
+  too_many None h = refl
+  too_many (Some l) h = rw (lt-leb (length l) (length first) (h l refl))
 
   pub within-whole : within (length first) said ≡ (says take (length said) (written said first) if is_whole said first)
   unfolding within
@@ -33,67 +39,67 @@ module _ {A : Type 0} (said : List (Option A)) (first : List A) where
       go true e = rw (within-whole, e)
       go false e = rw (within-whole, e)
 
-  pub front-within : (r : Filled) (held : List A) → filled_said r held ≡ filled said first → front_said r held ≡ within (length first) said
+  pub front-within : (r : Option ℕ) (held : List A) → filled_said r held ≡ filled said first → front_said r held ≡ within (length first) said
   front-within r held e = go r ∙ ap fronted e ∙ fronted-filled
     where
-      go : (r : Filled) → front_said r held ≡ fronted (filled_said r held)
-      go (To n) = refl
-      go NotFilled = refl
+      go : (r : (Option ℕ)) → front_said r held ≡ fronted (filled_said r held)
+      go (Some n) = refl
+      go None = refl
 
 -- The same of a word, its case known.
-pub lent-front : {W A : Type 0} (meaning : W → List (Option A)) (first held : List A) {r x : Filled} {word w : W} → r ≡ x → filled_said r held ≡ filled (meaning word) first → word ≡ w → front_said x held ≡ within (length first) (meaning w)
-lent-front {W = W} meaning first held {r = r} {word = word} k e f = sym (ap (λ (y : Filled). front_said y held) k) ∙ front-within (meaning word) first r held e ∙ ap (λ (v : W). within (length first) (meaning v)) f
+pub lent-front : {W A : Type 0} (meaning : W → List (Option A)) (first held : List A) {r x : Option ℕ} {word w : W} → r ≡ x → filled_said r held ≡ filled (meaning word) first → word ≡ w → front_said x held ≡ within (length first) (meaning w)
+lent-front {W = W} meaning first held {r = r} {word = word} k e f = sym (ap (λ (y : Option ℕ). front_said y held) k) ∙ front-within (meaning word) first r held e ∙ ap (λ (v : W). within (length first) (meaning v)) f
 
 -- ---- the kind and the image
 
 abbrev imaged : Lent → Option ChipImage
-imaged l = l.chip >>= λ c. some (record { kind = c.kind; image = take c.length l.room })
+imaged l = l.chip >>= λ c. Some (record { kind = c.kind; image = take c.length l.room })
 
-imaged-by : (kind : Option ℕ) (word first : List ℕ) → imaged (lent_by kind word first) ≡ (kind >>= λ (k : ℕ). within (length first) (bytes word) >>= λ (image : List ℕ). some (record { kind = kind_of k; image = image }))
-imaged-by none word first = refl
-imaged-by (some kind) word first = go (is_whole (bytes word) first) refl
+imaged-by : (kind : Option ℕ) (word first : List ℕ) → imaged (lent_by kind word first) ≡ (kind >>= λ (k : ℕ). within (length first) (bytes word) >>= λ (image : List ℕ). Some (record { kind = kind_of k; image = image }))
+imaged-by None word first = refl
+imaged-by (Some kind) word first = go (is_whole (bytes word) first) refl
   where
-    go : (b : Bool) → is_whole (bytes word) first ≡ b → imaged (lent_by (some kind) word first) ≡ (within (length first) (bytes word) >>= λ (image : List ℕ). some (record { kind = kind_of kind; image = image }))
+    go : (b : Bool) → is_whole (bytes word) first ≡ b → imaged (lent_by (Some kind) word first) ≡ (within (length first) (bytes word) >>= λ (image : List ℕ). Some (record { kind = kind_of kind; image = image }))
     go true e = rw (within-whole (bytes word) first, e)
     go false e = rw (within-whole (bytes word) first, e)
 
-pub lent-image : (line first held : List ℕ) {r x : ChipRequest} → r ≡ x → lent_said r held ≡ lent line first → chip_image_said x held ≡ chip_image (length first) line
+pub lent-image : (line first held : List ℕ) {r x : (Option Chip)} → r ≡ x → lent_said r held ≡ lent line first → chip_image_said x held ≡ chip_image (length first) line
 unfolding chip_image
-lent-image line first held {r = r} k e = sym (ap (λ (y : ChipRequest). chip_image_said y held) k) ∙ go r ∙ ap imaged e ∙ imaged-by (number (word_at 1 line)) (word_at 2 line) first
+lent-image line first held {r = r} k e = sym (ap (λ (y : (Option Chip)). chip_image_said y held) k) ∙ go r ∙ ap imaged e ∙ imaged-by (number (word_at 1 line)) (word_at 2 line) first
   where
-    go : (r : ChipRequest) → chip_image_said r held ≡ imaged (lent_said r held)
-    go (OfChip chip) = refl
-    go NoChip = refl
+    go : (r : (Option Chip)) → chip_image_said r held ≡ imaged (lent_said r held)
+    go (Some chip) = refl
+    go None = refl
 
 -- ---- a part of a room, lent to be written
 
 module _ {A : Type 0} (said : List (Option A)) (first held : List A) where
-  pub front-room : {r : Filled} {n : ℕ} → r ≡ To n → filled_said r held ≡ filled said first → n ≤ length held
-  front-room {n = n} k e = go (is_whole said first) refl (sym (ap (λ (y : Filled). filled_said y held) k) ∙ e)
+  pub front-room : {r : Option ℕ} {n : ℕ} → r ≡ Some n → filled_said r held ≡ filled said first → n ≤ length held
+  front-room {n = n} k e = go (is_whole said first) refl (sym (ap (λ (y : Option ℕ). filled_said y held) k) ∙ e)
     where
-      go : (b : Bool) → is_whole said first ≡ b → record { count = some n; all = held } ≡ filled said first → n ≤ length held
+      go : (b : Bool) → is_whole said first ≡ b → record { count = Some n; all = held } ≡ filled said first → n ≤ length held
       go true w e =
-          let f : ◌≡◌ {A = Held A} (record { count = some n; all = held }) (record { count = some (length said); all = written said first }) = e ∙ filled-whole said first w in
-          omega (arith, whole_room said first w, written-long said first, some-injective n (length said) (ap (λ (h : Held A). h.count) f), ap (λ (h : Held A). length h.all) f)
+          let f : ◌≡◌ {A = Held A} (record { count = Some n; all = held }) (record { count = Some (length said); all = written said first }) = e ∙ filled-whole said first w in
+          omega (arith, whole_room said first w, written-long said first, some_same (ap (λ (h : Held A). h.count) f), ap (λ (h : Held A). length h.all) f)
       go false w e =
-          let f : ◌≡◌ {A = Held A} (record { count = some n; all = held }) (record { count = none; all = first }) = e ∙ rw w in
-          absurd (none-ne-some n (sym (ap (λ (h : Held A). h.count) f)))
+          let f : ◌≡◌ {A = Held A} (record { count = Some n; all = held }) (record { count = None; all = first }) = e ∙ rw w in
+          no_none ((sym (ap (λ (h : Held A). h.count) f)))
 
-pub lent-room : (line first held : List ℕ) {r : ChipRequest} {chip : Chip} → r ≡ OfChip chip → lent_said r held ≡ lent line first → chip.length ≤ length held
-lent-room line first held {chip = chip} k e = by (number (word_at 1 line)) (sym (ap (λ (y : ChipRequest). lent_said y held) k) ∙ e)
+pub lent-room : (line first held : List ℕ) {r : (Option Chip)} {chip : Chip} → r ≡ Some chip → lent_said r held ≡ lent line first → chip.length ≤ length held
+lent-room line first held {chip = chip} k e = by (number (word_at 1 line)) (sym (ap (λ (y : (Option Chip)). lent_said y held) k) ∙ e)
   where
-    by : (o : Option ℕ) → record { chip = some chip; room = held } ≡ lent_by o (word_at 2 line) first → chip.length ≤ length held
-    by none e = absurd (none-ne-some chip (sym (ap (λ (l : Lent). l.chip) e)))
-    by (some kind) e = go (is_whole (bytes (word_at 2 line)) first) refl
+    by : (o : Option ℕ) → record { chip = Some chip; room = held } ≡ lent_by o (word_at 2 line) first → chip.length ≤ length held
+    by None e = no_none ((sym (ap (λ (l : Lent). l.chip) e)))
+    by (Some kind) e = go (is_whole (bytes (word_at 2 line)) first) refl
       where
         go : (b : Bool) → is_whole (bytes (word_at 2 line)) first ≡ b → chip.length ≤ length held
         go true w =
-            let f : ◌≡◌ {A = Lent} (record { chip = some chip; room = held }) (record { chip = some (record { kind = kind_of kind; length = length (bytes (word_at 2 line)) }); room = written (bytes (word_at 2 line)) first }) = e ∙ ap (chip_of kind) (filled-whole (bytes (word_at 2 line)) first w) in
-            omega (arith, whole_room (bytes (word_at 2 line)) first w, written-long (bytes (word_at 2 line)) first, ap (λ (c : Chip). c.length) (some-injective chip (record { kind = kind_of kind; length = length (bytes (word_at 2 line)) }) (ap (λ (l : Lent). l.chip) f)), ap (λ (l : Lent). length l.room) f)
+            let f : ◌≡◌ {A = Lent} (record { chip = Some chip; room = held }) (record { chip = Some (record { kind = kind_of kind; length = length (bytes (word_at 2 line)) }); room = written (bytes (word_at 2 line)) first }) = e ∙ ap (chip_of kind) (filled-whole (bytes (word_at 2 line)) first w) in
+            omega (arith, whole_room (bytes (word_at 2 line)) first w, written-long (bytes (word_at 2 line)) first, ap (λ (c : Chip). c.length) (some_same (ap (λ (l : Lent). l.chip) f)), ap (λ (l : Lent). length l.room) f)
         go false w =
-            let g : filled (bytes (word_at 2 line)) first ≡ record { count = none; all = first } = rw w in
-            let f : ◌≡◌ {A = Lent} (record { chip = some chip; room = held }) (record { chip = none; room = first }) = e ∙ ap (chip_of kind) g in
-            absurd (none-ne-some chip (sym (ap (λ (l : Lent). l.chip) f)))
+            let g : filled (bytes (word_at 2 line)) first ≡ record { count = None; all = first } = rw w in
+            let f : ◌≡◌ {A = Lent} (record { chip = Some chip; room = held }) (record { chip = None; room = first }) = e ∙ ap (chip_of kind) g in
+            no_none ((sym (ap (λ (l : Lent). l.chip) f)))
 
 -- What a call left in the part, at the start of the room.
 pub part-back : (part rest : List ℕ) (n : ℕ) → length part ≡ n → take n (part ++ rest) ≡ part
@@ -103,22 +109,22 @@ part-back part rest n e = rw (← e) (take-append_seam part rest)
 
 module _ {A : Type 0} (call : ℕ → List ℕ → ℕ → A) (line first held : List ℕ) where
   abbrev called : Option ImageNumber → Option A
-  called o = o >>= λ r. some (call r.chip.kind r.chip.image r.number)
+  called o = o >>= λ r. Some (call r.chip.kind r.chip.image r.number)
 
-  pub number-not : {r : NumberRequest} → r ≡ NoNumber → number_request_said r held ≡ number_request (length first) line → none ≡ number_reply call (length first) line
-  number-not k e = ap called (sym (ap (λ (y : NumberRequest). number_request_said y held) k) ∙ e)
+  pub number-not : {r : (Option ChipNumber)} → r ≡ None → number_request_said r held ≡ number_request (length first) line → None ≡ number_reply call (length first) line
+  number-not k e = ap called (sym (ap (λ (y : (Option ChipNumber)). number_request_said y held) k) ∙ e)
 
-  pub number_is : {r : NumberRequest} {q : ChipNumber} {image : List ℕ} → r ≡ OfNumber q → number_request_said r held ≡ number_request (length first) line → image ≡ take q.chip.length held → some (call q.chip.kind image q.number) ≡ number_reply call (length first) line
-  number_is {q = q} k e i = ap (λ (m : List ℕ). some (call q.chip.kind m q.number)) i ∙ ap called (sym (ap (λ (y : NumberRequest). number_request_said y held) k) ∙ e)
+  pub number_is : {r : (Option ChipNumber)} {q : ChipNumber} {image : List ℕ} → r ≡ Some q → number_request_said r held ≡ number_request (length first) line → image ≡ take q.chip.length held → Some (call q.chip.kind image q.number) ≡ number_reply call (length first) line
+  number_is {q = q} k e i = ap (λ (m : List ℕ). Some (call q.chip.kind m q.number)) i ∙ ap called (sym (ap (λ (y : (Option ChipNumber)). number_request_said y held) k) ∙ e)
 
 -- ---- a page as digits
 
 module _ (line first held digits : List ℕ) where
   abbrev paged : Option (List ℕ) → Option (List ℕ)
-  paged o = o >>= λ page. within (length digits) (map some (spelt page))
+  paged o = o >>= λ page. within (length digits) (map Some (spelt page))
 
-  pub page-not : {r : NumberRequest} → r ≡ NoNumber → number_request_said r held ≡ number_request (length first) line → none ≡ page_reply (length first) (length digits) line
+  pub page-not : {r : (Option ChipNumber)} → r ≡ None → number_request_said r held ≡ number_request (length first) line → None ≡ page_reply (length first) (length digits) line
   page-not k e = ap paged (number-not page_bytes line first held k e)
 
-  pub page-is : (f : Filled) (out : List ℕ) {r : NumberRequest} {q : ChipNumber} {image page : List ℕ} → r ≡ OfNumber q → number_request_said r held ≡ number_request (length first) line → image ≡ take q.chip.length held → page ≡ page_bytes q.chip.kind image q.number → filled_said f out ≡ filled (map some (spelt page)) digits → front_said f out ≡ page_reply (length first) (length digits) line
-  page-is f out {page = page} k e i p s = front-within (map some (spelt page)) digits f out s ∙ ap (λ (m : List ℕ). within (length digits) (map some (spelt m))) p ∙ ap paged (number_is page_bytes line first held k e i)
+  pub page-is : (f : Option ℕ) (out : List ℕ) {r : (Option ChipNumber)} {q : ChipNumber} {image page : List ℕ} → r ≡ Some q → number_request_said r held ≡ number_request (length first) line → image ≡ take q.chip.length held → page ≡ page_bytes q.chip.kind image q.number → filled_said f out ≡ filled (map Some (spelt page)) digits → front_said f out ≡ page_reply (length first) (length digits) line
+  page-is f out {page = page} k e i p s = front-within (map Some (spelt page)) digits f out s ∙ ap (λ (m : List ℕ). within (length digits) (map Some (spelt m))) p ∙ ap paged (number_is page_bytes line first held k e i)

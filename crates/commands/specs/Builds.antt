@@ -1,7 +1,7 @@
 -- docs/CONSOLE.md: build KIND LENGTH LEVEL TEMPLATE V1 .. Vn ENDBIT TEXT, and then
 -- DOMAIN POINTS or `curve` COUNT SEGMENTS TERMS. Words are counted from 0, the command.
 use Rattle.std.specs.Prelude.{Bool, cond, List, [], ◌∷◌, ℕ, ◌+◌, eqb, leb, ℤ, replicate}
-use Rattle.std.proofs.Math.Option.{Option, none, some, map}
+use Rattle.std.specs.Prelude.{Option, Some, option_map}
 use Rattle.templates.specs.declared.Curve.{Curve}
 use Rattle.templates.specs.declared.Level.{Level}
 use Rattle.templates.specs.declared.Template.{Template}
@@ -18,10 +18,6 @@ use Rattle.console_words.specs.Hexadecimal.{bytes}
 use Rattle.console_words.specs.Values.{value}
 use Rattle.console_words.specs.Levels.{level}
 use Rattle.commands.specs.declared.builds.Head.{Head}
-use Rattle.commands.specs.declared.builds.Headed.{Headed}
-use Rattle.commands.specs.declared.builds.Headed.TheVariants.{Is, Unknown}
-use Rattle.commands.specs.declared.builds.Slots.{Slots}
-use Rattle.commands.specs.declared.builds.Sheeted.{Sheeted}
 use Rattle.commands.specs.Curves.{curve}
 use Rattle.commands.specs.Kinds.{kind_of}
 use Rattle.commands.specs.Lists.{◌>>=◌, items, arrayed}
@@ -59,22 +55,15 @@ head line = do
   length ← number (word_at 2 line)
   level ← level (word_at 3 line)
   template ← template_in line
-  some (record { kind = kind_of kind; length = length; level = level; template = template })
-
-abbrev pub head_said : Headed → Option Head
-head_said (Is head) = some head
-head_said Unknown = none
+  Some (record { kind = kind_of kind; length = length; level = level; template = template })
 
 -- A value, in the sheet record.
 abbrev pub slot_at : List ℕ → ℕ → Option Slot
-slot_at line index = map slot (value (word_at index line))
+slot_at line index = option_map slot (value (word_at index line))
 
 -- The values of the template's fields: field f is word f + 4. The record has room for 21.
 abbrev pub slots : List ℕ → Template → Option (List Slot)
 slots line template = arrayed (items (slot_at line) (last_field template) first_value) (replicate 21 (slot Missing))
-
-abbrev pub slots_said : Slots → Option (List Slot)
-slots_said s = says s.fields if s.taken
 
 -- A bit, or a domain: 0 or 1.
 abbrev pub flag : List ℕ → Option ℕ
@@ -87,10 +76,7 @@ abbrev pub sheet : List ℕ → Template → Level → Option Sheet
 sheet line template level = do
   end_bit ← flag (word_at (end_bit_word template) line)
   fields ← slots line template
-  some (record { template = template; fields = fields; end_bit = eqb end_bit 1; level = level })
-
-abbrev pub sheet_said : Sheeted → Option Sheet
-sheet_said s = says s.sheet if s.taken
+  Some (record { template = template; fields = fields; end_bit = eqb end_bit 1; level = level })
 
 -- ---- after the end bit
 

@@ -1,15 +1,13 @@
 -- docs/CONSOLE.md: the answer to `build`, from the line's words. A line that is no such command
 -- has no answer. A room is how many bytes or figures a word may spell.
-use Rattle.std.specs.Prelude.{cond, List, ℕ, ltb, take}
-use Rattle.std.proofs.Math.Option.{Option, none, some}
+use Rattle.std.specs.Prelude.{cond, List, ℕ, take}
+use Rattle.std.specs.Prelude.{Option, None, Some}
 use Rattle.refusal.specs.Outcome.{Outcome}
 use Rattle.refusal.specs.Written.{written_said}
 use Rattle.templates.specs.Calibration.{domain_of}
 use Rattle.build.specs.declared.Sheet.{Sheet}
 use Rattle.build.specs.Build.{build, build_curve}
 use Rattle.commands.specs.declared.builds.Head.{Head}
-use Rattle.commands.specs.declared.builds.BuildReply.{BuildReply}
-use Rattle.commands.specs.declared.builds.BuildReply.TheVariants.{Is, Unknown}
 use Rattle.commands.specs.Builds.{end_bit_word, has_curve, head, sheet, text_in, domain_in, points_in, curve_in}
 use Rattle.commands.specs.Lists.{◌>>=◌, within}
 
@@ -19,14 +17,14 @@ from_points kind image sheet textRoom pointRoom line end = do
   domain ← domain_in line end
   text ← within textRoom (text_in line end)
   points ← within pointRoom (points_in line end)
-  some (build kind image sheet text (domain_of domain) points)
+  Some (build kind image sheet text (domain_of domain) points)
 
 -- TEXT `curve` COUNT SEGMENTS TERMS, after the end bit.
 abbrev pub from_curve : ℕ → List ℕ → Sheet → ℕ → List ℕ → ℕ → Option (Outcome (List ℕ))
 from_curve kind image sheet textRoom line end = do
   text ← within textRoom (text_in line end)
   curve ← curve_in line end
-  some (build_curve kind image sheet text curve)
+  Some (build_curve kind image sheet text curve)
 
 abbrev pub built_by : List ℕ → ℕ → ℕ → List ℕ → Head → Sheet → Option (Outcome (List ℕ))
 built_by image textRoom pointRoom line head sheet =
@@ -41,10 +39,6 @@ build_reply room textRoom pointRoom line = do
   sheet ← sheet line head.template head.level
   built_by (take head.length room) textRoom pointRoom line head sheet
 
-abbrev pub built_said : BuildReply → List ℕ → Option (Outcome (List ℕ))
-built_said (Is answer) image = some (written_said answer image)
-built_said Unknown image = none
-
--- Only inner contracts need this.
-abbrev pub shorter : ℕ → ℕ → ℕ
-shorter length room = cond (ltb room length) room length
+abbrev pub built_said : Option (Outcome (Unit {0})) → List ℕ → Option (Outcome (List ℕ))
+built_said (Some answer) image = Some (written_said answer image)
+built_said None image = None

@@ -1,7 +1,7 @@
 -- docs/CONSOLE.md: the curve of a build. SEGMENTS are start and term count by turns,
 -- TERMS exponent and coefficient, both separated by commas (44), or a minus for none.
 use Rattle.std.specs.Prelude.{cond, List, ℕ, ◌+◌, ◌*◌, ◌/◌, ◌%◌, eqb, ℤ, pos, replicate}
-use Rattle.std.proofs.Math.Option.{Option, none, some}
+use Rattle.std.specs.Prelude.{Option, None, Some}
 use Rattle.std.specs.Float.{binary32}
 use Rattle.std.specs.Float.Ieee.{of_bits}
 use Rattle.codes.specs.declared.Value.{Value}
@@ -15,18 +15,11 @@ use Rattle.console_words.specs.Said.{says◌if◌, every}
 use Rattle.console_words.specs.Figures.{number, figure}
 use Rattle.console_words.specs.Hexadecimal.{bytes}
 use Rattle.console_words.specs.Values.{single}
-use Rattle.commands.specs.declared.curves.SegmentItem.{SegmentItem}
-use Rattle.commands.specs.declared.curves.SegmentItem.TheVariants.{Is as IsSegment, Not as NoSegment}
-use Rattle.commands.specs.declared.curves.TermItem.{TermItem}
-use Rattle.commands.specs.declared.curves.TermItem.TheVariants.{Is as IsTerm, Not as NoTerm}
-use Rattle.commands.specs.declared.curves.Segments.{Segments}
-use Rattle.commands.specs.declared.curves.Terms.{Terms}
-use Rattle.commands.specs.declared.curves.Drawn.{Drawn}
 use Rattle.commands.specs.Lists.{◌>>=◌, items, arrayed}
 
 -- The number of pairs of a list: an odd number of pieces has none.
 abbrev pub pairs : List ℕ → Option ℕ
-pairs list = cond (is_minus list) (some 0) (says piece_count 44 list / 2 if eqb (piece_count 44 list % 2) 0)
+pairs list = cond (is_minus list) (Some 0) (says piece_count 44 list / 2 if eqb (piece_count 44 list % 2) 0)
 
 -- The pairs of a list, each as read, in an array that has room for this many.
 abbrev pub listed : {A : Type 0} → List ℕ → (ℕ → Option A) → List A → Option (List A)
@@ -40,35 +33,24 @@ abbrev pub segment_at : List ℕ → ℕ → Option Segment
 segment_at list pair = do
   start ← figure (piece_at 44 (2 * pair) list)
   terms ← number (piece_at 44 (2 * pair + 1) list)
-  some (record { start = start; terms = terms })
-
-abbrev pub segment_said : SegmentItem → Option Segment
-segment_said (IsSegment segment) = some segment
-segment_said NoSegment = none
+  Some (record { start = start; terms = terms })
 
 -- At most 20; what the list leaves out is 0.
 abbrev pub segments : List ℕ → Option (List Segment)
 segments list = listed list (segment_at list) (replicate 20 no_segment)
 
-abbrev pub segments_said : Segments → Option (List Segment)
-segments_said s = says s.segments if s.taken
-
 -- ---- terms
 
 abbrev pub term_by : ℤ → Value → Option Term
-term_by exponent (Single x) = some (record { exponent = exponent; coefficient = x })
-term_by exponent (Whole z) = none
-term_by exponent Missing = none
+term_by exponent (Single x) = Some (record { exponent = exponent; coefficient = x })
+term_by exponent (Whole z) = None
+term_by exponent Missing = None
 
 abbrev pub term_at : List ℕ → ℕ → Option Term
 term_at list pair = do
   exponent ← figure (piece_at 44 (2 * pair) list)
   coefficient ← single (every (bytes (piece_at 44 (2 * pair + 1) list)))
   term_by exponent coefficient
-
-abbrev pub term_said : TermItem → Option Term
-term_said (IsTerm term) = some term
-term_said NoTerm = none
 
 -- At most 30; what the list leaves out is 0.
 abbrev pub zero_term : Term
@@ -77,16 +59,10 @@ zero_term = record { exponent = pos 0; coefficient = of_bits binary32 0 }
 abbrev pub terms : List ℕ → Option (List Term)
 terms list = listed list (term_at list) (replicate 30 zero_term)
 
-abbrev pub terms_said : Terms → Option (List Term)
-terms_said t = says t.terms if t.taken
-
 -- ---- the curve, of COUNT segments
 
 abbrev pub curve : ℕ → List ℕ → List ℕ → Option Curve
 curve count segmentList termList = do
   segments ← segments segmentList
   terms ← terms termList
-  some (record { count = count; segments = segments; terms = terms })
-
-abbrev pub drawn_said : Drawn → Option Curve
-drawn_said d = says d.curve if d.taken
+  Some (record { count = count; segments = segments; terms = terms })

@@ -1,11 +1,9 @@
 -- docs/CONSOLE.md: the dash for a reading, as a word names it.
 use Rattle.std.specs.Prelude.{cond, List, [], ◌∷◌, ℕ}
-use Rattle.std.proofs.Math.Option.{Option, none, some}
+use Rattle.std.specs.Prelude.{Option, None, Some}
 use Rattle.texts.specs.Text.{same}
 use Rattle.reading.specs.declared.Dash.{Dash}
 use Rattle.reading.specs.declared.Dash.TheVariants.{Large, Small}
-use Rattle.commands.specs.declared.readings.Named.{Named}
-use Rattle.commands.specs.declared.readings.Named.TheVariants.{Is, Not}
 
 -- The letters l a r g e and s m a l l.
 abbrev pub large : List ℕ
@@ -16,8 +14,4 @@ small = 115 ∷ 109 ∷ 97 ∷ 108 ∷ 108 ∷ []
 
 -- Any other word names none.
 abbrev pub dash : List ℕ → Option Dash
-dash word = cond (same word large) (some Large) (cond (same word small) (some Small) none)
-
-abbrev pub dash_said : Named → Option Dash
-dash_said (Is d) = some d
-dash_said Not = none
+dash word = cond (same word large) (Some Large) (cond (same word small) (Some Small) None)

@@ -1,15 +1,13 @@
 -- Several words of a line, or several pieces of a list, together.
 use Rattle.std.specs.Prelude.{List, [], ◌∷◌, ℕ, zero, suc, leb, length, take}
-use Rattle.std.proofs.Math.Option.{Option, none, some}
-use Rattle.console_words.specs.declared.Filled.{Filled}
-use Rattle.console_words.specs.declared.Filled.TheVariants.{To, Not}
+use Rattle.std.specs.Prelude.{Option, None, Some}
 use Rattle.console_words.specs.Said.{says◌if◌, every, written, is_whole}
 
 -- The value of one word goes into the next step; if one has none, the whole has none.
 infixl 1 ◌>>=◌
 abbrev pub ◌>>=◌ : {A B : Type 0} → Option A → (A → Option B) → Option B
-none >>= next = none
-some a >>= next = next a
+None >>= next = None
+Some a >>= next = next a
 
 -- The values at n indices, from this one on.
 abbrev pub items : {A : Type 0} → (ℕ → Option A) → ℕ → ℕ → List (Option A)
@@ -28,6 +26,6 @@ within room said = do
   says all if leb (length all) room
 
 -- The first elements of a room, where all of them were put there.
-abbrev pub front_said : {A : Type 0} → Filled → List A → Option (List A)
-front_said (To n) room = some (take n room)
-front_said Not room = none
+abbrev pub front_said : {A : Type 0} → Option ℕ → List A → Option (List A)
+front_said (Some n) room = Some (take n room)
+front_said None room = None

@@ -4,8 +4,8 @@ ghost use Rattle.commands.specs.Arguments.{lent as lent_in, lent_said};
 ghost use Rattle.commands.specs.Replies.{number_request, number_request_said};
 ghost use Rattle.commands.specs.Kinds.{kind_of};
 
-use console_words::{Filled, Number, word};
-use refusal::Written;
+use console_words::word;
+use refusal::Refusal;
 
 // Room for the bytes of any word.
 pub const ROOM: usize = 16_384;
@@ -27,24 +27,13 @@ pub struct Chip {
     pub length: usize,
 }
 
-// The chip of a line, or that its words are not valid.
-#[derive(Clone, Copy)]
-pub enum ChipRequest {
-    Of(Chip),
-    Unknown,
-}
-
 // The kind and the image, words 1 and 2 of a line.
-pub fn lent(line: &[u8], room: &mut [u8]) -> ChipRequest
+pub fn lent(line: &[u8], room: &mut [u8]) -> Option<Chip>
     ensures { lent_said result room.new ≡ lent_in line.now room.old }
 {
-    let Number::Is(kind) = console_words::number_of(word(line, 1)) else {
-        return ChipRequest::Unknown;
-    };
-    let Filled::To(length) = console_words::bytes_of(word(line, 2), room) else {
-        return ChipRequest::Unknown;
-    };
-    ChipRequest::Of(Chip {
+    let kind = console_words::number_of(word(line, 1))?;
+    let length = console_words::bytes_of(word(line, 2), room)?;
+    Some(Chip {
         kind: kind_of(kind),
         length,
     })
@@ -57,34 +46,18 @@ pub struct ChipNumber {
     pub number: u64,
 }
 
-#[derive(Clone, Copy)]
-pub enum NumberRequest {
-    Of(ChipNumber),
-    Unknown,
-}
-
 // The kind, the image and a page, a field or an index, words 1 to 3.
-pub fn number_request(line: &[u8], room: &mut [u8]) -> NumberRequest
+pub fn number_request(line: &[u8], room: &mut [u8]) -> Option<ChipNumber>
     ensures { number_request_said result room.new ≡ number_request (length room.old) line.now }
 {
-    let ChipRequest::Of(chip) = lent(line, room) else {
-        return NumberRequest::Unknown;
-    };
-    let Number::Is(number) = console_words::number_of(word(line, 3)) else {
-        return NumberRequest::Unknown;
-    };
-    NumberRequest::Of(ChipNumber { chip, number })
+    let chip = lent(line, room)?;
+    let number = console_words::number_of(word(line, 3))?;
+    Some(ChipNumber { chip, number })
 }
 
 // What a call that writes answers, and how many bytes at the start of a room were lent to it.
 #[derive(Clone, Copy)]
 pub struct WrittenFront {
-    pub answer: Written,
+    pub answer: Result<(), Refusal>,
     pub length: usize,
-}
-
-#[derive(Clone, Copy)]
-pub enum WriteReply {
-    Is(WrittenFront),
-    Unknown,
 }

@@ -2,6 +2,8 @@
 ghost use Rattle.std.specs.Prelude.{◌≡◌, drop};
 ghost use Rattle.commands.specs.Command.{command_of, found, named, rows};
 
+use reading::Reading;
+use templates::{Pair, Segment, Term};
 use texts::equal;
 
 #[derive(Clone, Copy)]

@@ -1,38 +1,31 @@
 // The command `distance`.
 ghost use Rattle.std.specs.Prelude.{◌≡◌, length};
-ghost use Rattle.commands.specs.Replies.{distance_reply, distance_reply_said};
+ghost use Rattle.commands.specs.Replies.{distance_reply};
 
 use crate::arguments::ROOM;
 use crate::printing;
-use console_words::{Filled, front_figures, word};
-use distance::DistanceAnswer;
+use console_words::{front_figures, word};
+use distance::CertificateBound;
 use listing::{put, put_number};
+use refusal::Refusal;
 use std::io::Write;
 
-#[derive(Clone, Copy)]
-pub enum DistanceReply {
-    Is(DistanceAnswer),
-    Unknown,
-}
-
 // The distance of the points, word 1.
-fn distance_reply(line: &[u8], points: &mut [i64]) -> DistanceReply
-    ensures { distance_reply_said result ≡ distance_reply (length points.old) line.now }
+fn distance_reply(line: &[u8], points: &mut [i64]) -> Option<Result<CertificateBound, Refusal>>
+    ensures { result ≡ distance_reply (length points.old) line.now }
 {
-    let Filled::To(figures) = console_words::figures_of(word(line, 1), points) else {
-        return DistanceReply::Unknown;
-    };
-    DistanceReply::Is(distance::distance(front_figures(points, figures)))
+    let figures = console_words::figures_of(word(line, 1), points)?;
+    Some(distance::distance(front_figures(points, figures)))
 }
 
-fn print_distance(out: &mut impl Write, answer: DistanceAnswer) {
+fn print_distance(out: &mut impl Write, answer: Result<CertificateBound, Refusal>) {
     match answer {
-        DistanceAnswer::Is(found) => {
+        Ok(found) => {
             put_number(out, found.slope);
             put(out, b" ");
             printing::number(out, found.bound);
         }
-        DistanceAnswer::Refused(r) => printing::refused(out, r),
+        Err(r) => printing::refused(out, r),
     }
 }
 
@@ -40,7 +33,7 @@ fn print_distance(out: &mut impl Write, answer: DistanceAnswer) {
 pub fn distance(out: &mut impl Write, line: &[u8]) {
     let mut points = [0i64; ROOM];
     match distance_reply(line, &mut points) {
-        DistanceReply::Is(answer) => print_distance(out, answer),
-        DistanceReply::Unknown => printing::unknown(out),
+        Some(answer) => print_distance(out, answer),
+        None => printing::unknown(out),
     }
 }

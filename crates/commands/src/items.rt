@@ -1,36 +1,29 @@
 // The commands `pair`, `segment`, `term` and `char`: one item of a sheet, by its index.
 ghost use Rattle.std.specs.Prelude.{◌≡◌, length};
-ghost use Rattle.commands.specs.Replies.{pair_reply, pair_reply_said, segment_reply, segment_reply_said, term_reply, term_reply_said, character_reply, character_reply_said};
+ghost use Rattle.commands.specs.Replies.{pair_reply, segment_reply, term_reply, character_reply};
 
-use crate::arguments::{NumberRequest, ROOM};
+use crate::arguments::ROOM;
 use crate::{arguments, printing};
 use console_words::front;
 use listing::{put, put_figure};
-use sheet::{CharacterAnswer, PairAnswer, SegmentAnswer, TermAnswer};
+use refusal::Refusal;
 use std::io::Write;
-
-#[derive(Clone, Copy)]
-pub enum PairReply {
-    Is(PairAnswer),
-    Unknown,
-}
+use templates::{Pair, Segment, Term};
 
 // The calibration point and its deviation, words 1 to 3.
-fn pair_reply(line: &[u8], room: &mut [u8]) -> PairReply
-    ensures { pair_reply_said result ≡ pair_reply (length room.old) line.now }
+fn pair_reply(line: &[u8], room: &mut [u8]) -> Option<Result<Pair, Refusal>>
+    ensures { result ≡ pair_reply (length room.old) line.now }
 {
-    let NumberRequest::Of(request) = arguments::number_request(line, room) else {
-        return PairReply::Unknown;
-    };
+    let request = arguments::number_request(line, room)?;
     let chip = request.chip;
     let image = front(room, chip.length);
-    PairReply::Is(sheet::read_pair(chip.kind, image, request.number))
+    Some(sheet::read_pair(chip.kind, image, request.number))
 }
 
-fn print_pair(out: &mut impl Write, answer: PairAnswer) {
+fn print_pair(out: &mut impl Write, answer: Result<Pair, Refusal>) {
     match answer {
-        PairAnswer::Holds(pair) => printing::figures(out, pair.point, pair.deviation),
-        PairAnswer::Refused(r) => printing::refused(out, r),
+        Ok(pair) => printing::figures(out, pair.point, pair.deviation),
+        Err(r) => printing::refused(out, r),
     }
 }
 
@@ -38,37 +31,29 @@ fn print_pair(out: &mut impl Write, answer: PairAnswer) {
 pub fn pair(out: &mut impl Write, line: &[u8]) {
     let mut room = [0u8; ROOM];
     match pair_reply(line, &mut room) {
-        PairReply::Is(answer) => print_pair(out, answer),
-        PairReply::Unknown => printing::unknown(out),
+        Some(answer) => print_pair(out, answer),
+        None => printing::unknown(out),
     }
 }
 
-#[derive(Clone, Copy)]
-pub enum SegmentReply {
-    Is(SegmentAnswer),
-    Unknown,
-}
-
 // The segment's start and its number of terms, words 1 to 3.
-fn segment_reply(line: &[u8], room: &mut [u8]) -> SegmentReply
-    ensures { segment_reply_said result ≡ segment_reply (length room.old) line.now }
+fn segment_reply(line: &[u8], room: &mut [u8]) -> Option<Result<Segment, Refusal>>
+    ensures { result ≡ segment_reply (length room.old) line.now }
 {
-    let NumberRequest::Of(request) = arguments::number_request(line, room) else {
-        return SegmentReply::Unknown;
-    };
+    let request = arguments::number_request(line, room)?;
     let chip = request.chip;
     let image = front(room, chip.length);
-    SegmentReply::Is(sheet::read_segment(chip.kind, image, request.number))
+    Some(sheet::read_segment(chip.kind, image, request.number))
 }
 
-fn print_segment(out: &mut impl Write, answer: SegmentAnswer) {
+fn print_segment(out: &mut impl Write, answer: Result<Segment, Refusal>) {
     match answer {
-        SegmentAnswer::Holds(segment) => {
+        Ok(segment) => {
             put_figure(out, segment.start);
             put(out, b" ");
             printing::number(out, segment.terms);
         }
-        SegmentAnswer::Refused(r) => printing::refused(out, r),
+        Err(r) => printing::refused(out, r),
     }
 }
 
@@ -76,38 +61,30 @@ fn print_segment(out: &mut impl Write, answer: SegmentAnswer) {
 pub fn segment(out: &mut impl Write, line: &[u8]) {
     let mut room = [0u8; ROOM];
     match segment_reply(line, &mut room) {
-        SegmentReply::Is(answer) => print_segment(out, answer),
-        SegmentReply::Unknown => printing::unknown(out),
+        Some(answer) => print_segment(out, answer),
+        None => printing::unknown(out),
     }
 }
 
-#[derive(Clone, Copy)]
-pub enum TermReply {
-    Is(TermAnswer),
-    Unknown,
-}
-
 // The term's exponent and coefficient, words 1 to 3.
-fn term_reply(line: &[u8], room: &mut [u8]) -> TermReply
-    ensures { term_reply_said result ≡ term_reply (length room.old) line.now }
+fn term_reply(line: &[u8], room: &mut [u8]) -> Option<Result<Term, Refusal>>
+    ensures { result ≡ term_reply (length room.old) line.now }
 {
-    let NumberRequest::Of(request) = arguments::number_request(line, room) else {
-        return TermReply::Unknown;
-    };
+    let request = arguments::number_request(line, room)?;
     let chip = request.chip;
     let image = front(room, chip.length);
-    TermReply::Is(sheet::read_term(chip.kind, image, request.number))
+    Some(sheet::read_term(chip.kind, image, request.number))
 }
 
-fn print_term(out: &mut impl Write, answer: TermAnswer) {
+fn print_term(out: &mut impl Write, answer: Result<Term, Refusal>) {
     match answer {
-        TermAnswer::Holds(term) => {
+        Ok(term) => {
             put_figure(out, term.exponent);
             put(out, b" ");
             printing::single(out, term.coefficient);
             printing::end(out);
         }
-        TermAnswer::Refused(r) => printing::refused(out, r),
+        Err(r) => printing::refused(out, r),
     }
 }
 
@@ -115,33 +92,25 @@ fn print_term(out: &mut impl Write, answer: TermAnswer) {
 pub fn term(out: &mut impl Write, line: &[u8]) {
     let mut room = [0u8; ROOM];
     match term_reply(line, &mut room) {
-        TermReply::Is(answer) => print_term(out, answer),
-        TermReply::Unknown => printing::unknown(out),
+        Some(answer) => print_term(out, answer),
+        None => printing::unknown(out),
     }
 }
 
-#[derive(Clone, Copy)]
-pub enum CharacterReply {
-    Is(CharacterAnswer),
-    Unknown,
-}
-
 // The character of the closing text, words 1 to 3.
-fn character_reply(line: &[u8], room: &mut [u8]) -> CharacterReply
-    ensures { character_reply_said result ≡ character_reply (length room.old) line.now }
+fn character_reply(line: &[u8], room: &mut [u8]) -> Option<Result<u8, Refusal>>
+    ensures { result ≡ character_reply (length room.old) line.now }
 {
-    let NumberRequest::Of(request) = arguments::number_request(line, room) else {
-        return CharacterReply::Unknown;
-    };
+    let request = arguments::number_request(line, room)?;
     let chip = request.chip;
     let image = front(room, chip.length);
-    CharacterReply::Is(sheet::read_character(chip.kind, image, request.number))
+    Some(sheet::read_character(chip.kind, image, request.number))
 }
 
-fn print_character(out: &mut impl Write, answer: CharacterAnswer) {
+fn print_character(out: &mut impl Write, answer: Result<u8, Refusal>) {
     match answer {
-        CharacterAnswer::Holds(b) => printing::number(out, b as u64),
-        CharacterAnswer::Refused(r) => printing::refused(out, r),
+        Ok(b) => printing::number(out, b as u64),
+        Err(r) => printing::refused(out, r),
     }
 }
 
@@ -149,7 +118,7 @@ fn print_character(out: &mut impl Write, answer: CharacterAnswer) {
 pub fn character(out: &mut impl Write, line: &[u8]) {
     let mut room = [0u8; ROOM];
     match character_reply(line, &mut room) {
-        CharacterReply::Is(answer) => print_character(out, answer),
-        CharacterReply::Unknown => printing::unknown(out),
+        Some(answer) => print_character(out, answer),
+        None => printing::unknown(out),
     }
 }

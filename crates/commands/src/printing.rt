@@ -1,12 +1,10 @@
 // Prints the parts of an answer.
-use crate::arguments::{ROOM, WriteReply};
-use crate::reads::FieldReply;
+use crate::arguments::{ROOM, WrittenFront};
 use codes::Value;
-use console_words::Filled;
 use listing::{put, put_figure, put_number};
-use refusal::{Refusal, Written};
-use sheet::{FieldAnswer, TableDomain};
+use refusal::Refusal;
 use std::io::Write;
+use templates::Domain;
 
 // The most bytes that an answer prints: any buffer that a line can lend.
 const LARGEST: usize = ROOM;
@@ -15,8 +13,8 @@ const LARGEST: usize = ROOM;
 pub fn bytes(out: &mut impl Write, bytes: &[u8]) {
     let mut digits = [0u8; 2 * LARGEST];
     match console_words::spell(bytes, &mut digits) {
-        Filled::To(count) => put(out, console_words::front(&digits, count)),
-        Filled::Not => {}
+        Some(count) => put(out, console_words::front(&digits, count)),
+        None => {}
     }
 }
 
@@ -47,9 +45,9 @@ pub fn figures(out: &mut impl Write, a: i64, b: i64) {
 // Answers a refusal: its number and its place.
 pub fn refused(out: &mut impl Write, r: Refusal) {
     put(out, b"no ");
-    put_number(out, r.number as u64);
+    put_number(out, r.number() as u64);
     put(out, b" ");
-    number(out, r.place);
+    number(out, r.place());
 }
 
 // Prints the bits of a float in hexadecimal; NaN,
@@ -72,10 +70,10 @@ pub fn double(out: &mut impl Write, x: f64) {
 }
 
 // Prints a table's domain, `-` without a table.
-pub fn domain(out: &mut impl Write, table: TableDomain) {
+pub fn domain(out: &mut impl Write, table: Option<Domain>) {
     match table {
-        TableDomain::NoTable => put(out, b"-"),
-        TableDomain::Is(domain) => put_number(out, templates::domain_code(domain)),
+        None => put(out, b"-"),
+        Some(domain) => put_number(out, templates::domain_code(domain)),
     }
 }
 
@@ -96,40 +94,40 @@ pub fn value(out: &mut impl Write, v: Value) {
 }
 
 // Prints a field's value, or the refusal.
-fn field(out: &mut impl Write, answer: FieldAnswer) {
+fn field(out: &mut impl Write, answer: Result<Value, Refusal>) {
     match answer {
-        FieldAnswer::Holds(v) => value(out, v),
-        FieldAnswer::Refused(r) => refused(out, r),
+        Ok(v) => value(out, v),
+        Err(r) => refused(out, r),
     }
 }
 
 // The same of a line, which may be no command.
-pub fn field_reply(out: &mut impl Write, reply: FieldReply) {
+pub fn field_reply(out: &mut impl Write, reply: Option<Result<Value, Refusal>>) {
     match reply {
-        FieldReply::Is(answer) => field(out, answer),
-        FieldReply::Unknown => unknown(out),
+        Some(answer) => field(out, answer),
+        None => unknown(out),
     }
 }
 
 // Answers a lent buffer after a call, or the refusal.
-fn written(out: &mut impl Write, answer: Written, buffer: &[u8]) {
+fn written(out: &mut impl Write, answer: Result<(), Refusal>, buffer: &[u8]) {
     match answer {
-        Written::Done => {
+        Ok(()) => {
             put(out, b"ok ");
             bytes(out, buffer);
             end(out);
         }
-        Written::Refused(r) => refused(out, r),
+        Err(r) => refused(out, r),
     }
 }
 
 // The same of a room's first bytes.
-pub fn write_reply(out: &mut impl Write, reply: WriteReply, room: &[u8]) {
+pub fn write_reply(out: &mut impl Write, reply: Option<WrittenFront>, room: &[u8]) {
     match reply {
-        WriteReply::Is(front) => {
+        Some(front) => {
             let answer = front.answer;
             written(out, answer, console_words::front(room, front.length));
         }
-        WriteReply::Unknown => unknown(out),
+        None => unknown(out),
     }
 }

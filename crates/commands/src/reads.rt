@@ -1,31 +1,25 @@
 // The commands `check`, `show`, `page` and `field`.
 ghost use Rattle.std.specs.Prelude.{◌≡◌, length};
 ghost use Rattle.commands.specs.Lists.{front_said};
-ghost use Rattle.commands.specs.Replies.{check_reply, check_reply_said, page_reply, field_reply, field_reply_said};
+ghost use Rattle.commands.specs.Replies.{check_reply, page_reply, field_reply};
 
-use crate::arguments::{ChipRequest, NumberRequest, ROOM};
+use crate::arguments::ROOM;
 use crate::{arguments, printing};
-use console_words::{Filled, front};
+use codes::Value;
+use console_words::front;
 use listing::{put, put_number};
 use memory::page_bytes;
-use sheet::{Checked, FieldAnswer, Summary};
+use refusal::Refusal;
+use sheet::Summary;
 use std::io::Write;
 
-#[derive(Clone, Copy)]
-pub enum CheckReply {
-    Is(Checked),
-    Unknown,
-}
-
 // The check of the image, words 1 and 2.
-fn check_reply(line: &[u8], room: &mut [u8]) -> CheckReply
-    ensures { check_reply_said result ≡ check_reply (length room.old) line.now }
+fn check_reply(line: &[u8], room: &mut [u8]) -> Option<Result<Summary, Refusal>>
+    ensures { result ≡ check_reply (length room.old) line.now }
 {
-    let ChipRequest::Of(chip) = arguments::lent(line, room) else {
-        return CheckReply::Unknown;
-    };
+    let chip = arguments::lent(line, room)?;
     let image = front(room, chip.length);
-    CheckReply::Is(sheet::check(chip.kind, image))
+    Some(sheet::check(chip.kind, image))
 }
 
 fn accepted(out: &mut impl Write, summary: Summary) {
@@ -51,10 +45,10 @@ fn accepted(out: &mut impl Write, summary: Summary) {
     printing::number(out, summary.terms);
 }
 
-fn print_check(out: &mut impl Write, answer: Checked) {
+fn print_check(out: &mut impl Write, answer: Result<Summary, Refusal>) {
     match answer {
-        Checked::Accepted(summary) => accepted(out, summary),
-        Checked::Refused(r) => printing::refused(out, r),
+        Ok(summary) => accepted(out, summary),
+        Err(r) => printing::refused(out, r),
     }
 }
 
@@ -62,8 +56,8 @@ fn print_check(out: &mut impl Write, answer: Checked) {
 pub fn check(out: &mut impl Write, line: &[u8]) {
     let mut room = [0u8; ROOM];
     match check_reply(line, &mut room) {
-        CheckReply::Is(answer) => print_check(out, answer),
-        CheckReply::Unknown => printing::unknown(out),
+        Some(answer) => print_check(out, answer),
+        None => printing::unknown(out),
     }
 }
 
@@ -71,8 +65,8 @@ pub fn check(out: &mut impl Write, line: &[u8]) {
 pub fn show(out: &mut impl Write, line: &[u8]) {
     let mut room = [0u8; ROOM];
     match arguments::lent(line, &mut room) {
-        ChipRequest::Of(chip) => listing::show(out, chip.kind, front(&room, chip.length)),
-        ChipRequest::Unknown => printing::unknown(out),
+        Some(chip) => listing::show(out, chip.kind, front(&room, chip.length)),
+        None => printing::unknown(out),
     }
 }
 
@@ -80,12 +74,10 @@ pub fn show(out: &mut impl Write, line: &[u8]) {
 const PAGE_DIGITS: usize = 62;
 
 // The bytes of the page, words 1 to 3, spelt at the start of a buffer.
-fn page_reply(line: &[u8], room: &mut [u8], digits: &mut [u8]) -> Filled
+fn page_reply(line: &[u8], room: &mut [u8], digits: &mut [u8]) -> Option<usize>
     ensures { front_said result digits.new ≡ page_reply (length room.old) (length digits.old) line.now }
 {
-    let NumberRequest::Of(request) = arguments::number_request(line, room) else {
-        return Filled::Not;
-    };
+    let request = arguments::number_request(line, room)?;
     let chip = request.chip;
     let image = front(room, chip.length);
     let page = page_bytes(chip.kind, image, request.number);
@@ -97,31 +89,22 @@ pub fn page(out: &mut impl Write, line: &[u8]) {
     let mut room = [0u8; ROOM];
     let mut digits = [0u8; PAGE_DIGITS];
     match page_reply(line, &mut room, &mut digits) {
-        Filled::To(count) => {
+        Some(count) => {
             put(out, front(&digits, count));
             printing::end(out);
         }
-        Filled::Not => printing::unknown(out),
+        None => printing::unknown(out),
     }
 }
 
-// What a call that reads a field answers.
-#[derive(Clone, Copy)]
-pub enum FieldReply {
-    Is(FieldAnswer),
-    Unknown,
-}
-
 // The value of the field, words 1 to 3.
-fn field_reply(line: &[u8], room: &mut [u8]) -> FieldReply
-    ensures { field_reply_said result ≡ field_reply (length room.old) line.now }
+fn field_reply(line: &[u8], room: &mut [u8]) -> Option<Result<Value, Refusal>>
+    ensures { result ≡ field_reply (length room.old) line.now }
 {
-    let NumberRequest::Of(request) = arguments::number_request(line, room) else {
-        return FieldReply::Unknown;
-    };
+    let request = arguments::number_request(line, room)?;
     let chip = request.chip;
     let image = front(room, chip.length);
-    FieldReply::Is(sheet::read_field(chip.kind, image, request.number))
+    Some(sheet::read_field(chip.kind, image, request.number))
 }
 
 // Answers `field`: the kind, the image and the field, words 1 to 3.

@@ -1,11 +1,9 @@
 -- A writer's level, as a word of a console line names it.
 use Rattle.std.specs.Prelude.{cond, List, [], ◌∷◌, ℕ}
-use Rattle.std.proofs.Math.Option.{Option, none, some}
+use Rattle.std.specs.Prelude.{Option, None, Some}
 use Rattle.texts.specs.Text.{same}
 use Rattle.templates.specs.declared.Level.{Level}
 use Rattle.templates.specs.declared.Level.TheVariants.{Owner, CalibrationRoom, Maker}
-use Rattle.console_words.specs.declared.LevelWord.{LevelWord}
-use Rattle.console_words.specs.declared.LevelWord.TheVariants.{Is, Not}
 
 -- The letters o w n e r, c a l i b r a t i o n and m a k e r.
 abbrev pub owner : List ℕ
@@ -20,10 +18,6 @@ maker = 109 ∷ 97 ∷ 107 ∷ 101 ∷ 114 ∷ []
 -- Any other word names none.
 abbrev pub level : List ℕ → Option Level
 level word =
-    cond (same word owner) (some Owner)
-    (cond (same word calibration) (some CalibrationRoom)
-    (cond (same word maker) (some Maker) none))
-
-abbrev pub level_said : LevelWord → Option Level
-level_said (Is l) = some l
-level_said Not = none
+    cond (same word owner) (Some Owner)
+    (cond (same word calibration) (Some CalibrationRoom)
+    (cond (same word maker) (Some Maker) None))

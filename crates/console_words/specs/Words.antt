@@ -2,11 +2,6 @@
 -- The pieces of a list are found by the same definitions, with another separator.
 use Rattle.std.specs.Prelude.{Bool, false, cond, List, [], ◌∷◌, ℕ, eqb, length, get_or}
 
--- The bytes before the first separator; all of them if there is none.
-abbrev pub up_to : ℕ → List ℕ → List ℕ
-up_to separator [] = []
-up_to separator (b ∷ line) = cond (eqb b separator) [] (b ∷ up_to separator line)
-
 -- One more byte in front of the first piece.
 abbrev pub before : ℕ → List (List ℕ) → List (List ℕ)
 before b [] = (b ∷ []) ∷ []

@@ -1,6 +1,6 @@
 // The words of a console line: numbers, images and texts in hexadecimal,
 // figures, the values of fields, and levels. Every function takes any
-// bytes, and returns `Not` or an empty piece for a word of another form.
+// bytes, and returns `None` or an empty piece for a word of another form.
 #![tactic(auto)]
 
 mod numbers; // numbers.rt: decimal numbers, with or without a sign, and lists of them
@@ -18,38 +18,3 @@ pub use parts::{
 };
 use templates::Level;
 pub use values::{single_word, value_of};
-
-// The number that a word spells.
-#[derive(Clone, Copy)]
-pub enum Number {
-    Is(u64),
-    Not,
-}
-
-// The figure that a word spells.
-#[derive(Clone, Copy)]
-pub enum Figure {
-    Is(i64),
-    Not,
-}
-
-// The number of elements that a word put into a lent buffer.
-#[derive(Clone, Copy)]
-pub enum Filled {
-    To(usize),
-    Not,
-}
-
-// The value of a field that a word spells.
-#[derive(Clone, Copy)]
-pub enum ValueWord {
-    Is(Value),
-    Not,
-}
-
-// The writer's level that a word names.
-#[derive(Clone, Copy)]
-pub enum LevelWord {
-    Is(Level),
-    Not,
-}

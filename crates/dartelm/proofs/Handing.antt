@@ -1,6 +1,6 @@
 -- Laws of a returned sheet that is passed again, and of the kind of an image's length.
-use Rattle.dartelm.proofs.Names.{◌≡◌, refl, ap, ◌∙◌, Bool, true, false, not, List, [], ◌∷◌, map, map-append, ℕ, zero, suc, ◌<◌, arith, ℤ, pos, Float, eqb, replicate, length-map, eqb-true, good, ◌>>◌}
-use Rattle.dartelm.proofs.Names.{refuse◌if◌, wrong_image, Sizes, image_sizes, Value, Whole, Single, Missing, Template, Bridge, Resistance, number_of, slot, SplitValues, sheet_lent, split-sheet, end_code, Domain}
+use Rattle.dartelm.proofs.Names.{◌≡◌, refl, ap, ◌∙◌, Bool, true, false, not, List, [], ◌∷◌, map, map-append, ℕ, zero, suc, ◌<◌, arith, ℤ, pos, Float, eqb, replicate, length-map, eqb-true, Ok, ◌>>◌}
+use Rattle.dartelm.proofs.Names.{refuse◌if◌, WrongImage, Sizes, image_sizes, Value, Whole, Single, Missing, Template, Bridge, Resistance, number_of, slot, SplitValues, sheet_lent, split-sheet, end_code, Domain}
 use Rattle.dartelm.proofs.Names.{Options, DartelmFields, yes, level_of, template_by, options_of, template_flag, value_of, by_flags, no_value, slot_of, sheet_of, kind_of, SheetAgain}
 
 pub value-again : (v : Value) → value_of (by_flags v) ≡ v
@@ -41,12 +41,12 @@ handed-sheet f {tags = tags} {wholes} {singles} e s =
 
 -- ---- kinds
 
-sized : (t : Bool) (y z : Sizes) → (refuse wrong_image if not t >> good y) ≡ good z → t ≡ true
+sized : (t : Bool) (y z : Sizes) → (refuse WrongImage if not t >> Ok y) ≡ Ok z → t ≡ true
 sized true y z e = refl
 sized false y z e = absurd (let n : ◌≡◌ {A = ℕ} 0 1 = cc in omega arith)
 
 -- If an image's length is a kind's, the kind of that length is this one.
-pub kind_fits : (kind bytes : ℕ) (z : Sizes) → image_sizes kind bytes ≡ good z → kind_of bytes ≡ kind
+pub kind_fits : (kind bytes : ℕ) (z : Sizes) → image_sizes kind bytes ≡ Ok z → kind_of bytes ≡ kind
 unfolding kind_of image_sizes
 kind_fits zero bytes z e = rw (eqb-true bytes 40 (sized (eqb bytes 40) _ z e))
 kind_fits (suc zero) bytes z e = rw (eqb-true bytes 128 (sized (eqb bytes 128) _ z e))

@@ -1,19 +1,28 @@
 -- Laws of the answer for the next row.
-use Rattle.dartelm.proofs.Names.{◌≡◌, refl, ap, ℕ, arith, Refusal, Outcome, good, refused, Done, Write, NextRow, Step, done, write, answered, struct_of, row_answer, no_row}
-use Rattle.writing.specs.declared.Answer.TheVariants.{Refused}
+use Rattle.std.proofs.Common.{subst}
+use Rattle.dartelm.proofs.Names.{◌≡◌, refl, sym, ◌∙◌, Refusal, Outcome, Option, None, Some, Ok, Err, Row, Step, done, write, answered, struct_of, row_answer, no_row}
 
-pub row-refused : (o : Outcome Step) {n : NextRow} {r : Refusal} → n ≡ answered o → n.answer ≡ Refused r → struct_of row_answer no_row (refused r) ≡ struct_of row_answer no_row o
-row-refused (good done) e f = let g = ap (λ (x : NextRow). x.answer) e in let z : ◌≡◌ {A = ℕ} 0 1 = cc in absurd (omega arith)
-row-refused (good (write r bytes)) e f = let g = ap (λ (x : NextRow). x.answer) e in let z : ◌≡◌ {A = ℕ} 0 1 = cc in absurd (omega arith)
-row-refused (refused s) {r = r} e f = let g = ap (λ (x : NextRow). x.answer) e in let same : r ≡ s = cc in rw same
+-- The struct from the case of an answer: the row's offset and bytes are the step's.
+told : Outcome (Option Row) → Outcome Step → Type 0
+told (Err r) o = struct_of row_answer no_row (Err r) ≡ struct_of row_answer no_row o
+told (Ok None) o = struct_of row_answer no_row (Ok done) ≡ struct_of row_answer no_row o
+told (Ok (Some x)) o = record { number = 0; place = 0; is_done = 0; offset = x.offset; bytes = x.bytes } ≡ struct_of row_answer no_row o
 
-pub row_done : (o : Outcome Step) {n : NextRow} → n ≡ answered o → n.answer ≡ Done → struct_of row_answer no_row (good done) ≡ struct_of row_answer no_row o
-row_done (good done) e f = refl
-row_done (good (write r bytes)) e f = let g = ap (λ (x : NextRow). x.answer) e in let z : ◌≡◌ {A = ℕ} 0 1 = cc in absurd (omega arith)
-row_done (refused r) e f = let g = ap (λ (x : NextRow). x.answer) e in let z : ◌≡◌ {A = ℕ} 0 1 = cc in absurd (omega arith)
+tells : (o : Outcome Step) → told (answered o) o
+unfolding told
+tells (Ok done) = refl
+tells (Ok (write r bytes)) = refl
+tells (Err r) = refl
 
-pub row_written : (o : Outcome Step) {n : NextRow} → n ≡ answered o → n.answer ≡ Write
-    → record { number = 0; place = 0; is_done = 0; offset = n.offset; bytes = n.bytes } ≡ struct_of row_answer no_row o
-row_written (good (write r bytes)) e f = rw e
-row_written (good done) e f = let g = ap (λ (x : NextRow). x.answer) e in let z : ◌≡◌ {A = ℕ} 0 1 = cc in absurd (omega arith)
-row_written (refused r) e f = let g = ap (λ (x : NextRow). x.answer) e in let z : ◌≡◌ {A = ℕ} 0 1 = cc in absurd (omega arith)
+module _ (o : Outcome Step) {n : Outcome (Option Row)} (e : n ≡ answered o) where
+  pub row-refused : {r : Refusal} → n ≡ Err r → struct_of row_answer no_row (Err r) ≡ struct_of row_answer no_row o
+  unfolding told
+  row-refused f = subst (λ m. told m o) (sym e ∙ f) (tells o)
+
+  pub row_done : n ≡ Ok None → struct_of row_answer no_row (Ok done) ≡ struct_of row_answer no_row o
+  unfolding told
+  row_done f = subst (λ m. told m o) (sym e ∙ f) (tells o)
+
+  pub row_written : {x : Row} → n ≡ Ok (Some x) → record { number = 0; place = 0; is_done = 0; offset = x.offset; bytes = x.bytes } ≡ struct_of row_answer no_row o
+  unfolding told
+  row_written f = subst (λ m. told m o) (sym e ∙ f) (tells o)

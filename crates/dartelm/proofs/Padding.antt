@@ -1,7 +1,7 @@
 -- Laws of lists followed by zeros: a page's bytes and a text's
 -- characters, copied to the start of an array of zeros.
 use Rattle.dartelm.proofs.Names.{◌≡◌, sym, ap, ◌∙◌, Bool, true, false, cond, List, [], ◌++◌, append_assoc, ℕ, zero, suc, ◌+◌, ◌-◌, ◌≤◌, arith, unary_clauses, ltb, length, take, drop, replicate, length-append}
-use Rattle.dartelm.proofs.Names.{length-take, length-drop, length-replicate, replicate-append-replicate, take-length, Outcome, good, refused, Refusal, Sizes, image_sizes, part_of, page_bytes, Text, Length, Refused}
+use Rattle.dartelm.proofs.Names.{length-take, length-drop, length-replicate, replicate-append-replicate, take-length, Outcome, Ok, Err, Refusal, Sizes, image_sizes, part_of, page_bytes, Text, good-same, no_value_lem}
 use Rattle.dartelm.proofs.Names.{text_said, said-refused, struct_of, padded, text_answer, page_answer, page_call}
 
 -- ---- zeros
@@ -29,8 +29,8 @@ within true l h = h
 within false l h = omega arith
 
 part : (image : List ℕ) (i : ℕ) (o : Outcome Sizes) → length (part_of image i o) ≤ 31
-part image i (good z) = within (ltb i z.pages) _ (simp (length-drop, length-take) (omega arith))
-part image i (refused r) = omega arith
+part image i (Ok z) = within (ltb i z.pages) _ (simp (length-drop, length-take) (omega arith))
+part image i (Err r) = omega arith
 
 pub page-short : (kind : ℕ) (image : List ℕ) (i : ℕ) → length (page_bytes kind image i) ≤ 31
 unfolding page_bytes
@@ -44,19 +44,19 @@ page-told kind image i part after n e f g =
 
 -- ---- a text, from its ten characters
 
-pub text-refused : (o : Outcome (List ℕ)) (t : Text) (r : Refusal) → t ≡ text_said o → t.answer ≡ Refused r → o ≡ refused r
-text-refused o t r e f = said-refused o r (ap (λ (x : Text). x.answer) (sym e) ∙ f)
+module _ (o : Outcome (List ℕ)) {t : Outcome Text} (e : t ≡ text_said o) where
+  pub text-refused : {r : Refusal} → t ≡ Err r → o ≡ Err r
+  text-refused f = said-refused o _ (sym e ∙ f)
 
-pub text-told : (o : Outcome (List ℕ)) (t : Text) (n : ℕ) (after : List ℕ) → t ≡ text_said o → t.answer ≡ Length n → length t.characters ≡ 10
-    → after ≡ take (length t.characters) t.characters ++ drop (length t.characters) (replicate 11 0)
-    → record { number = 0; place = 0; length = n; characters = after } ≡ struct_of text_answer [] o
-text-told (good text) t n after e f ten g =
-    let a : t.answer ≡ Length (length text) = ap (λ (x : Text). x.answer) e in
-    let w : t.characters ≡ padded 10 0 text = ap (λ (x : Text). x.characters) e in
-    let m : n ≡ length text = cc in
-    let l : length text + (10 - length text) ≡ 10 = simp (length-append, length-replicate) at (ap length (sym w) ∙ ten) in
-    rw (m, copied 11 t.characters after (omega arith) g, w, padded-again 10 11 text (omega arith) (omega arith))
-text-told (refused r) t n after e f ten g =
-    let a : t.answer ≡ Refused r = ap (λ (x : Text). x.answer) e in
-    let z : ◌≡◌ {A = ℕ} 0 1 = cc in
-    absurd (omega arith)
+  pub text-told : {x : Text} {after : List ℕ} → t ≡ Ok x → length x.characters ≡ 10
+      → after ≡ take (length x.characters) x.characters ++ drop (length x.characters) (replicate 11 0)
+      → record { number = 0; place = 0; length = x.length; characters = after } ≡ struct_of text_answer [] o
+  text-told {x} {after} f ten g = go o (sym e ∙ f)
+    where
+      go : (p : Outcome (List ℕ)) → text_said p ≡ Ok x → record { number = 0; place = 0; length = x.length; characters = after } ≡ struct_of text_answer [] p
+      go (Ok text) h =
+          let w : x.characters ≡ padded 10 0 text = ap (λ (y : Text). y.characters) (sym (good-same h)) in
+          let m : x.length ≡ length text = ap (λ (y : Text). y.length) (sym (good-same h)) in
+          let l : length text + (10 - length text) ≡ 10 = simp (length-append, length-replicate) at (ap length (sym w) ∙ ten) in
+          rw (m, copied 11 x.characters after (omega arith) g, w, padded-again 10 11 text (omega arith) (omega arith))
+      go (Err r) h = no_value_lem h

@@ -1,26 +1,26 @@
 -- Laws of the field reads of an accepted image: they return what its check found.
-use Rattle.dartelm.proofs.Names.{◌≡◌, refl, sym, ap, ◌∙◌, List, map, ℕ, zero, suc, ◌+◌, ◌-◌, ◌≤◌, ◌<◌, arith, length, get_or, take, drop, set, length-map, get_or-map, drop-cons, take-length, ne_eqb, le-ltb, good}
-use Rattle.dartelm.proofs.Names.{refused, Refusal, Contents, Value, Summary, contents, nothing, field, summary, read_field, end_code, DartelmValue, template_flag, by_flags, no_value, struct_by, domain_number, field_reads}
+use Rattle.dartelm.proofs.Names.{◌≡◌, refl, sym, ap, ◌∙◌, List, map, ℕ, zero, suc, ◌+◌, ◌-◌, ◌≤◌, ◌<◌, arith, length, get_or, take, drop, set, length-map, get_or-map, drop-cons, take-length, ne_eqb, le-ltb, Ok}
+use Rattle.dartelm.proofs.Names.{Err, Refusal, Contents, Value, Summary, contents, nothing, field, summary, read_field, end_code, DartelmValue, template_flag, by_flags, no_value, struct_by, domain_number, field_reads}
 use Rattle.dartelm.proofs.Names.{read_fields, sheet_answer, field_numbers, no_fields, value_in, found_fields}
 use Rattle.dartelm.proofs.Filling.{filled, filled_more, filled-whole}
 
-module _ (kind : ℕ) (image : List ℕ) (c : Contents) (e : contents kind image ≡ good c) where
-  field-read : (f : ℕ) → suc f ≤ length c.fields → read_field kind image (suc f) ≡ good (field c (suc f)).value
+module _ (kind : ℕ) (image : List ℕ) (c : Contents) (e : contents kind image ≡ Ok c) where
+  field-read : (f : ℕ) → suc f ≤ length c.fields → read_field kind image (suc f) ≡ Ok (field c (suc f)).value
   unfolding read_field
   field-read f h = rw (e, ne_eqb (suc f) 0 (λ z. omega arith), le-ltb (length c.fields) (suc f) h)
 
-  field-reads : (n f : ℕ) → f + n ≤ length c.fields → field_reads kind image n (suc f) ≡ good (map value_in (take n (drop f c.fields)))
+  field-reads : (n f : ℕ) → f + n ≤ length c.fields → field_reads kind image n (suc f) ≡ Ok (map value_in (take n (drop f c.fields)))
   unfolding field_reads
   field-reads zero f h = refl
   field-reads (suc n) f h =
       let first : suc f - 1 ≡ f = omega arith in
       rw (field-read f (omega arith), field-reads n (suc f) (omega arith), drop-cons c.fields f nothing (omega arith), first)
 
-  pub sheet-read : read_fields kind image ≡ good (found_fields c)
+  pub sheet-read : read_fields kind image ≡ Ok (found_fields c)
   unfolding read_fields
   sheet-read = rw (e, field-reads (length c.fields) 0 (omega arith), take-length c.fields)
 
-pub sheet-refused : (kind : ℕ) (image : List ℕ) (r : Refusal) → contents kind image ≡ refused r → read_fields kind image ≡ refused r
+pub sheet-refused : (kind : ℕ) (image : List ℕ) (r : Refusal) → contents kind image ≡ Err r → read_fields kind image ≡ Err r
 unfolding read_fields
 sheet-refused kind image r e = rw e
 
@@ -49,7 +49,7 @@ module _ (c : Contents) where
         segments = s.segments;
         terms = s.terms;
       }
-      ≡ struct_by sheet_answer field_numbers no_fields (good (found_fields c))
+      ≡ struct_by sheet_answer field_numbers no_fields (Ok (found_fields c))
   all_told i n array s flag domain h many t d e f =
       let count : n ≡ length (map value_in c.fields) = many ∙ sym (length-map c.fields value_in) in
       rw (t, d, f, filled-whole by_flags 21 no_value (map value_in c.fields) i array (omega arith) e, count)

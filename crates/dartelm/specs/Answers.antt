@@ -1,23 +1,24 @@
 -- include/dartelm.h: the struct that a call returns, from its
 -- outcome. Each struct has a number, a place and the call's values.
-use Rattle.std.proofs.Math.Option.{Option, none, some}
+use Rattle.std.specs.Prelude.{Option, None, Some}
 use Rattle.std.specs.Prelude.{List, ◌++◌, ℕ, ◌-◌, ◌*◌, pos, length, replicate}
 use Rattle.std.specs.Float.{binary32, binary64}
-use Rattle.refusal.specs.Outcome.{Outcome, good, refused}
+use Rattle.refusal.specs.Outcome.{Outcome, Ok, Err}
+use Rattle.refusal.specs.Rows.{row_number, row_place}
 use Rattle.codes.specs.declared.Value.{Value}
 use Rattle.codes.specs.declared.Value.TheVariants.{Whole}
 use Rattle.templates.specs.Lines.{number_of}
 use Rattle.templates.specs.Calibration.{domain_code}
 use Rattle.sheet.specs.declared.Summary.{Summary}
-use Rattle.sheet.specs.declared.TableDomain.{TableDomain}
-use Rattle.sheet.specs.declared.TableDomain.TheVariants.{NoTable, Is}
+use Rattle.templates.specs.declared.Domain.{Domain}
 use Rattle.templates.specs.declared.Pair.{Pair}
 use Rattle.templates.specs.declared.Segment.{Segment}
 use Rattle.templates.specs.declared.Term.{Term}
 use Rattle.layout.specs.Pieces.{end_code}
 use Rattle.change.specs.declared.Proposal.{Proposal}
 use Rattle.reading.specs.declared.Reading.{Reading}
-use Rattle.recordings.specs.Recordings.{Compared, agree, tick_fails}
+use Rattle.recordings.specs.declared.Compared.{Compared}
+use Rattle.recordings.specs.declared.Compared.TheVariants.{Agree, Tick}
 use Rattle.distance.specs.declared.CertificateBound.{CertificateBound}
 use Rattle.writing.specs.Steps.{Step, done, write}
 use Rattle.dartelm.specs.declared.answers.DartelmCheckAnswer.{DartelmCheckAnswer}
@@ -41,8 +42,8 @@ use Rattle.dartelm.specs.Values.{plus_zero, by_flags}
 -- An accepted outcome has number 0, place 0 and its values;
 -- a refusal has its number and place, and zeros for values.
 abbrev pub struct_by : {A B S : Type 0} → (ℕ → ℕ → B → S) → (A → B) → B → Outcome A → S
-struct_by answer inNumbers zeros (good a) = answer 0 0 (inNumbers a)
-struct_by answer inNumbers zeros (refused r) = answer r.number r.place zeros
+struct_by answer inNumbers zeros (Ok a) = answer 0 0 (inNumbers a)
+struct_by answer inNumbers zeros (Err r) = answer (row_number r) (row_place r) zeros
 
 abbrev pub struct_of : {A S : Type 0} → (ℕ → ℕ → A → S) → A → Outcome A → S
 struct_of answer zeros o = struct_by answer (λ a. a) zeros o
@@ -65,9 +66,9 @@ pub record Numbers : Type 0 where
   pub terms : ℕ
 
 -- The domain of a table; 255 if there is no table.
-abbrev pub domain_number : TableDomain → ℕ
-domain_number NoTable = 255
-domain_number (Is domain) = domain_code domain
+abbrev pub domain_number : Option Domain → ℕ
+domain_number None = 255
+domain_number (Some domain) = domain_code domain
 
 abbrev pub numbers : Summary → Numbers
 numbers s = record {
@@ -141,18 +142,18 @@ no_reading = record { fraction = pos 0; figure = plus_zero binary64 }
 
 -- Agreement is a flag; the tick beside it is 0 if the recordings agree.
 abbrev pub agreement : Compared → ℕ
-agreement agree = 1
-agreement (tick_fails t) = 0
+agreement Agree = 1
+agreement (Tick t) = 0
 
 abbrev pub failing : Compared → ℕ
-failing agree = 0
-failing (tick_fails t) = t
+failing Agree = 0
+failing (Tick t) = t
 
 abbrev pub compared_answer : ℕ → ℕ → Compared → DartelmComparedAnswer
 compared_answer n p c = record { number = n; place = p; agrees = agreement c; tick = failing c }
 
 abbrev pub no_comparison : Compared
-no_comparison = tick_fails 0
+no_comparison = Tick 0
 
 abbrev pub distance_answer : ℕ → ℕ → CertificateBound → DartelmDistanceAnswer
 distance_answer n p d = record { number = n; place = p; slope = d.slope; bound = d.bound }
@@ -162,11 +163,11 @@ no_distance = record { slope = 0; bound = 0 }
 
 -- Whether there is a straight table is a flag; K and the bound beside it are 0 if there is none.
 abbrev pub conformity_answer : ℕ → ℕ → Option CertificateBound → DartelmConformityAnswer
-conformity_answer n p (some d) = record { number = n; place = p; slope = d.slope; bound = d.bound; is_straight = 1 }
-conformity_answer n p none = record { number = n; place = p; slope = 0; bound = 0; is_straight = 0 }
+conformity_answer n p (Some d) = record { number = n; place = p; slope = d.slope; bound = d.bound; is_straight = 1 }
+conformity_answer n p None = record { number = n; place = p; slope = 0; bound = 0; is_straight = 0 }
 
 abbrev pub no_conformity : Option CertificateBound
-no_conformity = none
+no_conformity = None
 
 -- Nothing more to write is a flag; the row beside it is 0 then.
 abbrev pub row_answer : ℕ → ℕ → Step → DartelmRowAnswer

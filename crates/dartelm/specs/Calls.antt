@@ -1,7 +1,7 @@
 -- include/dartelm.h, call by call: which call of documents
 -- 01 and 02 it is, and the struct for its outcome.
 use Rattle.std.specs.Prelude.{Bool, true, false, cond, List, [], ℕ, ℤ, pos}
-use Rattle.refusal.specs.Outcome.{Outcome, good, refused}
+use Rattle.refusal.specs.Outcome.{Outcome, Ok, Err}
 use Rattle.memory.specs.declared.Sizes.{Sizes}
 use Rattle.memory.specs.Image.{image_sizes, page_bytes}
 use Rattle.codes.specs.declared.Value.TheVariants.{Whole}
@@ -49,8 +49,8 @@ abbrev pub no_kind : ℕ
 no_kind = 255
 
 abbrev pub are_sizes : Outcome Sizes → Bool
-are_sizes (good z) = true
-are_sizes (refused r) = false
+are_sizes (Ok z) = true
+are_sizes (Err r) = false
 
 -- The kind of the images with this many bytes.
 unfoldable pub kind_of : ℕ → ℕ

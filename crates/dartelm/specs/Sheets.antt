@@ -1,7 +1,7 @@
 -- include/dartelm.h, dartelm_sheet: all fields of an image. The answer is the
 -- check's and that of the reads of each field, though the image is checked once.
 use Rattle.std.specs.Prelude.{◌≡◌, List, [], ◌∷◌, map, ℕ, zero, suc, pos, length}
-use Rattle.refusal.specs.Outcome.{Outcome, good, ◌>>=◌}
+use Rattle.refusal.specs.Outcome.{Outcome, Ok, ◌>>=◌}
 use Rattle.codes.specs.declared.Value.{Value}
 use Rattle.codes.specs.declared.Value.TheVariants.{Whole}
 use Rattle.templates.specs.declared.Level.TheVariants.{Owner}
@@ -21,18 +21,18 @@ pub record AllFields : Type 0 where
 
 -- The reads of n fields from field f on.
 unfoldable pub field_reads : ℕ → List ℕ → ℕ → ℕ → Outcome (List Value)
-field_reads kind image zero f = good []
+field_reads kind image zero f = Ok []
 field_reads kind image (suc n) f = do
   value ← read_field kind image f
   rest ← field_reads kind image n (suc f)
-  good (value ∷ rest)
+  Ok (value ∷ rest)
 
 -- The reads of all fields: the template determines how many there are.
 unfoldable pub read_fields : ℕ → List ℕ → Outcome AllFields
 read_fields kind image = do
   c ← contents kind image
   values ← field_reads kind image (length c.fields) 1
-  good (record { summary = summary c; values = values })
+  Ok (record { summary = summary c; values = values })
 
 -- ---- the struct
 

@@ -4,7 +4,6 @@ ghost use Rattle.std.specs.Prelude.{◌≡◌};
 ghost use Rattle.dartelm.specs.Answers.{domain_number};
 
 use crate::values::{DartelmFields, DartelmValue};
-use sheet::TableDomain;
 use templates::Domain;
 
 // The answer of a check: the bits up to the end (a zero that ends the text counted),
@@ -192,12 +191,12 @@ pub struct DartelmPageAnswer {
 }
 
 // The domain of a table, as a number; 255 if there is no table.
-pub fn domain_number(domain: TableDomain) -> u8
+pub fn domain_number(domain: Option<Domain>) -> u8
     ensures { result ≡ domain_number domain }
 {
     match domain {
-        TableDomain::NoTable => 255,
-        TableDomain::Is(found) => match found {
+        None => 255,
+        Some(found) => match found {
             Domain::Electrical => 0,
             Domain::Physical => 1,
         },

@@ -5,7 +5,6 @@
 ghost use Rattle.std.specs.Prelude.{◌≡◌, List, [], ℕ, pos};
 ghost use Rattle.refusal.specs.Written.{written_said, afterwards};
 ghost use Rattle.codes.specs.declared.Value.TheVariants.{Whole};
-ghost use Rattle.sheet.specs.Check.{field_said};
 ghost use Rattle.dartelm.specs.Answers.{struct_of, field_answer, write_answer};
 ghost use Rattle.dartelm.specs.Calls.{version, kind_of, check_call, field_call, fetch_call, pair_call, segment_call, term_call, character_call, build_call, build_curve_call, change_call, index_call, propose_call, commit_call};
 ghost use Rattle.dartelm.specs.Calls.{reading_call, compare_call, distance_call, conformity_call, row_call, text_call, code_call, page_call};
@@ -23,20 +22,12 @@ use answers::{
     DartelmSegmentAnswer, DartelmSheetAnswer, DartelmTermAnswer, DartelmTextAnswer,
     DartelmWriteAnswer,
 };
-use change::ProposalAnswer;
-use conformity::ConformityAnswer;
+use codes::Value;
 use copying::copy;
-use distance::DistanceAnswer;
-use reading::ReadingAnswer;
-use recordings::ComparedAnswer;
-use refusal::Written;
-use sheet::{
-    CharacterAnswer, Checked, FieldAnswer, OpenedAnswer, PairAnswer, SegmentAnswer, TermAnswer,
-};
+use recordings::Compared;
+use refusal::Refusal;
 use templates::{Curve, Domain};
-use texts::{CodeAnswer, TextAnswer};
 use values::{DartelmFields, DartelmValue};
-use writing::Answer;
 
 // The version of this archive, equal to its header's.
 #[unsafe(no_mangle)]
@@ -65,9 +56,9 @@ pub extern "C" fn dartelm_check(kind: u8, image: &[u8]) -> DartelmCheckAnswer
     ensures { result ≡ check_call kind image.now }
 {
     match sheet::check(kind, image) {
-        Checked::Refused(r) => DartelmCheckAnswer {
-            number: r.number,
-            place: r.place,
+        Err(r) => DartelmCheckAnswer {
+            number: r.number(),
+            place: r.place(),
             bits: 0,
             points: 0,
             characters: 0,
@@ -77,7 +68,7 @@ pub extern "C" fn dartelm_check(kind: u8, image: &[u8]) -> DartelmCheckAnswer
             segments: 0,
             terms: 0,
         },
-        Checked::Accepted(summary) => {
+        Ok(summary) => {
             let template = summary.template;
             let domain = summary.domain;
             DartelmCheckAnswer {
@@ -97,16 +88,16 @@ pub extern "C" fn dartelm_check(kind: u8, image: &[u8]) -> DartelmCheckAnswer
 }
 
 // The answer for a field that was read or fetched.
-fn held(answer: FieldAnswer) -> DartelmFieldAnswer
-    ensures { result ≡ struct_of field_answer (Whole (pos 0)) (field_said answer) }
+fn held(answer: Result<Value, Refusal>) -> DartelmFieldAnswer
+    ensures { result ≡ struct_of field_answer (Whole (pos 0)) (answer) }
 {
     match answer {
-        FieldAnswer::Refused(r) => DartelmFieldAnswer {
-            number: r.number,
-            place: r.place,
+        Err(r) => DartelmFieldAnswer {
+            number: r.number(),
+            place: r.place(),
             value: values::no_value(),
         },
-        FieldAnswer::Holds(value) => DartelmFieldAnswer {
+        Ok(value) => DartelmFieldAnswer {
             number: 0,
             place: 0,
             value: values::by_flags(value),
@@ -141,8 +132,8 @@ pub extern "C" fn dartelm_sheet(kind: u8, image: &[u8]) -> DartelmSheetAnswer
     ensures { result ≡ sheet_call kind image.now }
 {
     match sheet::open(kind, image) {
-        OpenedAnswer::Refused(r) => sheets::no_sheet(r),
-        OpenedAnswer::Sheet(opened) => sheets::sheet_in(opened, image),
+        Err(r) => sheets::no_sheet(r),
+        Ok(opened) => sheets::sheet_in(opened, image),
     }
 }
 
@@ -152,13 +143,13 @@ pub extern "C" fn dartelm_pair(kind: u8, image: &[u8], index: u64) -> DartelmPai
     ensures { result ≡ pair_call kind image.now index }
 {
     match sheet::read_pair(kind, image, index) {
-        PairAnswer::Refused(r) => DartelmPairAnswer {
-            number: r.number,
-            place: r.place,
+        Err(r) => DartelmPairAnswer {
+            number: r.number(),
+            place: r.place(),
             point: 0,
             deviation: 0,
         },
-        PairAnswer::Holds(pair) => DartelmPairAnswer {
+        Ok(pair) => DartelmPairAnswer {
             number: 0,
             place: 0,
             point: pair.point,
@@ -173,13 +164,13 @@ pub extern "C" fn dartelm_segment(kind: u8, image: &[u8], index: u64) -> Dartelm
     ensures { result ≡ segment_call kind image.now index }
 {
     match sheet::read_segment(kind, image, index) {
-        SegmentAnswer::Refused(r) => DartelmSegmentAnswer {
-            number: r.number,
-            place: r.place,
+        Err(r) => DartelmSegmentAnswer {
+            number: r.number(),
+            place: r.place(),
             start: 0,
             terms: 0,
         },
-        SegmentAnswer::Holds(segment) => DartelmSegmentAnswer {
+        Ok(segment) => DartelmSegmentAnswer {
             number: 0,
             place: 0,
             start: segment.start,
@@ -194,13 +185,13 @@ pub extern "C" fn dartelm_term(kind: u8, image: &[u8], index: u64) -> DartelmTer
     ensures { result ≡ term_call kind image.now index }
 {
     match sheet::read_term(kind, image, index) {
-        TermAnswer::Refused(r) => DartelmTermAnswer {
-            number: r.number,
-            place: r.place,
+        Err(r) => DartelmTermAnswer {
+            number: r.number(),
+            place: r.place(),
             exponent: 0,
             coefficient: 0.0,
         },
-        TermAnswer::Holds(term) => DartelmTermAnswer {
+        Ok(term) => DartelmTermAnswer {
             number: 0,
             place: 0,
             exponent: term.exponent,
@@ -215,12 +206,12 @@ pub extern "C" fn dartelm_character(kind: u8, image: &[u8], index: u64) -> Darte
     ensures { result ≡ character_call kind image.now index }
 {
     match sheet::read_character(kind, image, index) {
-        CharacterAnswer::Refused(r) => DartelmCharacterAnswer {
-            number: r.number,
-            place: r.place,
+        Err(r) => DartelmCharacterAnswer {
+            number: r.number(),
+            place: r.place(),
             character: 0,
         },
-        CharacterAnswer::Holds(character) => DartelmCharacterAnswer {
+        Ok(character) => DartelmCharacterAnswer {
             number: 0,
             place: 0,
             character,
@@ -229,15 +220,15 @@ pub extern "C" fn dartelm_character(kind: u8, image: &[u8], index: u64) -> Darte
 }
 
 // The answer of a build, a change, a commit or an index.
-fn wrote(written: Written) -> DartelmWriteAnswer
+fn wrote(written: Result<(), Refusal>) -> DartelmWriteAnswer
     ensures { (image : List ℕ) → result ≡ struct_of write_answer [] (written_said written image) }
 {
     match written {
-        Written::Refused(r) => DartelmWriteAnswer {
-            number: r.number,
-            place: r.place,
+        Err(r) => DartelmWriteAnswer {
+            number: r.number(),
+            place: r.place(),
         },
-        Written::Done => DartelmWriteAnswer {
+        Ok(()) => DartelmWriteAnswer {
             number: 0,
             place: 0,
         },
@@ -330,14 +321,14 @@ pub extern "C" fn dartelm_propose(
         field,
         values::value_of(value),
     ) {
-        ProposalAnswer::Refused(r) => DartelmProposalAnswer {
-            number: r.number,
-            place: r.place,
+        Err(r) => DartelmProposalAnswer {
+            number: r.number(),
+            place: r.place(),
             present_code: 0,
             new_code: 0,
             value: values::no_value(),
         },
-        ProposalAnswer::Proposed(proposal) => {
+        Ok(proposal) => {
             let back = proposal.value;
             DartelmProposalAnswer {
                 number: 0,
@@ -379,13 +370,13 @@ pub extern "C" fn dartelm_reading(
 {
     let taker = values::dash_of(dash);
     match reading::take_reading(kind, image, input, taker) {
-        ReadingAnswer::Refused(r) => DartelmReadingAnswer {
-            number: r.number,
-            place: r.place,
+        Err(r) => DartelmReadingAnswer {
+            number: r.number(),
+            place: r.place(),
             fraction: 0,
             figure: 0.0,
         },
-        ReadingAnswer::Shows(shown) => DartelmReadingAnswer {
+        Ok(shown) => DartelmReadingAnswer {
             number: 0,
             place: 0,
             fraction: shown.fraction,
@@ -405,19 +396,19 @@ pub extern "C" fn dartelm_compare(
     ensures { result ≡ compare_call kind image.now slow.now fast.now }
 {
     match recordings::compare(kind, image, slow, fast) {
-        ComparedAnswer::Refused(r) => DartelmComparedAnswer {
-            number: r.number,
-            place: r.place,
+        Err(r) => DartelmComparedAnswer {
+            number: r.number(),
+            place: r.place(),
             agrees: 0,
             tick: 0,
         },
-        ComparedAnswer::Tick(tick) => DartelmComparedAnswer {
+        Ok(Compared::Tick(tick)) => DartelmComparedAnswer {
             number: 0,
             place: 0,
             agrees: 0,
             tick,
         },
-        ComparedAnswer::Agree => DartelmComparedAnswer {
+        Ok(Compared::Agree) => DartelmComparedAnswer {
             number: 0,
             place: 0,
             agrees: 1,
@@ -432,13 +423,13 @@ pub extern "C" fn dartelm_distance(points: &[i64]) -> DartelmDistanceAnswer
     ensures { result ≡ distance_call points.now }
 {
     match distance::distance(points) {
-        DistanceAnswer::Refused(r) => DartelmDistanceAnswer {
-            number: r.number,
-            place: r.place,
+        Err(r) => DartelmDistanceAnswer {
+            number: r.number(),
+            place: r.place(),
             slope: 0,
             bound: 0,
         },
-        DistanceAnswer::Is(found) => DartelmDistanceAnswer {
+        Ok(found) => DartelmDistanceAnswer {
             number: 0,
             place: 0,
             slope: found.slope,
@@ -458,21 +449,21 @@ pub extern "C" fn dartelm_conformity(
     ensures { result ≡ conformity_call kind image.now points.now }
 {
     match conformity::conformity(kind, image, points) {
-        ConformityAnswer::Refused(r) => DartelmConformityAnswer {
-            number: r.number,
-            place: r.place,
+        Err(r) => DartelmConformityAnswer {
+            number: r.number(),
+            place: r.place(),
             slope: 0,
             bound: 0,
             is_straight: 0,
         },
-        ConformityAnswer::Is(compared) => DartelmConformityAnswer {
+        Ok(Some(compared)) => DartelmConformityAnswer {
             number: 0,
             place: 0,
             slope: compared.slope,
             bound: compared.bound,
             is_straight: 1,
         },
-        ConformityAnswer::NotStraight => DartelmConformityAnswer {
+        Ok(None) => DartelmConformityAnswer {
             number: 0,
             place: 0,
             slope: 0,
@@ -487,31 +478,31 @@ pub extern "C" fn dartelm_conformity(
 pub extern "C" fn dartelm_next_row(kind: u8, present: &[u8], wanted: &[u8]) -> DartelmRowAnswer
     ensures { result ≡ row_call kind present.now wanted.now }
 {
-    let next = writing::next_row(kind, present, wanted);
-    let answer = next.answer;
-    let bytes = next.bytes;
-    match answer {
-        Answer::Refused(r) => DartelmRowAnswer {
-            number: r.number,
-            place: r.place,
+    match writing::next_row(kind, present, wanted) {
+        Err(r) => DartelmRowAnswer {
+            number: r.number(),
+            place: r.place(),
             is_done: 0,
             offset: 0,
             bytes: [0u8; 8],
         },
-        Answer::Done => DartelmRowAnswer {
+        Ok(None) => DartelmRowAnswer {
             number: 0,
             place: 0,
             is_done: 1,
             offset: 0,
             bytes: [0u8; 8],
         },
-        Answer::Write => DartelmRowAnswer {
-            number: 0,
-            place: 0,
-            is_done: 0,
-            offset: next.offset as u64,
-            bytes,
-        },
+        Ok(Some(row)) => {
+            let bytes = row.bytes;
+            DartelmRowAnswer {
+                number: 0,
+                place: 0,
+                is_done: 0,
+                offset: row.offset as u64,
+                bytes,
+            }
+        }
     }
 }
 
@@ -520,23 +511,20 @@ pub extern "C" fn dartelm_next_row(kind: u8, present: &[u8], wanted: &[u8]) -> D
 pub extern "C" fn dartelm_text(field: u64, code: u64) -> DartelmTextAnswer
     ensures { result ≡ text_call field code }
 {
-    let text = texts::text_of(field, code);
-    let answer = text.answer;
-    let shown = text.characters;
-    match answer {
-        TextAnswer::Refused(r) => DartelmTextAnswer {
-            number: r.number,
-            place: r.place,
+    match texts::text_of(field, code) {
+        Err(r) => DartelmTextAnswer {
+            number: r.number(),
+            place: r.place(),
             length: 0,
             characters: [0; 11],
         },
-        TextAnswer::Length(length) => {
+        Ok(text) => {
             let mut characters = [0; 11];
-            copy(&shown, &mut characters);
+            copy(&text.characters, &mut characters);
             DartelmTextAnswer {
                 number: 0,
                 place: 0,
-                length,
+                length: text.length,
                 characters,
             }
         }
@@ -549,12 +537,12 @@ pub extern "C" fn dartelm_code(field: u64, text: &[u8]) -> DartelmCodeAnswer
     ensures { result ≡ code_call field text.now }
 {
     match texts::code_of(field, text) {
-        CodeAnswer::Refused(r) => DartelmCodeAnswer {
-            number: r.number,
-            place: r.place,
+        Err(r) => DartelmCodeAnswer {
+            number: r.number(),
+            place: r.place(),
             code: 0,
         },
-        CodeAnswer::Code(code) => DartelmCodeAnswer {
+        Ok(code) => DartelmCodeAnswer {
             number: 0,
             place: 0,
             code,

@@ -1,6 +1,6 @@
 // All fields of an opened sheet.
 ghost use Rattle.std.specs.Prelude.{◌≡◌, ℕ};
-ghost use Rattle.refusal.specs.Outcome.{good, refused};
+ghost use Rattle.refusal.specs.Outcome.{Ok, Err};
 ghost use Rattle.layout.specs.Contents.{Contents};
 ghost use Rattle.sheet.specs.Opened.{Opens, Held};
 ghost use Rattle.dartelm.specs.Answers.{struct_by};
@@ -15,7 +15,7 @@ use sheet::{Opened, value_in};
 // The check's summary, and the values of all fields in order.
 pub fn sheet_in(sheet: Opened, image: &[u8]) -> DartelmSheetAnswer
     requires { Held sheet image.now }
-    ensures { (kind : ℕ) (c : Contents) → Opens kind image.now sheet c → result ≡ struct_by sheet_answer field_numbers no_fields (good (found_fields c)) }
+    ensures { (kind : ℕ) (c : Contents) → Opens kind image.now sheet c → result ≡ struct_by sheet_answer field_numbers no_fields (Ok (found_fields c)) }
 {
     let layout = sheet.layout;
     let template = layout.template;
@@ -51,7 +51,7 @@ pub fn sheet_in(sheet: Opened, image: &[u8]) -> DartelmSheetAnswer
 
 // The answer for a refusal: zeros for values.
 pub fn no_sheet(r: Refusal) -> DartelmSheetAnswer
-    ensures { result ≡ struct_by sheet_answer field_numbers no_fields (refused r) }
+    ensures { result ≡ struct_by sheet_answer field_numbers no_fields (Err r) }
 {
     let fields = DartelmFields {
         values: [no_value(); 21],
@@ -61,8 +61,8 @@ pub fn no_sheet(r: Refusal) -> DartelmSheetAnswer
         is_resistance: 0,
     };
     DartelmSheetAnswer {
-        number: r.number,
-        place: r.place,
+        number: r.number(),
+        place: r.place(),
         bits: 0,
         points: 0,
         characters: 0,

@@ -8,8 +8,9 @@
 ghost use Rattle.std.specs.Prelude.{◌<◌, ◌^◌};
 ghost use Rattle.codes.specs.Stored.{Sound};
 
-use codes::{Decoded, Row, Rule, Value};
+use codes::{Row, Rule, Value};
 use listing::{put, put_figure};
+use refusal::Refusal;
 use std::io::Write;
 
 fn print_value(out: &mut impl Write, v: Value) {
@@ -23,10 +24,10 @@ fn print_value(out: &mut impl Write, v: Value) {
     }
 }
 
-fn print_meaning(out: &mut impl Write, decoded: Decoded) {
+fn print_meaning(out: &mut impl Write, decoded: Result<Value, Refusal>) {
     match decoded {
-        Decoded::Means(value) => print_value(out, value),
-        Decoded::Refused(_) => {}
+        Ok(value) => print_value(out, value),
+        Err(_) => {}
     }
 }
 
@@ -60,20 +61,20 @@ const GRANULAR: Row = Row {
 
 // Prints the rows that calls other than a check return.
 fn print_rows(out: &mut impl Write) {
-    listing::refused(out, refusal::no_such(22));
-    listing::refused(out, refusal::wrong_sort(13));
-    listing::refused(out, refusal::out_of_range(15));
-    listing::refused(out, refusal::too_long(320));
-    listing::refused(out, refusal::changed_alone(9));
-    listing::refused(out, refusal::no_span(11));
-    listing::refused(out, refusal::outside_span());
-    listing::refused(out, refusal::wrong_list(3));
-    listing::refused(out, refusal::short_index(84));
-    listing::refused(out, refusal::other_code(20));
-    listing::refused(out, refusal::level_too_low(13));
-    listing::refused(out, refusal::end_outside(10));
-    listing::refused(out, refusal::too_many_points(33));
-    listing::refused(out, refusal::wrong_ticks(29));
+    listing::refused(out, Refusal::NoSuch(22));
+    listing::refused(out, Refusal::WrongSort(13));
+    listing::refused(out, Refusal::OutOfRange(15));
+    listing::refused(out, Refusal::TooLong(320));
+    listing::refused(out, Refusal::ChangedAlone(9));
+    listing::refused(out, Refusal::NoSpan(11));
+    listing::refused(out, Refusal::OutsideSpan);
+    listing::refused(out, Refusal::WrongList(3));
+    listing::refused(out, Refusal::ShortIndex(84));
+    listing::refused(out, Refusal::OtherCode(20));
+    listing::refused(out, Refusal::LevelTooLow(13));
+    listing::refused(out, Refusal::EndOutside(10));
+    listing::refused(out, Refusal::TooManyPoints(33));
+    listing::refused(out, Refusal::WrongTicks(29));
 }
 
 fn main(rt: HostRuntime) {

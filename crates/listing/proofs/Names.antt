@@ -12,4 +12,5 @@ pub use Rattle.codes.proofs.FloatLaws.{not-nan}
 pub use Rattle.templates.{proofs.TemplateFacts.last-most, specs.declared.Template.Template, specs.declared.Template.TheVariants.Bridge, specs.declared.Template.TheVariants.Resistance}
 pub use Rattle.listing.specs.declared.singles.Shape.TheVariants.{Behind, Lowered, Raised, Split, Whole}
 pub use Rattle.listing.specs.{Digits.Becomes, Digits.Digits, Digits.Highest, Digits.number, Rounding.Rounds, Rounding.exact, Rounding.upward, Singles.Shapes, Texts.date_field}
-pub use Rattle.listing.specs.Listing.{character, field, point, segment, term}
+pub use Rattle.refusal.specs.{Outcome.Err, declared.Refusal.Refusal}
+pub use Rattle.listing.specs.Listing.{character, field, point, segment, taken, term}

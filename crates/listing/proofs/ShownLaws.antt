@@ -1,6 +1,7 @@
 -- Laws of a Single's parts, of the position of its decimal point, and of the field of a date.
 use Rattle.listing.proofs.Names.{◌≡◌, ℕ, suc, ◌+◌, ◌-◌, ◌/◌, ◌%◌, ◌≤◌, ◌<◌, arith, ne_eqb, le-leb, lt-leb, lt-ltb, le-ltb, leb, binary32, odd, of_bits, of_fields, Shapes, Raised, Lowered, Whole, Split, Behind}
-use Rattle.listing.proofs.Names.{Template, Bridge, Resistance, date_field}
+use Rattle.listing.proofs.Names.{Template, Bridge, Resistance, date_field, true, refl, Err, taken, Refusal}
+use Rattle.refusal.specs.declared.Refusal.TheVariants.{WrongImage, WrongSum, PastEnd, WrongBlock, OutsideTable, NotFinite, NotRising, NoSuch, WrongSort, OutOfRange, TooLong, ChangedAlone, NoSpan, OutsideSpan, WrongList, BlankChip, ShortIndex, OtherCode, LevelTooLow, EndOutside, SumsNotRising, TooManyPoints, WrongCurve, TooManyTerms, WrongTicks}
 
 -- ---- the parts
 
@@ -40,3 +41,33 @@ module _ (count up point : ℕ) where
 pub date-most : (template : Template) → date_field template ≤ 18
 date-most Bridge = omega arith
 date-most Resistance = omega arith
+
+-- ---- the small dash
+
+-- Every refusal but one has another number than too many points.
+pub other_row : (r : Refusal) → ((points : ℕ) → r ≡ TooManyPoints points → ⊥) → taken (Err r) ≡ true
+other_row WrongImage h = refl
+other_row (WrongSum place) h = refl
+other_row (PastEnd place) h = refl
+other_row (WrongBlock place) h = refl
+other_row (OutsideTable place) h = refl
+other_row (NotFinite place) h = refl
+other_row (NotRising place) h = refl
+other_row (NoSuch place) h = refl
+other_row (WrongSort place) h = refl
+other_row (OutOfRange place) h = refl
+other_row (TooLong place) h = refl
+other_row (ChangedAlone place) h = refl
+other_row (NoSpan place) h = refl
+other_row OutsideSpan h = refl
+other_row (WrongList place) h = refl
+other_row BlankChip h = refl
+other_row (ShortIndex place) h = refl
+other_row (OtherCode place) h = refl
+other_row (LevelTooLow place) h = refl
+other_row (EndOutside place) h = refl
+other_row (SumsNotRising place) h = refl
+other_row (TooManyPoints place) h = absurd (h place refl)
+other_row (WrongCurve place) h = refl
+other_row (TooManyTerms place) h = refl
+other_row (WrongTicks place) h = refl

@@ -1,14 +1,15 @@
 -- What `show` lists of an accepted image (docs/CONSOLE.md): of each item of a part what its read returns, in the order of their numbers.
 use Rattle.std.specs.Prelude.{Bool, true, not, List, ℕ, ◌+◌, eqb}
-use Rattle.refusal.specs.Outcome.{Outcome, good, refused}
-use Rattle.refusal.specs.Rows.{too_many_points}
+use Rattle.refusal.specs.Outcome.{Outcome, Ok, Err}
+use Rattle.refusal.specs.Rows.{row_number}
+use Rattle.refusal.specs.declared.Refusal.TheVariants.{TooManyPoints}
 use Rattle.codes.specs.declared.Value.{Value}
 use Rattle.templates.specs.declared.Pair.{Pair}
 use Rattle.templates.specs.declared.Segment.{Segment}
 use Rattle.templates.specs.declared.Term.{Term}
 use Rattle.templates.specs.Lines.{last_field}
 use Rattle.sheet.specs.declared.Summary.{Summary}
-use Rattle.sheet.specs.Check.{read_field, read_pair, read_segment, read_term, read_character, field_said, pair_said, segment_said, term_said, character_said}
+use Rattle.sheet.specs.Check.{read_field, read_pair, read_segment, read_term, read_character}
 use Rattle.reading.specs.declared.Reading.{Reading}
 use Rattle.listing.specs.declared.parts.Part.{Part}
 use Rattle.listing.specs.declared.parts.Part.TheVariants.{Fields, Points, Segments, Terms, Characters}
@@ -43,13 +44,13 @@ item_of kind image Terms n = term (read_term kind image n)
 item_of kind image Characters n = character (read_character kind image n)
 
 abbrev pub item_said : Item → Listed
-item_said (Field answer) = field (field_said answer)
-item_said (Point answer) = point (pair_said answer)
-item_said (SegmentItem answer) = segment (segment_said answer)
-item_said (TermItem answer) = term (term_said answer)
-item_said (Character answer) = character (character_said answer)
+item_said (Field answer) = field (answer)
+item_said (Point answer) = point (answer)
+item_said (SegmentItem answer) = segment (answer)
+item_said (TermItem answer) = term (answer)
+item_said (Character answer) = character (answer)
 
 -- Document 02, Note 10: the small dash takes a sheet unless it refuses it with 23, too many points.
 abbrev pub taken : Outcome Reading → Bool
-taken (good reading) = true
-taken (refused r) = not (eqb r.number (too_many_points 0).number)
+taken (Ok reading) = true
+taken (Err r) = not (eqb (row_number r) (row_number (TooManyPoints 0)))

@@ -1,7 +1,6 @@
 // A sheet line by line: its template, its fields, its calibration
 // table or curve, its ending, its bits, the small dash.
 ghost use Rattle.std.specs.Prelude.{◌≡◌};
-ghost use Rattle.reading.specs.Reading.{reading_said};
 ghost use Rattle.listing.specs.Listing.{taken};
 
 use crate::naming::print_name;
@@ -11,19 +10,23 @@ use crate::parts::{Item, Part};
 use crate::reasons::refused;
 use crate::singles::print_single;
 use crate::values::print_value;
-use reading::{Dash, ReadingAnswer};
-use sheet::{
-    CharacterAnswer, Checked, FieldAnswer, PairAnswer, SegmentAnswer, Summary, TableDomain,
-    TermAnswer,
-};
+use codes::Value;
+use reading::{Dash, Reading};
+use refusal::Refusal;
+use sheet::Summary;
 use std::io::Write;
-use templates::{Domain, Template};
+use templates::{Domain, Pair, Segment, Template, Term};
 
 // Prints a field's line, or its refusal's; the numbers are in two columns.
-fn print_field(out: &mut impl Write, template: Template, field: u64, answer: FieldAnswer) {
+fn print_field(
+    out: &mut impl Write,
+    template: Template,
+    field: u64,
+    answer: Result<Value, Refusal>,
+) {
     match answer {
-        FieldAnswer::Refused(r) => refused(out, r),
-        FieldAnswer::Holds(value) => {
+        Err(r) => refused(out, r),
+        Ok(value) => {
             if field < 10 {
                 put(out, b" ");
             }
@@ -38,10 +41,10 @@ fn print_field(out: &mut impl Write, template: Template, field: u64, answer: Fie
 }
 
 // Prints a calibration point's line, in billionths of the span, or its refusal's.
-fn print_point(out: &mut impl Write, index: u64, answer: PairAnswer) {
+fn print_point(out: &mut impl Write, index: u64, answer: Result<Pair, Refusal>) {
     match answer {
-        PairAnswer::Refused(r) => refused(out, r),
-        PairAnswer::Holds(pair) => {
+        Err(r) => refused(out, r),
+        Ok(pair) => {
             put(out, b"point ");
             put_number(out, index);
             put(out, b": ");
@@ -54,10 +57,10 @@ fn print_point(out: &mut impl Write, index: u64, answer: PairAnswer) {
 }
 
 // Prints a segment's line, or its refusal's.
-fn print_segment(out: &mut impl Write, index: u64, answer: SegmentAnswer) {
+fn print_segment(out: &mut impl Write, index: u64, answer: Result<Segment, Refusal>) {
     match answer {
-        SegmentAnswer::Refused(r) => refused(out, r),
-        SegmentAnswer::Holds(segment) => {
+        Err(r) => refused(out, r),
+        Ok(segment) => {
             put(out, b"segment ");
             put_number(out, index);
             put(out, b": from ");
@@ -70,10 +73,10 @@ fn print_segment(out: &mut impl Write, index: u64, answer: SegmentAnswer) {
 }
 
 // Prints a term's line, or its refusal's.
-fn print_term(out: &mut impl Write, index: u64, answer: TermAnswer) {
+fn print_term(out: &mut impl Write, index: u64, answer: Result<Term, Refusal>) {
     match answer {
-        TermAnswer::Refused(r) => refused(out, r),
-        TermAnswer::Holds(term) => {
+        Err(r) => refused(out, r),
+        Ok(term) => {
             put(out, b"term ");
             put_number(out, index);
             put(out, b": power ");
@@ -86,10 +89,10 @@ fn print_term(out: &mut impl Write, index: u64, answer: TermAnswer) {
 }
 
 // Prints a character of the closing text, or its refusal's line.
-fn print_character(out: &mut impl Write, answer: CharacterAnswer) {
+fn print_character(out: &mut impl Write, answer: Result<u8, Refusal>) {
     match answer {
-        CharacterAnswer::Refused(r) => refused(out, r),
-        CharacterAnswer::Holds(character) => put_character(out, character),
+        Err(r) => refused(out, r),
+        Ok(character) => put_character(out, character),
     }
 }
 
@@ -116,7 +119,7 @@ fn print_part(out: &mut impl Write, kind: u8, image: &[u8], summary: Summary, pa
 // Prints the domain and the calibration points; nothing without a table.
 fn print_points(out: &mut impl Write, kind: u8, image: &[u8], summary: Summary) {
     let table = summary.domain;
-    let TableDomain::Is(domain) = table else {
+    let Some(domain) = table else {
         return;
     };
     match domain {
@@ -138,13 +141,13 @@ fn print_ending(out: &mut impl Write, kind: u8, image: &[u8], summary: Summary) 
 }
 
 // Whether a dash with this answer takes the sheet's points.
-fn takes(answer: ReadingAnswer) -> bool
-    ensures { result ≡ taken (reading_said answer) }
+fn takes(answer: Result<Reading, Refusal>) -> bool
+    ensures { result ≡ taken (answer) }
 {
-    match answer {
-        ReadingAnswer::Shows(_) => true,
-        ReadingAnswer::Refused(r) => r.number != refusal::TOO_MANY_POINTS,
-    }
+    let Err(r) = answer else {
+        return true;
+    };
+    !matches!(r, Refusal::TooManyPoints(_))
 }
 
 // Prints whether the small dash takes the sheet, at
@@ -166,8 +169,8 @@ fn print_small_dash(out: &mut impl Write, kind: u8, image: &[u8], template: Temp
 // terms of a curve. Then the ending, the bits up to the end, and the small dash.
 pub fn show(out: &mut impl Write, kind: u8, image: &[u8]) {
     match sheet::check(kind, image) {
-        Checked::Refused(r) => refused(out, r),
-        Checked::Accepted(summary) => {
+        Err(r) => refused(out, r),
+        Ok(summary) => {
             let template = summary.template;
             put(out, b"template: ");
             put_number(out, templates::template_number(template));

@@ -2,7 +2,10 @@
 ghost use Rattle.std.specs.Prelude.{◌≡◌};
 ghost use Rattle.listing.specs.Listing.{below, item_of, item_said, numbers_of};
 
-use sheet::{CharacterAnswer, FieldAnswer, PairAnswer, SegmentAnswer, Summary, TermAnswer};
+use codes::Value;
+use refusal::Refusal;
+use sheet::Summary;
+use templates::{Pair, Segment, Term};
 
 #[derive(Clone, Copy)]
 pub enum Part {
@@ -23,11 +26,11 @@ pub struct Numbers {
 // What a read returned of an item.
 #[derive(Clone, Copy)]
 pub enum Item {
-    Field(FieldAnswer),
-    Point(PairAnswer),
-    Segment(SegmentAnswer),
-    Term(TermAnswer),
-    Character(CharacterAnswer),
+    Field(Result<Value, Refusal>),
+    Point(Result<Pair, Refusal>),
+    Segment(Result<Segment, Refusal>),
+    Term(Result<Term, Refusal>),
+    Character(Result<u8, Refusal>),
 }
 
 fn below(count: u64) -> Numbers

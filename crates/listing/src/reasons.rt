@@ -35,13 +35,13 @@ const ROWS: [u8; 1337] = *b"place;no row of the table\n\
 
 // Prints a refusal's number, place and meaning, on a line.
 pub fn refused(out: &mut impl Write, r: Refusal) {
-    let row = r.number as u64;
+    let row = r.number() as u64;
     put(out, b"refused: ");
     put_number(out, row);
     put(out, b" at ");
     put_entry(out, &ROWS, row, 0);
     put(out, b" ");
-    put_number(out, r.place);
+    put_number(out, r.place());
     put(out, b": ");
     put_entry(out, &ROWS, row, 1);
     put(out, b"\n");

@@ -9,7 +9,6 @@ use codes::Value;
 use integers::plus;
 use std::io::Write;
 use templates::Template;
-use texts::TextAnswer;
 
 // The field of the calibration date; the initials are the next.
 fn date_field(template: Template) -> u64
@@ -41,12 +40,12 @@ fn text_field(template: Template, field: u64) -> u64
 
 // Prints the text of a code of field 3, 18 or 19, or the code itself if it has none.
 fn print_text(out: &mut impl Write, field: u64, figure: i64) {
-    let text = texts::text_of(field, plus(figure));
-    let answer = text.answer;
-    let characters = text.characters;
-    match answer {
-        TextAnswer::Length(count) => put(out, console_words::front(&characters, count as usize)),
-        TextAnswer::Refused(_) => put_figure(out, figure),
+    match texts::text_of(field, plus(figure)) {
+        Ok(text) => put(
+            out,
+            console_words::front(&text.characters, text.length as usize),
+        ),
+        Err(_) => put_figure(out, figure),
     }
 }
 

@@ -1,5 +1,5 @@
 -- Laws of a tray with one more image.
-use Rattle.tray_report.proofs.Names.{◌≡◌, Bool, true, ◌&&◌, List, ℕ, ◌+◌, ◌^◌, ◌<◌, arith, ltb-true, ltb, length, both, image_sizes, Checked, check, check_said, Line, SoFar, bits_of, line, is_whole, begun, with}
+use Rattle.tray_report.proofs.Names.{◌≡◌, Bool, true, ◌&&◌, List, ℕ, ◌+◌, ◌^◌, ◌<◌, arith, ltb-true, ltb, length, both, image_sizes, Outcome, Summary, check, Line, SoFar, bits_of, line, is_whole, begun, with}
 use Rattle.tray_report.proofs.Names.{Reads, Sound, JudgedAs}
 use Rattle.tray_report.proofs.BitLaws.{bits-of-few}
 
@@ -15,12 +15,12 @@ module _ (s : SoFar) (kind : ℕ) (image : List ℕ) (h : Sound s) (m : s.more �
         last = λ e. ltb-true (s.images + 1) 1_000 (both (is_whole (image_sizes kind (length image))) (ltb (s.images + 1) 1_000) e).1;
       }
 
-  module _ (checked : Checked) (e : check_said checked ≡ check kind image) where
-    pub bits_fit : s.bits + bits_of (check_said checked) < 2 ^ 64
+  module _ (checked : Outcome Summary) (e : checked ≡ check kind image) where
+    pub bits_fit : s.bits + bits_of (checked) < 2 ^ 64
     bits_fit = rw e (omega (arith, h.few, h.small, bits-of-few kind image))
 
-    pub judged-as : (l : Line) (bits : ℕ) (whole more : Bool) → Reads l (line (s.images + 1) (check_said checked)) →
-        bits ≡ s.bits + bits_of (check_said checked) → whole ≡ is_whole (image_sizes kind (length image)) → more ≡ (whole && ltb (s.images + 1) 1_000) →
+    pub judged-as : (l : Line) (bits : ℕ) (whole more : Bool) → Reads l (line (s.images + 1) (checked)) →
+        bits ≡ s.bits + bits_of (checked) → whole ≡ is_whole (image_sizes kind (length image)) → more ≡ (whole && ltb (s.images + 1) 1_000) →
         JudgedAs s kind image (record { line = l; tray = record { images = s.images + 1; bits = bits; more = more } })
     judged-as l bits whole more r b w n =
         let same : record { images = s.images + 1; bits = bits; more = more } ≡ with s kind image = rw (n, w, b, e) in

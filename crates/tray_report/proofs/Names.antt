@@ -9,12 +9,12 @@ pub use borrow.Author.{Rules.rules, Tests.eq-eqb, Tests.eqb-true, Tests.le-ltb, 
 pub use borrow.Rule.Slice.PartMut.{drop_put, mid_len, post_of, put_mid, same_len_mid}
 pub use Rattle.io.specs.{Digits.IsDigitCount, Digits.last_digits, Digits.hex_digit_ascii}
 pub use Rattle.refusal.proofs.Outcomes.{both, good-bind, good-same, no_value_lem, passed}
-pub use Rattle.refusal.specs.{Outcome.Outcome, Outcome.good, Outcome.refused, Rows.wrong_image, declared.Refusal.Refusal}
-pub use Rattle.memory.{proofs.Chips.sizes-chip, proofs.Chips.sizes-kind, specs.Answers.sizes_said, specs.Image.image_bytes, specs.Image.sizes_of, specs.declared.Sizes.Sizes}
+pub use Rattle.refusal.specs.{Outcome.Outcome, Outcome.Ok, Outcome.Err, declared.Refusal.TheVariants.WrongImage, declared.Refusal.Refusal}
+pub use Rattle.memory.{proofs.Chips.sizes-chip, proofs.Chips.sizes-kind, specs.Image.image_bytes, specs.Image.sizes_of, specs.declared.Sizes.Sizes}
 unfoldable pub use Rattle.memory.specs.Image.{image_sizes}
 pub use Rattle.layout.proofs.Accepted.{contents-accepted}
 unfoldable pub use Rattle.layout.specs.Image.{contents}
-pub use Rattle.sheet.specs.{Check.check_said, Check.summary, declared.Checked.Checked, declared.Summary.Summary}
+pub use Rattle.sheet.specs.{Check.summary, declared.Summary.Summary}
 unfoldable pub use Rattle.sheet.specs.Check.{check}
 pub use Rattle.tray_report.specs.Images.{JudgedAs, Reads, Sound, TextOfLine, begun, bytes_in, bytes_of, is_whole, left, with}
 pub use Rattle.tray_report.specs.Lines.{Longer, Put, Room}

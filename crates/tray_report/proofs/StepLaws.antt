@@ -1,6 +1,6 @@
 -- Laws of a tray step by step.
 use Rattle.tray_report.proofs.Names.{◌≡◌, refl, sym, ap, ◌∙◌, Bool, true, false, cond, false≢true, List, [], ◌∷◌, ◌++◌, append_assoc, append-nil, ℕ, zero, suc, ◌+◌, ◌-◌, ◌*◌, ◌≤◌, ◌<◌, arith, eqb-true, ltb, eqb}
-use Rattle.tray_report.proofs.Names.{length, take, drop, get_or, length-take, length-take-le, take_all, take_at, drop_at, Outcome, good, refused, wrong_image, both, Sizes, sizes_of, image_bytes, image_sizes, sizes-kind}
+use Rattle.tray_report.proofs.Names.{length, take, drop, length-take, length-take-le, take_all, take_at, drop_at, Outcome, Ok, Err, WrongImage, both, Sizes, sizes_of, image_bytes, image_sizes, sizes-kind}
 use Rattle.tray_report.proofs.Names.{check, Line, SoFar, ImageReport, Next, Kind, Image, Total, Nothing, State, Stepped, line, total_line, report, bytes_of, is_whole, begun, with, report_from, Reads, Sound, JudgedAs}
 use Rattle.tray_report.proofs.Names.{state_of, initial, has_next, bytes_wanted, step_line, next_state, Open, SoundState, StepsTo, SteppedOn, steps_left, Run, begins, steps, Ran, Reported, RunTells, written}
 use Rattle.tray_report.proofs.Names.{WrittenInTurn, FewerStepsLeft}
@@ -28,14 +28,6 @@ pub steps-to : (next : Next) (s : SoFar) (received : List ℕ) (l : Line) (to : 
     StepsTo (state_of s next) received (record { line = l; state = to })
 steps-to next s received l to h r e = record { line = r; state = e; sound = rw e (next-sound next s received h) }
 
-pub kind-first : (s : SoFar) (received : List ℕ) → 0 < length received → state_of s (Image (get_or received 0 0)) ≡ next_state Kind s received
-kind-first s [] h = absurd (omega arith)
-kind-first s (kind ∷ received) h = refl
-
-pub kind-none : (s : SoFar) (received : List ℕ) → length received ≡ 0 → state_of s Total ≡ next_state Kind s received
-kind-none s [] h = refl
-kind-none s (kind ∷ received) h = absurd (omega arith)
-
 pub image-judged : (s : SoFar) (kind : ℕ) (received : List ℕ) (j : ImageReport) (more : Bool) → Sound s → s.more ≡ true → JudgedAs s kind received j → j.tray.more ≡ more →
     StepsTo (state_of s (Image kind)) received (record { line = j.line; state = state_of j.tray (cond more Kind Total) })
 image-judged s kind received j more h m e o =
@@ -53,7 +45,7 @@ pub total-step : (s : SoFar) {next : Next} (received : List ℕ) (l : Line) → 
     StepsTo (state_of s next) received (record { line = l; state = state_of s Nothing })
 total-step s received l e h r = rw e (steps-to Total s received l _ (record { sound = h; ongoing = tt }) r refl)
 
-pub nothing-step : (s : SoFar) {next : Next} (received : List ℕ) (l : Line) → next ≡ Nothing → Sound s → Reads l [] → StepsTo (state_of s next) received (record { line = l; state = state_of s next })
+pub nothing-step : (s : SoFar) {next : Next} (received : List ℕ) (l : Line) → next ≡ Nothing → Sound s → Reads l [] → StepsTo (state_of s next) received (record { line = l; state = state_of s Nothing })
 nothing-step s received l e h r = rw e (steps-to Nothing s received l _ (record { sound = h; ongoing = tt }) r refl)
 
 -- The buffer has room for every read.
@@ -173,12 +165,12 @@ unfolding image_sizes
 whole_long kind n h = go (sizes_of kind) refl
   where
     go : (o : Outcome Sizes) → sizes_of kind ≡ o → n ≡ bytes_of o
-    go (refused r) e = absurd (false≢true (rw e at h))
-    go (good z) e = sized (eqb n (image_bytes z)) refl
+    go (Err r) e = absurd (false≢true (rw e at h))
+    go (Ok z) e = sized (eqb n (image_bytes z)) refl
       where
         sized : (b : Bool) → eqb n (image_bytes z) ≡ b → n ≡ image_bytes z
         sized true f = eqb-true n (image_bytes z) f
-        sized false f = absurd (false≢true (sym (ap is_whole (sizes-kind kind n z e ∙ ap (λ (b : Bool). cond b (good z) (refused wrong_image)) f)) ∙ h))
+        sized false f = absurd (false≢true (sym (ap is_whole (sizes-kind kind n z e ∙ ap (λ (b : Bool). cond b (Ok z) (Err WrongImage)) f)) ∙ h))
 
 more-long : (s : SoFar) (kind : ℕ) (received : List ℕ) → (with s kind received).more ≡ true → length received ≡ bytes_of (sizes_of kind)
 more-long s kind received m = whole_long kind (length received) (both (is_whole (image_sizes kind (length received))) (ltb (s.images + 1) 1_000) m).0

@@ -1,20 +1,20 @@
 -- Laws of the report on a tray.
 use Rattle.tray_report.proofs.Names.{◌≡◌, refl, sym, ap, ap₂, ◌∙◌, Bool, true, false, not, ◌&&◌, cond, List, [], ◌∷◌, ◌++◌, append_assoc, append-nil, map, ℕ, zero, suc, ◌+◌, ◌-◌, ◌≤◌, ◌<◌, sub-zero, zero-add}
 use Rattle.tray_report.proofs.Names.{add-one, arith, dec_lt, lt-ltb, le-ltb, eq-eqb, ne_eqb, eqb-true, not-false, eqb, ltb, length, take, drop, length-append, take_at, drop_at, take_all, length-take-le, Refusal}
-use Rattle.tray_report.proofs.Names.{Outcome, good, refused, wrong_image, good-bind, passed, no_value_lem, Sizes, sizes_of, image_bytes, image_sizes, sizes-kind, contents, Summary, check, SoFar, digits_up_to, First, cut}
+use Rattle.tray_report.proofs.Names.{Outcome, Ok, Err, WrongImage, good-bind, passed, no_value_lem, Sizes, sizes_of, image_bytes, image_sizes, sizes-kind, contents, Summary, check, SoFar, digits_up_to, First, cut}
 use Rattle.tray_report.proofs.Names.{first_of, checks, line, lines_from, bits_of, total, total_line, report, bytes_of, is_whole, with, left, report_from, Sent, sent_bytes, Sized, check_of, sum_of, WholeTray, FullTray}
 use Rattle.tray_report.proofs.Names.{CutShort, CutTray, PrintedExample, ToldFromTheStart, ToldInTurn, ToldAtTheEnd}
 
 -- ---- an image and its bytes
 
-no_kind : (kind : ℕ) (r : Refusal) → sizes_of kind ≡ refused r → r ≡ wrong_image
+no_kind : (kind : ℕ) (r : Refusal) → sizes_of kind ≡ Err r → r ≡ WrongImage
 no_kind zero r e = no_value_lem (sym e)
 no_kind (suc zero) r e = no_value_lem (sym e)
 no_kind (suc (suc zero)) r e = no_value_lem (sym e)
 no_kind (suc (suc (suc k))) r e = cc
 
 -- An image that is not whole is refused with 1 by its check.
-unsized : (kind : ℕ) (image : List ℕ) (r : Refusal) → image_sizes kind (length image) ≡ refused r → check kind image ≡ refused r
+unsized : (kind : ℕ) (image : List ℕ) (r : Refusal) → image_sizes kind (length image) ≡ Err r → check kind image ≡ Err r
 unfolding check contents
 unsized kind image r e = rw e
 
@@ -27,20 +27,20 @@ pub came : (kind : ℕ) (bytes : List ℕ) → Came kind bytes (take (bytes_of (
 unfolding image_sizes
 came kind bytes = go (sizes_of kind) refl
   where
-    not-whole : (image : List ℕ) → image_sizes kind (length image) ≡ refused wrong_image → Came kind bytes image cut
-    not-whole image e = record { outcome = sym (unsized kind image wrong_image e); behind = rw e }
+    not-whole : (image : List ℕ) → image_sizes kind (length image) ≡ Err WrongImage → Came kind bytes image cut
+    not-whole image e = record { outcome = sym (unsized kind image WrongImage e); behind = rw e }
 
     go : (o : Outcome Sizes) → sizes_of kind ≡ o → Came kind bytes (take (bytes_of o) bytes) (first_of kind bytes o)
-    go (refused r) e = not-whole [] (rw (e, no_kind kind r e))
-    go (good z) e = sized (dec_lt (length bytes) (image_bytes z))
+    go (Err r) e = not-whole [] (rw (e, no_kind kind r e))
+    go (Ok z) e = sized (dec_lt (length bytes) (image_bytes z))
       where
-        sized : Dec (length bytes < image_bytes z) → Came kind bytes (take (image_bytes z) bytes) (first_of kind bytes (good z))
+        sized : Dec (length bytes < image_bytes z) → Came kind bytes (take (image_bytes z) bytes) (first_of kind bytes (Ok z))
         sized (yes l) =
             rw (lt-ltb (length bytes) (image_bytes z) l, take_all (image_bytes z) bytes (omega arith))
             (not-whole bytes (sizes-kind kind (length bytes) z e ∙ rw (ne_eqb (length bytes) (image_bytes z) (λ i. omega arith))))
         sized (no l) =
             let n : length (take (image_bytes z) bytes) ≡ image_bytes z = length-take-le (image_bytes z) bytes (omega arith) in
-            let w : image_sizes kind (length (take (image_bytes z) bytes)) ≡ good z = sizes-kind kind (length (take (image_bytes z) bytes)) z e ∙ rw (eq-eqb (length (take (image_bytes z) bytes)) (image_bytes z) n) in
+            let w : image_sizes kind (length (take (image_bytes z) bytes)) ≡ Ok z = sizes-kind kind (length (take (image_bytes z) bytes)) z e ∙ rw (eq-eqb (length (take (image_bytes z) bytes)) (image_bytes z) n) in
             rw (le-ltb (length bytes) (image_bytes z) (omega arith)) (record { outcome = refl; behind = rw (w, n) })
 
 none_left : (n : ℕ) → checks n [] ≡ []
@@ -104,12 +104,12 @@ total-sent [] = refl
 total-sent (s ∷ sent) = ap (λ (n : ℕ). bits_of (check_of s) + n) (total-sent sent)
 
 -- An image of its kind's size, and the bytes after it.
-first-sent : (kind : ℕ) (image behind : List ℕ) (z : Sizes) → image_sizes kind (length image) ≡ good z →
+first-sent : (kind : ℕ) (image behind : List ℕ) (z : Sizes) → image_sizes kind (length image) ≡ Ok z →
     first_of kind (image ++ behind) (sizes_of kind) ≡ record { outcome = check kind image; behind = behind }
 unfolding image_sizes
 first-sent kind image behind z e =
     let (y, s, t) = good-bind (sizes_of kind) _ z e in
-    let n : length image ≡ image_bytes y = eqb-true (length image) (image_bytes y) (not-false _ (passed wrong_image (not (eqb (length image) (image_bytes y))) (good y) z t).0) in
+    let n : length image ≡ image_bytes y = eqb-true (length image) (image_bytes y) (not-false _ (passed WrongImage (not (eqb (length image) (image_bytes y))) (Ok y) z t).0) in
     rw (s, le-ltb (length (image ++ behind)) (image_bytes y) (omega (arith, length-append image behind)), take_at image behind (image_bytes y) n, drop_at image behind (image_bytes y) n)
 
 -- The checks of a tray are those of the images in front, and then those of the bytes after them.
@@ -148,17 +148,17 @@ cut-first : (kind : ℕ) (bytes : List ℕ) → CutShort kind bytes → first_of
 cut-first kind bytes short = go (sizes_of kind) refl
   where
     go : (o : Outcome Sizes) → sizes_of kind ≡ o → first_of kind bytes o ≡ cut
-    go (refused r) e = refl
-    go (good z) e = rw (lt-ltb (length bytes) (image_bytes z) (short z e))
+    go (Err r) e = refl
+    go (Ok z) e = rw (lt-ltb (length bytes) (image_bytes z) (short z e))
 
 pub cut-tray : CutTray
 unfolding checks
 cut-tray sent kind bytes z l short =
     let more : 1_000 - length sent ≡ suc (999 - length sent) = omega arith in
-    let e : checks 1_000 (sent_bytes sent ++ (kind ∷ bytes)) ≡ map check_of sent ++ (refused wrong_image ∷ []) =
+    let e : checks 1_000 (sent_bytes sent ++ (kind ∷ bytes)) ≡ map check_of sent ++ (Err WrongImage ∷ []) =
     checks-sent 1_000 sent (kind ∷ bytes) z (omega arith) ∙ rw (more, cut-first kind bytes short, none_left (999 - length sent)) in
-    let t : total (map check_of sent ++ (refused wrong_image ∷ [])) ≡ sum_of sent = omega (arith, total-append (map check_of sent) (refused wrong_image ∷ []), total-sent sent) in
-    report-of (sent_bytes sent ++ (kind ∷ bytes)) (map check_of sent ++ (refused wrong_image ∷ [])) (sum_of sent) e t
+    let t : total (map check_of sent ++ (Err WrongImage ∷ [])) ≡ sum_of sent = omega (arith, total-append (map check_of sent) (Err WrongImage ∷ []), total-sent sent) in
+    report-of (sent_bytes sent ++ (kind ∷ bytes)) (map check_of sent ++ (Err WrongImage ∷ [])) (sum_of sent) e t
 
 pub printed-example : PrintedExample
 unfolding digits_up_to

@@ -1,6 +1,6 @@
 -- A tray judged image by image, as its bytes are read.
 use Rattle.std.specs.Prelude.{◌≡◌, Bool, true, false, ◌&&◌, cond, List, ◌++◌, ℕ, ◌+◌, ◌-◌, ◌*◌, ◌≤◌, ◌<◌, ltb, length, take, replicate}
-use Rattle.refusal.specs.Outcome.{Outcome, good, refused}
+use Rattle.refusal.specs.Outcome.{Outcome, Ok, Err}
 use Rattle.memory.specs.declared.Sizes.{Sizes}
 use Rattle.memory.specs.Image.{image_bytes, image_sizes}
 use Rattle.sheet.specs.Check.{check}
@@ -13,13 +13,13 @@ use Rattle.tray_report.specs.Tray.{checks, most_images, bits_of, line, lines_fro
 
 -- The bytes to be read after a kind: none after one above 2.
 abbrev pub bytes_of : Outcome Sizes → ℕ
-bytes_of (good z) = image_bytes z
-bytes_of (refused r) = 0
+bytes_of (Ok z) = image_bytes z
+bytes_of (Err r) = 0
 
 -- Whether an image is whole: neither of a kind above 2 nor cut short.
 abbrev pub is_whole : Outcome Sizes → Bool
-is_whole (good z) = true
-is_whole (refused r) = false
+is_whole (Ok z) = true
+is_whole (Err r) = false
 
 abbrev pub begun : SoFar
 begun = record { images = 0; bits = 0; more = true }

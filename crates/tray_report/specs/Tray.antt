@@ -1,7 +1,8 @@
 -- Document 02, Note 12: the tray report.
 use Rattle.std.specs.Prelude.{cond, List, [], ◌∷◌, ◌++◌, ℕ, zero, suc, ◌+◌, ◌/◌, ◌%◌, ltb, length, take, drop}
-use Rattle.refusal.specs.Outcome.{Outcome, good, refused}
-use Rattle.refusal.specs.Rows.{wrong_image}
+use Rattle.refusal.specs.Outcome.{Outcome, Ok, Err}
+use Rattle.refusal.specs.Rows.{row_number}
+use Rattle.refusal.specs.declared.Refusal.TheVariants.{WrongImage}
 use Rattle.memory.specs.declared.Sizes.{Sizes}
 use Rattle.memory.specs.Image.{sizes_of, image_bytes}
 use Rattle.sheet.specs.declared.Summary.{Summary}
@@ -17,11 +18,11 @@ pub record First : Type 0 where
 -- "A kind above 2 or an image cut short gives the line with
 -- -1 and ends the tray": the check is 1, and no bytes follow.
 abbrev pub cut : First
-cut = record { outcome = refused wrong_image; behind = [] }
+cut = record { outcome = Err WrongImage; behind = [] }
 
 abbrev pub first_of : ℕ → List ℕ → Outcome Sizes → First
-first_of kind bytes (refused r) = cut
-first_of kind bytes (good z) =
+first_of kind bytes (Err r) = cut
+first_of kind bytes (Ok z) =
     let size = image_bytes z in
     cond (ltb (length bytes) size) cut (record { outcome = check kind (take size bytes); behind = drop size bytes })
 
@@ -51,8 +52,8 @@ decimal n = digits_up_to (suc n) n
 
 -- "its stream bits up to the end, or the refusal number with a minus sign" (45)
 abbrev pub result_text : Outcome Summary → List ℕ
-result_text (good s) = decimal s.bits
-result_text (refused r) = 45 ∷ decimal r.number
+result_text (Ok s) = decimal s.bits
+result_text (Err r) = 45 ∷ decimal (row_number r)
 
 -- The position, a space (32), the bits or the refusal, and a newline (10).
 abbrev pub line : ℕ → Outcome Summary → List ℕ
@@ -65,8 +66,8 @@ lines_from position (outcome ∷ outcomes) = line position outcome ++ lines_from
 
 -- The bits of an accepted image.
 abbrev pub bits_of : Outcome Summary → ℕ
-bits_of (good s) = s.bits
-bits_of (refused r) = 0
+bits_of (Ok s) = s.bits
+bits_of (Err r) = 0
 
 abbrev pub total : List (Outcome Summary) → ℕ
 total [] = 0

@@ -1,8 +1,8 @@
 -- Document 02, Note 12: the report has what the separate checks give, and
 -- their sum. A tray judged image by image, as it is read, has the same report.
 use Rattle.std.specs.Prelude.{◌≡◌, true, false, List, [], ◌∷◌, ◌++◌, map, ℕ, ◌+◌, ◌≤◌, ◌<◌, length, take, drop}
-use Rattle.refusal.specs.Outcome.{Outcome, good, refused}
-use Rattle.refusal.specs.Rows.{wrong_image, wrong_sum}
+use Rattle.refusal.specs.Outcome.{Outcome, Ok, Err}
+use Rattle.refusal.specs.declared.Refusal.TheVariants.{WrongImage, WrongSum}
 use Rattle.memory.specs.declared.Sizes.{Sizes}
 use Rattle.memory.specs.Image.{sizes_of, image_bytes, image_sizes}
 use Rattle.sheet.specs.declared.Summary.{Summary}
@@ -25,7 +25,7 @@ sent_bytes (s ∷ sent) = s.kind ∷ s.image ++ sent_bytes sent
 -- Each image has its kind's size.
 abbrev pub Sized : List Sent → Type 0
 Sized [] = Unit {0}
-Sized (s ∷ sent) = (z : Sizes) × (image_sizes s.kind (length s.image) ≡ good z) × Sized sent
+Sized (s ∷ sent) = (z : Sizes) × (image_sizes s.kind (length s.image) ≡ Ok z) × Sized sent
 
 abbrev pub check_of : Sent → Outcome Summary
 check_of s = check s.kind s.image
@@ -50,12 +50,12 @@ FullTray =
 -- "A kind above 2 or an image cut short gives the
 -- line with -1 and ends the tray; the total follows."
 abbrev pub CutShort : ℕ → List ℕ → Type 0
-CutShort kind bytes = (z : Sizes) → sizes_of kind ≡ good z → length bytes < image_bytes z
+CutShort kind bytes = (z : Sizes) → sizes_of kind ≡ Ok z → length bytes < image_bytes z
 
 abbrev pub CutTray : Type 0
 CutTray =
     (sent : List Sent) (kind : ℕ) (bytes : List ℕ) → Sized sent → length sent < most_images → CutShort kind bytes →
-    report (sent_bytes sent ++ (kind ∷ bytes)) ≡ lines_from 1 (map check_of sent ++ (refused wrong_image ∷ [])) ++ total_line (sum_of sent)
+    report (sent_bytes sent ++ (kind ∷ bytes)) ≡ lines_from 1 (map check_of sent ++ (Err WrongImage ∷ [])) ++ total_line (sum_of sent)
 
 -- "A kind 0 image of 294 bits followed by one with a wrong
 -- page sum prints three lines": "1 294", "2 -2", "total 294".
@@ -66,7 +66,7 @@ three_lines =
 
 abbrev pub PrintedExample : Type 0
 PrintedExample =
-    (a b : Sent) (s : Summary) (page : ℕ) → Sized (a ∷ b ∷ []) → check_of a ≡ good s → s.bits ≡ 294 → check_of b ≡ refused (wrong_sum page) →
+    (a b : Sent) (s : Summary) (page : ℕ) → Sized (a ∷ b ∷ []) → check_of a ≡ Ok s → s.bits ≡ 294 → check_of b ≡ Err (WrongSum page) →
     report (sent_bytes (a ∷ b ∷ [])) ≡ three_lines
 
 -- ---- a tray judged image by image
@@ -90,4 +90,4 @@ ToldAtTheEnd =
 
 -- No sum needs more than 64 bits: no image has more than the 3,968 of the largest chip's stream.
 abbrev pub FewBits : Type 0
-FewBits = (kind : ℕ) (image : List ℕ) (s : Summary) → check kind image ≡ good s → s.bits ≤ most_bits
+FewBits = (kind : ℕ) (image : List ℕ) (s : Summary) → check kind image ≡ Ok s → s.bits ≤ most_bits

@@ -1,13 +1,12 @@
 // A tray, image by image.
 ghost use Rattle.std.specs.Prelude.{◌≡◌, true, ◌&&◌, ◌+◌, ◌^◌, ◌<◌, ltb};
 ghost use Rattle.memory.specs.Image.{sizes_of, image_sizes};
-ghost use Rattle.sheet.specs.Check.{check_said};
 ghost use Rattle.tray_report.specs.Tray.{most_images, bits_of};
 ghost use Rattle.tray_report.specs.Images.{bytes_of, is_whole, begun, Sound, JudgedAs};
 
 use crate::{ImageReport, SoFar, lines};
-use memory::SizesAnswer;
-use sheet::Checked;
+use refusal::Refusal;
+use sheet::Summary;
 
 // The most images of a tray.
 const MOST: u64 = 1_000;
@@ -39,10 +38,7 @@ pub fn begin() -> SoFar
 fn is_whole(kind: u8, bytes: usize) -> bool
     ensures { result ≡ is_whole (image_sizes kind bytes) }
 {
-    match memory::image_sizes(kind, bytes) {
-        SizesAnswer::Are(_) => true,
-        SizesAnswer::Refused(_) => false,
-    }
+    memory::image_sizes(kind, bytes).is_ok()
 }
 
 // Whether a further image is to be judged: not after a kind
@@ -50,26 +46,23 @@ fn is_whole(kind: u8, bytes: usize) -> bool
 fn has_more(whole: bool, images: u64) -> bool
     ensures { result ≡ (whole && ltb images most_images) }
 {
-    if whole {
-        return images < MOST;
-    }
-    false
+    whole && images < MOST
 }
 
 // An image's bits; 0 if it is refused.
-fn bits_of(checked: Checked) -> u64
-    ensures { result ≡ bits_of (check_said checked) }
+fn bits_of(checked: Result<Summary, Refusal>) -> u64
+    ensures { result ≡ bits_of checked }
 {
     match checked {
-        Checked::Accepted(summary) => summary.bits,
-        Checked::Refused(_) => 0,
+        Ok(summary) => summary.bits,
+        Err(_) => 0,
     }
 }
 
 // The bits of the images so far, plus those of a further one.
-fn added(bits: u64, checked: Checked) -> u64
-    requires { bits + bits_of (check_said checked) < 2 ^ 64 }
-    ensures { result ≡ bits + bits_of (check_said checked) }
+fn added(bits: u64, checked: Result<Summary, Refusal>) -> u64
+    requires { bits + bits_of checked < 2 ^ 64 }
+    ensures { result ≡ bits + bits_of checked }
 {
     bits + bits_of(checked)
 }

@@ -1,12 +1,12 @@
 // The bytes of a line.
 ghost use Rattle.std.specs.Prelude.{◌≡◌, [], ◌∷◌, ◌++◌, ◌+◌, ◌≤◌, length};
-ghost use Rattle.sheet.specs.Check.{check_said};
 ghost use Rattle.tray_report.specs.Tray.{decimal, line as line_of, total_line};
 ghost use Rattle.tray_report.specs.Images.{bytes_in, Reads};
 ghost use Rattle.tray_report.specs.Lines.{Put, Room, Longer};
 
 use crate::Line;
-use sheet::Checked;
+use refusal::Refusal;
+use sheet::Summary;
 
 // Puts a text into a buffer from an offset on, and returns where it ends.
 fn put(out: &mut [u8], at: usize, text: &[u8]) -> usize
@@ -33,8 +33,10 @@ fn with(line: Line, text: &[u8]) -> Line
     requires { Room line (length text.now) }
     ensures { Longer line text.now result }
 {
-    let mut bytes = line.bytes;
-    let at = line.length;
+    let Line {
+        mut bytes,
+        length: at,
+    } = line;
     let length = put(&mut bytes, at, text);
     Line { bytes, length }
 }
@@ -59,13 +61,13 @@ fn ended(line: Line, text: &[u8], n: u64) -> Line
 
 // The line of an image: its position, a space, and its bits
 // up to the end, or a minus sign and the refusal's number.
-pub fn line(position: u64, checked: Checked) -> Line
-    ensures { Reads result (line_of position (check_said checked)) }
+pub fn line(position: u64, checked: Result<Summary, Refusal>) -> Line
+    ensures { Reads result (line_of position checked) }
 {
     let begun = with_number(empty(), position);
     match checked {
-        Checked::Accepted(summary) => ended(begun, b" ", summary.bits),
-        Checked::Refused(r) => ended(begun, b" -", r.number as u64),
+        Ok(summary) => ended(begun, b" ", summary.bits),
+        Err(r) => ended(begun, b" -", u64::from(r.number())),
     }
 }
 

@@ -4,7 +4,7 @@ ghost use Rattle.std.specs.Prelude.{◌≡◌, true, ◌≤◌, length, take};
 ghost use Rattle.tray_report.specs.Images.{Sound};
 ghost use Rattle.tray_report.specs.Steps.{initial, has_next, bytes_wanted, state_of, SoundState, StepsTo};
 
-use crate::{Next, SoFar, State, Stepped, images, lines};
+use crate::{ImageReport, Line, Next, SoFar, State, Stepped, images, lines};
 
 // A tray of which nothing is read.
 pub fn begin() -> State
@@ -20,13 +20,7 @@ pub fn begin() -> State
 pub fn has_next(state: State) -> bool
     ensures { result ≡ has_next state.next }
 {
-    let next = state.next;
-    match next {
-        Next::Kind => true,
-        Next::Image(_) => true,
-        Next::Total => true,
-        Next::Nothing => false,
-    }
+    !matches!(state.next, Next::Nothing)
 }
 
 // How many bytes the next step wants.
@@ -36,8 +30,7 @@ fn bytes_wanted(next: Next) -> usize
     match next {
         Next::Kind => 1,
         Next::Image(kind) => images::image_bytes(kind),
-        Next::Total => 0,
-        Next::Nothing => 0,
+        Next::Total | Next::Nothing => 0,
     }
 }
 
@@ -46,8 +39,17 @@ pub fn read_buffer(state: State, buffer: &mut [u8]) -> &mut [u8]
     requires { 512 ≤ length buffer.old }
     ensures { (result.now ≡ take (bytes_wanted state.next) buffer.old) × (length result.now ≡ bytes_wanted state.next) }
 {
-    let next = state.next;
-    console_words::front_mut(buffer, bytes_wanted(next))
+    console_words::front_mut(buffer, bytes_wanted(state.next))
+}
+
+// A line, and the state after it.
+fn stepped(line: Line, tray: SoFar, next: Next) -> Stepped
+    ensures { result ≡ record { line = line; state = state_of tray next } }
+{
+    Stepped {
+        line,
+        state: State { tray, next },
+    }
 }
 
 // The step after a kind was read, or the input has ended.
@@ -55,23 +57,9 @@ fn kind_received(tray: SoFar, bytes: &[u8]) -> Stepped
     requires { Sound tray × (tray.more ≡ true) }
     ensures { StepsTo (state_of tray Next.Kind) bytes.now result }
 {
-    let line = lines::empty();
-    if bytes.len() == 0 {
-        return Stepped {
-            line,
-            state: State {
-                tray,
-                next: Next::Total,
-            },
-        };
-    }
-    let kind = bytes[0];
-    Stepped {
-        line,
-        state: State {
-            tray,
-            next: Next::Image(kind),
-        },
+    match bytes {
+        [kind, ..] => stepped(lines::empty(), tray, Next::Image(*kind)),
+        [] => stepped(lines::empty(), tray, Next::Total),
     }
 }
 
@@ -80,24 +68,11 @@ fn image_received(tray: SoFar, kind: u8, bytes: &[u8]) -> Stepped
     requires { Sound tray × (tray.more ≡ true) }
     ensures { StepsTo (state_of tray (Next.Image kind)) bytes.now result }
 {
-    let judged = images::report_image(tray, kind, bytes);
-    let line = judged.line;
-    let tray = judged.tray;
+    let ImageReport { line, tray } = images::report_image(tray, kind, bytes);
     if tray.more {
-        return Stepped {
-            line,
-            state: State {
-                tray,
-                next: Next::Kind,
-            },
-        };
-    }
-    Stepped {
-        line,
-        state: State {
-            tray,
-            next: Next::Total,
-        },
+        stepped(line, tray, Next::Kind)
+    } else {
+        stepped(line, tray, Next::Total)
     }
 }
 
@@ -108,21 +83,11 @@ pub fn step(state: State, buffer: &[u8], received: usize) -> Stepped
     ensures { StepsTo state (take received buffer.now) result }
 {
     let bytes = console_words::front(buffer, received);
-    let tray = state.tray;
-    let next = state.next;
+    let State { tray, next } = state;
     match next {
         Next::Kind => kind_received(tray, bytes),
         Next::Image(kind) => image_received(tray, kind, bytes),
-        Next::Total => Stepped {
-            line: lines::total_line(tray.bits),
-            state: State {
-                tray,
-                next: Next::Nothing,
-            },
-        },
-        Next::Nothing => Stepped {
-            line: lines::empty(),
-            state,
-        },
+        Next::Total => stepped(lines::total_line(tray.bits), tray, Next::Nothing),
+        Next::Nothing => stepped(lines::empty(), tray, Next::Nothing),
     }
 }

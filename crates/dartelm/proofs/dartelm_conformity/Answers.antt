@@ -1,12 +1,12 @@
-use Rattle.dartelm.proofs.Names.{conformity_said, struct_of, conformity_answer, no_conformity}
+use Rattle.dartelm.proofs.Names.{ap, ◌∙◌, Ok, struct_of, conformity_answer, no_conformity}
 use Rattle.dartelm.proofs.Answering.{answers}
 use Rattle.dartelm.proofs.dartelm_conformity.Goals as goal
 
-pub returns-in-Refused : goal.returns-in-Refused
-returns-in-Refused c = answers (struct_of conformity_answer no_conformity) conformity_said c.conformity.ensures c.in-Refused.is
+pub returns-in-Err : goal.returns-in-Err
+returns-in-Err c = rw (c.number.ensures, c.place.ensures) (answers (struct_of conformity_answer no_conformity) c.conformity.ensures c.in-Err.is)
 
-pub returns-in-Is : goal.returns-in-Is
-returns-in-Is c = answers (struct_of conformity_answer no_conformity) conformity_said c.conformity.ensures c.in-Is.is
+pub returns-in-Ok-Some : goal.returns-in-Ok-Some
+returns-in-Ok-Some c = answers (struct_of conformity_answer no_conformity) c.conformity.ensures (c.in-Ok-Some.is ∙ ap Ok c.in-Ok-Some.field-0-is)
 
-pub returns-in-NotStraight : goal.returns-in-NotStraight
-returns-in-NotStraight c = answers (struct_of conformity_answer no_conformity) conformity_said c.conformity.ensures c.in-NotStraight.is
+pub returns-in-Ok-None : goal.returns-in-Ok-None
+returns-in-Ok-None c = answers (struct_of conformity_answer no_conformity) c.conformity.ensures (c.in-Ok-None.is ∙ ap Ok c.in-Ok-None.field-0-is)

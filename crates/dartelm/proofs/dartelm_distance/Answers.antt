@@ -1,9 +1,9 @@
-use Rattle.dartelm.proofs.Names.{distance_said, struct_of, distance_answer, no_distance}
+use Rattle.dartelm.proofs.Names.{struct_of, distance_answer, no_distance}
 use Rattle.dartelm.proofs.Answering.{answers}
 use Rattle.dartelm.proofs.dartelm_distance.Goals as goal
 
-pub returns-in-Refused : goal.returns-in-Refused
-returns-in-Refused c = answers (struct_of distance_answer no_distance) distance_said c.distance.ensures c.in-Refused.is
+pub returns-in-Err : goal.returns-in-Err
+returns-in-Err c = rw (c.number.ensures, c.place.ensures) (answers (struct_of distance_answer no_distance) c.distance.ensures c.in-Err.is)
 
-pub returns-in-Is : goal.returns-in-Is
-returns-in-Is c = answers (struct_of distance_answer no_distance) distance_said c.distance.ensures c.in-Is.is
+pub returns-in-Ok : goal.returns-in-Ok
+returns-in-Ok c = answers (struct_of distance_answer no_distance) c.distance.ensures c.in-Ok.is

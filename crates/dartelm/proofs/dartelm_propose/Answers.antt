@@ -1,17 +1,17 @@
-use Rattle.dartelm.proofs.Names.{ap₂, ◌∙◌, Value, Level, propose, proposal_said, struct_of, proposal_answer, no_proposal}
+use Rattle.dartelm.proofs.Names.{ap₂, ◌∙◌, Value, Level, propose, struct_of, proposal_answer, no_proposal}
 use Rattle.dartelm.proofs.Answering.{answers}
 use Rattle.dartelm.proofs.dartelm_propose.Goals as goal
 
-pub returns-in-Refused : goal.returns-in-Refused
-returns-in-Refused c =
+pub returns-in-Err : goal.returns-in-Err
+returns-in-Err c =
     let a = c.args in
-    rw c.no_value.ensures
-    (answers (struct_of proposal_answer no_proposal) proposal_said
-    (c.propose.ensures ∙ ap₂ (λ (l : Level) (v : Value). propose a.kind a.image.now l a.field v) c.level_of.ensures c.value_of.ensures) c.in-Refused.is)
+    rw (c.number.ensures, c.place.ensures, c.no_value.ensures)
+    (answers (struct_of proposal_answer no_proposal)
+    (c.propose.ensures ∙ ap₂ (λ (l : Level) (v : Value). propose a.kind a.image.now l a.field v) c.level_of.ensures c.value_of.ensures) c.in-Err.is)
 
-pub returns-in-Proposed : goal.returns-in-Proposed
-returns-in-Proposed c =
+pub returns-in-Ok : goal.returns-in-Ok
+returns-in-Ok c =
     let a = c.args in
     rw c.by_flags.ensures
-    (answers (struct_of proposal_answer no_proposal) proposal_said
-    (c.propose.ensures ∙ ap₂ (λ (l : Level) (v : Value). propose a.kind a.image.now l a.field v) c.level_of.ensures c.value_of.ensures) c.in-Proposed.is)
+    (answers (struct_of proposal_answer no_proposal)
+    (c.propose.ensures ∙ ap₂ (λ (l : Level) (v : Value). propose a.kind a.image.now l a.field v) c.level_of.ensures c.value_of.ensures) c.in-Ok.is)

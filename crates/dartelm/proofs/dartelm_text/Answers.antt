@@ -4,15 +4,11 @@ use Rattle.dartelm.proofs.dartelm_text.Goals as goal
 
 pub copy-requires : goal.copy-requires
 copy-requires c =
-    let ten : length c.text_of-text.result.characters ≡ 10 = search rules in
+    let ten : length c.in-Ok.text.characters ≡ 10 = search rules in
     omega arith
 
-pub returns-in-Refused : goal.returns-in-Refused
-returns-in-Refused c =
-    let a = c.args in
-    sym (ap (struct_of text_answer []) (text-refused (text_of a.field a.code) _ _ c.text_of-text.ensures c.in-Refused.is))
+pub returns-in-Err : goal.returns-in-Err
+returns-in-Err c = let a = c.args in rw (c.number.ensures, c.place.ensures) (sym (ap (struct_of text_answer []) (text-refused (text_of a.field a.code) c.text_of.ensures c.in-Err.is)))
 
-pub returns-in-Length : goal.returns-in-Length
-returns-in-Length c =
-    let a = c.args in
-    text-told (text_of a.field a.code) _ _ _ c.text_of-text.ensures c.in-Length.is (search rules) c.copy.ensures.1
+pub returns-in-Ok : goal.returns-in-Ok
+returns-in-Ok c = let a = c.args in text-told (text_of a.field a.code) c.text_of.ensures c.in-Ok.is (search rules) c.copy.ensures.1

@@ -1,8 +1,8 @@
-use Rattle.dartelm.proofs.Names.{[], sym, ap, written_said, Written, struct_of, write_answer}
+use Rattle.dartelm.proofs.Names.{[], sym, ap, written_said, Outcome, struct_of, write_answer}
 use Rattle.dartelm.proofs.wrote.Goals as goal
 
-pub returns-in-Refused : goal.returns-in-Refused
-returns-in-Refused c = λ image. sym (ap (λ (w : Written). struct_of write_answer [] (written_said w image)) c.in-Refused.is)
+pub returns-in-Err : goal.returns-in-Err
+returns-in-Err c = λ image. rw (c.number.ensures, c.place.ensures) (sym (ap (λ (w : Outcome (Unit {0})). struct_of write_answer [] (written_said w image)) c.in-Err.is))
 
-pub returns-in-Done : goal.returns-in-Done
-returns-in-Done c = λ image. sym (ap (λ (w : Written). struct_of write_answer [] (written_said w image)) c.in-Done.is)
+pub returns-in-Ok : goal.returns-in-Ok
+returns-in-Ok c = λ image. sym (ap (λ (w : Outcome (Unit {0})). struct_of write_answer [] (written_said w image)) c.in-Ok.is)

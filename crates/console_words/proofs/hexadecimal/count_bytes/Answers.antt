@@ -1,28 +1,26 @@
-use Rattle.console_words.proofs.Names.{sym, ◌∙◌, arith, lt-ltb, le-ltb, drop_of_length-le}
-use Rattle.console_words.proofs.FilledLaws.{count-start, count-on, count-end, count-stop, count-full}
-use Rattle.console_words.proofs.HexLaws.{bytes-minus, bytes-empty, bytes-paired}
+use Rattle.console_words.proofs.Names.{◌≡◌, sym, ◌∙◌, false, rules, tests, eqb-true, length, is_none, value_of, is_minus, any_from_yields_List, YieldsList-from_slice}
+use Rattle.console_words.proofs.FilledLaws.{not_empty}
+use Rattle.console_words.proofs.HexLaws.{bytes-empty, bytes-odd, bytes-other, bytes-many, bytes-all}
 use Rattle.console_words.proofs.hexadecimal.count_bytes.Goals as goal
+use Rattle.console_words.proofs.hexadecimal.count_bytes.Goals.{then-is_empty-via-then-is_empty, then-is_empty-via-else-is_empty+then-word-eq1, then-is_empty-via-else-is_empty+else-word-eq1+then-any}
 
-pub returns-then-is_minus : goal.returns-then-is_minus
-returns-then-is_minus c = rw (bytes-minus c.args.word.now (sym c.is_minus.ensures ∙ c.if-is_minus.true))
-
-pub returns-then-word-eq0 : goal.returns-then-word-eq0
-returns-then-word-eq0 c = rw (bytes-empty c.args.word.now c.if-word-eq0.true)
-
-pub loop-at-init : goal.loop-at-init
-loop-at-init c = rw (bytes-paired c.args.word.now (sym c.is_minus.ensures ∙ c.if-is_minus.false) c.if-word-eq0.false) (count-start _ _)
-
-pub returns-then-byte_at-gt255 : goal.returns-then-byte_at-gt255
-returns-then-byte_at-gt255 c = count-stop _ _ _ _ c.loop-at.invariant _ (rw (le-ltb c.byte_at.result 256 c.if-byte_at-gt255.true) at c.byte_at.ensures)
+pub returns-then-is_empty : goal.returns-then-is_empty
+returns-then-is_empty c =
+    let word = c.args.word.now in
+    let m : is_minus word ≡ false = sym c.if-is_minus.ensures in
+    elim c.then-is_empty.branch [
+      | then-is_empty-via-then-is_empty w ↦ rw (bytes-empty word (eqb-true (length word) 0 (sym c.is_empty.ensures ∙ w.if-is_empty.true)))
+      | then-is_empty-via-else-is_empty+then-word-eq1 w ↦ bytes-odd word m (not_empty word w.if-is_empty.ensures) c.args.room w.if-word-eq1.true
+      | then-is_empty-via-else-is_empty+else-word-eq1+then-any w ↦ bytes-other word m (not_empty word w.if-is_empty.ensures) c.args.room
+          (sym (any_from_yields_List (λ b. is_none (value_of b)) _ _ w.any.result w.any.ensures.ran (YieldsList-from_slice word w.iter.ensures.rest) (λ x b q k. search (rules, tests))) ∙ w.if-any.true)
+    ]
 
 pub returns-then-count-room : goal.returns-then-count-room
-returns-then-count-room c = count-full _ _ _ _ c.loop-at.invariant (rw c.byte_at.ensures (omega arith)) c.if-count-room.true
+returns-then-count-room c = bytes-many c.args.word.now (sym c.if-is_minus.ensures) (not_empty c.args.word.now c.if-is_empty.ensures) c.args.room c.if-word-eq1.false c.if-count-room.true
 
-pub loop-at-smaller : goal.loop-at-smaller
-loop-at-smaller c = omega arith
-
-pub loop-at-preserved : goal.loop-at-preserved
-loop-at-preserved c = count-on _ _ _ _ c.loop-at.invariant c.byte_at.result _ (rw (lt-ltb c.byte_at.result 256 (omega arith)) at c.byte_at.ensures) c.if-count-room.false
-
-pub returns : goal.returns
-returns c = count-end _ _ _ _ c.loop-at.invariant (rw (drop_of_length-le c.args.word.now c.loop-at-test.false))
+pub returns-else-count-room : goal.returns-else-count-room
+returns-else-count-room c =
+    let word = c.args.word.now in
+    bytes-all word (sym c.if-is_minus.ensures) (not_empty word c.if-is_empty.ensures) c.args.room c.if-word-eq1.false
+    (sym (any_from_yields_List (λ b. is_none (value_of b)) _ _ c.any.result c.any.ensures.ran (YieldsList-from_slice word c.iter.ensures.rest) (λ x b q k. search (rules, tests))) ∙ c.if-any.false)
+    c.if-count-room.false

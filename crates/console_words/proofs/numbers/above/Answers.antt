@@ -4,7 +4,7 @@ use Rattle.console_words.proofs.FigureLaws.{above-is, above-not}
 use Rattle.console_words.proofs.numbers.above.Goals as goal
 
 pub returns-then-n-gt9223372036854775807 : goal.returns-then-n-gt9223372036854775807
-returns-then-n-gt9223372036854775807 c = above-not c.args.number _ c.in-Is.is c.if-n-gt9223372036854775807.true
+returns-then-n-gt9223372036854775807 c = above-not c.args.n c.if-n-gt9223372036854775807.true
 
-pub returns-else-n-gt9223372036854775807 : goal.returns-else-n-gt9223372036854775807
-returns-else-n-gt9223372036854775807 c = above-is c.args.number _ _ c.in-Is.is (omega arith) (to_z-of_z {w = w64} (record { sfits = c.difference.type_inv }) ∙ c.difference.ensures)
+pub returns : goal.returns
+returns c = above-is c.args.n _ (omega arith) (to_z-of_z {w = w64} (record { sfits = c.difference.type_inv }) ∙ c.difference.ensures)

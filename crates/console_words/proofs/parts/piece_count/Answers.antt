@@ -1,14 +1,8 @@
-use Rattle.console_words.proofs.Names.{arith}
-use Rattle.console_words.proofs.WordLaws.{count-separator, count-other, count-end}
+use Rattle.console_words.proofs.Names.{rules, tests, ap, ◌∙◌, sym, length, count_from_yields_List, YieldsList-from_slice_split}
+use Rattle.console_words.proofs.WordLaws.{pieces-split}
 use Rattle.console_words.proofs.parts.piece_count.Goals as goal
-use Rattle.console_words.proofs.parts.piece_count.Goals.{then-line-at, else-line-at}
-
-pub loop-at-preserved : goal.loop-at-preserved
-loop-at-preserved c =
-    elim c.if-line-at.branch [
-      | then-line-at w ↦ omega (arith, count-separator c.args.separator c.args.line.now _ c.loop-at-test.true w.if-line-at.true)
-      | else-line-at w ↦ omega (arith, count-other c.args.separator c.args.line.now _ c.loop-at-test.true w.if-line-at.false)
-    ]
 
 pub returns : goal.returns
-returns c = omega (arith, count-end c.args.separator c.args.line.now c.loop-at.at c.loop-at-test.false)
+returns c =
+    count_from_yields_List c.split.result c.count.result c.count.ensures.ran (YieldsList-from_slice_split _ _ c.args.line.now c.split.ensures.rest c.split.ensures.done c.split.ensures.closure (λ x b q k. search (rules, tests)))
+    ∙ ap length (sym (pieces-split c.args.separator c.args.line.now))

@@ -14,7 +14,7 @@ pub returns-in-Image : goal.returns-in-Image
 returns-in-Image c = let a = c.args in step-as a.state.tray c.in-Image.is a.buffer.now a.received c.front-bytes.ensures c.image_received.ensures
 
 pub returns-in-Total : goal.returns-in-Total
-returns-in-Total c = total-step c.args.state.tray _ _ c.in-Total.is c.requires.0.sound c.total_line.ensures
+returns-in-Total c = rw c.stepped.ensures (total-step c.args.state.tray _ _ c.in-Total.is c.requires.0.sound c.total_line.ensures)
 
 pub returns-in-Nothing : goal.returns-in-Nothing
-returns-in-Nothing c = nothing-step c.args.state.tray _ _ c.in-Nothing.is c.requires.0.sound c.empty.ensures.0
+returns-in-Nothing c = rw c.stepped-in-Nothing.ensures (nothing-step c.args.state.tray _ _ c.in-Nothing.is c.requires.0.sound c.empty.ensures.0)

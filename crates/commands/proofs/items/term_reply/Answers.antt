@@ -1,9 +1,0 @@
-use Rattle.commands.proofs.Names.{◌∙◌, ap, some, read_term}
-use Rattle.commands.proofs.ReplyLaws.{number-not, number_is}
-use Rattle.commands.proofs.items.term_reply.Goals as goal
-
-pub returns-in_default : goal.returns-in_default
-returns-in_default c = number-not read_term c.args.line.now c.args.room.now c.number_request.new.room c.in_default.is c.number_request.ensures
-
-pub returns : goal.returns
-returns c = ap some c.read_term.ensures ∙ number_is read_term c.args.line.now c.args.room.now c.number_request.new.room c.in-Of.is c.number_request.ensures c.front-image.ensures

@@ -1,8 +1,0 @@
-use Rattle.console_words.proofs.Names.{lt-ltb, le-ltb}
-use Rattle.console_words.proofs.hexadecimal.glyph.Goals as goal
-
-pub returns-then-n-lt10 : goal.returns-then-n-lt10
-returns-then-n-lt10 c = rw (lt-ltb c.args.n 10 c.if-n-lt10.true)
-
-pub returns : goal.returns
-returns c = rw (le-ltb c.args.n 10 c.if-n-lt10.false)
