@@ -23,7 +23,7 @@ def reached(functions, roots):
             for callee in mir.callees(functions[name]):
                 visit(callee)
             state[name] = 'done'
-            order.append(name)
+            order.extend([] if functions[name].is_of_bytes else [name])
     for name in roots:
         visit(name)
     return order
@@ -123,8 +123,6 @@ class File:
         used = set(re.findall(r'\bdm_\w+', text))
         kept = []
         for name, lines in reversed(self.declared):
-            if name.startswith('dm_slice_') and f'{name}_of' not in used:
-                lines = lines[:1]
             tags = set(re.findall(r'^    (\w+) = ', '\n'.join(lines), re.M))
             if name.startswith('dm_') and name not in used and not tags & used:
                 self.declared_so_far.remove((name, next(x for own, x in self.declared if own == name)))

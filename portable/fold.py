@@ -1,13 +1,16 @@
 """From MIR to statements that a reader follows: temporaries go where they are used, tables of constants stand once, and what is
 only read is not copied. Nothing else is moved, and no call or store changes its order with another."""
 from . import mir
-from .inline import stores_nothing, without_blocks, without_dead, without_empty
+from .inline import stores_nothing, without_dead, without_empty
 from .live import Reads, derefs, live, reads_of, stored
-from .mir import AddrOf, Aggregate, Assign, Block, Bool, CallOf, Copy, Exit, Float, If, Int, Loop, Op2, Place, Repeat, Return
+from .mir import AddrOf, Aggregate, Assign, Block, Bool, CallOf, Copy, Exit, Float, If, Int, Loop, Op1, Op2, Place, Repeat, Return
 from .mir import SliceOf, Switch, Tag, Unit
 
 # A value of more parts than this stays a variable of its own.
 LARGEST = 12
+
+# What is so where a comparison of integers is not, and whether its operands change places.
+OPPOSITE = {'Eq': ('Ne', False), 'Ne': ('Eq', False), 'Lt': ('Le', True), 'Le': ('Lt', True)}
 
 
 def constant(e):
@@ -57,30 +60,50 @@ def without_calls(body, names):
             without_calls(inner, names)
 
 
-def inside_loop(body, s):
-    return any(s in mir.statements(x.body) for x in mir.statements(body) if isinstance(x, Loop))
-
-
 def stores_to(fn, local):
     return [s for s in mir.statements(fn.body)
             if isinstance(s, Assign) and s.place.base == local and not derefs(s.place)]
 
 
-def only_read(fn, is_large):
+def known(fn, types, t, value):
+    """What a value is that is made of numbers and truths alone, as a constant in memory is; else None."""
+    if isinstance(value, Copy) and isinstance(value.place.base, int) and not value.place.steps and value.place.base > fn.params:
+        home, stores = fn.locals[value.place.base], stores_to(fn, value.place.base)
+        is_made = len(stores) == 1 and not stores[0].place.steps and not home.in_memory and value.place.base not in fn.statics
+        return known(fn, types, t, stores[0].value) if is_made and isinstance(stores[0].value, Aggregate) else None
+    if isinstance(value, (Int, Bool)):
+        return value.value
+    if not isinstance(value, Aggregate):
+        return None
+    if t[0] == 'Array':
+        of = [t[1]] * len(value.xs)
+    elif types.is_bare(t):
+        return value.xs[0].value
+    elif t[0] == 'Named' and types.shapes[t[1]][0] == 'Fields' and ('Unit',) not in types.shapes[t[1]][1]:
+        of = types.shapes[t[1]][1]
+    else:
+        return None
+    parts = tuple(known(fn, types, a, x) for a, x in zip(of, value.xs))
+    return None if None in parts else parts
+
+
+def only_read(fn, types, is_large):
     """A local in memory that is stored to once, from constants, becomes a table, as a constant in memory is; one that is stored to
     once, from a value that does not change, becomes that value."""
     fn.tables, fn.copies = dict(fn.statics), {}
     lent_once(fn)
     for local, home in enumerate(fn.locals):
-        wanted = local > fn.params and local not in fn.statics and (home.in_memory or is_large(home.type) or local >= fn.own)
+        wanted = local > fn.params and local not in fn.statics and (home.in_memory or is_large(home.type) or local not in fn.named)
         stores = stores_to(fn, local) if wanted else []
         if len(stores) != 1 or stores[0].place.steps or not pointers_only_read(fn, local):
             continue
         value = stores[0].value
-        if isinstance(value, Aggregate) and home.type[0] == 'Array' and all(isinstance(x, Int) for x in value.xs):
-            fn.tables[local] = tuple(x.value for x in value.xs)
-        elif isinstance(value, Copy) and isinstance(value.place.base, int) and not derefs(value.place) and steady(fn, value):
-            fn.copies[local] = value.place
+        made = known(fn, types, home.type, value) if home.type[0] == 'Array' and isinstance(value, Aggregate) else None
+        if made is not None:
+            fn.tables[local] = made
+        elif isinstance(value, Copy) and isinstance(value.place.base, int) and not derefs(value.place) \
+                and steady(fn, place := through(fn.copies, value.place)):
+            fn.copies[local] = place
         else:
             continue
         remove(fn.body, stores[0])
@@ -113,15 +136,16 @@ def lent_once(fn):
             mir.replace_in(s, place, leaf)
 
 
-def steady(fn, value):
-    """Whether a value's local has one value all the time: a parameter that is not stored to, or a local that is once."""
-    source = value.place.base
+def steady(fn, place):
+    """Whether a place's local has one value as long as a copy of it is read: a parameter that is not stored to, or a local that is once,
+    by a statement that runs before the one that copies it."""
+    source = place.base
     stores = stores_to(fn, source)
     if fn.locals[source].in_memory:
         return False
     if source <= fn.params:
         return source > 0 and not stores
-    return len(stores) == 1 and not stores[0].place.steps and not inside_loop(fn.body, stores[0])
+    return len(stores) == 1 and not stores[0].place.steps
 
 
 def through(copies, p):
@@ -209,6 +233,8 @@ class Folding:
 
     def __init__(self, fn, named, lent, types):
         self.fn, self.named, self.lent, self.types = fn, named, lent, types
+        self.addressed = {e.place.base for s in mir.statements(fn.body) for v in mir.own_values(s) for e in mir.values(v)
+                          if isinstance(e, AddrOf) and not derefs(e.place)}    # a value that is nowhere has no address
 
     def whole(self):
         live(self.fn, self.fn.body, set())
@@ -268,8 +294,8 @@ class Folding:
                 s.place = None
                 out.append(s)
             return
-        foldable = not self.fn.locals[t].in_memory and t not in self.named and (t == 0 or t > self.fn.params) \
-            and not isinstance(s.value, (Aggregate, Repeat))
+        foldable = not self.fn.locals[t].in_memory and t not in self.named and t not in self.addressed and (t == 0 or t > self.fn.params) \
+            and not isinstance(s.value, Repeat) and not (isinstance(s.value, Aggregate) and t == 0)
         if not foldable:
             out.append(s)
             return
@@ -283,6 +309,8 @@ class Folding:
     def fits(self, s, t, value):
         """Whether a value may stand where its temporary is read: not where C would leave open what comes first, not where an
         address is wanted of what has none, and not where it would grow too large."""
+        if isinstance(value, Aggregate):
+            return isinstance(s, Assign) and is_part(s.value, t) and not any(e.calls for e in [Reads(self.fn, s.value), Reads(self.fn, value)])
         own = [replaced_local(e, t, value) for e in mir.own_values(s)]
         if isinstance(s, Assign) and len(own) == 2 and Reads(self.fn, own[1], False).calls:
             return False
@@ -340,6 +368,9 @@ class Folding:
         if isinstance(e, AddrOf) and e.place.steps and e.place.steps[-1][0] == 'Deref':
             rest = e.place.steps[:-1]
             return e.place.base if not rest and not isinstance(e.place.base, int) else Copy(Place(e.place.base, rest))
+        if isinstance(e, Op1) and e.op == 'Not' and isinstance(e.x, Op2) and e.x.op in OPPOSITE:
+            op, turned = OPPOSITE[e.x.op]
+            return Op2(op, e.x.sign, e.x.y, e.x.x) if turned else Op2(op, e.x.sign, e.x.x, e.x.y)
         if isinstance(e, SliceOf):
             e = SliceOf(e.element, self.simple(e.pointer), e.length)
             p, n = e.pointer, e.length
@@ -347,6 +378,12 @@ class Folding:
                     and p.place.steps[-1:] == (('Field', 0),) and n.place.steps == p.place.steps[:-1] + (('Field', 1),):
                 return Copy(Place(p.place.base, p.place.steps[:-1]))
         return e
+
+
+def is_part(e, t):
+    """Whether an aggregate has a local as one of its parts, or such an aggregate."""
+    return isinstance(e, Aggregate) and any(
+        is_part(x, t) or (isinstance(x, Copy) and x.place.base == t and not x.place.steps) for x in e.xs)
 
 
 def reads_field(e, t):
@@ -365,8 +402,7 @@ def replaced_local(e, t, value):
 
 def prepare(fn, types, is_large):
     """Once for each function, before any is folded: what a callee only reads is known then."""
-    without_blocks(fn.body)
-    only_read(fn, is_large)
+    only_read(fn, types, is_large)
     without_dead(fn, types, live)
     without_empty(fn.body)
     set_returns(fn)

@@ -18,6 +18,9 @@ ON_ONE = {'Not': 0, 'Cast': 3, 'FloatNeg': 0, 'FloatToFloat': 1, 'FloatToBits': 
 # What stands behind the name of a method that a trait declares: it has no body of its own.
 DECLARED = '+decl'
 
+# The kit's `==` of two slices, `pointwise A.eq`: of numbers it is whether both have the same bytes.
+EQUAL = ('core::cmp::slices::slices_equal', 'core::cmp::slices::all_equal')
+
 
 def only(d):
     if not isinstance(d, dict) or len(d) != 1:
@@ -34,6 +37,10 @@ class Dict:
     dicts: tuple
 
 
+# The dictionaries at which a function was met, in the order in which it was.
+WAYS = {}
+
+
 @dataclass(frozen=True)
 class Instance:
     """`fn`: "a function, at arguments for its parameters"."""
@@ -43,7 +50,17 @@ class Instance:
 
     @property
     def name(self):
-        return spelled(self.symbol, self.types)
+        """Two closures that capture nothing have one type, of no bytes, and differ in the dictionary alone: then it has a number."""
+        ways = WAYS.setdefault((self.symbol, self.types), [])
+        if self.dicts not in ways:
+            ways.append(self.dicts)
+        way = ways.index(self.dicts)
+        return spelled(self.symbol, self.types) + (f'#{way + 1}' if way else '')
+
+    @property
+    def is_of_bytes(self):
+        """Whether it tells of two slices of numbers whether they are equal: C asks memcmp."""
+        return self.symbol in EQUAL and self.types[0][0] in ('Int', 'Bool')
 
 
 def spelled(name, types):
@@ -286,20 +303,39 @@ class Reading:
 
     def static(self, t, constant):
         """`lend_static`: "a reference to the constant, of that type, in memory that is never written and never freed"; here a local
-        more, which stands for that memory. Arrays of integers alone: of a single integer an array of one would do, of nothing else."""
-        k, v = only(constant)
-        if k == 'Ints' and t[0] == 'Array' and t[1] == ('Int', v['width']) and len(v['values']) == t[2]:
-            numbers = tuple(v['values'])
-        elif k == 'Repeat' and t[0] == 'Array' and 'Int' in v[0] and t[1] == ('Int', v[0]['Int']['width']) and v[1] == t[2]:
-            numbers = (v[0]['Int']['value'],) * t[2]
-        else:
+        more, which stands for that memory."""
+        value = self.constant(t, constant)
+        if value is None or t[0] not in ('Array', 'Named'):
             raise Unknown(f'a constant in memory: {json.dumps(constant)[:120]}')
         for local, (of, same) in self.statics.items():
-            if (of, same) == (t, numbers):
+            if (of, same) == (t, value):
                 return local
         local = len(self.fn['locals']) + len(self.statics)
-        self.statics[local] = (t, numbers)
+        self.statics[local] = (t, value)
         return local
+
+    def constant(self, t, constant):
+        """`Const`: numbers and truths, and arrays and structs of them; None of another. An enum is its tag, if it holds nothing."""
+        k, v = only(constant) if isinstance(constant, dict) else (constant, None)
+        if k == 'Unit' and t == ('Unit',):
+            return ()
+        if k == 'Int' and t == ('Int', v['width']):
+            return v['value']
+        if k == 'Bool' and t == ('Bool',):
+            return bool(v)
+        if k == 'Ints' and t[0] == 'Array' and t[1] == ('Int', v['width']) and len(v['values']) == t[2]:
+            return tuple(v['values'])
+        if k == 'Repeat' and t[0] == 'Array' and v[1] == t[2]:
+            parts = (self.constant(t[1], v[0]),) * v[1]
+        elif k == 'Parts' and t[0] == 'Array' and len(v) == t[2]:
+            parts = tuple(self.constant(t[1], x) for x in v)
+        elif k == 'Parts' and t[0] == 'Named' and self.shapes[t[1]][0] == 'Fields' and len(v) == len(self.shapes[t[1]][1]):
+            parts = tuple(map(self.constant, self.shapes[t[1]][1], v))
+        elif k == 'Parts' and t[0] == 'Named' and all(x == ('Unit',) for fields in self.shapes[t[1]][1] for x in fields):
+            return self.constant(('Int', 8), v[0])
+        else:
+            return None
+        return None if None in parts else parts
 
 
 def function_of(instance, fn, impls):
@@ -318,14 +354,14 @@ def function_of(instance, fn, impls):
 
 
 def signature_of(instance, fn):
-    """A function that C has by hand: its head, with nothing inside. A result that says no more than whether there was an error is
+    """A function that C has by hand, or for which it asks memcmp: its head, with nothing inside. A result that says no more than whether there was an error is
     left out: no function here may read it."""
     try:
         reading = Reading(instance, fn, {})
         locals_ = [Local(reading.type(x['ty']), False) for x in fn['locals'][:fn['params'] + 1]]
         if locals_[0].type[0] == 'Named' and locals_[0].type[1].startswith('core::result::Result<unit, '):
             locals_[0].type = ('Unit',)
-        return Function(instance.name, fn['params'], locals_, [], reading.shapes, {}, instance.symbol)
+        return Function(instance.name, fn['params'], locals_, [], reading.shapes, {}, instance.symbol, instance.is_of_bytes)
     except Unknown as e:
         raise Unknown(f'{instance.name}: {e}') from None
 

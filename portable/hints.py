@@ -29,7 +29,7 @@ class Small:
         """(whether it is small, its statements with those of the small functions that it calls)"""
         if name not in self.found:
             fn = self.functions[name]
-            inside = [self.looked_up(callee) for callee in mir.callees(fn)]
+            inside = [self.looked_up(callee) for callee in mir.callees(fn) if not self.functions[callee].is_of_bytes]
             whole = self.lengths[name] + sum(length for small, length in inside if small)
             loops = any(isinstance(s, Loop) for s in mir.statements(fn.body))
             once = self.called.get(name) == 1

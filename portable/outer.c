@@ -7,15 +7,15 @@
 #include <unistd.h>
 
 /* std::io::traits::Read::read+decl */
-static dm_core_result_Result_u64_std_io_io_error_Error dm_std_io_traits_Read_read(dm_slice_u8 buf)
+static dm_Result_u64_Error dm_std_io_traits_Read_read(dm_slice_u8 buf)
 {
-    dm_core_result_Result_u64_std_io_io_error_Error result;
+    dm_Result_u64_Error result;
     ssize_t count = read(STDIN_FILENO, buf.at, (size_t)buf.length);
     memset(&result, 0, sizeof result);
     if (count < 0) {
-        result.tag = dm_core_result_Result_u64_std_io_io_error_Error_Err;
+        result.tag = dm_Result_u64_Error_Err;
     } else {
-        result.tag = dm_core_result_Result_u64_std_io_io_error_Error_Ok;
+        result.tag = dm_Result_u64_Error_Ok;
         result.Ok.value = (uint64_t)count;
     }
     return result;

@@ -9,7 +9,7 @@ from .live import derefs, live
 from .mir import Unknown
 from .source import plain
 from .statements import Statements, wrapped
-from .types import Types, ident
+from .types import Types
 from .values import Spot
 
 
@@ -20,11 +20,12 @@ class Program:
         self.types = Types(header, sources)
         self.lent_of, self.tables = {}, {}
         self.without_idle()
-        inlined(functions, self.is_kit)
-        self.instances = {}    # of each symbol: how many
         for fn in functions.values():
             self.types.learn(fn.shapes)
             fn.named = self.named(fn)
+        inlined(functions, self.is_kit, self.is_derived, self.types)
+        self.instances = {}    # of each symbol: how many
+        for fn in functions.values():
             self.instances[fn.symbol] = self.instances.get(fn.symbol, 0) + 1
         for name in self.exported:
             if name not in functions:
@@ -46,12 +47,14 @@ class Program:
     def c_name(self, name):
         """Its path; of an instance with its arguments only where there is another one."""
         symbol = self.functions[name].symbol
-        own = symbol if self.instances[symbol] == 1 else name
-        return name.split('::')[-1] if name in self.exported else ident(own.replace(DECLARED, ''))
+        own, _, way = (symbol if self.instances[symbol] == 1 else name).partition('#')
+        if name in self.exported:
+            return name.split('::')[-1]
+        return self.types.ident(own.replace(DECLARED, '')) + (f'_{way}' if way else '')
 
     def named(self, fn):
         """The source's names of locals: parameters, copies of parameters in memory, and what is bound, in that order. They are
-        taken only where they fit: what a pattern binds is a variant's field, and each is stored to behind the one before it."""
+        taken only where they fit: what a pattern binds is a variant's field, and they are stored to in the source's order."""
         source = self.sources.functions.get(fn.symbol.removesuffix(DECLARED))
         if source is None or len(source.params) != fn.params:
             return {}
@@ -64,13 +67,12 @@ class Program:
         while at in first and fn.locals[at].in_memory and parameter(fn, first[at][1]):
             names[at] = source.params[first[at][1].place.base - 1]
             at += 1
-        stored = [first.get(at + i) for i in range(len(source.bindings))]
-        by_pattern = [x is not None and isinstance(x[1], mir.Copy) and any(k == 'Variant' for k, _ in x[1].place.steps)
-                      for x in stored]
-        order = [x[0] for x in stored if x is not None]
-        if order != sorted(order) or any(x is not None and p != b for x, p, (_, b) in zip(stored, by_pattern, source.bindings)):
+        stored = [(first.get(at + i), fn.locals[at + i].type, by, rank) for i, (_, by, rank) in enumerate(source.bindings)
+                  if at + i < len(fn.locals)]
+        order = [x[0] for x, _, _, _ in sorted(stored, key=lambda x: x[3]) if x is not None]
+        if order != sorted(order) or not all(x is None or binds(by, x[1], t) for x, t, by, _ in stored):
             return {k: v for k, v in names.items() if k <= fn.params}
-        names.update({at + i: name for i, (name, _) in enumerate(source.bindings) if at + i < len(fn.locals)})
+        names.update({at + i: name for i, (name, _, _) in enumerate(source.bindings) if name and at + i < len(fn.locals)})
         return names
 
     def local_name(self, fn, local):
@@ -98,13 +100,17 @@ class Program:
         t, numbers = fn.locals[local].type, fn.tables[local]
         key = (t, numbers)
         if key not in self.tables:
-            own = self.sources.tables.get(numbers) or f'{self.c_name(fn.name)[3:]}_v{local}'
-            self.tables[key] = f'dm_table_{own}'
+            own = f'{self.c_name(fn.name)[3:]}_v{local}'
+            named = self.sources.tables.get(numbers, own)
+            self.tables[key] = f'dm_table_{named if f"dm_table_{named}" not in self.tables.values() else own}'
         return self.tables[key]
 
     def table_lines(self, key):
-        (_, element, count), numbers = key
-        rows = wrapped('    ' + ', '.join(f'{n}u' for n in numbers))
+        t, parts = key
+        if t[0] != 'Array':
+            return [f'static const {self.types.c(t)} {self.tables[key]} = {self.types.initial(t, parts)};']
+        _, element, count = t
+        rows = wrapped('    ' + ', '.join(self.types.initial(element, x) for x in parts))
         head = f'static const {self.types.c(element)} {self.tables[key]}[{count}] = {{'
         return [head] + ['    ' + r.strip() for r in rows] + ['};']
 
@@ -138,6 +144,11 @@ class Program:
         """Whether a function is the kit's, and not by hand."""
         return self.functions[name].symbol.split('::')[0] in self.sources.kit and not self.is_by_hand(name)
 
+    def is_derived(self, name):
+        """Whether a function is one that the source does not write: the language derives it, or it gives a constant."""
+        symbol = self.functions[name].symbol
+        return not self.is_by_hand(name) and not symbol.endswith(DECLARED) and symbol not in self.sources.functions
+
     def is_by_hand(self, name):
         return bool(self.by_hand) and self.functions[name].symbol in self.by_hand.functions
 
@@ -162,7 +173,8 @@ class Program:
         writer = Statements(self, fn)
         first = self.parameters(fn, writer)
         for local in fn.tables:
-            writer.spots[local] = Spot(self.table(fn, local), fn.locals[local].type, array=True, const=True)
+            t = fn.locals[local].type
+            writer.spots[local] = Spot(self.table(fn, local), t, array=t[0] == 'Array', const=True)
         writer.plan()
         for line in first:
             writer.say(line)
@@ -217,6 +229,13 @@ class Program:
         if left:
             raise Unknown(f'the header has other parameters of {fn.name}')
         return first
+
+
+def binds(by, value, t):
+    """Whether a local of a type that is first stored to from a value may be what the source binds so."""
+    if by == 'pattern':
+        return isinstance(value, mir.Copy) and any(k == 'Variant' for k, _ in value.place.steps)
+    return {'index': t == ('Int', 64), 'iterator': t[0] == 'Named', 'array': t[0] == 'Array'}.get(by, True)
 
 
 def parameter(fn, value):

@@ -62,17 +62,130 @@ class Named:
     text: str = ''    # of a function: its head and its body, without its contract
 
 
+TOKEN = re.compile(r"[A-Za-z_]\w*|\d\w*|::|=>|==|<=|>=|!=|->|\.\.=?|\S")
+OPEN, CLOSE = '([{', ')]}'
+
+
+class Bindings:
+    """What a body binds, in the order of the source: (name, by what, when it is stored to); by what is 'pattern' where a pattern of an
+    enum does. What a `let` binds stands before what its value binds, and is stored to behind it. `?` binds the value and then the
+    error, and a `for` what it needs, which have no name."""
+
+    def __init__(self, body):
+        self.words, self.found, self.rank = TOKEN.findall(body), [], 0
+        self.scan(0, len(self.words))
+
+    def until(self, at, words):
+        """The place of the first of these words from there on that is in no bracket."""
+        depth = 0
+        while at < len(self.words):
+            word = self.words[at]
+            if depth == 0 and word in words:
+                return at
+            depth += (word in OPEN) - (word in CLOSE)
+            if depth < 0:
+                return at
+            at += 1
+        return at
+
+    def scan(self, at, end):
+        while at < end:
+            word, behind = self.words[at], self.words[at + 1] if at + 1 < end else ''
+            if word == 'let':
+                by_if = at > 0 and self.words[at - 1] in ('if', 'while')
+                equals = self.until(at + 1, ('=', ';'))
+                own = self.pattern(at + 1, self.until(at + 1, ('=', ':', ';')))
+                last = min(end, self.until(equals, ('{',) if by_if else (';',)))
+                self.scan(equals, last)
+                self.stored(own)
+                at = last
+            elif word == 'for' and behind != '<':
+                of = self.until(at + 1, ('in',))
+                last = min(end, self.until(of, ('{',)))
+                unnamed = [[None, x, None] for x in self.unnamed(self.words[of + 1:last])]
+                self.found += unnamed
+                own = self.pattern(at + 1, of)
+                self.scan(of, last)
+                self.stored(unnamed + own)
+                at = last
+            elif word == 'match':
+                first = self.until(at + 1, ('{',))
+                self.scan(at + 1, first)
+                at = self.arms(first + 1)
+            elif word == 'matches' and behind == '!':
+                comma = self.until(at + 3, (',',))
+                self.scan(at + 3, comma)
+                at = self.until(comma + 1, (')', 'if'))
+                self.stored(self.pattern(comma + 1, at))
+            elif word == '?':
+                self.found += [[None, 'pattern', None], [None, 'pattern', None]]
+                self.stored(self.found[-2:])
+                at += 1
+            else:
+                at += 1
+
+    @staticmethod
+    def unnamed(words):
+        """What a `for` keeps that has no name: of a slice its index, of a range nothing, of an array itself and the index, of another
+        iterator itself, twice, and its item."""
+        depth, called = 0, ''
+        for n, word in enumerate(words):
+            depth += (word in OPEN) - (word in CLOSE)
+            if word.startswith('..') and words[n - 1] not in OPEN and '[' not in words[:n]:
+                return []
+            if depth == 0 and word == '.':
+                called = words[n + 1]
+        if called == 'enumerate' and words.count('.') <= 2:
+            return []
+        if words[:1] == ['[']:
+            return ['array', 'index']
+        return ['index'] if called in ('', 'iter', 'iter_mut', 'as_slice', 'as_mut_slice') or words[-1:] != [')'] else ['iterator', 'iterator', 'item']
+
+    def arms(self, at):
+        """The arms of a `match`, and the place of the bracket that closes it."""
+        while at < len(self.words) and self.words[at] != '}':
+            arrow = self.until(at, ('=>',))
+            guard = min(arrow, self.until(at, ('if',)))
+            self.stored(self.pattern(at, guard))
+            self.scan(guard, arrow)
+            at = arrow + 1
+            if at < len(self.words) and self.words[at] == '{':
+                last = self.until(at + 1, ('}',))
+                self.scan(at + 1, last)
+                at = last + 1
+            else:
+                last = self.until(at, (',',))
+                self.scan(at, last)
+                at = last
+            at += at < len(self.words) and self.words[at] == ','
+        return at
+
+    def pattern(self, at, end):
+        """The names of a pattern. What is inside a variant's brackets is a field of the variant."""
+        own, inside, name = [], [], ''
+        for n in range(at, end):
+            word, behind, before = self.words[n], self.words[n + 1] if n + 1 < end else '', self.words[n - 1]
+            if word in OPEN:
+                inside.append(bool(inside and inside[-1]) or re.search(r'(^|::)[A-Z]\w*::[A-Z]\w*$|^(Some|Ok|Err)$', name) is not None)
+            elif word in CLOSE:
+                inside.pop()
+            elif re.match(r'[A-Za-z_]', word):
+                name = name + word if before == '::' else word
+                if re.match(r'[a-z]|_\w', word) and word not in ('mut', 'ref', 'true', 'false') and before != '::' \
+                        and behind not in ('::', '(', '{', ':', '!') and word not in [x[0] for x in own]:
+                    own.append([word, 'pattern' if inside and inside[-1] else 'name', None])
+                continue
+            name = name + word if word == '::' else ''
+        self.found += own
+        return own
+
+    def stored(self, own):
+        for x in own:
+            x[2], self.rank = self.rank, self.rank + 1
+
+
 def bindings_of(body):
-    """What a body binds, in the order of the source, and whether by a pattern of an enum: `let`, `match`, `if let`."""
-    out = []
-    pattern = r'\blet\s+(?:mut\s+)?([a-z]\w*)\s*(?::(?!:)|=|;)|\b(?:\w+\s*::\s*)+\w+\s*[({]([^()={}]*)[)}]\s*(?:=>|=(?!=)|\|)'
-    for m in re.finditer(pattern, body):
-        if m[1]:
-            out.append((m[1], False))
-        else:
-            names = (x.split(':')[-1].strip() for x in listed(m[2]))
-            out += [(x, True) for x in names if re.fullmatch(r'[a-z]\w*', x)]
-    return out
+    return [tuple(x) for x in Bindings(body).found]
 
 
 class Sources:

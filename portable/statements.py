@@ -23,6 +23,7 @@ class Statements(Values):
         super().__init__(program, fn)
         self.lines, self.depth, self.levels, self.reached, self.labels = [], 1, [], [], 0
         self.declare_in, self.names, self.kept = {}, {}, []    # by a list's id: the locals that are declared in it
+        self.apart = set()    # the locals that each list has for itself
         self.pointees = self.what_pointers_point_to()
         self.declared = None    # the local that the statement declares
 
@@ -60,7 +61,9 @@ class Statements(Values):
             if local in range(1, self.fn.params + 1) or local in self.fn.tables or self.fn.locals[local].type == ('Unit',):
                 continue
             paths = [path for path, _, _ in found]
-            if not self.is_apart(local, found):
+            if self.is_apart(local, found):
+                self.apart.add(local)
+            else:
                 paths = [self.common(local, paths)]
             for path in paths:
                 self.declare_in.setdefault(path[-1][0], []).append(local)
@@ -106,10 +109,9 @@ class Statements(Values):
     def body(self, body):
         waiting = list(self.declare_in.get(id(body), []))
         for s in body:
-            mentioned = self.mentioned(s)
-            for local in [x for x in waiting if x in mentioned]:
+            mentioned, own = self.mentioned(s), reads_of(self.fn, s).locals
+            for local in [x for x in waiting if x in mentioned and (x not in self.apart or x in own or x == stored(s))]:
                 waiting.remove(local)
-                own = reads_of(self.fn, s).locals
                 if stored(s) == local and not isinstance(s.value, (mir.Aggregate, mir.Repeat)) and local not in own:
                     self.place(local)
                     self.declared = local
@@ -222,13 +224,6 @@ class Statements(Values):
 
     # ---- switches
 
-    def tag_names(self, e):
-        """The names of an enum's tags, where a value is one."""
-        if not isinstance(e, mir.Copy) or [k for k, _ in e.place.steps[-2:]] != ['Variant', 'Field'] or e.place.steps[-1][1] != 0:
-            return None
-        t = self.spot(mir.Place(e.place.base, e.place.steps[:-2])).type
-        return [f'{self.types.c(t)}_{v}' for v, _ in self.types.variant_names(t[1])]
-
     def switch(self, s):
         """`switch`: "the first arm that has its bits, read as a number, among its keys runs", else the default. Without a default
         "the machine is stuck" where no key is the number; that is proved not to happen, and the last arm serves."""
@@ -263,6 +258,8 @@ class Statements(Values):
         """A switch of two arms, or one that an arm leaves a loop from, as `if`s."""
         opened = self.copied_first('')
         said = False
+        if len(arms) == 2 and not arms[0][1] and arms[1][1]:
+            arms = self.second_alone(arms)
         for n, (keys, body) in enumerate(arms):
             tests = [f'{value.within(POSTFIX)} == {k}' for k in keys]
             test = tests[0] if len(tests) == 1 else ' || '.join(tests)
@@ -285,6 +282,11 @@ class Statements(Values):
         if opened:
             self.depth -= 1
             self.say('}')
+
+    @staticmethod
+    def second_alone(arms):
+        """Two arms of which the first does nothing: what the second does, where its keys are."""
+        return [arms[1], ([], [])] if arms[1][0] else arms
 
     def body_in_braces(self, body):
         self.say('{')
@@ -391,6 +393,9 @@ class Statements(Values):
 
     def store(self, at, e):
         if at.type == ('Unit',):
+            return
+        if isinstance(e, mir.Aggregate):
+            self.fill(at, e.xs)
             return
         value = self.as_type(e, at.type)
         if value.type == ('Unit',):
@@ -500,8 +505,8 @@ def wrapped(line):
 
 
 def best_break(line):
-    """The last break before the edge at the least depth of brackets, not in a string."""
-    depth, best, quoted = 0, None, False
+    """The last break before the edge at the least depth of brackets, not in a string; behind a bracket if there is no other."""
+    depth, best, behind, quoted = 0, None, None, False
     start = len(line) - len(line.lstrip())
     for n, c in enumerate(line[:WIDEST]):
         if c == '"' and line[n - 1] != '\\':
@@ -512,4 +517,6 @@ def best_break(line):
         breaks = (c == ' ' and (line[n - 1] == ',' or re.match(r' (\+|-|\*|&|\||<<|>>|&&|\|\||==) ', line[n:])))
         if breaks and n > start + 20 and (best is None or depth <= best[0] + (n - best[1]) // 40):
             best = (depth, n)
-    return best[1] if best else None
+        if n > start + 20 and (re.match(r'\((?!\(|u?int\d+_t)', line[n:]) or (c == ' ' and line[n - 1] == line[n + 1] == '"')):
+            behind = n + 1
+    return best[1] if best else behind

@@ -7,6 +7,11 @@ from .mir import Unknown
 SHORT = {'uint8_t': 'u8', 'uint16_t': 'u16', 'uint32_t': 'u32', 'uint64_t': 'u64', 'float': 'f32', 'double': 'f64'}
 
 
+# The language's own answers, by short names. A result is named by its value alone where the error is this.
+ANSWERS = {'core::option::Option': 'Option', 'core::result::Result': 'Result'}
+ERROR = 'refusal::Refusal'
+
+
 def ident(path):
     """C's name of a path, which may have types in it."""
     for said, word in ((r'\([_,]*\)', 'tuple'), ('&mut ', 'mut_'), ('&', 'ref_'), (r'\[([^\[\];]*); ', r'array_\1_'), (r'\[', 'slice_')):
@@ -19,17 +24,49 @@ def base(name):
     return name.split('<')[0]
 
 
+def arguments(name):
+    """The arguments that stand behind a name, at their level."""
+    out, depth, own = [], 0, name[len(base(name)) + 1:-1]
+    for c in own:
+        if c == ',' and depth == 0:
+            out.append('')
+        elif out or c != ' ':
+            out = out or ['']
+            out[-1] += c
+        depth += (c in '<[(') - (c in '>])')
+    return [x.strip() for x in out]
+
+
 class Types:
     def __init__(self, header, sources):
         self.header, self.sources, self.shapes = header, sources, {}
         self.layout = Layout(self.shapes)
         self.names, self.named_so = {}, {}    # C's name of each type, and the declared type that has a name
+        self.called = {}    # by the last word of a path: the declared types that have it
         self.declared = []    # (name, lines) in an order that C takes
 
     def learn(self, shapes):
         for name, shape in shapes.items():
             if self.shapes.setdefault(name, shape) != shape:
                 raise Unknown(f'two shapes of {name}')
+            self.called.setdefault(base(name).split('::')[-1], set()).add(base(name))
+
+    def ident(self, name):
+        """C's name of a type or of a function: a path, and its arguments by their last words."""
+        of = arguments(name)
+        if base(name) in ANSWERS:
+            of = of[:1] if of[1:] == [ERROR] else of
+            return '_'.join(['dm', ANSWERS[base(name)]] + [self.word(x) for x in of])
+        return '_'.join([ident(base(name))] + [self.word(x) for x in of])
+
+    def word(self, name):
+        """A type in a name that it is an argument of: the last word of its path, where no other type has that."""
+        own = base(name)
+        if own in ANSWERS or not re.fullmatch(r'\w+(::\w+)*', own):
+            return ident(name)[3:] if own not in ANSWERS and '<' not in name else self.ident(name)[3:]
+        last = own.split('::')[-1]
+        shown = last if len(self.called.get(last, ())) <= 1 else ident(own)[3:]
+        return '_'.join([shown] + [self.word(x) for x in arguments(name)])
 
     def c(self, t):
         """The C type of a MIR type; what it needs is declared before it."""
@@ -70,12 +107,16 @@ class Types:
         self.declared.append((name, lines))
 
     def slice(self, element):
-        """A slice is its first element's address and its length, which stays 64 bits wide, as proved."""
+        """A slice is its first element's address and its length, which stays 64 bits wide, as proved. Numbers are equal
+        where their bytes are."""
         name = f'dm_slice_{self.short(element)}'
         c = self.pointer(element)
-        self.say(name, [f'typedef struct {{ {c}at; uint64_t length; }} {name};',
-                        f'static inline {name} {name}_of({c}at, uint64_t length)',
-                        '{', f'    {name} slice;', '    slice.at = at;', '    slice.length = length;', '    return slice;', '}'])
+        self.say(name, [f'typedef struct {{ {c}at; uint64_t length; }} {name};'])
+        self.say(f'{name}_of', [f'static inline {name} {name}_of({c}at, uint64_t length)', '{', f'    {name} slice;', '    slice.at = at;',
+                                '    slice.length = length;', '    return slice;', '}'])
+        if element[0] in ('Int', 'Bool'):
+            self.say(f'{name}_equal', [f'static inline bool {name}_equal({name} a, {name} b)', '{', '    return a.length == b.length && '
+                                       '(a.length == 0 || memcmp(a.at, b.at, (size_t)a.length * sizeof *a.at) == 0);', '}'])
         return name
 
     def array(self, t):
@@ -90,7 +131,7 @@ class Types:
         if own:
             self.say(own + ' ', self.sized(own, t))
             return own
-        own = ident(name)
+        own = self.ident(name)
         comment = self.sources.types[base(name)].comment if base(name) in self.sources.types else []
         comment = [f"/* {' '.join(comment)} */"] if comment else []
         if kind == 'Fields':
@@ -108,6 +149,22 @@ class Types:
         self.say(own, lines + ['typedef union {', '    uint8_t tag;'] + inside + [f'}} {own};'] + self.sized(own, t))
         return own
 
+    def initial(self, t, value):
+        """A constant as C has it behind `=`."""
+        if t[0] == 'Int':
+            return f'{value}u'
+        if t[0] == 'Bool':
+            return ('false', 'true')[value]
+        if t[0] == 'Array':
+            return f"{{{{{', '.join(self.initial(t[1], x) for x in value)}}}}}"
+        if self.is_bare(t):
+            return f'{self.c(t)}_{self.variant_names(t[1])[value][0]}'
+        parts = [self.initial(of, x) for of, x in zip(self.shapes[t[1]][1], value) if of != ('Unit',)]
+        own = self.header.struct_of(t[1])
+        if own:
+            parts = [x[1:-1] if length else x for x, (_, _, length) in zip(parts, self.header.structs[own])]
+        return f"{{{', '.join(parts)}}}"
+
     def member(self, t, name):
         return f'{self.c(t)} {name};'.replace('* ', '*')
 
@@ -116,7 +173,7 @@ class Types:
 
     def is_bare(self, t):
         """Whether an enum has no variant with fields of any bytes: it is its tag."""
-        kind, parts = self.shapes[t[1]]
+        kind, parts = self.shapes[t[1]] if t[0] == 'Named' else ('Fields', ())
         return kind == 'Variants' and all(p == ('Unit',) for ps in parts for p in ps)
 
     def of_place(self, t, steps):

@@ -259,6 +259,8 @@ class Values:
                 continue
             t = callee.locals[i].type
             args.append(self.lent(x, t) if i in self.program.lent(e.name) else self.as_type(x, t).text)
+        if callee.is_of_bytes:
+            return Value(f"{self.types.c(callee.locals[1].type)}_equal({', '.join(args)})", POSTFIX, ('Bool',))
         return Value(f"{self.program.c_name(e.name)}({', '.join(args)})", POSTFIX, callee.locals[0].type)
 
     def lent(self, x, t):
@@ -275,6 +277,20 @@ class Values:
 
     # ---- operations on two
 
+    def tag_names(self, e):
+        """The names of an enum's tags, where a value is one."""
+        if not isinstance(e, mir.Copy) or [k for k, _ in e.place.steps[-2:]] != ['Variant', 'Field'] or e.place.steps[-1][1] != 0:
+            return None
+        t = self.spot(mir.Place(e.place.base, e.place.steps[:-2])).type
+        return [f'{self.types.c(t)}_{v}' for v, _ in self.types.variant_names(t[1])]
+
+    def tags(self, e, x, y):
+        """Two tags as they are compared: a number that one is compared with by its name."""
+        names = self.tag_names(e.x)
+        if names and isinstance(e.y, mir.Int):
+            return x, Value(names[e.y.value], POSTFIX, y.type)
+        return (x, y) if names and self.tag_names(e.y) else self.widened(x, y)
+
     def op2(self, e):
         if e.op == 'Offset':
             return Value(self.address(e, ('Int', 8)), SUM, ('Ptr',))
@@ -285,7 +301,7 @@ class Values:
         if e.op.startswith('Float') and kind == 'Float':
             return self.float2(e.op[5:], x, y)
         if e.op in ('Eq', 'Ne') and kind in ('Int', 'Bool'):
-            return Value(*binary(COMPARED[e.op], *self.widened(x, y)), ('Bool',))
+            return Value(*binary(COMPARED[e.op], *self.tags(e, x, y)), ('Bool',))
         if kind == 'Bool' and e.op in ('And', 'Or', 'Xor'):
             return Value(f'(bool)({binary(ARITHMETIC[e.op], x, y)[0]})', UNARY, ('Bool',))
         if e.op in ('Lt', 'Le') and kind == 'Int':
@@ -303,7 +319,7 @@ class Values:
         `shr`, `div`, `rem`: of the numbers."""
         width = x.type[1]
         if isinstance(e.x, mir.Int) and (sign in ('<<', '>>') or isinstance(e.y, mir.Int)):
-            x = Value(f'(uint{max(width, 32)}_t){e.x.value}', UNARY, x.type)
+            x = Value(f'(uint{max(width, 32)}_t){e.x.value}' + 'u' * (e.x.value >= 2 ** 63), UNARY, x.type)
         if width >= 32:
             return Value(*binary(sign, x, y), x.type)
         x = Value(f'(uint32_t){x.within(UNARY)}', UNARY, x.type) if not isinstance(e.x, mir.Int) else x
