@@ -4,7 +4,7 @@ from . import mir
 from .live import derefs, stored
 from .mir import Assign, Copy, Int, Loop, Op2
 
-SMALL = 17    # statements of a small function
+SMALL = 24    # statements of a small function
 LARGEST = 200    # of one that is called in several places, with those of the small functions that it calls
 MOST_TURNS = 32    # of a loop that is unrolled, or whose test is `!=`
 

@@ -645,18 +645,18 @@ DM_SMALL dm_Result_unit dm_build_building_build_curve(uint8_t kind, dm_slice_u8 
 DM_SMALL dm_Option_u8 dm_console_words_hexadecimal_nibble(uint8_t b);
 DM_SMALL uint8_t dm_console_words_hexadecimal_glyph(uint8_t n);
 DM_SMALL dm_Option_u8 dm_console_words_hexadecimal_byte_at(dm_slice_u8 word, uint64_t at);
-static dm_Option_u64 dm_console_words_hexadecimal_count_bytes(dm_slice_u8 word, uint64_t room);
+DM_SMALL dm_Option_u64 dm_console_words_hexadecimal_count_bytes(dm_slice_u8 word, uint64_t room);
 static dm_Option_u64 dm_console_words_hexadecimal_bytes_of(dm_slice_u8 word, dm_slice_u8 out);
 DM_SMALL uint64_t dm_console_words_hexadecimal_spelt_length(dm_slice_u8 bytes);
 DM_SMALL uint8_t dm_console_words_hexadecimal_spelt_at(dm_slice_u8 bytes, uint64_t index);
 static dm_Option_u64 dm_console_words_hexadecimal_spell(dm_slice_u8 bytes, dm_slice_u8 out);
 DM_SMALL dm_Option_Level dm_console_words_levels_level_of(dm_slice_u8 word);
-static dm_Option_u64 dm_console_words_numbers_longer(uint64_t n, uint8_t character);
+DM_SMALL dm_Option_u64 dm_console_words_numbers_longer(uint64_t n, uint8_t character);
 static dm_Option_u64 dm_console_words_numbers_number_of(dm_slice_u8 word);
 DM_SMALL dm_Option_u64 dm_console_words_numbers_above(uint64_t n);
 DM_SMALL dm_Option_u64 dm_console_words_numbers_below(uint64_t n);
 DM_SMALL dm_Option_u64 dm_console_words_numbers_figure_of(dm_slice_u8 word);
-static dm_Option_u64 dm_console_words_numbers_count_figures(dm_slice_u8 word, uint64_t room);
+DM_SMALL dm_Option_u64 dm_console_words_numbers_count_figures(dm_slice_u8 word, uint64_t room);
 static dm_Option_u64 dm_console_words_numbers_figures_of(dm_slice_u8 word, dm_slice_u64 out);
 DM_SMALL bool dm_console_words_parts_is_minus(dm_slice_u8 word);
 static uint64_t dm_console_words_parts_piece_count(dm_slice_u8 line, uint8_t separator);
@@ -687,7 +687,7 @@ DM_SMALL void dm_listing_lines_print_ending(uint8_t kind, dm_slice_u8 image, con
 DM_SMALL bool dm_listing_lines_takes(const dm_Result_Reading *answer);
 DM_SMALL void dm_listing_lines_print_small_dash(uint8_t kind, dm_slice_u8 image, dm_templates_Template template_);
 DM_SMALL void dm_listing_lines_show(uint8_t kind, dm_slice_u8 image);
-static void dm_listing_naming_print_column(dm_templates_Template template_, uint64_t field, uint64_t column);
+DM_SMALL void dm_listing_naming_print_column(dm_templates_Template template_, uint64_t field, uint64_t column);
 DM_SMALL void dm_listing_naming_print_name(dm_templates_Template template_, uint64_t field);
 DM_SMALL void dm_listing_naming_print_unit(dm_templates_Template template_, uint64_t field);
 DM_SMALL void dm_listing_naming_print_single_unit(dm_templates_Template template_, uint64_t field);
@@ -703,7 +703,7 @@ static void dm_listing_output_put_character(uint8_t c);
 DM_SMALL dm_listing_parts_Numbers dm_listing_parts_below(uint64_t count);
 DM_SMALL dm_listing_parts_Numbers dm_listing_parts_numbers_of(dm_listing_parts_Part part,
     const dm_sheet_Summary *summary);
-static dm_listing_parts_Item dm_listing_parts_item_of(uint8_t kind, dm_slice_u8 image, dm_listing_parts_Part part,
+DM_SMALL dm_listing_parts_Item dm_listing_parts_item_of(uint8_t kind, dm_slice_u8 image, dm_listing_parts_Part part,
     uint64_t number);
 static void dm_listing_reasons_refused(const dm_refusal_Refusal *r);
 DM_SMALL dm_listing_rounding_Rounded dm_listing_rounding_highest(dm_slice_u8 digits);
@@ -713,7 +713,7 @@ DM_SMALL uint64_t dm_listing_rounding_less(uint64_t a, uint64_t b);
 DM_SMALL dm_listing_rounding_Rounded dm_listing_rounding_decimal_of(dm_slice_u8 digits, uint64_t m, uint64_t p);
 DM_SMALL dm_listing_rounding_Rounded dm_listing_rounding_shortest(const dm_listing_rounding_Rounded *x);
 DM_SMALL void dm_listing_singles_print_first_and_rest(dm_slice_u8 text);
-static dm_listing_singles_Shape dm_listing_singles_shape_of(uint64_t count, uint64_t up, uint64_t point);
+DM_SMALL dm_listing_singles_Shape dm_listing_singles_shape_of(uint64_t count, uint64_t up, uint64_t point);
 static void dm_listing_singles_print_digits(dm_slice_u8 text, uint64_t up, uint64_t point);
 DM_SMALL void dm_listing_singles_print_number(uint64_t n, uint64_t up, uint64_t point);
 DM_SMALL void dm_listing_singles_print_scaled(uint64_t m, uint64_t p);
@@ -723,9 +723,10 @@ DM_SMALL void dm_listing_singles_print_single(float x);
 DM_SMALL uint64_t dm_listing_values_date_field(dm_templates_Template template_);
 DM_SMALL uint64_t dm_listing_values_text_field(dm_templates_Template template_, uint64_t field);
 DM_SMALL void dm_listing_values_print_text(uint64_t field, uint64_t figure);
-static dm_listing_values_Form dm_listing_values_form_of(dm_templates_Template template_, uint64_t field,
+DM_SMALL dm_listing_values_Form dm_listing_values_form_of(dm_templates_Template template_, uint64_t field,
     const dm_codes_Value *value);
-static void dm_listing_values_print_value(dm_templates_Template template_, uint64_t field, const dm_codes_Value *value);
+DM_SMALL void dm_listing_values_print_value(dm_templates_Template template_, uint64_t field,
+    const dm_codes_Value *value);
 DM_SMALL uint8_t dm_commands_arguments_kind_of(uint64_t n);
 DM_SMALL dm_Option_Chip dm_commands_arguments_lent(dm_slice_u8 line, dm_slice_u8 room);
 DM_SMALL dm_Option_ChipNumber dm_commands_arguments_number_request(dm_slice_u8 line, dm_slice_u8 room);
@@ -734,7 +735,7 @@ DM_SMALL bool dm_commands_builds_is_drawn(dm_slice_u8 line, uint64_t end);
 DM_SMALL bool dm_commands_builds_is_whole(dm_slice_u8 line, uint64_t end);
 DM_SMALL dm_Option_Template dm_commands_builds_template_in(dm_slice_u8 line);
 static dm_Option_Head dm_commands_builds_head_of(dm_slice_u8 line);
-static dm_Option_array_build_Slot_21 dm_commands_builds_slots_of(dm_slice_u8 line, dm_templates_Template template_);
+DM_SMALL dm_Option_array_build_Slot_21 dm_commands_builds_slots_of(dm_slice_u8 line, dm_templates_Template template_);
 DM_SMALL dm_Option_u64 dm_commands_builds_flag_of(dm_slice_u8 word);
 DM_SMALL dm_Option_Sheet dm_commands_builds_sheet_of(dm_slice_u8 line, dm_templates_Template template_,
     dm_templates_Level level);
@@ -742,13 +743,13 @@ DM_SMALL dm_Option_u64 dm_commands_builds_text_of(dm_slice_u8 line, uint64_t end
 DM_SMALL dm_Option_u64 dm_commands_builds_domain_of(dm_slice_u8 line, uint64_t end);
 DM_SMALL dm_Option_u64 dm_commands_builds_points_of(dm_slice_u8 line, uint64_t end, dm_slice_u64 points);
 DM_SMALL dm_Option_Curve dm_commands_builds_curve_in(dm_slice_u8 line, uint64_t end);
-static dm_Option_Result_unit dm_commands_builds_build_in(dm_slice_u8 image, uint8_t kind, dm_slice_u8 line,
+DM_SMALL dm_Option_Result_unit dm_commands_builds_build_in(dm_slice_u8 image, uint8_t kind, dm_slice_u8 line,
     uint64_t end, const dm_build_Sheet *sheet, dm_slice_u8 text, dm_slice_u64 points);
 DM_SMALL dm_Option_Result_unit dm_commands_builds_draw_in(dm_slice_u8 image, uint8_t kind, dm_slice_u8 line,
     uint64_t end, const dm_build_Sheet *sheet, dm_slice_u8 text);
 DM_SMALL dm_Option_Result_unit dm_commands_builds_built(dm_slice_u8 image, dm_slice_u8 line,
     const dm_commands_builds_Head *head, const dm_build_Sheet *sheet, dm_slice_u8 text, dm_slice_u64 points);
-static dm_Option_WrittenFront dm_commands_builds_build_reply(dm_slice_u8 line, dm_slice_u8 room, dm_slice_u8 text,
+DM_SMALL dm_Option_WrittenFront dm_commands_builds_build_reply(dm_slice_u8 line, dm_slice_u8 room, dm_slice_u8 text,
     dm_slice_u64 points);
 DM_SMALL void dm_commands_builds_build(dm_slice_u8 line);
 DM_SMALL dm_commands_choosing_Command dm_commands_choosing_of_one(dm_slice_u8 name);
@@ -763,7 +764,7 @@ DM_SMALL dm_commands_choosing_Command dm_commands_choosing_of_seven(dm_slice_u8 
 DM_SMALL dm_commands_choosing_Command dm_commands_choosing_of_sheet(dm_slice_u8 name);
 DM_SMALL dm_commands_choosing_Command dm_commands_choosing_of_words(dm_slice_u8 name, uint64_t words);
 DM_SMALL dm_commands_choosing_Command dm_commands_choosing_command_of(dm_slice_u8 line);
-static dm_Option_Result_Compared dm_commands_comparing_compare_reply(dm_slice_u8 line, dm_slice_u8 room,
+DM_SMALL dm_Option_Result_Compared dm_commands_comparing_compare_reply(dm_slice_u8 line, dm_slice_u8 room,
     dm_slice_u64 slow, dm_slice_u64 fast);
 DM_SMALL void dm_commands_comparing_print_compared(const dm_Result_Compared *answer);
 DM_SMALL void dm_commands_comparing_compare(dm_slice_u8 line);
@@ -773,7 +774,7 @@ DM_SMALL void dm_commands_conformities_print_conformity(const dm_Result_Option_C
 DM_SMALL void dm_commands_conformities_conform(dm_slice_u8 line);
 DM_SMALL dm_Option_u64 dm_commands_curves_pairs_in(dm_slice_u8 list);
 DM_SMALL dm_Option_Segment dm_commands_curves_segment_at(dm_slice_u8 list, uint64_t pair);
-static dm_Option_Term dm_commands_curves_term_at(dm_slice_u8 list, uint64_t pair);
+DM_SMALL dm_Option_Term dm_commands_curves_term_at(dm_slice_u8 list, uint64_t pair);
 static dm_Option_array_templates_Segment_20 dm_commands_curves_segments_of(dm_slice_u8 list);
 static dm_Option_array_templates_Term_30 dm_commands_curves_terms_of(dm_slice_u8 list);
 DM_SMALL dm_Option_Curve dm_commands_curves_curve_of(uint64_t count, dm_slice_u8 segments, dm_slice_u8 terms);
@@ -781,7 +782,7 @@ static void dm_commands_dispatch_answer(dm_slice_u8 line);
 DM_SMALL dm_Option_Result_CertificateBound dm_commands_distances_distance_reply(dm_slice_u8 line, dm_slice_u64 points);
 DM_SMALL void dm_commands_distances_print_distance(const dm_Result_CertificateBound *answer);
 DM_SMALL void dm_commands_distances_distance(dm_slice_u8 line);
-static dm_Option_Edit dm_commands_edits_edit_of(dm_slice_u8 line);
+DM_SMALL dm_Option_Edit dm_commands_edits_edit_of(dm_slice_u8 line);
 DM_SMALL dm_Option_WrittenFront dm_commands_edits_change_reply(dm_slice_u8 line, dm_slice_u8 room);
 DM_SMALL void dm_commands_edits_change(dm_slice_u8 line);
 DM_SMALL dm_Option_Result_Proposal dm_commands_edits_propose_reply(dm_slice_u8 line, dm_slice_u8 room);
@@ -793,7 +794,7 @@ DM_SMALL dm_Option_WrittenFront dm_commands_edits_commit_reply(dm_slice_u8 line,
 DM_SMALL void dm_commands_edits_commit(dm_slice_u8 line);
 DM_SMALL dm_Option_WrittenFront dm_commands_indexes_index_reply(dm_slice_u8 line, dm_slice_u8 room, dm_slice_u8 buffer);
 DM_SMALL void dm_commands_indexes_index(dm_slice_u8 line);
-static dm_Option_Result_Value dm_commands_indexes_fetch_reply(dm_slice_u8 line, dm_slice_u8 room, dm_slice_u8 buffer);
+DM_SMALL dm_Option_Result_Value dm_commands_indexes_fetch_reply(dm_slice_u8 line, dm_slice_u8 room, dm_slice_u8 buffer);
 DM_SMALL void dm_commands_indexes_fetch(dm_slice_u8 line);
 DM_SMALL dm_Option_Result_Pair dm_commands_items_pair_reply(dm_slice_u8 line, dm_slice_u8 room);
 DM_SMALL void dm_commands_items_print_pair(const dm_Result_Pair *answer);
@@ -822,11 +823,11 @@ DM_SMALL void dm_commands_printing_field_reply(const dm_Option_Result_Value *rep
 DM_SMALL void dm_commands_printing_written(const dm_Result_unit *answer, dm_slice_u8 buffer);
 DM_SMALL void dm_commands_printing_write_reply(const dm_Option_WrittenFront *reply, dm_slice_u8 room);
 DM_SMALL dm_Option_Dash dm_commands_readings_dash_of(dm_slice_u8 word);
-static dm_Option_Result_Reading dm_commands_readings_reading_reply(dm_slice_u8 line, dm_slice_u8 room);
+DM_SMALL dm_Option_Result_Reading dm_commands_readings_reading_reply(dm_slice_u8 line, dm_slice_u8 room);
 DM_SMALL void dm_commands_readings_print_reading(const dm_Result_Reading *answer);
 DM_SMALL void dm_commands_readings_reading(dm_slice_u8 line);
 DM_SMALL dm_Option_Result_Summary dm_commands_reads_check_reply(dm_slice_u8 line, dm_slice_u8 room);
-static void dm_commands_reads_accepted(const dm_sheet_Summary *summary);
+DM_SMALL void dm_commands_reads_accepted(const dm_sheet_Summary *summary);
 DM_SMALL void dm_commands_reads_print_check(const dm_Result_Summary *answer);
 DM_SMALL void dm_commands_reads_check(dm_slice_u8 line);
 DM_SMALL void dm_commands_reads_show(dm_slice_u8 line);
@@ -1226,7 +1227,7 @@ DM_SMALL dm_Option_u8 dm_console_words_hexadecimal_byte_at(dm_slice_u8 word, uin
 
 /* The number of bytes in a word, two digits each; `-` has none. None if the word is anything else, or there are more
  * than `room`. */
-static dm_Option_u64 dm_console_words_hexadecimal_count_bytes(dm_slice_u8 word, uint64_t room)
+DM_SMALL dm_Option_u64 dm_console_words_hexadecimal_count_bytes(dm_slice_u8 word, uint64_t room)
 {
     if (dm_console_words_parts_is_minus(word)) {
         dm_Option_u64 result;
@@ -1367,7 +1368,7 @@ DM_SMALL dm_Option_Level dm_console_words_levels_level_of(dm_slice_u8 word)
 /* ---- crates/console_words/src/numbers.rt ---- */
 
 /* A number with one more digit, if the character is a digit and the number fits 64 bits. */
-static dm_Option_u64 dm_console_words_numbers_longer(uint64_t n, uint8_t character)
+DM_SMALL dm_Option_u64 dm_console_words_numbers_longer(uint64_t n, uint8_t character)
 {
     uint32_t v21 = (uint32_t)character;
     if (!(bool)(((uint32_t)48u <= v21) & (v21 <= (uint32_t)57u))) {
@@ -1482,7 +1483,7 @@ DM_SMALL dm_Option_u64 dm_console_words_numbers_figure_of(dm_slice_u8 word)
 
 /* The number of figures in a word, separated by commas; `-` has none. None if a part is no figure, or there are more
  * than `room`. */
-static dm_Option_u64 dm_console_words_numbers_count_figures(dm_slice_u8 word, uint64_t room)
+DM_SMALL dm_Option_u64 dm_console_words_numbers_count_figures(dm_slice_u8 word, uint64_t room)
 {
     if (dm_console_words_parts_is_minus(word)) {
         dm_Option_u64 result;
@@ -2024,7 +2025,7 @@ DM_SMALL void dm_listing_lines_show(uint8_t kind, dm_slice_u8 image)
 /* ---- crates/listing/src/naming.rt ---- */
 
 /* Prints a column of a field's row. */
-static void dm_listing_naming_print_column(dm_templates_Template template_, uint64_t field, uint64_t column)
+DM_SMALL void dm_listing_naming_print_column(dm_templates_Template template_, uint64_t field, uint64_t column)
 {
     if (field < 10u) {
         dm_listing_output_put_entry(dm_slice_u8_of((uint8_t *)"no field\n" "manufacturer ID\n" "model number\n"
@@ -2193,7 +2194,7 @@ DM_SMALL dm_listing_parts_Numbers dm_listing_parts_numbers_of(dm_listing_parts_P
 }
 
 /* The item of a part at a number. */
-static dm_listing_parts_Item dm_listing_parts_item_of(uint8_t kind, dm_slice_u8 image, dm_listing_parts_Part part,
+DM_SMALL dm_listing_parts_Item dm_listing_parts_item_of(uint8_t kind, dm_slice_u8 image, dm_listing_parts_Part part,
     uint64_t number)
 {
     switch (part) {
@@ -2389,7 +2390,7 @@ DM_SMALL void dm_listing_singles_print_first_and_rest(dm_slice_u8 text)
 
 /* The shape of `count` digits with `up` zeros after them, and the decimal point `point` places up. It is plain with
  * up to ten digits before the point, or up to four zeros after it. */
-static dm_listing_singles_Shape dm_listing_singles_shape_of(uint64_t count, uint64_t up, uint64_t point)
+DM_SMALL dm_listing_singles_Shape dm_listing_singles_shape_of(uint64_t count, uint64_t up, uint64_t point)
 {
     uint64_t top = up + count;
     if (point < top) {
@@ -2585,7 +2586,7 @@ DM_SMALL void dm_listing_values_print_text(uint64_t field, uint64_t figure)
 }
 
 /* Field 12, the bridge type or the mapping method, has names. */
-static dm_listing_values_Form dm_listing_values_form_of(dm_templates_Template template_, uint64_t field,
+DM_SMALL dm_listing_values_Form dm_listing_values_form_of(dm_templates_Template template_, uint64_t field,
     const dm_codes_Value *value)
 {
     switch (value->tag) {
@@ -2627,7 +2628,8 @@ static dm_listing_values_Form dm_listing_values_form_of(dm_templates_Template te
 }
 
 /* Prints the value of a field. */
-static void dm_listing_values_print_value(dm_templates_Template template_, uint64_t field, const dm_codes_Value *value)
+DM_SMALL void dm_listing_values_print_value(dm_templates_Template template_, uint64_t field,
+    const dm_codes_Value *value)
 {
     dm_listing_values_Form v10 = dm_listing_values_form_of(template_, field, value);
     switch (v10.tag) {
@@ -2817,7 +2819,7 @@ static dm_Option_Head dm_commands_builds_head_of(dm_slice_u8 line)
 }
 
 /* The values of the fields, if all their words are valid; missing after the template's last. */
-static dm_Option_array_build_Slot_21 dm_commands_builds_slots_of(dm_slice_u8 line, dm_templates_Template template_)
+DM_SMALL dm_Option_array_build_Slot_21 dm_commands_builds_slots_of(dm_slice_u8 line, dm_templates_Template template_)
 {
     dm_build_Slot v10;
     v10.value.tag = dm_codes_Value_Missing;
@@ -2926,7 +2928,7 @@ DM_SMALL dm_Option_Curve dm_commands_builds_curve_in(dm_slice_u8 line, uint64_t 
 }
 
 /* The build in a lent buffer from the text, the domain and the points, the words after the end bit's. */
-static dm_Option_Result_unit dm_commands_builds_build_in(dm_slice_u8 image, uint8_t kind, dm_slice_u8 line,
+DM_SMALL dm_Option_Result_unit dm_commands_builds_build_in(dm_slice_u8 image, uint8_t kind, dm_slice_u8 line,
     uint64_t end, const dm_build_Sheet *sheet, dm_slice_u8 text, dm_slice_u64 points)
 {
     dm_Option_u64 v21 = dm_commands_builds_domain_of(line, end);
@@ -2996,7 +2998,7 @@ DM_SMALL dm_Option_Result_unit dm_commands_builds_built(dm_slice_u8 image, dm_sl
 }
 
 /* The build of a line, in the first bytes of a room. */
-static dm_Option_WrittenFront dm_commands_builds_build_reply(dm_slice_u8 line, dm_slice_u8 room, dm_slice_u8 text,
+DM_SMALL dm_Option_WrittenFront dm_commands_builds_build_reply(dm_slice_u8 line, dm_slice_u8 room, dm_slice_u8 text,
     dm_slice_u64 points)
 {
     dm_Option_Head v16 = dm_commands_builds_head_of(line);
@@ -3205,7 +3207,7 @@ DM_SMALL dm_commands_choosing_Command dm_commands_choosing_command_of(dm_slice_u
 /* ---- crates/commands/src/comparing.rt ---- */
 
 /* The comparison of the slow recording and the fast one with the image, words 1 to 4. */
-static dm_Option_Result_Compared dm_commands_comparing_compare_reply(dm_slice_u8 line, dm_slice_u8 room,
+DM_SMALL dm_Option_Result_Compared dm_commands_comparing_compare_reply(dm_slice_u8 line, dm_slice_u8 room,
     dm_slice_u64 slow, dm_slice_u64 fast)
 {
     dm_Option_Chip v18 = dm_commands_arguments_lent(line, room);
@@ -3380,7 +3382,7 @@ DM_SMALL dm_Option_Segment dm_commands_curves_segment_at(dm_slice_u8 list, uint6
 }
 
 /* The exponent and coefficient at this pair of a list. */
-static dm_Option_Term dm_commands_curves_term_at(dm_slice_u8 list, uint64_t pair)
+DM_SMALL dm_Option_Term dm_commands_curves_term_at(dm_slice_u8 list, uint64_t pair)
 {
     dm_Option_u64 v11 = dm_console_words_numbers_figure_of(dm_console_words_parts_piece_at(list, 2u * pair, 44u));
     if (v11.tag == dm_Option_u64_None) {
@@ -3655,7 +3657,7 @@ DM_SMALL void dm_commands_distances_distance(dm_slice_u8 line)
 /* ---- crates/commands/src/edits.rt ---- */
 
 /* The field, the value and the level, words 3 to 5 of a change or a proposal. */
-static dm_Option_Edit dm_commands_edits_edit_of(dm_slice_u8 line)
+DM_SMALL dm_Option_Edit dm_commands_edits_edit_of(dm_slice_u8 line)
 {
     dm_Option_u64 v12 = dm_console_words_numbers_number_of(dm_console_words_parts_word(line, 3u));
     if (v12.tag == dm_Option_u64_None) {
@@ -3897,7 +3899,7 @@ DM_SMALL void dm_commands_indexes_index(dm_slice_u8 line)
 }
 
 /* The field fetched from the image by the index's bytes, words 1 to 4. */
-static dm_Option_Result_Value dm_commands_indexes_fetch_reply(dm_slice_u8 line, dm_slice_u8 room, dm_slice_u8 buffer)
+DM_SMALL dm_Option_Result_Value dm_commands_indexes_fetch_reply(dm_slice_u8 line, dm_slice_u8 room, dm_slice_u8 buffer)
 {
     dm_Option_Chip v16 = dm_commands_arguments_lent(line, room);
     if (v16.tag == dm_Option_Chip_None) {
@@ -4291,7 +4293,7 @@ DM_SMALL dm_Option_Dash dm_commands_readings_dash_of(dm_slice_u8 word)
 }
 
 /* The reading of the image, the input and the dash, words 1 to 4. */
-static dm_Option_Result_Reading dm_commands_readings_reading_reply(dm_slice_u8 line, dm_slice_u8 room)
+DM_SMALL dm_Option_Result_Reading dm_commands_readings_reading_reply(dm_slice_u8 line, dm_slice_u8 room)
 {
     dm_Option_Chip v14 = dm_commands_arguments_lent(line, room);
     if (v14.tag == dm_Option_Chip_None) {
@@ -4365,7 +4367,7 @@ DM_SMALL dm_Option_Result_Summary dm_commands_reads_check_reply(dm_slice_u8 line
     return result;
 }
 
-static void dm_commands_reads_accepted(const dm_sheet_Summary *summary)
+DM_SMALL void dm_commands_reads_accepted(const dm_sheet_Summary *summary)
 {
     dm_listing_output_put(dm_slice_u8_of((uint8_t *)"ok ", 3u));
     dm_listing_output_put_number(summary->bits);

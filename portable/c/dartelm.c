@@ -1279,7 +1279,7 @@ DM_SMALL uint64_t dm_codes_tables_scale_value(dm_codes_Scale scale, uint64_t cod
 DM_SMALL uint64_t dm_codes_tables_least_value(dm_codes_Scale scale);
 DM_SMALL uint64_t dm_codes_tables_greatest_value(dm_codes_Scale scale);
 DM_SMALL uint64_t dm_codes_tables_stored_code(dm_codes_Scale scale, uint64_t figure);
-static dm_Result_Sizes dm_memory_kinds_image_sizes(uint8_t kind, uint64_t bytes);
+DM_SMALL dm_Result_Sizes dm_memory_kinds_image_sizes(uint8_t kind, uint64_t bytes);
 DM_SMALL uint64_t dm_memory_kinds_stream_bits(const dm_memory_Sizes *sizes);
 static uint8_t dm_memory_pages_sum(dm_slice_u8 bytes);
 DM_SMALL uint8_t dm_memory_pages_page_sum(const dm_memory_Sizes *sizes, dm_slice_u8 image, uint64_t page);
@@ -1317,7 +1317,7 @@ DM_SMALL dm_stream_cursor_Cursor dm_stream_cursor_Cursor_start(void);
 DM_SMALL dm_stream_cursor_Passed dm_stream_cursor_Cursor_over(dm_stream_cursor_Cursor self, uint64_t width);
 DM_SMALL dm_stream_cursor_Read dm_stream_cursor_Cursor_read(dm_stream_cursor_Cursor self, const dm_memory_Sizes *sizes,
     dm_slice_u8 image, uint64_t width);
-static dm_Result_tuple_u64_Cursor dm_stream_cursor_Cursor_take(dm_stream_cursor_Cursor self,
+DM_SMALL dm_Result_tuple_u64_Cursor dm_stream_cursor_Cursor_take(dm_stream_cursor_Cursor self,
     const dm_memory_Sizes *sizes, dm_slice_u8 image, uint64_t width);
 DM_SMALL dm_stream_cursor_Cursor dm_stream_cursor_Cursor_append(dm_stream_cursor_Cursor self,
     const dm_memory_Sizes *sizes, dm_slice_u8 image, uint64_t width, uint64_t code);
@@ -1350,7 +1350,7 @@ DM_SMALL dm_Result_u64 dm_templates_curves_encode_start(uint64_t place, uint64_t
 DM_SMALL dm_Result_u64 dm_templates_curves_encode_coefficient(uint64_t place, float x);
 DM_SMALL bool dm_templates_curves_is_exponent(uint64_t code);
 DM_SMALL bool dm_templates_curves_exponent_follows(const dm_Option_u64 *before, uint64_t code);
-static dm_Result_u64 dm_templates_curves_encode_exponent(const dm_Option_u64 *before, uint64_t place,
+DM_SMALL dm_Result_u64 dm_templates_curves_encode_exponent(const dm_Option_u64 *before, uint64_t place,
     uint64_t exponent);
 DM_SMALL uint64_t dm_templates_curves_exponent_of(uint64_t tenths);
 DM_SMALL bool dm_templates_curves_start_follows(const dm_Option_u64 *before, uint64_t code);
@@ -1377,8 +1377,8 @@ static dm_codes_Row dm_templates_lines_resistance_row(uint64_t precision, uint64
 DM_SMALL dm_codes_Row dm_templates_lines_row_of(const dm_templates_Layout *layout, uint64_t field);
 DM_SMALL uint64_t dm_templates_lines_basic_closed(void);
 DM_SMALL uint64_t dm_templates_lines_last_closed(dm_templates_Template template_);
-static uint64_t dm_templates_lines_bridge_bits(uint64_t field);
-static uint64_t dm_templates_lines_resistance_bits(uint64_t field);
+DM_SMALL uint64_t dm_templates_lines_bridge_bits(uint64_t field);
+DM_SMALL uint64_t dm_templates_lines_resistance_bits(uint64_t field);
 DM_SMALL uint64_t dm_templates_lines_ends_before(uint64_t width, uint64_t field);
 DM_SMALL uint64_t dm_templates_lines_bits_before(const dm_templates_Layout *layout, uint64_t field);
 DM_SMALL dm_codes_Row dm_templates_rows_always(uint64_t width, const dm_codes_Rule *rule);
@@ -1387,7 +1387,7 @@ DM_SMALL dm_codes_Row dm_templates_rows_any(uint64_t width);
 DM_SMALL uint64_t dm_templates_rows_scale_width(dm_codes_Scale scale);
 DM_SMALL dm_codes_Row dm_templates_rows_scaled(dm_codes_Scale scale);
 DM_SMALL dm_codes_Row dm_templates_rows_bridge_end(uint64_t precision);
-static dm_codes_Row dm_templates_rows_resistance_end(uint64_t precision);
+DM_SMALL dm_codes_Row dm_templates_rows_resistance_end(uint64_t precision);
 DM_SMALL uint64_t dm_correction_crossing_sum(const dm_templates_Pair *pair);
 DM_SMALL uint64_t dm_correction_crossing_crossing_held(uint64_t p, const dm_templates_Pair *pair);
 DM_SMALL uint64_t dm_correction_crossing_onward(uint64_t point, uint64_t steps);
@@ -1417,7 +1417,7 @@ DM_SMALL uint64_t dm_texts_dates_year_of(uint64_t code);
 DM_SMALL uint64_t dm_texts_dates_month_of(uint64_t year, uint64_t day);
 DM_SMALL dm_texts_dates_Date dm_texts_dates_date_of(uint64_t code);
 DM_SMALL uint8_t dm_texts_dates_digit(uint64_t n);
-static dm_array_u8_10 dm_texts_dates_text_of(uint64_t code);
+DM_SMALL dm_array_u8_10 dm_texts_dates_text_of(uint64_t code);
 DM_SMALL uint64_t dm_texts_dates_figure(uint8_t character);
 DM_SMALL uint64_t dm_texts_dates_two_digits(dm_slice_u8 text, uint64_t at);
 DM_SMALL uint64_t dm_texts_dates_day_code(uint64_t year, uint64_t month, uint64_t day);
@@ -1429,14 +1429,14 @@ DM_SMALL dm_array_u8_10 dm_texts_letters_three_text(uint64_t code);
 DM_SMALL uint64_t dm_texts_letters_one_code(dm_slice_u8 text);
 DM_SMALL uint64_t dm_texts_letters_three_code(dm_slice_u8 text);
 static dm_Result_Text dm_texts_text_of(uint64_t field, uint64_t code);
-static dm_Result_u64 dm_texts_code_of(uint64_t field, dm_slice_u8 text);
+DM_SMALL dm_Result_u64 dm_texts_code_of(uint64_t field, dm_slice_u8 text);
 DM_SMALL dm_Result_u64 dm_texts_code_if_shown(uint64_t field, uint64_t code, dm_slice_u8 text);
 DM_SMALL bool dm_texts_equal(dm_slice_u8 a, dm_slice_u8 b);
 DM_SMALL uint64_t dm_build_building_bits_needed(uint64_t codes, uint64_t characters);
 DM_SMALL bool dm_build_building_is_too_long(const dm_memory_Sizes *sizes, uint64_t bits);
 static dm_Result_unit dm_build_building_finish(const dm_memory_Sizes *sizes, dm_slice_u8 image,
     dm_build_Options options, dm_slice_u64 codes, const dm_Result_Listed *planned, dm_slice_u8 text);
-DM_SMALL dm_Result_Listed dm_build_building_plan_front(dm_build_Options options, const dm_build_plan_Lent *values,
+static dm_Result_Listed dm_build_building_plan_front(dm_build_Options options, const dm_build_plan_Lent *values,
     dm_slice_u8 text, dm_slice_u64 codes);
 DM_SMALL dm_build_list_Listed dm_build_building_both_listed(const dm_build_list_Listed *first,
     const dm_build_list_Listed *second);
@@ -1444,7 +1444,7 @@ DM_SMALL dm_Result_Listed dm_build_building_plan_sheet(dm_build_Options options,
     dm_slice_u8 text, dm_slice_u64 points, dm_slice_u64 codes);
 DM_SMALL dm_Result_Listed dm_build_building_plan_curve_sheet(dm_build_Options options,
     const dm_build_plan_Lent *values, dm_slice_u8 text, const dartelm_curve *curve, dm_slice_u64 codes);
-static dm_Result_unit dm_build_building_build_in(const dm_memory_Sizes *sizes, dm_slice_u8 image,
+DM_SMALL dm_Result_unit dm_build_building_build_in(const dm_memory_Sizes *sizes, dm_slice_u8 image,
     dm_build_Options options, const dm_build_plan_Lent *values, dm_slice_u8 text, dm_slice_u64 points);
 DM_SMALL dm_Result_unit dm_build_building_build_curve_in(const dm_memory_Sizes *sizes, dm_slice_u8 image,
     dm_build_Options options, const dm_build_plan_Lent *values, dm_slice_u8 text, const dartelm_curve *curve);
@@ -1453,11 +1453,11 @@ DM_SMALL dm_Result_unit dm_build_building_build_lent(uint8_t kind, dm_slice_u8 i
 DM_SMALL dm_Result_unit dm_build_building_build_curve_lent(uint8_t kind, dm_slice_u8 image, dm_build_Options options,
     dm_slice_u8 tags, dm_slice_u64 wholes, dm_slice_f32 singles, dm_slice_u8 text, const dartelm_curve *curve);
 DM_SMALL dm_Result_unit dm_build_curve_plan_check_count(uint64_t i, uint64_t total, uint64_t terms);
-static dm_Result_u64 dm_build_curve_plan_code_start(const dm_Option_u64 *before, uint64_t i, uint64_t total,
+DM_SMALL dm_Result_u64 dm_build_curve_plan_code_start(const dm_Option_u64 *before, uint64_t i, uint64_t total,
     const dartelm_curve_segment *segment);
 DM_SMALL dm_Result_tuple_CodedField_CodedField dm_build_curve_plan_code_segment(const dm_Option_u64 *before,
     uint64_t i, uint64_t total, const dartelm_curve_segment *segment);
-static dm_Result_tuple_CodedField_CodedField dm_build_curve_plan_code_term(const dm_Option_u64 *before, uint64_t i,
+DM_SMALL dm_Result_tuple_CodedField_CodedField dm_build_curve_plan_code_term(const dm_Option_u64 *before, uint64_t i,
     const dartelm_curve_term *term);
 DM_SMALL dm_build_list_Listed dm_build_curve_plan_curve_listed(uint64_t segments, uint64_t terms);
 static dm_Result_Listed dm_build_curve_plan_plan_segments(const dartelm_curve *curve, dm_slice_u64 codes);
@@ -1479,21 +1479,21 @@ DM_SMALL dm_Result_u64 dm_build_plan_code_field(const dm_templates_Layout *layou
     const dm_build_list_CodedField *quick, const dm_build_plan_Lent *values, dm_slice_u64 codes, uint64_t i);
 DM_SMALL dm_codes_Row dm_build_plan_front_row(uint64_t field);
 DM_SMALL dm_codes_Row dm_build_plan_back_row(uint64_t j);
-static dm_Result_u64 dm_build_plan_code_front(dm_templates_Template template_, uint64_t before,
+DM_SMALL dm_Result_u64 dm_build_plan_code_front(dm_templates_Template template_, uint64_t before,
     const dm_build_plan_Lent *values, dm_slice_u64 codes);
 DM_SMALL dm_Result_u64 dm_build_plan_code_basic(dm_templates_Template template_, const dm_build_plan_Lent *values,
     dm_slice_u64 codes);
-static dm_Result_u64 dm_build_plan_code_back(dm_templates_Template template_, uint64_t before,
+DM_SMALL dm_Result_u64 dm_build_plan_code_back(dm_templates_Template template_, uint64_t before,
     const dm_build_plan_Lent *values, dm_slice_u64 codes);
 DM_SMALL dm_Result_u64 dm_build_plan_code_own(dm_templates_Template template_, uint64_t before,
     const dm_build_plan_Lent *values, dm_slice_u64 codes);
 DM_SMALL uint64_t dm_build_plan_field_bits(const dm_templates_Layout *layout);
 DM_SMALL dm_build_list_Listed dm_build_plan_fields_listed(const dm_templates_Layout *layout);
-static dm_Result_Listed dm_build_plan_plan_fields(dm_templates_Template template_, const dm_build_plan_Lent *values,
+DM_SMALL dm_Result_Listed dm_build_plan_plan_fields(dm_templates_Template template_, const dm_build_plan_Lent *values,
     dm_slice_u64 codes);
 DM_SMALL dm_Result_unit dm_build_plan_check_characters(uint64_t field, dm_slice_u8 text);
 DM_SMALL dm_Result_unit dm_build_plan_check_ending(dm_templates_Template template_, bool end_bit, dm_slice_u8 text);
-static dm_Result_Codes dm_build_plan_code_pair(dm_slice_u64 points, uint64_t i);
+DM_SMALL dm_Result_Codes dm_build_plan_code_pair(dm_slice_u64 points, uint64_t i);
 DM_SMALL dm_Result_Codes dm_build_plan_check_pair(dm_templates_Domain domain, const dm_Option_Codes *before,
     dm_slice_u64 points, uint64_t i);
 DM_SMALL dm_Result_unit dm_build_plan_check_points(dm_templates_Domain domain, dm_slice_u64 points);
@@ -1520,53 +1520,53 @@ DM_SMALL dm_Result_tuple_Counts_Cursor dm_sheet_block_take_block(const dm_memory
     dm_stream_cursor_Cursor cursor, uint64_t at);
 DM_SMALL dm_Result_tuple_Counts_Cursor dm_sheet_block_take_only_block(const dm_memory_Sizes *sizes, dm_slice_u8 image,
     dm_stream_cursor_Cursor cursor, uint64_t at);
-static dm_Result_tuple_Counts_Cursor dm_sheet_block_take_calibration(const dm_memory_Sizes *sizes, dm_slice_u8 image,
+DM_SMALL dm_Result_tuple_Counts_Cursor dm_sheet_block_take_calibration(const dm_memory_Sizes *sizes, dm_slice_u8 image,
     dm_stream_cursor_Cursor cursor);
 DM_SMALL dm_Result_Summary dm_sheet_calls_check(uint8_t kind, dm_slice_u8 image);
-static dm_Result_Value dm_sheet_calls_read_field(uint8_t kind, dm_slice_u8 image, uint64_t field);
+DM_SMALL dm_Result_Value dm_sheet_calls_read_field(uint8_t kind, dm_slice_u8 image, uint64_t field);
 DM_SMALL dm_Result_Pair dm_sheet_calls_read_pair(uint8_t kind, dm_slice_u8 image, uint64_t index);
 DM_SMALL dm_Result_u8 dm_sheet_calls_read_character(uint8_t kind, dm_slice_u8 image, uint64_t index);
 DM_SMALL dm_Result_Segment dm_sheet_calls_read_segment(uint8_t kind, dm_slice_u8 image, uint64_t index);
 DM_SMALL dm_Result_Term dm_sheet_calls_read_term(uint8_t kind, dm_slice_u8 image, uint64_t index);
 DM_SMALL dm_Result_tuple_u64_Cursor dm_sheet_curve_block_ruled(bool takes, uint64_t at, uint64_t code,
     dm_stream_cursor_Cursor next);
-DM_SMALL dm_Result_tuple_u64_Cursor dm_sheet_curve_block_take_ruled(const dm_memory_Sizes *sizes, dm_slice_u8 image,
+static dm_Result_tuple_u64_Cursor dm_sheet_curve_block_take_ruled(const dm_memory_Sizes *sizes, dm_slice_u8 image,
     dm_stream_cursor_Cursor cursor, dm_templates_curves_CurveField field, const dm_Option_u64 *before);
-static dm_Result_tuple_Option_u64_Cursor dm_sheet_curve_block_take_term_apart(const dm_memory_Sizes *sizes,
+DM_SMALL dm_Result_tuple_Option_u64_Cursor dm_sheet_curve_block_take_term_apart(const dm_memory_Sizes *sizes,
     dm_slice_u8 image, dm_stream_cursor_Cursor cursor, const dm_Option_u64 *before);
 DM_SMALL bool dm_sheet_curve_block_is_term(const dm_Option_u64 *before, uint64_t at, uint64_t both);
 DM_SMALL dm_Result_tuple_Option_u64_Cursor dm_sheet_curve_block_take_term(const dm_memory_Sizes *sizes,
     dm_slice_u8 image, dm_stream_cursor_Cursor cursor, const dm_Option_u64 *before);
-static dm_Result_tuple_Option_u64_Cursor dm_sheet_curve_block_take_terms(const dm_memory_Sizes *sizes,
+DM_SMALL dm_Result_tuple_Option_u64_Cursor dm_sheet_curve_block_take_terms(const dm_memory_Sizes *sizes,
     dm_slice_u8 image, dm_stream_cursor_Cursor start, uint64_t count);
-static dm_Result_tuple_Option_u64_u64_Cursor dm_sheet_curve_block_take_own_terms(const dm_memory_Sizes *sizes,
+DM_SMALL dm_Result_tuple_Option_u64_u64_Cursor dm_sheet_curve_block_take_own_terms(const dm_memory_Sizes *sizes,
     dm_slice_u8 image, dm_stream_cursor_Cursor cursor, uint64_t start, uint64_t total, uint64_t count);
 DM_SMALL dm_Result_tuple_Option_u64_u64_Cursor dm_sheet_curve_block_take_counted(const dm_memory_Sizes *sizes,
     dm_slice_u8 image, dm_stream_cursor_Cursor cursor, uint64_t start, uint64_t terms);
 DM_SMALL dm_Result_tuple_Option_u64_u64_Cursor dm_sheet_curve_block_take_segment(const dm_memory_Sizes *sizes,
     dm_slice_u8 image, dm_stream_cursor_Cursor cursor, const dm_Option_u64 *before, uint64_t terms);
-static dm_Result_tuple_Option_u64_u64_Cursor dm_sheet_curve_block_take_segments(const dm_memory_Sizes *sizes,
+DM_SMALL dm_Result_tuple_Option_u64_u64_Cursor dm_sheet_curve_block_take_segments(const dm_memory_Sizes *sizes,
     dm_slice_u8 image, dm_stream_cursor_Cursor start, uint64_t count);
 static dm_Result_tuple_Counts_Cursor dm_sheet_curve_block_take_curve(const dm_memory_Sizes *sizes, dm_slice_u8 image,
     dm_stream_cursor_Cursor cursor);
-static dm_Result_tuple_u64_Cursor dm_sheet_ending_take_text(const dm_memory_Sizes *sizes, dm_slice_u8 image,
+DM_SMALL dm_Result_tuple_u64_Cursor dm_sheet_ending_take_text(const dm_memory_Sizes *sizes, dm_slice_u8 image,
     dm_stream_cursor_Cursor start, uint64_t most);
 DM_SMALL uint64_t dm_sheet_ending_most_characters(const dm_memory_Sizes *sizes, dm_stream_cursor_Cursor cursor,
     uint64_t bit);
-static dm_Result_tuple_bool_u64_Cursor dm_sheet_ending_take_ending(const dm_memory_Sizes *sizes, dm_slice_u8 image,
+DM_SMALL dm_Result_tuple_bool_u64_Cursor dm_sheet_ending_take_ending(const dm_memory_Sizes *sizes, dm_slice_u8 image,
     dm_stream_cursor_Cursor cursor);
 DM_SMALL dm_codes_Value dm_sheet_held_value_at(const dm_memory_Sizes *sizes, dm_slice_u8 image,
     dm_stream_cursor_Cursor cursor, const dm_codes_Row *row);
 DM_SMALL dm_codes_Value dm_sheet_held_unscaled_at(const dm_memory_Sizes *sizes, dm_slice_u8 image,
     dm_stream_cursor_Cursor cursor, const dm_codes_Row *row);
 DM_SMALL uint64_t dm_sheet_held_figure(const dm_codes_Value *value);
-DM_SMALL dm_codes_Value dm_sheet_held_value_in(const dm_sheet_opening_Opened *sheet, dm_slice_u8 image, uint64_t field);
+static dm_codes_Value dm_sheet_held_value_in(const dm_sheet_opening_Opened *sheet, dm_slice_u8 image, uint64_t field);
 static dm_codes_Value dm_sheet_held_unscaled_in(const dm_sheet_opening_Opened *sheet, dm_slice_u8 image,
     uint64_t field);
 DM_SMALL dm_templates_Pair dm_sheet_held_pair_in(const dm_sheet_opening_Opened *sheet, dm_slice_u8 image,
     uint64_t index);
 DM_SMALL uint8_t dm_sheet_held_character_in(const dm_sheet_opening_Opened *sheet, dm_slice_u8 image, uint64_t index);
-static dm_Result_Opened dm_sheet_opening_open_ending(const dm_memory_Sizes *sizes, dm_slice_u8 image,
+DM_SMALL dm_Result_Opened dm_sheet_opening_open_ending(const dm_memory_Sizes *sizes, dm_slice_u8 image,
     const dm_templates_Layout *layout, dm_stream_cursor_Cursor behind, const dm_sheet_block_Counts *counts,
     dm_stream_cursor_Cursor cursor);
 DM_SMALL dm_Result_Opened dm_sheet_opening_open_calibration(const dm_memory_Sizes *sizes, dm_slice_u8 image,
@@ -1582,7 +1582,7 @@ DM_SMALL dm_Result_Opened dm_sheet_opening_open_at(uint8_t kind, dm_slice_u8 ima
 DM_SMALL uint64_t dm_sheet_segments_terms_at(const dm_memory_Sizes *sizes, dm_slice_u8 image,
     dm_stream_cursor_Cursor cursor);
 DM_SMALL dm_stream_cursor_Cursor dm_sheet_segments_segment_end(dm_stream_cursor_Cursor cursor, uint64_t terms);
-DM_SMALL dartelm_curve_segment dm_sheet_segments_segment_at(const dm_memory_Sizes *sizes, dm_slice_u8 image,
+static dartelm_curve_segment dm_sheet_segments_segment_at(const dm_memory_Sizes *sizes, dm_slice_u8 image,
     dm_stream_cursor_Cursor cursor);
 DM_SMALL float dm_sheet_segments_float(const dm_codes_Value *value);
 static dartelm_curve_term dm_sheet_segments_term_at(const dm_memory_Sizes *sizes, dm_slice_u8 image,
@@ -1598,13 +1598,13 @@ DM_SMALL dartelm_curve_term dm_sheet_segments_term_in(const dm_sheet_opening_Ope
     uint64_t index);
 static dm_Result_tuple_Codes_Cursor dm_sheet_table_take_codes(const dm_memory_Sizes *sizes, dm_slice_u8 image,
     dm_stream_cursor_Cursor cursor, dm_templates_Domain domain, const dm_Option_Codes *before);
-static bool dm_sheet_table_all_rise(const dm_memory_Sizes *sizes, dm_slice_u8 image, dm_stream_cursor_Cursor start,
+DM_SMALL bool dm_sheet_table_all_rise(const dm_memory_Sizes *sizes, dm_slice_u8 image, dm_stream_cursor_Cursor start,
     dm_templates_Domain domain, uint64_t count);
-static dm_Result_tuple_u64_Cursor dm_sheet_table_take_each(const dm_memory_Sizes *sizes, dm_slice_u8 image,
+DM_SMALL dm_Result_tuple_u64_Cursor dm_sheet_table_take_each(const dm_memory_Sizes *sizes, dm_slice_u8 image,
     dm_stream_cursor_Cursor start, dm_templates_Domain domain, uint64_t count);
 DM_SMALL dm_Result_tuple_u64_Cursor dm_sheet_table_take_pairs(const dm_memory_Sizes *sizes, dm_slice_u8 image,
     dm_stream_cursor_Cursor start, dm_templates_Domain domain, uint64_t count);
-static dm_Result_tuple_Counts_Cursor dm_sheet_table_take_listed(const dm_memory_Sizes *sizes, dm_slice_u8 image,
+DM_SMALL dm_Result_tuple_Counts_Cursor dm_sheet_table_take_listed(const dm_memory_Sizes *sizes, dm_slice_u8 image,
     dm_stream_cursor_Cursor start, dm_templates_Domain domain, uint64_t count);
 DM_SMALL dm_Result_tuple_Counts_Cursor dm_sheet_table_take_table(const dm_memory_Sizes *sizes, dm_slice_u8 image,
     dm_stream_cursor_Cursor cursor);
@@ -1620,8 +1620,8 @@ DM_SMALL dm_Result_unit dm_sheet_walk_judge_resistance(const dm_memory_Sizes *si
     uint64_t precision);
 DM_SMALL dm_Result_unit dm_sheet_walk_judge_own(const dm_memory_Sizes *sizes, dm_slice_u8 image,
     const dm_templates_Layout *layout);
-static dm_Result_Template dm_sheet_walk_take_template(const dm_memory_Sizes *sizes, dm_slice_u8 image);
-static dm_Result_tuple_u64_Cursor dm_sheet_walk_take_own(const dm_memory_Sizes *sizes, dm_slice_u8 image,
+DM_SMALL dm_Result_Template dm_sheet_walk_take_template(const dm_memory_Sizes *sizes, dm_slice_u8 image);
+DM_SMALL dm_Result_tuple_u64_Cursor dm_sheet_walk_take_own(const dm_memory_Sizes *sizes, dm_slice_u8 image,
     dm_templates_Template template_);
 DM_SMALL dm_Result_unit dm_change_changing_may_write(dm_templates_Template template_, dm_templates_Level level,
     uint64_t field);
@@ -1642,14 +1642,14 @@ DM_SMALL dm_Result_Proposal dm_change_proposing_proposed(const dm_templates_Layo
     uint64_t present, uint64_t new_);
 DM_SMALL dm_Result_Proposal dm_change_proposing_propose(uint8_t kind, dm_slice_u8 image, dm_templates_Level level,
     uint64_t field, const dm_codes_Value *value);
-DM_SMALL uint64_t dm_change_standing_code_in(const dm_sheet_opening_Opened *sheet, dm_slice_u8 image, uint64_t field);
+static uint64_t dm_change_standing_code_in(const dm_sheet_opening_Opened *sheet, dm_slice_u8 image, uint64_t field);
 static void dm_change_standing_put_code(const dm_sheet_opening_Opened *sheet, dm_slice_u8 image, uint64_t field,
     uint64_t code);
 DM_SMALL uint64_t dm_distance_bound_slope(uint64_t rise, uint64_t run);
 DM_SMALL uint64_t dm_distance_bound_slope_at(dm_slice_u64 points, uint64_t i);
 DM_SMALL uint64_t dm_distance_bound_steepest(dm_slice_u64 points);
 DM_SMALL dm_distance_CertificateBound dm_distance_bound_by_slope(uint64_t k);
-DM_SMALL dm_Result_CertificateBound dm_distance_bound_distance(dm_slice_u64 points);
+static dm_Result_CertificateBound dm_distance_bound_distance(dm_slice_u64 points);
 DM_SMALL void dm_index_entries_put_two(dm_slice_u8 index, uint64_t at, uint64_t word);
 DM_SMALL void dm_index_entries_put_entry(dm_slice_u8 index, uint64_t at, const dm_index_Entry *new_);
 DM_SMALL uint64_t dm_index_entries_two(dm_slice_u8 index, uint64_t at);
@@ -1660,7 +1660,7 @@ DM_SMALL dm_Result_codes_Row dm_index_fetching_row_of_length(dm_templates_Templa
     const dm_index_Entry *entry);
 DM_SMALL dm_Result_Value dm_index_fetching_bits_at(const dm_memory_Sizes *sizes, dm_slice_u8 image,
     const dm_codes_Row *row, const dm_index_Entry *entry);
-static dm_Result_Value dm_index_fetching_fetch_in(const dm_memory_Sizes *sizes, dm_slice_u8 image, dm_slice_u8 index,
+DM_SMALL dm_Result_Value dm_index_fetching_fetch_in(const dm_memory_Sizes *sizes, dm_slice_u8 image, dm_slice_u8 index,
     uint64_t field);
 DM_SMALL dm_Result_Value dm_index_fetching_fetch(uint8_t kind, dm_slice_u8 image, dm_slice_u8 index, uint64_t field);
 DM_SMALL dm_stream_cursor_Cursor dm_index_making_write_entry(dm_slice_u8 buffer, uint64_t i,
@@ -1715,11 +1715,11 @@ DM_SMALL dm_Result_Reading dm_reading_taking_take_reading(uint8_t kind, dm_slice
 DM_SMALL dm_Result_Option_writing_rows_Row dm_writing_next_row(uint8_t kind, dm_slice_u8 present, dm_slice_u8 wanted);
 DM_SMALL dm_Option_writing_rows_Row dm_writing_next(const dm_memory_Sizes *sizes, dm_slice_u8 present,
     dm_slice_u8 wanted);
-static dm_Option_writing_rows_Row dm_writing_one_page(const dm_memory_Sizes *sizes, dm_slice_u8 present,
+DM_SMALL dm_Option_writing_rows_Row dm_writing_one_page(const dm_memory_Sizes *sizes, dm_slice_u8 present,
     dm_slice_u8 wanted);
 DM_SMALL bool dm_writing_adds_up(uint8_t s, uint8_t t, uint8_t d);
 DM_SMALL uint8_t dm_writing_raise_by(uint8_t s, uint8_t t);
-static dm_Option_writing_rows_Row dm_writing_several_pages(const dm_memory_Sizes *sizes, dm_slice_u8 present,
+DM_SMALL dm_Option_writing_rows_Row dm_writing_several_pages(const dm_memory_Sizes *sizes, dm_slice_u8 present,
     dm_slice_u8 wanted);
 DM_SMALL bool dm_writing_invalidate_first(const dm_memory_Sizes *sizes, dm_slice_u8 present, uint64_t row);
 DM_SMALL dm_writing_rows_Row dm_writing_rows_row_of(dm_slice_u8 image, uint64_t r);
@@ -1771,7 +1771,7 @@ DM_SMALL uint64_t dm_dartelm_copying_copy(dm_slice_u8 from, dm_slice_u8 to);
 DM_SMALL dartelm_field_answer dm_dartelm_held(const dm_Result_Value *answer);
 DM_SMALL dartelm_write_answer dm_dartelm_wrote(const dm_Result_unit *written);
 static dartelm_sheet_answer dm_dartelm_sheets_sheet_in(const dm_sheet_opening_Opened *sheet, dm_slice_u8 image);
-static dartelm_sheet_answer dm_dartelm_sheets_no_sheet(const dm_refusal_Refusal *r);
+DM_SMALL dartelm_sheet_answer dm_dartelm_sheets_no_sheet(const dm_refusal_Refusal *r);
 DM_SMALL bool dm_dartelm_values_is_yes(uint8_t given);
 DM_SMALL dm_templates_Level dm_dartelm_values_level_of(uint8_t given);
 DM_SMALL dm_templates_Template dm_dartelm_values_template_of(uint8_t is_resistance);
@@ -1780,7 +1780,7 @@ DM_SMALL dm_build_Options dm_dartelm_values_options_of(uint8_t is_resistance, ui
 DM_SMALL uint8_t dm_dartelm_values_template_flag(dm_templates_Template template_);
 DM_SMALL dm_reading_Dash dm_dartelm_values_dash_of(uint8_t given);
 DM_SMALL dm_codes_Value dm_dartelm_values_value_of(const dartelm_value *given);
-static dartelm_value dm_dartelm_values_by_flags(const dm_codes_Value *value);
+DM_SMALL dartelm_value dm_dartelm_values_by_flags(const dm_codes_Value *value);
 DM_SMALL dartelm_value dm_dartelm_values_no_value(void);
 static void dm_dartelm_values_split_values(const dartelm_fields *given, dm_slice_u8 tags, dm_slice_u64 wholes,
     dm_slice_f32 singles);
@@ -3139,7 +3139,7 @@ DM_SMALL uint64_t dm_codes_tables_stored_code(dm_codes_Scale scale, uint64_t fig
 
 /* The sizes of an image of this kind and length; or 1 if the kind is not 0 to 2 or the length is not the kind's. The
  * compiler tests the last kind first. */
-static dm_Result_Sizes dm_memory_kinds_image_sizes(uint8_t kind, uint64_t bytes)
+DM_SMALL dm_Result_Sizes dm_memory_kinds_image_sizes(uint8_t kind, uint64_t bytes)
 {
     switch (kind) {
     case 2u:
@@ -3530,7 +3530,7 @@ DM_SMALL dm_stream_cursor_Read dm_stream_cursor_Cursor_read(dm_stream_cursor_Cur
 
 /* The code of the field of `width` bits at the cursor, and the cursor after it; or 3 if the field would pass the
  * stream's end. */
-static dm_Result_tuple_u64_Cursor dm_stream_cursor_Cursor_take(dm_stream_cursor_Cursor self,
+DM_SMALL dm_Result_tuple_u64_Cursor dm_stream_cursor_Cursor_take(dm_stream_cursor_Cursor self,
     const dm_memory_Sizes *sizes, dm_slice_u8 image, uint64_t width)
 {
     uint64_t at = self.at;
@@ -3843,7 +3843,8 @@ DM_SMALL bool dm_templates_curves_exponent_follows(const dm_Option_u64 *before, 
 }
 
 /* The code of an exponent, or 24 if it may not follow the one before it in its segment. */
-static dm_Result_u64 dm_templates_curves_encode_exponent(const dm_Option_u64 *before, uint64_t place, uint64_t exponent)
+DM_SMALL dm_Result_u64 dm_templates_curves_encode_exponent(const dm_Option_u64 *before, uint64_t place,
+    uint64_t exponent)
 {
     if ((int64_t)exponent < 0) {
         dm_Result_u64 result;
@@ -4296,7 +4297,7 @@ DM_SMALL uint64_t dm_templates_lines_last_closed(dm_templates_Template template_
 
 /* The bits before a field of template 33, or before the ending, without the electrical values. Constants, so that a
  * field is found without adding up those before it. */
-static uint64_t dm_templates_lines_bridge_bits(uint64_t field)
+DM_SMALL uint64_t dm_templates_lines_bridge_bits(uint64_t field)
 {
     switch (field) {
     case 1u:
@@ -4347,7 +4348,7 @@ static uint64_t dm_templates_lines_bridge_bits(uint64_t field)
 }
 
 /* The bits before a field of template 32, or before the ending, without the electrical values. */
-static uint64_t dm_templates_lines_resistance_bits(uint64_t field)
+DM_SMALL uint64_t dm_templates_lines_resistance_bits(uint64_t field)
 {
     switch (field) {
     case 1u:
@@ -4496,7 +4497,7 @@ DM_SMALL dm_codes_Row dm_templates_rows_bridge_end(uint64_t precision)
 }
 
 /* The row of least and greatest electrical of template 32, at a precision. */
-static dm_codes_Row dm_templates_rows_resistance_end(uint64_t precision)
+DM_SMALL dm_codes_Row dm_templates_rows_resistance_end(uint64_t precision)
 {
     switch (precision) {
     case 0u: {
@@ -4806,7 +4807,7 @@ DM_SMALL uint8_t dm_texts_dates_digit(uint64_t n)
 }
 
 /* The text of a code, as 2018-01-02. */
-static dm_array_u8_10 dm_texts_dates_text_of(uint64_t code)
+DM_SMALL dm_array_u8_10 dm_texts_dates_text_of(uint64_t code)
 {
     dm_texts_dates_Date v5 = dm_texts_dates_date_of(code);
     uint8_t v6 = dm_texts_dates_digit(v5.year / 1000u);
@@ -5026,7 +5027,7 @@ static dm_Result_Text dm_texts_text_of(uint64_t field, uint64_t code)
 
 /* The code whose text this is, if the field can hold it. Else 8 for a field other than 3, 18 and 19; then 9 for a
  * text of another length than the field's; or 10. The place is the field. */
-static dm_Result_u64 dm_texts_code_of(uint64_t field, dm_slice_u8 text)
+DM_SMALL dm_Result_u64 dm_texts_code_of(uint64_t field, dm_slice_u8 text)
 {
     switch (field) {
     case 3u:
@@ -5142,7 +5143,7 @@ static dm_Result_unit dm_build_building_finish(const dm_memory_Sizes *sizes, dm_
 
 /* The fields and the ending: 9 or 10, field by field, then 9 or 10 of the ending. The fields' codes go onto the
  * list. */
-DM_SMALL dm_Result_Listed dm_build_building_plan_front(dm_build_Options options, const dm_build_plan_Lent *values,
+static dm_Result_Listed dm_build_building_plan_front(dm_build_Options options, const dm_build_plan_Lent *values,
     dm_slice_u8 text, dm_slice_u64 codes)
 {
     dm_templates_Template template_ = options.template_;
@@ -5230,7 +5231,7 @@ DM_SMALL dm_Result_Listed dm_build_building_plan_curve_sheet(dm_build_Options op
 /* All tests, in document 01's order; then the image with a table. The level makes no difference. Without points the
  * list has room for fields alone, which is faster to clear, and `plan_sheet` has one caller, into which the compiler
  * inlines it. */
-static dm_Result_unit dm_build_building_build_in(const dm_memory_Sizes *sizes, dm_slice_u8 image,
+DM_SMALL dm_Result_unit dm_build_building_build_in(const dm_memory_Sizes *sizes, dm_slice_u8 image,
     dm_build_Options options, const dm_build_plan_Lent *values, dm_slice_u8 text, dm_slice_u64 points)
 {
     uint64_t n = points.length;
@@ -5335,7 +5336,7 @@ DM_SMALL dm_Result_unit dm_build_curve_plan_check_count(uint64_t i, uint64_t tot
 
 /* The code of a segment's start: 10, then 24 if it may not follow the one before it; then the refusal of its term
  * count (24, 25). */
-static dm_Result_u64 dm_build_curve_plan_code_start(const dm_Option_u64 *before, uint64_t i, uint64_t total,
+DM_SMALL dm_Result_u64 dm_build_curve_plan_code_start(const dm_Option_u64 *before, uint64_t i, uint64_t total,
     const dartelm_curve_segment *segment)
 {
     dm_Result_u64 v11 = dm_templates_curves_encode_start(i, (uint64_t)segment->start);
@@ -5393,7 +5394,7 @@ DM_SMALL dm_Result_tuple_CodedField_CodedField dm_build_curve_plan_code_segment(
 
 /* The two pieces of a term: 24 if the exponent may not follow the one before it in its segment, 10 if the
  * coefficient is not finite. */
-static dm_Result_tuple_CodedField_CodedField dm_build_curve_plan_code_term(const dm_Option_u64 *before, uint64_t i,
+DM_SMALL dm_Result_tuple_CodedField_CodedField dm_build_curve_plan_code_term(const dm_Option_u64 *before, uint64_t i,
     const dartelm_curve_term *term)
 {
     dm_Result_u64 v13 = dm_templates_curves_encode_exponent(before, i, (uint64_t)term->exponent);
@@ -5637,7 +5638,7 @@ DM_SMALL dm_codes_Row dm_build_plan_back_row(uint64_t j)
 }
 
 /* Codes fields 6 to 8, after Basic. */
-static dm_Result_u64 dm_build_plan_code_front(dm_templates_Template template_, uint64_t before,
+DM_SMALL dm_Result_u64 dm_build_plan_code_front(dm_templates_Template template_, uint64_t before,
     const dm_build_plan_Lent *values, dm_slice_u64 codes)
 {
     uint64_t first = dm_templates_lines_basic_fields();
@@ -5694,7 +5695,7 @@ DM_SMALL dm_Result_u64 dm_build_plan_code_basic(dm_templates_Template template_,
 }
 
 /* Codes the last four fields. */
-static dm_Result_u64 dm_build_plan_code_back(dm_templates_Template template_, uint64_t before,
+DM_SMALL dm_Result_u64 dm_build_plan_code_back(dm_templates_Template template_, uint64_t before,
     const dm_build_plan_Lent *values, dm_slice_u64 codes)
 {
     uint64_t first = dm_templates_lines_last_field(template_) - 4u;
@@ -5769,7 +5770,7 @@ DM_SMALL dm_build_list_Listed dm_build_plan_fields_listed(const dm_templates_Lay
 }
 
 /* 9 or 10, field by field, each by the precision before it; the codes go onto the list. */
-static dm_Result_Listed dm_build_plan_plan_fields(dm_templates_Template template_, const dm_build_plan_Lent *values,
+DM_SMALL dm_Result_Listed dm_build_plan_plan_fields(dm_templates_Template template_, const dm_build_plan_Lent *values,
     dm_slice_u64 codes)
 {
     dm_Result_u64 v11 = dm_build_plan_code_basic(template_, values, codes);
@@ -5843,7 +5844,7 @@ DM_SMALL dm_Result_unit dm_build_plan_check_ending(dm_templates_Template templat
 }
 
 /* The codes of pair i: 10 for the point, 10 for its deviation. */
-static dm_Result_Codes dm_build_plan_code_pair(dm_slice_u64 points, uint64_t i)
+DM_SMALL dm_Result_Codes dm_build_plan_code_pair(dm_slice_u64 points, uint64_t i)
 {
     uint64_t at = 2u * i;
     uint64_t place = i;
@@ -6142,7 +6143,7 @@ DM_SMALL dm_Result_tuple_Counts_Cursor dm_sheet_block_take_only_block(const dm_m
 }
 
 /* One block and selector 3, or selector 3 alone: the counts of the calibration. */
-static dm_Result_tuple_Counts_Cursor dm_sheet_block_take_calibration(const dm_memory_Sizes *sizes, dm_slice_u8 image,
+DM_SMALL dm_Result_tuple_Counts_Cursor dm_sheet_block_take_calibration(const dm_memory_Sizes *sizes, dm_slice_u8 image,
     dm_stream_cursor_Cursor cursor)
 {
     uint64_t at = cursor.at;
@@ -6197,7 +6198,7 @@ DM_SMALL dm_Result_Summary dm_sheet_calls_check(uint8_t kind, dm_slice_u8 image)
 }
 
 /* The value of a field, counted from 1; or the check's refusal, or 8 if the sheet's template has no such field. */
-static dm_Result_Value dm_sheet_calls_read_field(uint8_t kind, dm_slice_u8 image, uint64_t field)
+DM_SMALL dm_Result_Value dm_sheet_calls_read_field(uint8_t kind, dm_slice_u8 image, uint64_t field)
 {
     dm_Result_Opened v10 = dm_sheet_opening_open(kind, image);
     if (v10.tag == dm_Result_Opened_Err) {
@@ -6312,7 +6313,7 @@ DM_SMALL dm_Result_tuple_u64_Cursor dm_sheet_curve_block_ruled(bool takes, uint6
 }
 
 /* A field of a curve that has to obey a rule: 3 and 5, then 24. */
-DM_SMALL dm_Result_tuple_u64_Cursor dm_sheet_curve_block_take_ruled(const dm_memory_Sizes *sizes, dm_slice_u8 image,
+static dm_Result_tuple_u64_Cursor dm_sheet_curve_block_take_ruled(const dm_memory_Sizes *sizes, dm_slice_u8 image,
     dm_stream_cursor_Cursor cursor, dm_templates_curves_CurveField field, const dm_Option_u64 *before)
 {
     dm_codes_Row v13 = dm_templates_curves_curve_row(field);
@@ -6329,7 +6330,7 @@ DM_SMALL dm_Result_tuple_u64_Cursor dm_sheet_curve_block_take_ruled(const dm_mem
 }
 
 /* A term after the one before it in its segment, field by field: its exponent, then 3, 5 and 6 of its coefficient. */
-static dm_Result_tuple_Option_u64_Cursor dm_sheet_curve_block_take_term_apart(const dm_memory_Sizes *sizes,
+DM_SMALL dm_Result_tuple_Option_u64_Cursor dm_sheet_curve_block_take_term_apart(const dm_memory_Sizes *sizes,
     dm_slice_u8 image, dm_stream_cursor_Cursor cursor, const dm_Option_u64 *before)
 {
     dm_Result_tuple_u64_Cursor v14 = dm_sheet_curve_block_take_ruled(sizes, image, cursor,
@@ -6398,7 +6399,7 @@ DM_SMALL dm_Result_tuple_Option_u64_Cursor dm_sheet_curve_block_take_term(const 
 }
 
 /* Reads `count` terms of a segment, in order. */
-static dm_Result_tuple_Option_u64_Cursor dm_sheet_curve_block_take_terms(const dm_memory_Sizes *sizes,
+DM_SMALL dm_Result_tuple_Option_u64_Cursor dm_sheet_curve_block_take_terms(const dm_memory_Sizes *sizes,
     dm_slice_u8 image, dm_stream_cursor_Cursor start, uint64_t count)
 {
     dm_stream_cursor_Cursor cursor = start;
@@ -6426,7 +6427,7 @@ static dm_Result_tuple_Option_u64_Cursor dm_sheet_curve_block_take_terms(const d
 }
 
 /* The terms of a segment, or 25 if they take the total past 30; then the segment's start and the total. */
-static dm_Result_tuple_Option_u64_u64_Cursor dm_sheet_curve_block_take_own_terms(const dm_memory_Sizes *sizes,
+DM_SMALL dm_Result_tuple_Option_u64_u64_Cursor dm_sheet_curve_block_take_own_terms(const dm_memory_Sizes *sizes,
     dm_slice_u8 image, dm_stream_cursor_Cursor cursor, uint64_t start, uint64_t total, uint64_t count)
 {
     if (dm_templates_curves_too_many(total)) {
@@ -6490,7 +6491,7 @@ DM_SMALL dm_Result_tuple_Option_u64_u64_Cursor dm_sheet_curve_block_take_segment
 }
 
 /* Reads `count` segments, in order. */
-static dm_Result_tuple_Option_u64_u64_Cursor dm_sheet_curve_block_take_segments(const dm_memory_Sizes *sizes,
+DM_SMALL dm_Result_tuple_Option_u64_u64_Cursor dm_sheet_curve_block_take_segments(const dm_memory_Sizes *sizes,
     dm_slice_u8 image, dm_stream_cursor_Cursor start, uint64_t count)
 {
     dm_stream_cursor_Cursor cursor = start;
@@ -6571,7 +6572,7 @@ static dm_Result_tuple_Counts_Cursor dm_sheet_curve_block_take_curve(const dm_me
 /* ---- crates/sheet/src/ending.rt ---- */
 
 /* The number of characters up to a zero character, at most `most`. */
-static dm_Result_tuple_u64_Cursor dm_sheet_ending_take_text(const dm_memory_Sizes *sizes, dm_slice_u8 image,
+DM_SMALL dm_Result_tuple_u64_Cursor dm_sheet_ending_take_text(const dm_memory_Sizes *sizes, dm_slice_u8 image,
     dm_stream_cursor_Cursor start, uint64_t most)
 {
     dm_stream_cursor_Cursor cursor = start;
@@ -6619,7 +6620,7 @@ DM_SMALL uint64_t dm_sheet_ending_most_characters(const dm_memory_Sizes *sizes, 
 }
 
 /* The end bit, or 3 if it would pass the end; and the text. */
-static dm_Result_tuple_bool_u64_Cursor dm_sheet_ending_take_ending(const dm_memory_Sizes *sizes, dm_slice_u8 image,
+DM_SMALL dm_Result_tuple_bool_u64_Cursor dm_sheet_ending_take_ending(const dm_memory_Sizes *sizes, dm_slice_u8 image,
     dm_stream_cursor_Cursor cursor)
 {
     dm_Result_tuple_u64_Cursor v15 = dm_stream_cursor_Cursor_take(cursor, sizes, image, 1u);
@@ -6713,7 +6714,7 @@ DM_SMALL uint64_t dm_sheet_held_figure(const dm_codes_Value *value)
 }
 
 /* The value of a field, counted from 1. */
-DM_SMALL dm_codes_Value dm_sheet_held_value_in(const dm_sheet_opening_Opened *sheet, dm_slice_u8 image, uint64_t field)
+static dm_codes_Value dm_sheet_held_value_in(const dm_sheet_opening_Opened *sheet, dm_slice_u8 image, uint64_t field)
 {
     dm_stream_cursor_Cursor cursor;
     cursor.at = dm_layout_locating_locate(&sheet->layout, field);
@@ -6766,7 +6767,7 @@ DM_SMALL uint8_t dm_sheet_held_character_in(const dm_sheet_opening_Opened *sheet
 /* ---- crates/sheet/src/opening.rt ---- */
 
 /* Opens the ending after a counted calibration, of a sheet whose fields end at a cursor. */
-static dm_Result_Opened dm_sheet_opening_open_ending(const dm_memory_Sizes *sizes, dm_slice_u8 image,
+DM_SMALL dm_Result_Opened dm_sheet_opening_open_ending(const dm_memory_Sizes *sizes, dm_slice_u8 image,
     const dm_templates_Layout *layout, dm_stream_cursor_Cursor behind, const dm_sheet_block_Counts *counts,
     dm_stream_cursor_Cursor cursor)
 {
@@ -6941,7 +6942,7 @@ DM_SMALL dm_stream_cursor_Cursor dm_sheet_segments_segment_end(dm_stream_cursor_
 }
 
 /* The segment at a cursor. */
-DM_SMALL dartelm_curve_segment dm_sheet_segments_segment_at(const dm_memory_Sizes *sizes, dm_slice_u8 image,
+static dartelm_curve_segment dm_sheet_segments_segment_at(const dm_memory_Sizes *sizes, dm_slice_u8 image,
     dm_stream_cursor_Cursor cursor)
 {
     dm_codes_Row v5 = dm_templates_curves_segment_start();
@@ -7085,7 +7086,7 @@ static dm_Result_tuple_Codes_Cursor dm_sheet_table_take_codes(const dm_memory_Si
 
 /* Whether this many pairs inside the stream are all valid and rise. A pair is read as one field, the point's 16 bits
  * lowest; all ones is not a value. `least` and `floor` are the least point and sum that may follow. */
-static bool dm_sheet_table_all_rise(const dm_memory_Sizes *sizes, dm_slice_u8 image, dm_stream_cursor_Cursor start,
+DM_SMALL bool dm_sheet_table_all_rise(const dm_memory_Sizes *sizes, dm_slice_u8 image, dm_stream_cursor_Cursor start,
     dm_templates_Domain domain, uint64_t count)
 {
     dm_stream_cursor_Cursor cursor = start;
@@ -7124,7 +7125,7 @@ static bool dm_sheet_table_all_rise(const dm_memory_Sizes *sizes, dm_slice_u8 im
 }
 
 /* Reads `count` pairs, one by one. */
-static dm_Result_tuple_u64_Cursor dm_sheet_table_take_each(const dm_memory_Sizes *sizes, dm_slice_u8 image,
+DM_SMALL dm_Result_tuple_u64_Cursor dm_sheet_table_take_each(const dm_memory_Sizes *sizes, dm_slice_u8 image,
     dm_stream_cursor_Cursor start, dm_templates_Domain domain, uint64_t count)
 {
     dm_stream_cursor_Cursor cursor = start;
@@ -7177,7 +7178,7 @@ DM_SMALL dm_Result_tuple_u64_Cursor dm_sheet_table_take_pairs(const dm_memory_Si
 }
 
 /* The counts of a table of this many pairs, in its domain. */
-static dm_Result_tuple_Counts_Cursor dm_sheet_table_take_listed(const dm_memory_Sizes *sizes, dm_slice_u8 image,
+DM_SMALL dm_Result_tuple_Counts_Cursor dm_sheet_table_take_listed(const dm_memory_Sizes *sizes, dm_slice_u8 image,
     dm_stream_cursor_Cursor start, dm_templates_Domain domain, uint64_t count)
 {
     dm_Result_tuple_u64_Cursor v13 = dm_sheet_table_take_pairs(sizes, image, start, domain, count);
@@ -7383,7 +7384,7 @@ DM_SMALL dm_Result_unit dm_sheet_walk_judge_own(const dm_memory_Sizes *sizes, dm
 
 /* The first block, which is inside every stream: selector 0, in the lowest bits, and the number of a template; else
  * 4 at the selector's bit. */
-static dm_Result_Template dm_sheet_walk_take_template(const dm_memory_Sizes *sizes, dm_slice_u8 image)
+DM_SMALL dm_Result_Template dm_sheet_walk_take_template(const dm_memory_Sizes *sizes, dm_slice_u8 image)
 {
     dm_stream_cursor_Field first;
     first.at = 64u;
@@ -7413,7 +7414,7 @@ static dm_Result_Template dm_sheet_walk_take_template(const dm_memory_Sizes *siz
 
 /* A template's own fields, at the precision in the stream. All but the last are inside every stream, and the last
  * takes every code: so 3 can only occur at the last, after 5 and 6. */
-static dm_Result_tuple_u64_Cursor dm_sheet_walk_take_own(const dm_memory_Sizes *sizes, dm_slice_u8 image,
+DM_SMALL dm_Result_tuple_u64_Cursor dm_sheet_walk_take_own(const dm_memory_Sizes *sizes, dm_slice_u8 image,
     dm_templates_Template template_)
 {
     dm_stream_cursor_Field choice;
@@ -7661,7 +7662,7 @@ DM_SMALL dm_Result_Proposal dm_change_proposing_propose(uint8_t kind, dm_slice_u
 /* ---- crates/change/src/standing.rt ---- */
 
 /* The code in a field of an opened sheet. The check accepted every field, so that none is refused here. */
-DM_SMALL uint64_t dm_change_standing_code_in(const dm_sheet_opening_Opened *sheet, dm_slice_u8 image, uint64_t field)
+static uint64_t dm_change_standing_code_in(const dm_sheet_opening_Opened *sheet, dm_slice_u8 image, uint64_t field)
 {
     dm_codes_Row row = dm_templates_lines_row_of(&sheet->layout, field);
     dm_stream_cursor_Cursor cursor;
@@ -7737,7 +7738,7 @@ DM_SMALL dm_distance_CertificateBound dm_distance_bound_by_slope(uint64_t k)
 
 /* The distance that readings of a sheet with these points in domain 0 keep from the certificate line. Else 16 for a
  * list that is odd or over 254 long; then pair by pair 10 for the point, 10 for its deviation, and 7. */
-DM_SMALL dm_Result_CertificateBound dm_distance_bound_distance(dm_slice_u64 points)
+static dm_Result_CertificateBound dm_distance_bound_distance(dm_slice_u64 points)
 {
     uint64_t n = points.length;
     if (dm_build_plan_is_wrong_list(n)) {
@@ -7881,7 +7882,7 @@ DM_SMALL dm_Result_Value dm_index_fetching_bits_at(const dm_memory_Sizes *sizes,
 }
 
 /* A field of an image whose page sums are right: 8, then 18, then 5 and 6. */
-static dm_Result_Value dm_index_fetching_fetch_in(const dm_memory_Sizes *sizes, dm_slice_u8 image, dm_slice_u8 index,
+DM_SMALL dm_Result_Value dm_index_fetching_fetch_in(const dm_memory_Sizes *sizes, dm_slice_u8 image, dm_slice_u8 index,
     uint64_t field)
 {
     dm_templates_Template template_ = dm_index_fetching_template_at(sizes, image);
@@ -8541,7 +8542,7 @@ DM_SMALL dm_Option_writing_rows_Row dm_writing_next(const dm_memory_Sizes *sizes
     return dm_writing_several_pages(sizes, present, wanted);
 }
 
-static dm_Option_writing_rows_Row dm_writing_one_page(const dm_memory_Sizes *sizes, dm_slice_u8 present,
+DM_SMALL dm_Option_writing_rows_Row dm_writing_one_page(const dm_memory_Sizes *sizes, dm_slice_u8 present,
     dm_slice_u8 wanted)
 {
     dm_writing_rows_Tally tally = dm_writing_rows_tally_rows(sizes, present, wanted);
@@ -8592,7 +8593,7 @@ DM_SMALL uint8_t dm_writing_raise_by(uint8_t s, uint8_t t)
     return 1u;
 }
 
-static dm_Option_writing_rows_Row dm_writing_several_pages(const dm_memory_Sizes *sizes, dm_slice_u8 present,
+DM_SMALL dm_Option_writing_rows_Row dm_writing_several_pages(const dm_memory_Sizes *sizes, dm_slice_u8 present,
     dm_slice_u8 wanted)
 {
     if (dm_slice_u8_equal(present, wanted)) {
@@ -9736,7 +9737,7 @@ static dartelm_sheet_answer dm_dartelm_sheets_sheet_in(const dm_sheet_opening_Op
 }
 
 /* The answer for a refusal: zeros for values. */
-static dartelm_sheet_answer dm_dartelm_sheets_no_sheet(const dm_refusal_Refusal *r)
+DM_SMALL dartelm_sheet_answer dm_dartelm_sheets_no_sheet(const dm_refusal_Refusal *r)
 {
     dm_array_dartelm_value_21 v4;
     for (size_t i1 = 0; i1 < 21u; i1++) {
@@ -9845,7 +9846,7 @@ DM_SMALL dm_codes_Value dm_dartelm_values_value_of(const dartelm_value *given)
 }
 
 /* A value for C. */
-static dartelm_value dm_dartelm_values_by_flags(const dm_codes_Value *value)
+DM_SMALL dartelm_value dm_dartelm_values_by_flags(const dm_codes_Value *value)
 {
     switch (value->tag) {
     case dm_codes_Value_Whole: {
