@@ -218,6 +218,24 @@ def ends(body):
     return isinstance(s, (If, Switch)) and all(ends(b) for b in mir.bodies(s))
 
 
+# ---- switches that C has as `if`s
+
+def arms_of(s):
+    """The arms of a switch, the default last: a second one alone first where the first does nothing."""
+    arms = s.arms + ([] if s.default is None else [((), s.default)])
+    return [arms[1], ((), [])] if len(arms) == 2 and not arms[0][1] and arms[1][1] and arms[1][0] else arms
+
+
+def is_chain(s):
+    """Whether a switch is `if`s in C: it has two arms, or an arm leaves a loop."""
+    return len(arms_of(s)) <= 2 or any(isinstance(x, Exit) for b in mir.bodies(s) for x in mir.statements(b))
+
+
+def tests_of(s):
+    """How often these `if`s name the value: once for each key of each arm but the last."""
+    return sum(len(keys) for keys, _ in arms_of(s)[:-1])
+
+
 # ---- temporaries
 
 def size_of(e):
@@ -311,6 +329,8 @@ class Folding:
         address is wanted of what has none, and not where it would grow too large."""
         if isinstance(value, Aggregate):
             return isinstance(s, Assign) and is_part(s.value, t) and not any(e.calls for e in [Reads(self.fn, s.value), Reads(self.fn, value)])
+        if isinstance(s, Switch) and is_chain(s) and tests_of(s) > 1 and Reads(self.fn, value).calls:
+            return False
         own = [replaced_local(e, t, value) for e in mir.own_values(s)]
         if isinstance(s, Assign) and len(own) == 2 and Reads(self.fn, own[1], False).calls:
             return False

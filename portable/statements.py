@@ -2,7 +2,7 @@
 import re
 
 from . import mir
-from .fold import constant
+from .fold import constant, is_chain
 from .hints import MOST_TURNS, is_met
 from .live import Reads, derefs, reads_of, stored
 from .mir import Unknown
@@ -232,7 +232,7 @@ class Statements(Values):
         arms = [([names[k] if names else f'{k}u' for k in keys], body) for keys, body in s.arms]
         if s.default is not None:
             arms.append(([], s.default))
-        if len(arms) <= 2 or any(isinstance(x, mir.Exit) for b in mir.bodies(s) for x in mir.statements(b)):
+        if is_chain(s):
             self.chain(value, arms)
             return
         opened = self.copied_first('')

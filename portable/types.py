@@ -115,8 +115,10 @@ class Types:
         self.say(f'{name}_of', [f'static inline {name} {name}_of({c}at, uint64_t length)', '{', f'    {name} slice;', '    slice.at = at;',
                                 '    slice.length = length;', '    return slice;', '}'])
         if element[0] in ('Int', 'Bool'):
-            self.say(f'{name}_equal', [f'static inline bool {name}_equal({name} a, {name} b)', '{', '    return a.length == b.length && '
-                                       '(a.length == 0 || memcmp(a.at, b.at, (size_t)a.length * sizeof *a.at) == 0);', '}'])
+            self.say(f'{name}_equal', [f'static inline bool {name}_equal({name} a, {name} b)', '{', '    uint64_t i = 0u;',
+                                       '    if (a.length != b.length) {', '        return false;', '    }',
+                                       '    while (i < a.length && a.at[i] == b.at[i]) {', '        i += 1u;', '    }',
+                                       '    return i == a.length;', '}'])
         return name
 
     def array(self, t):
