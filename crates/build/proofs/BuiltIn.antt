@@ -1,8 +1,8 @@
 -- Laws of a build in a buffer: its tests in order, and the bits.
-use Rattle.build.proofs.Names.{◌≡◌, refl, sym, ap, ◌∙◌, Bool, true, false, ◌||◌, List, [], ◌++◌, append_assoc, ℕ, ◌+◌, ◌-◌, ◌*◌, ◌%◌, ◌≤◌, ◌<◌, min, arith, lt-ltb, le-ltb, ltb-false, eqb, ltb, ℤ, Float, length, take, length-append, length-take-le, bool_byte}
+use Rattle.build.proofs.Names.{◌≡◌, refl, sym, ap, ◌∙◌, Bool, true, false, ◌||◌, List, [], ◌++◌, append_assoc, ℕ, ◌+◌, ◌-◌, ◌*◌, ◌%◌, ◌≤◌, ◌<◌, arith, lt-ltb, le-ltb, ltb-false, eqb, ltb, ℤ, Float, length, take, length-append, length-take-le, bool_byte}
 use Rattle.build.proofs.Names.{Refusal, Outcome, Ok, Err, ◌>>=◌, ◌>>◌, TooLong, WrongList, neither, bind-refused, good-bind, good-same, no_value_lem, not-refused, then-good, then-refused, refuse◌if◌, Sizes, image_bytes, image_sizes, stream_bits, image_of, Piece, pack, needed, needed-append}
 use Rattle.build.proofs.Names.{Domain, Template, Level, basic, basic-five, span-listed, last-most, last_field, ending, end_code, text-needed, Options, Sheet, CodedField, Listed, template_in, field_pieces, ending_tested, ending_pieces, Table, listed, list_tested}
-use Rattle.build.proofs.Names.{behind_pieces, plan, built_in, build_with, Fit, unpacked, first_codes, coded_list, coded_sheet, BitString, bit_string, BlockPlanned, both_listed, fitted, finished, sheet_lent, FieldsPlanned, FrontPlanned, SheetPlanned}
+use Rattle.build.proofs.Names.{behind_pieces, plan, as_far_as_64_bits, built_in, build_with, Fit, unpacked, first_codes, coded_list, coded_sheet, BitString, bit_string, BlockPlanned, both_listed, fitted, finished, sheet_lent, FieldsPlanned, FrontPlanned, SheetPlanned}
 use Rattle.build.proofs.Coding.{packed-long}
 use Rattle.build.proofs.Listing.{fit-front, fit-both, list-front, list-more, string-between, fitted-same}
 use Rattle.build.proofs.EndingPlans.{ending-characters, character-lt}
@@ -20,8 +20,8 @@ module _ (template : Template) (codes : List CodedField) (count : ℕ) (end_bit 
   pub front-inside : {most : ℕ} → needed pieces ≤ most → needed (coded_list template codes count) ≤ most
   front-inside h = omega (arith, h, sheet-needed)
 
-  module _ (z : Sizes) (small : image_bytes z ≤ 512) (bits : ℕ) (named-bits : bits ≡ min (needed (coded_list template codes count) + 3 + 7 * length text) 65_535) where
-    named : bits ≡ min (needed pieces) 65_535
+  module _ (z : Sizes) (small : image_bytes z ≤ 512) (bits : ℕ) (named-bits : bits ≡ as_far_as_64_bits (needed (coded_list template codes count) + 3 + 7 * length text)) where
+    named : bits ≡ as_far_as_64_bits (needed pieces)
     named = omega (arith, named-bits, sheet-needed)
 
     pub too_many : stream_bits z < bits → fitted z pieces ≡ Err (TooLong bits)
@@ -67,7 +67,7 @@ module _ (z : Sizes) (sheet : Sheet) (text : List ℕ) (table : Table) where
   module _ (right : list_tested table ≡ Ok tt) where
     built-front : {r : Refusal} → (field_pieces sheet >> ends) ≡ Err r → built_in z sheet text table ≡ Err r
     unfolding built_in plan
-    built-front {r} e = rw right (ap (λ (o : Outcome (List Piece)). o >>= λ pieces. (refuse TooLong (min (needed pieces) 65_535) if ltb (stream_bits z) (needed pieces)) >> Ok (image_of z (pack pieces))) (go (field_pieces sheet) ends (λ fs. behind_pieces table >>= λ behind. Ok (fs ++ (behind ++ ending_pieces sheet.end_bit text))) e))
+    built-front {r} e = rw right (ap (λ (o : Outcome (List Piece)). o >>= λ pieces. (refuse TooLong (as_far_as_64_bits (needed pieces)) if ltb (stream_bits z) (needed pieces)) >> Ok (image_of z (pack pieces))) (go (field_pieces sheet) ends (λ fs. behind_pieces table >>= λ behind. Ok (fs ++ (behind ++ ending_pieces sheet.end_bit text))) e))
       where
         go : {A B : Type 0} (F : Outcome A) (E : Outcome (Unit {0})) (k : A → Outcome B) → (F >> E) ≡ Err r → (F >>= λ fs. E >> k fs) ≡ Err r
         go (Ok fs) (Ok t) k f = no_value_lem (sym f)

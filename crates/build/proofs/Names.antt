@@ -1,5 +1,5 @@
 -- What the proofs of this crate take from the kit, from the crates below and from its own definitions.
-pub use Prim.Native.Nat.{◌%◌, ◌*◌, ◌+◌, ◌-◌, ◌/◌, ◌<◌, ◌^◌, ◌≤◌, min, suc, zero, ℕ}
+pub use Prim.Native.Nat.{◌%◌, ◌*◌, ◌+◌, ◌-◌, ◌/◌, ◌<◌, ◌^◌, ◌≤◌, suc, zero, ℕ}
 pub use mathlib.Core.{Bool.Bool, Bool.◌&&◌, Bool.◌||◌, Bool.false, Bool.not, Bool.true, List.List, List.[], List.◌++◌, List.◌∷◌, List.map-append, List.append_assoc, List.append-nil, List.map, Logic.◌≢◌, Logic.⊎_elim}
 pub use mathlib.Core.{Path.◌∙◌, Path.◌≡◌, Path.ap, Path.ap₂, Path.refl, Path.subst, Path.sym}
 pub use Rattle.std.specs.declared.option.Option.{Option, TheVariants.None, TheVariants.Some}
@@ -34,7 +34,7 @@ pub use Rattle.templates.specs.Lines.{Line, bits_before, chose, ending, last_fie
 pub use Rattle.templates.specs.declared.{Codes.Codes, Curve.Curve, Domain.Domain, Layout.Layout, Level.Level, Pair.Pair, Segment.Segment, Template.Template, Template.TheVariants.Bridge, Term.Term}
 unfoldable pub use Rattle.templates.specs.Lines.{basic, lines_of}
 pub use Rattle.layout.{proofs.Choices.Steady, proofs.Choices.lines-steady, proofs.Endings.Characters, proofs.Endings.text-needed, specs.Pieces.block_pieces, specs.Pieces.end_code, specs.Places.table_bits}
-pub use Rattle.build.specs.Build.{Table, behind_pieces, by_curve, ending_pieces, lent, list_tested, listed, pairs_lent, slot, template_in, unfit}
+pub use Rattle.build.specs.Build.{Table, as_far_as_64_bits, behind_pieces, by_curve, ending_pieces, lent, list_tested, listed, pairs_lent, slot, template_in, unfit}
 pub use Rattle.build.specs.Filled.{Begun, Filled, Free, Room}
 pub use Rattle.build.specs.Listed.{BitString, BlockPlanned, Fit, Fitting, Ready, bit_string, blank, both_listed, coded_list, coded_sheet, field_piece, finished, first_codes, unpack, unpacked}
 pub use Rattle.build.specs.Tested.{CodedTo, Encodes, FieldsCoded, FieldsPlanned, FrontPlanned, LentLengths, PairCoded, Quick, SheetPlanned, SplitValues, by_sort, coded, coded_from, fields_lent, pair_at}

@@ -1,7 +1,7 @@
 -- Document 01, and document 02, Notes 7, 9 and 11: build an image. Order: 1, 16, fields and ending
 -- each 9 then 10, points each 10 for point, 10 for deviation, then 7 and 22, or the curve's 24, 10
 -- and 25 in stream order; last 11. The result is a list of pieces: widths and codes in order.
-use Rattle.std.specs.Prelude.{Bool, false, not, ◌||◌, ◌&&◌, List, [], ◌∷◌, ◌++◌, map, ℕ, suc, ◌+◌, ◌-◌, ◌%◌, min, eqb, ltb, length, get_or, take, drop, ℤ, pos, ◌*ℤ◌}
+use Rattle.std.specs.Prelude.{Bool, false, not, ◌||◌, ◌&&◌, List, [], ◌∷◌, ◌++◌, map, ℕ, suc, ◌+◌, ◌-◌, ◌%◌, ◌^◌, min, eqb, ltb, length, get_or, take, drop, ℤ, pos, ◌*ℤ◌}
 use Rattle.std.specs.Prelude.{Option, None, Some}
 use Rattle.refusal.specs.Outcome.{Outcome, Ok, ◌>>◌, ◌>>=◌, refuse◌if◌}
 use Rattle.refusal.specs.declared.Refusal.TheVariants.{WrongSort, OutOfRange, TooLong, WrongList, WrongCurve, TooManyTerms}
@@ -176,12 +176,17 @@ plan sheet text table = do
   behind ← behind_pieces table
   Ok (fields ++ (behind ++ ending_pieces sheet.end_bit text))
 
--- The image of these sizes. Row 11 names the bits needed, "65,535 if they are more than that". "Bits after the end are not judged; a build
+-- The bits needed, as row 11's refusal holds them: the greatest number of 64 bits, if they
+-- are more. Its place then names them, "65,535 if they are more than that".
+abbrev pub as_far_as_64_bits : ℕ → ℕ
+as_far_as_64_bits n = min n (2 ^ 64 - 1)
+
+-- The image of these sizes. "Bits after the end are not judged; a build
 -- writes zeros there"; the zero character that ends a text is among them.
 unfoldable pub built_in : Sizes → Sheet → List ℕ → Table → Outcome (List ℕ)
 built_in z sheet text table = do
   pieces ← plan sheet text table
-  refuse TooLong (min (needed pieces) 65_535) if ltb (stream_bits z) (needed pieces)
+  refuse TooLong (as_far_as_64_bits (needed pieces)) if ltb (stream_bits z) (needed pieces)
   Ok (image_of z (pack pieces))
 
 -- The image that a build makes in a buffer of a kind.

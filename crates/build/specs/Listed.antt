@@ -1,6 +1,6 @@
 -- Only inner contracts need this: the one list of codes that a build
 -- fills before it writes, and the image of what is on it.
-use Rattle.std.specs.Prelude.{◌≡◌, Bool, List, ◌++◌, map, ℕ, ◌+◌, ◌/◌, ◌%◌, ◌^◌, ◌≤◌, ◌<◌, min, ltb, length, get_or, take, set}
+use Rattle.std.specs.Prelude.{◌≡◌, Bool, List, ◌++◌, map, ℕ, ◌+◌, ◌/◌, ◌%◌, ◌^◌, ◌≤◌, ◌<◌, ltb, length, get_or, take, set}
 use Rattle.std.proofs.Math.Seq.{slice}
 use Rattle.refusal.specs.Outcome.{Outcome, Ok, Err, ◌>>◌, ◌>>=◌, refuse◌if◌}
 use Rattle.refusal.specs.declared.Refusal.TheVariants.{TooLong}
@@ -12,7 +12,7 @@ use Rattle.templates.specs.Lines.{basic, number_of}
 use Rattle.layout.specs.Pieces.{block_pieces}
 use Rattle.build.specs.declared.list.CodedField.{CodedField}
 use Rattle.build.specs.declared.list.Listed.{Listed}
-use Rattle.build.specs.Build.{ending_pieces}
+use Rattle.build.specs.Build.{ending_pieces, as_far_as_64_bits}
 
 -- ---- a code
 
@@ -96,7 +96,7 @@ pub record Ready (template : Template) (codes : List ℕ) (listed : Listed) (tex
 -- The image of the pieces, if the stream has the bits that they need.
 unfoldable pub fitted : Sizes → List Piece → Outcome (List ℕ)
 fitted z pieces = do
-  refuse TooLong (min (needed pieces) 65_535) if ltb (stream_bits z) (needed pieces)
+  refuse TooLong (as_far_as_64_bits (needed pieces)) if ltb (stream_bits z) (needed pieces)
   Ok (image_of z (pack pieces))
 
 -- The refusal of the tests, or the image of what is on the list.

@@ -1,11 +1,11 @@
 // Builds an image in the caller's buffer.
-ghost use Rattle.std.specs.Prelude.{◌≡◌, min, ◌+◌, ◌*◌, ◌/◌, ◌^◌, ◌≤◌, ◌<◌, ltb, length};
+ghost use Rattle.std.specs.Prelude.{◌≡◌, ◌+◌, ◌*◌, ◌/◌, ◌^◌, ◌≤◌, ◌<◌, ltb, length};
 ghost use Rattle.refusal.specs.Outcome.{Ok};
 ghost use Rattle.refusal.specs.Written.{written_said, afterwards};
 ghost use Rattle.memory.specs.Image.{image_bytes, stream_bits};
 ghost use Rattle.memory.specs.Answers.{WholeImage};
 ghost use Rattle.templates.specs.declared.Level.{Level};
-ghost use Rattle.build.specs.Build.{listed, by_curve, list_tested, built_in, build as build_of, build_curve};
+ghost use Rattle.build.specs.Build.{listed, by_curve, list_tested, as_far_as_64_bits, built_in, build as build_of, build_curve};
 ghost use Rattle.build.specs.Listed.{Fit, unpacked, Ready, finished, both_listed};
 ghost use Rattle.build.specs.Tested.{LentLengths, SplitValues, sheet_lent, FrontPlanned, SheetPlanned};
 
@@ -27,16 +27,12 @@ const WITH_POINTS: usize = FIELDS + 4 + 127;
 
 const WITH_CURVE: usize = FIELDS + 4 + 2 * 50;
 
-// The bits that codes, the ending and its characters need, 65,535 if they are more: row 11 names no
-// more than that, and so no number of characters makes them overflow.
+// The bits that codes, the ending and its characters need, as far as 64 bits hold their number.
 fn bits_needed(codes: u64, characters: u64) -> u64
     requires { codes < 2 ^ 17 }
-    ensures { result ≡ min (codes + 3 + 7 * characters) 65_535 }
+    ensures { result ≡ as_far_as_64_bits (codes + 3 + 7 * characters) }
 {
-    if 65_535 < characters {
-        return 65_535;
-    }
-    (codes + 3 + 7 * characters).min(65_535)
+    (codes + 3).saturating_add(characters.saturating_mul(7))
 }
 
 // Whether the stream has fewer bits.

@@ -1,12 +1,11 @@
 -- Laws of the rows of a build, with a points list or a curve, and of the distance.
-use Prim.Native.Nat.{min}
 use Rattle.promises.proofs.Names.{◌≡◌, refl, Bool, not, ◌||◌, ◌&&◌, List, [], ◌∷◌, Option, None, Some, ℕ, suc, ◌+◌, ◌%◌, arith, eqb, ltb, leb, ℤ, pos, ◌*ℤ◌, length, take, drop, le_z, Outcome, Ok, Err}
 use Rattle.promises.proofs.Names.{◌>>◌, WrongSort, OutOfRange, TooLong, WrongList, NotRising, SumsNotRising, WrongCurve, TooManyTerms, By, build_order, curve_order, distance_order, Among, by-among, by-bind, by-then}
 use Rattle.promises.proofs.Names.{by-test, by_last, image_sizes, stream_bits, needed, Value, Whole, Single, Row, Pair, Codes, Domain, Electrical, Segment, Term, Curve, Stepped, top_code, stepped_value, stepped_code}
 use Rattle.promises.proofs.Names.{outside, encode, Line, chose, basic, template_lines, ending, D, R, least_deviation, cal_point, cal_deviation, is_physical, stored_sum, follows, segment_start, exponent, coefficient}
 use Rattle.promises.proofs.Names.{is_segment_count, is_term_count, most_terms, start_follows, exponent_follows, exponent_code, Sheet, template_in, lent, line_pieces, field_pieces, unfit, ending_tested, pairs_lent, codes_for}
-use Rattle.promises.proofs.Names.{pair_codes, pair_pieces, table_pieces, term_pieces, count_tested, start_code, segment_pieces, curve_pieces, Table, listed, by_curve, list_tested, behind_pieces, plan, built_in, build_with}
-use Rattle.promises.proofs.Names.{distance, WritesByOrder}
+use Rattle.promises.proofs.Names.{pair_codes, pair_pieces, table_pieces, term_pieces, count_tested, start_code, segment_pieces, curve_pieces, Table, listed, by_curve, list_tested, behind_pieces, plan}
+use Rattle.promises.proofs.Names.{as_far_as_64_bits, built_in, build_with, distance, WritesByOrder}
 use Rattle.promises.proofs.Refusals.{image-by, encode-by, change-by, propose-by, commit-by}
 
 -- ---- the fields and the ending
@@ -135,7 +134,7 @@ module _ (rows : List ℕ) (h : Among (1 ∷ 9 ∷ 10 ∷ 11 ∷ []) rows) (tabl
       (by-bind rows (field_pieces sheet) _ (fields-by rows codes sheet) (λ fields.
       by-then rows (ending_tested (ending (template_in sheet)) sheet.end_bit text) _ (ending-by rows codes (ending (template_in sheet)) sheet.end_bit text)
       (by-bind rows (behind_pieces table) _ behind (λ pieces. tt))))) (λ pieces.
-      by-test rows (TooLong (min (needed pieces) 65_535)) (ltb (stream_bits z) (needed pieces)) _ h.1.1.1.0 tt))
+      by-test rows (TooLong (as_far_as_64_bits (needed pieces))) (ltb (stream_bits z) (needed pieces)) _ h.1.1.1.0 tt))
 
 pub writes-by-order : (kind : ℕ) (image : List ℕ) → WritesByOrder kind image
 writes-by-order kind image = record {

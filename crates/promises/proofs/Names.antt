@@ -89,7 +89,7 @@ pub use Rattle.change.specs.{Change.recoded_in, declared.Proposal.Proposal}
 unfoldable pub use Rattle.change.specs.Change.{change, changeable, code_for, commit, may_commit, may_stand, propose, rewritten}
 pub use Rattle.build.proofs.{CurvePlans.block-planned, CurvePlans.no-segment, CurvePlans.no-term, CurvePlans.segments-planned, CurvePlans.terms-planned, EndingPlans.fit-characters, EndingPlans.stray_text}
 pub use Rattle.build.proofs.{PairPlans.PairPlanned, PairPlans.codes-planned, PairPlans.no-pair, PairPlans.no_table, PairPlans.pairs-length, PairPlans.pairs-planned, PairPlans.table-planned, SegmentPlans.start-planned}
-pub use Rattle.build.specs.Build.{Table, behind_pieces, build, by_curve, ending_pieces, lent, list_tested, listed, pairs_lent, slot, template_in, unfit}
+pub use Rattle.build.specs.Build.{Table, as_far_as_64_bits, behind_pieces, build, by_curve, ending_pieces, lent, list_tested, listed, pairs_lent, slot, template_in, unfit}
 pub use Rattle.build.specs.declared.{Sheet.Sheet, Slot.Slot}
 unfoldable pub use Rattle.build.specs.Build.{build_with, built_in, codes_for, count_tested, curve_pieces, ending_tested, field_pieces, line_pieces, pair_codes, pair_pieces, plan, segment_pieces, start_code, table_pieces, term_pieces}
 pub use Rattle.writing.proofs.CallLaws.{Called, called, calls, kind-pages}

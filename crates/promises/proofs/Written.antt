@@ -1,9 +1,8 @@
 -- Proof of demand 2: written and read again.
-use Prim.Native.Nat.{min}
 use Rattle.promises.proofs.Names.{◌≡◌, refl, sym, ap, ap₂, ◌∙◌, subst, Bool, true, false, ◌&&◌, cond, List, [], ◌∷◌, ◌++◌, map, ℕ, zero, suc, ◌+◌, ◌-◌, ◌^◌, ◌≤◌, ◌<◌, lt_of_lt_of_le, arith, leb, ltb, length}
 use Rattle.promises.proofs.Names.{pow_mono, leb-true, ltb-false, Ok, TooLong, good-same, good-bind, passed, Sizes, image_sizes, stream_bits, image_of, Piece, pack, needed, Holds, pack-lt, holds-pack}
 use Rattle.promises.proofs.Names.{last-most, kept, Real, Found, Contents, sheet_of, contents, parses-fit, zero_if, zero-needed, zero-pack, Formed, sheet_pieces, sheet-needed, sheet-parses, fields-count, fields-rows}
-use Rattle.promises.proofs.Names.{written-contents, Slot, Sheet, Table, plan, built_in, build_with, AllReal, Lendable, LendableTable, kept_all, SameSheet, WrittenAndReadAgain, ZeroEndsText}
+use Rattle.promises.proofs.Names.{written-contents, Slot, Sheet, Table, plan, as_far_as_64_bits, built_in, build_with, AllReal, Lendable, LendableTable, kept_all, SameSheet, WrittenAndReadAgain, ZeroEndsText}
 use Rattle.promises.proofs.PlannedFields.{KeptFrom, value_at, Slots, slots-all, slot-first, slots-others}
 use Rattle.promises.proofs.PlannedSheet.{plan-stands}
 
@@ -48,7 +47,7 @@ unfolding build_with built_in
 built kind buffer sheet text table image e =
     let (z, e1, e2) = good-bind (image_sizes kind (length buffer)) _ image e in
     let (pieces, e3, e4) = good-bind (plan sheet text table) _ image e2 in
-    let (t, e5) = passed (TooLong (min (needed pieces) 65_535)) (ltb (stream_bits z) (needed pieces)) _ image e4 in
+    let (t, e5) = passed (TooLong (as_far_as_64_bits (needed pieces))) (ltb (stream_bits z) (needed pieces)) _ image e4 in
     record { sizes = z; pieces = pieces; fitting = e1; plans = e3; inside = ltb-false (stream_bits z) (needed pieces) t; made = cc }
 
 -- ---- the image of a plan has the planned contents
