@@ -1,6 +1,7 @@
 -- Laws of a word's figures, in order.
-use Rattle.console_words.proofs.Names.{◌≡◌, refl, sym, ap, ◌∙◌, Bool, true, false, List, [], ◌∷◌, map, Option, None, Some, ℕ, suc, ◌+◌, ◌≤◌, ◌<◌, add-one, arith, eqb, ℤ, length, get_or, get_or-map, get_or-take, get_or-enumerate_from, length-enumerate_from, length-take-le, enumerate_from, take, drop, drop-cons, length-map, list_any, is_none, slice_split, is_minus, figure, figures, counted}
-use Rattle.console_words.proofs.FilledLaws.{all-fit, one-none, no_room, counted-all}
+use Rattle.console_words.proofs.Names.{◌≡◌, refl, sym, ap, ◌∙◌, Bool, true, false, List, [], ◌∷◌, map, Option, None, Some, ℕ, suc, ◌+◌, ◌≤◌, ◌<◌, add-one, arith, eqb, ℤ, length, get_or, get_or-map, get_or-take, get_or-enumerate_from, length-enumerate_from, length-take-le, enumerate_from, take, drop, drop-cons, length-map, slice_split, is_minus, figure, figures, counted}
+use Rattle.console_words.proofs.Names.{cond, ltb, ltb-true, ltb-false, none-some, same_Some, position_or_len, fails_before_first, slice_split_none, slice_split_first, length-slice_split}
+use Rattle.console_words.proofs.FilledLaws.{counted-all}
 use Rattle.console_words.proofs.WordLaws.{pieces-split}
 
 abbrev pub parts_of : List ℕ → List (List ℕ)
@@ -9,23 +10,38 @@ parts_of word = slice_split (λ b. eqb b 44) word
 pub list-minus : (word : List ℕ) → is_minus word ≡ true → figures word ≡ []
 list-minus word h = rw h
 
-module _ (word : List ℕ) (m : is_minus word ≡ false) where
-  pub list-parts : figures word ≡ map figure (parts_of word)
-  list-parts = rw (m, pieces-split 44 word)
+pub list-parts : (word : List ℕ) → is_minus word ≡ false → figures word ≡ map figure (parts_of word)
+list-parts word m = rw (m, pieces-split 44 word)
 
-  -- A part is no figure; there are too many; or the figures are counted.
-  pub list-none : (room : ℕ) → list_any (λ part. is_none (figure part)) (parts_of word) ≡ true → None ≡ counted (figures word) room
-  list-none room h = rw (list-parts, one-none figure (parts_of word) room h)
+-- ---- the figures that are counted
 
-  module _ (room count : ℕ) (e : count ≡ length (parts_of word)) where
-    long : length (map figure (parts_of word)) ≡ count
-    long = length-map (parts_of word) figure ∙ sym e
+-- The figures of the parts from here on.
+abbrev pub to_come : List ℕ → List (Option ℤ)
+to_come rest = map figure (parts_of rest)
 
-    pub list-many : room < count → None ≡ counted (figures word) room
-    list-many h = rw (list-parts, no_room (map figure (parts_of word)) room (omega (arith, long)))
+pub list-some : (rest : List ℕ) → 0 < length (to_come rest)
+list-some rest = omega (arith, length-map (parts_of rest) figure, length-slice_split (λ b. eqb b 44) rest)
 
-    pub list-all : list_any (λ part. is_none (figure part)) (parts_of word) ≡ false → count ≤ room → Some count ≡ counted (figures word) room
-    list-all h k = rw (list-parts, all-fit figure (parts_of word) room h (omega arith), long)
+found : (t : Bool) (n at : ℕ) → Some at ≡ cond t (Some n) None → (t ≡ true) × (at ≡ n)
+found true n at e = (refl, same_Some at n e)
+found false n at e = absurd (none-some at (sym e))
+
+missed : (t : Bool) (n : ℕ) → None ≡ cond t (Some n) None → t ≡ false
+missed true n e = absurd (none-some n e)
+missed false n e = refl
+
+-- A search for a comma finds none, and the part is the last; or the part ends there, and more follow.
+module _ (rest : List ℕ) (r : Option ℕ) (e : r ≡ cond (ltb (position_or_len (λ b. eqb b 44) rest) (length rest)) (Some (position_or_len (λ b. eqb b 44) rest)) None) where
+  pub list-last : r ≡ None → to_come rest ≡ figure rest ∷ []
+  list-last k =
+      let l = ltb-false (position_or_len (λ b. eqb b 44) rest) (length rest) (missed _ _ (sym k ∙ e)) in
+      rw (slice_split_none (λ b. eqb b 44) rest (λ i d h. fails_before_first (λ b. eqb b 44) rest i d (omega arith)))
+
+  pub list_on : (end : ℕ) → r ≡ Some end → to_come rest ≡ figure (take end rest) ∷ to_come (drop (end + 1) rest)
+  list_on end k =
+      let f = found _ _ end (sym k ∙ e) in
+      let l = ltb-true (position_or_len (λ b. eqb b 44) rest) (length rest) f.0 in
+      rw (slice_split_first (λ b. eqb b 44) rest 0 l, f.1)
 
 -- ---- the figures that are put
 
