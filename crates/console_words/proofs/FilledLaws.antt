@@ -1,7 +1,7 @@
 -- Laws of a lent buffer that is filled element by element.
 use Rattle.console_words.proofs.Names.{◌≡◌, eqb, eq-eqb, refl, sym, ap, ◌∙◌, Bool, true, false, cond, true≢false, false≢true, List, [], ◌∷◌, ◌++◌, append_assoc, map, Option, None, Some, same_Some}
-use Rattle.console_words.proofs.Names.{none-some, ℕ, suc, ◌+◌, ◌≤◌, ◌<◌, add-one, arith, length, get_or, take, drop, set, length-set, take-append-drop, take-suc-set}
-use Rattle.console_words.proofs.Names.{drop-cons, drop-set-lt, says◌if◌, list_any, is_none, zero, ◌||◌, Held, one, every, written, is_whole, filled, begun, fits, counted}
+use Rattle.console_words.proofs.Names.{none-some, ℕ, suc, ◌+◌, ◌-◌, ◌≤◌, ◌<◌, sub-zero, add-one, arith, length, get_or, take, drop, set, length-set, take-append-drop, take-suc-set}
+use Rattle.console_words.proofs.Names.{drop-cons, drop-set-lt, says◌if◌, zero, Held, one, every, written, is_whole, filled, begun, fits, counted}
 use Rattle.console_words.proofs.FigureLaws.{says_is, says-not}
 
 module _ {A : Type 0} where
@@ -61,25 +61,32 @@ module _ {A : Type 0} where
       let k = says_is (length said) (fits said room) n e in
       (k.1, omega (arith, k.1, fits_room said room k.0))
 
-  -- What a function gives of each element of a list, if it is there each time, and if it is not.
-  module _ {B : Type 0} (f : B → Option A) where
-    pub all-fit : (l : List B) (room : ℕ) → list_any (λ x. is_none (f x)) l ≡ false → length l ≤ room → fits (map f l) room ≡ true
-    all-fit [] room h k = refl
-    all-fit (x ∷ l) zero h k = absurd (omega arith)
-    all-fit (x ∷ l) (suc room) h k = by (f x) h (λ g. all-fit l room g (omega arith))
-      where
-        by : (o : Option A) → (is_none o || list_any (λ x. is_none (f x)) l) ≡ false → (list_any (λ x. is_none (f x)) l ≡ false → fits (map f l) room ≡ true) → fits (o ∷ map f l) (suc room) ≡ true
-        by None g r = absurd (true≢false g)
-        by (Some a) g r = r g
+  -- `count` elements are counted and `left` are to come.
+  pub record Counting (said : List (Option A)) (room count : ℕ) (left : List (Option A)) : Type 0 where
+    pub many : count + length left ≡ length said
+    pub whole : fits left (room - count) ≡ fits said room
+    pub inside : count ≤ room
 
-    pub one-none : (l : List B) (room : ℕ) → list_any (λ x. is_none (f x)) l ≡ true → fits (map f l) room ≡ false
-    one-none [] room h = absurd (false≢true h)
-    one-none (x ∷ l) room h = by (f x) room h (λ n. one-none l n)
-      where
-        by : (o : Option A) (room : ℕ) → (is_none o || list_any (λ x. is_none (f x)) l) ≡ true → ((n : ℕ) → list_any (λ x. is_none (f x)) l ≡ true → fits (map f l) n ≡ false) → fits (o ∷ map f l) room ≡ false
-        by None room g r = refl
-        by (Some a) zero g r = refl
-        by (Some a) (suc room) g r = r room g
+  pub count-start : (said : List (Option A)) (room : ℕ) → Counting said room 0 said
+  count-start said room = record { many = omega arith; whole = ap (fits said) (sub-zero room); inside = omega arith }
+
+  module _ (said : List (Option A)) (room count : ℕ) (left : List (Option A)) (f : Counting said room count left) where
+    pub count-on : (a : A) (rest : List (Option A)) → left ≡ Some a ∷ rest → count < room → Counting said room (count + 1) rest
+    count-on a rest e h =
+        let less : room - count ≡ suc (room - (count + 1)) = omega arith in
+        record { many = omega (arith, f.many, ap length e); whole = rw (e, less) at f.whole; inside = omega arith }
+
+    -- All are counted; the next is none; or there is no room for it.
+    pub count-end : left ≡ [] → Some count ≡ counted said room
+    count-end e =
+        let n : length said ≡ count = omega (arith, f.many, ap length e) in
+        rw (← f.whole, e, n)
+
+    pub count-stop : (rest : List (Option A)) → left ≡ None ∷ rest → None ≡ counted said room
+    count-stop rest e = rw (← f.whole, e)
+
+    pub count-full : 0 < length left → room ≤ count → None ≡ counted said room
+    count-full l h = rw (no_room said room (omega (arith, f.many)))
 
   -- Counted and put; or not counted, and nothing is put.
   module _ (said : List (Option A)) (first : List A) where

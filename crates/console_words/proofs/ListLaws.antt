@@ -1,6 +1,7 @@
 -- Laws of a word's figures, in order.
-use Rattle.console_words.proofs.Names.{◌≡◌, refl, sym, ap, ◌∙◌, Bool, true, false, List, [], ◌∷◌, map, Option, None, Some, ℕ, suc, ◌+◌, ◌≤◌, ◌<◌, add-one, arith, eqb, ℤ, length, get_or, get_or-map, get_or-take, get_or-enumerate_from, length-enumerate_from, length-take-le, enumerate_from, take, drop, drop-cons, length-map, list_any, is_none, slice_split, is_minus, figure, figures, counted}
-use Rattle.console_words.proofs.FilledLaws.{all-fit, one-none, no_room, counted-all}
+use Rattle.console_words.proofs.Names.{◌≡◌, refl, sym, ap, ◌∙◌, Bool, true, false, List, [], ◌∷◌, map, Option, None, Some, ℕ, suc, ◌+◌, ◌≤◌, ◌<◌, add-one, arith, eqb, ℤ, length, get_or, get_or-map, get_or-take, get_or-enumerate_from, length-enumerate_from, length-take-le, enumerate_from, take, drop, drop-cons, length-map, slice_split, is_minus, figure, figures, counted}
+use Rattle.console_words.proofs.Names.{cond, ltb, ltb-true, ltb-false, take_all, unwrap_or, position_or_len, fails_before_first, slice_split_none, slice_split_first, length-slice_split}
+use Rattle.console_words.proofs.FilledLaws.{counted-all}
 use Rattle.console_words.proofs.WordLaws.{pieces-split}
 
 abbrev pub parts_of : List ℕ → List (List ℕ)
@@ -9,23 +10,42 @@ parts_of word = slice_split (λ b. eqb b 44) word
 pub list-minus : (word : List ℕ) → is_minus word ≡ true → figures word ≡ []
 list-minus word h = rw h
 
-module _ (word : List ℕ) (m : is_minus word ≡ false) where
-  pub list-parts : figures word ≡ map figure (parts_of word)
-  list-parts = rw (m, pieces-split 44 word)
+pub list-parts : (word : List ℕ) → is_minus word ≡ false → figures word ≡ map figure (parts_of word)
+list-parts word m = rw (m, pieces-split 44 word)
 
-  -- A part is no figure; there are too many; or the figures are counted.
-  pub list-none : (room : ℕ) → list_any (λ part. is_none (figure part)) (parts_of word) ≡ true → None ≡ counted (figures word) room
-  list-none room h = rw (list-parts, one-none figure (parts_of word) room h)
+-- ---- the figures that are counted
 
-  module _ (room count : ℕ) (e : count ≡ length (parts_of word)) where
-    long : length (map figure (parts_of word)) ≡ count
-    long = length-map (parts_of word) figure ∙ sym e
+-- The figures of the parts from here on.
+abbrev pub to_come : List ℕ → List (Option ℤ)
+to_come rest = map figure (parts_of rest)
 
-    pub list-many : room < count → None ≡ counted (figures word) room
-    list-many h = rw (list-parts, no_room (map figure (parts_of word)) room (omega (arith, long)))
+pub list-some : (rest : List ℕ) → 0 < length (to_come rest)
+list-some rest = omega (arith, length-map (parts_of rest) figure, length-slice_split (λ b. eqb b 44) rest)
 
-    pub list-all : list_any (λ part. is_none (figure part)) (parts_of word) ≡ false → count ≤ room → Some count ≡ counted (figures word) room
-    list-all h k = rw (list-parts, all-fit figure (parts_of word) room h (omega arith), long)
+-- The part up to the first comma, or to the end: it is the last, or more follow.
+pub record Part (rest : List ℕ) (end : ℕ) : Type 0 where
+  pub others : List (Option ℤ)
+  pub is : to_come rest ≡ figure (take end rest) ∷ others
+  pub last : length rest ≤ end → others ≡ []
+  pub more : end < length rest → others ≡ to_come (drop (end + 1) rest)
+
+pub part-next : (rest : List ℕ) (r : Option ℕ) (end : ℕ) → r ≡ cond (ltb (position_or_len (λ b. eqb b 44) rest) (length rest)) (Some (position_or_len (λ b. eqb b 44) rest)) None → end ≡ unwrap_or r (length rest) → Part rest end
+part-next rest r end e u = go (ltb (position_or_len (λ b. eqb b 44) rest) (length rest)) refl
+  where
+    go : (t : Bool) → ltb (position_or_len (λ b. eqb b 44) rest) (length rest) ≡ t → Part rest end
+    go true h =
+        let f : end ≡ position_or_len (λ b. eqb b 44) rest = u ∙ rw (e, h) in
+        let l = ltb-true (position_or_len (λ b. eqb b 44) rest) (length rest) h in
+        record { others = to_come (drop (end + 1) rest); is = rw (slice_split_first (λ b. eqb b 44) rest 0 l, f); last = λ k. absurd (omega (arith, f, l)); more = λ k. refl }
+    go false h =
+        let f : end ≡ length rest = u ∙ rw (e, h) in
+        let l = ltb-false (position_or_len (λ b. eqb b 44) rest) (length rest) h in
+        record {
+          others = [];
+          is = rw (take_all end rest (omega (arith, f)), slice_split_none (λ b. eqb b 44) rest (λ i d m. fails_before_first (λ b. eqb b 44) rest i d (omega (arith, l))));
+          last = λ k. refl;
+          more = λ k. absurd (omega (arith, f));
+        }
 
 -- ---- the figures that are put
 

@@ -3,11 +3,11 @@ pub use Prim.Native.Nat.{◌%◌, ◌*◌, ◌+◌, ◌-◌, ◌/◌, ◌<◌, �
 pub use mathlib.Core.Bool.{Bool, ◌&&◌, ◌||◌, cond, false, false≢true, true, true≢false}
 pub use Rattle.std.proofs.lemmas.Option.{none-some, same_Some}
 pub use Rattle.std.specs.Option.{is_none, option_map, unwrap_or}
-pub use Rattle.std.proofs.lemmas.List.{get_or-take, FromFn.get_or-enumerate_from, FromFn.length-enumerate_from}
-pub use Rattle.std.specs.List.{enumerate_from, list_any, onto_first, slice_get, slice_split}
+pub use Rattle.std.proofs.lemmas.List.{get_or-take, FromFn.get_or-enumerate_from, FromFn.length-enumerate_from, Splits.length-slice_split, Splits.slice_split_first, Splits.slice_split_none, Sums.count_by_more_no, Sums.count_by_more_yes, Sums.fails_before_first}
+pub use Rattle.std.specs.List.{count_by, enumerate_from, list_any, onto_first, position_or_len, slice_get, slice_split}
 pub use Rattle.std.proofs.lemmas.Option.{unwrap_or-slice_get}
 pub use denote.Ref.{Bor}
-pub use Rattle.std.proofs.lemmas.Iterator.{Consumers.count_from_yields_List, Consumers.nth_from_yields_List, Consumers.YieldsList-at, Consumers.YieldsList-from_enumerate, Consumers.YieldsList-turn, Consumers.YieldsList-end, Splits.YieldsList-from_slice_split, Search.any_from_yields_List}
+pub use Rattle.std.proofs.lemmas.Iterator.{Consumers.nth_from_yields_List, Consumers.YieldsList-at, Consumers.YieldsList-from_enumerate, Consumers.YieldsList-turn, Consumers.YieldsList-end, Splits.YieldsList-from_slice_split, Search.any_from_yields_List, Search.position_from_yields_List}
 pub use Rattle.std.proofs.lemmas.Iterator.{YieldsList-from_slice, YieldsList-from_take}
 pub use Rattle.std.specs.declared.option.Option.{Option, TheVariants.None, TheVariants.Some}
 pub use mathlib.Core.{List.List, List.[], List.◌++◌, List.◌∷◌, List.append_assoc, List.append-nil, List.map, Logic.⊎_elim, Path.◌∙◌, Path.◌≡◌, Path.ap, Path.refl, Path.subst, Path.sym}

@@ -43,11 +43,14 @@ fn count_bytes(word: &[u8], room: usize) -> Option<usize>
     if is_minus(word) {
         return Some(0);
     }
-    if word.is_empty() || word.len() % 2 == 1 || word.iter().any(|b| nibble(*b).is_none()) {
+    if word.is_empty() || word.len() % 2 == 1 {
         return None;
     }
     let count = word.len() / 2;
-    if count > room { None } else { Some(count) }
+    if count > room || word.iter().any(|b| nibble(*b).is_none()) {
+        return None;
+    }
+    Some(count)
 }
 
 // Puts a word's bytes, two digits each, at the start of `out`, and returns their number; `-`

@@ -68,14 +68,16 @@ fn count_figures(word: &[u8], room: usize) -> Option<usize>
     if is_minus(word) {
         return Some(0);
     }
-    if word
-        .split(|b| *b == b',')
-        .any(|part| figure_of(part).is_none())
-    {
-        return None;
+    let mut rest = word;
+    for count in 0..room {
+        let end = rest.iter().position(|b| *b == b',').unwrap_or(rest.len());
+        figure_of(&rest[..end])?;
+        if end == rest.len() {
+            return Some(count + 1);
+        }
+        rest = &rest[end + 1..];
     }
-    let count = word.split(|b| *b == b',').count();
-    if count > room { None } else { Some(count) }
+    None
 }
 
 // Puts a word's figures, separated by commas, at the start of `out`, and returns their number;

@@ -13,7 +13,13 @@ pub fn is_minus(word: &[u8]) -> bool
 pub fn piece_count(line: &[u8], separator: u8) -> u64
     ensures { result ≡ piece_count separator line.now }
 {
-    line.split(|b| *b == separator).count() as u64
+    let mut count = 1;
+    for b in line {
+        if *b == separator {
+            count += 1;
+        }
+    }
+    count
 }
 
 // The number of words of a line.
