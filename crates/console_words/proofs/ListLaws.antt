@@ -1,6 +1,6 @@
 -- Laws of a word's figures, in order.
 use Rattle.console_words.proofs.Names.{◌≡◌, refl, sym, ap, ◌∙◌, Bool, true, false, List, [], ◌∷◌, map, Option, None, Some, ℕ, suc, ◌+◌, ◌≤◌, ◌<◌, add-one, arith, eqb, ℤ, length, get_or, get_or-map, get_or-take, get_or-enumerate_from, length-enumerate_from, length-take-le, enumerate_from, take, drop, drop-cons, length-map, slice_split, is_minus, figure, figures, counted}
-use Rattle.console_words.proofs.Names.{cond, ltb, ltb-true, ltb-false, none-some, same_Some, position_or_len, fails_before_first, slice_split_none, slice_split_first, length-slice_split}
+use Rattle.console_words.proofs.Names.{cond, ltb, ltb-true, ltb-false, take_all, unwrap_or, position_or_len, fails_before_first, slice_split_none, slice_split_first, length-slice_split}
 use Rattle.console_words.proofs.FilledLaws.{counted-all}
 use Rattle.console_words.proofs.WordLaws.{pieces-split}
 
@@ -22,26 +22,30 @@ to_come rest = map figure (parts_of rest)
 pub list-some : (rest : List ℕ) → 0 < length (to_come rest)
 list-some rest = omega (arith, length-map (parts_of rest) figure, length-slice_split (λ b. eqb b 44) rest)
 
-found : (t : Bool) (n at : ℕ) → Some at ≡ cond t (Some n) None → (t ≡ true) × (at ≡ n)
-found true n at e = (refl, same_Some at n e)
-found false n at e = absurd (none-some at (sym e))
+-- The part up to the first comma, or to the end: it is the last, or more follow.
+pub record Part (rest : List ℕ) (end : ℕ) : Type 0 where
+  pub others : List (Option ℤ)
+  pub is : to_come rest ≡ figure (take end rest) ∷ others
+  pub last : length rest ≤ end → others ≡ []
+  pub more : end < length rest → others ≡ to_come (drop (end + 1) rest)
 
-missed : (t : Bool) (n : ℕ) → None ≡ cond t (Some n) None → t ≡ false
-missed true n e = absurd (none-some n e)
-missed false n e = refl
-
--- A search for a comma finds none, and the part is the last; or the part ends there, and more follow.
-module _ (rest : List ℕ) (r : Option ℕ) (e : r ≡ cond (ltb (position_or_len (λ b. eqb b 44) rest) (length rest)) (Some (position_or_len (λ b. eqb b 44) rest)) None) where
-  pub list-last : r ≡ None → to_come rest ≡ figure rest ∷ []
-  list-last k =
-      let l = ltb-false (position_or_len (λ b. eqb b 44) rest) (length rest) (missed _ _ (sym k ∙ e)) in
-      rw (slice_split_none (λ b. eqb b 44) rest (λ i d h. fails_before_first (λ b. eqb b 44) rest i d (omega arith)))
-
-  pub list_on : (end : ℕ) → r ≡ Some end → to_come rest ≡ figure (take end rest) ∷ to_come (drop (end + 1) rest)
-  list_on end k =
-      let f = found _ _ end (sym k ∙ e) in
-      let l = ltb-true (position_or_len (λ b. eqb b 44) rest) (length rest) f.0 in
-      rw (slice_split_first (λ b. eqb b 44) rest 0 l, f.1)
+pub part-next : (rest : List ℕ) (r : Option ℕ) (end : ℕ) → r ≡ cond (ltb (position_or_len (λ b. eqb b 44) rest) (length rest)) (Some (position_or_len (λ b. eqb b 44) rest)) None → end ≡ unwrap_or r (length rest) → Part rest end
+part-next rest r end e u = go (ltb (position_or_len (λ b. eqb b 44) rest) (length rest)) refl
+  where
+    go : (t : Bool) → ltb (position_or_len (λ b. eqb b 44) rest) (length rest) ≡ t → Part rest end
+    go true h =
+        let f : end ≡ position_or_len (λ b. eqb b 44) rest = u ∙ rw (e, h) in
+        let l = ltb-true (position_or_len (λ b. eqb b 44) rest) (length rest) h in
+        record { others = to_come (drop (end + 1) rest); is = rw (slice_split_first (λ b. eqb b 44) rest 0 l, f); last = λ k. absurd (omega (arith, f, l)); more = λ k. refl }
+    go false h =
+        let f : end ≡ length rest = u ∙ rw (e, h) in
+        let l = ltb-false (position_or_len (λ b. eqb b 44) rest) (length rest) h in
+        record {
+          others = [];
+          is = rw (take_all end rest (omega (arith, f)), slice_split_none (λ b. eqb b 44) rest (λ i d m. fails_before_first (λ b. eqb b 44) rest i d (omega (arith, l))));
+          last = λ k. refl;
+          more = λ k. absurd (omega (arith, f));
+        }
 
 -- ---- the figures that are put
 

@@ -70,11 +70,11 @@ fn count_figures(word: &[u8], room: usize) -> Option<usize>
     }
     let mut rest = word;
     for count in 0..room {
-        let Some(end) = rest.iter().position(|b| *b == b',') else {
-            figure_of(rest)?;
-            return Some(count + 1);
-        };
+        let end = rest.iter().position(|b| *b == b',').unwrap_or(rest.len());
         figure_of(&rest[..end])?;
+        if end == rest.len() {
+            return Some(count + 1);
+        }
         rest = &rest[end + 1..];
     }
     None
