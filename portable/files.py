@@ -23,7 +23,7 @@ def reached(functions, roots):
             for callee in mir.callees(functions[name]):
                 visit(callee)
             state[name] = 'done'
-            order.extend([] if functions[name].is_of_bytes else [name])
+            order.append(name)
     for name in roots:
         visit(name)
     return order

@@ -19,7 +19,6 @@ ON_ONE = {'Not': 0, 'Cast': 3, 'FloatNeg': 0, 'FloatToFloat': 1, 'FloatToBits': 
 DECLARED = '+decl'
 
 # The kit's `==` of two slices, `pointwise A.eq`: of numbers it is whether both have the same bytes.
-EQUAL = ('core::cmp::slices::slices_equal', 'core::cmp::slices::all_equal')
 
 
 def only(d):
@@ -56,11 +55,6 @@ class Instance:
             ways.append(self.dicts)
         way = ways.index(self.dicts)
         return spelled(self.symbol, self.types) + (f'#{way + 1}' if way else '')
-
-    @property
-    def is_of_bytes(self):
-        """Whether it tells of two slices of numbers whether they are equal: C asks memcmp."""
-        return self.symbol in EQUAL and self.types[0][0] in ('Int', 'Bool')
 
 
 def spelled(name, types):
@@ -354,14 +348,14 @@ def function_of(instance, fn, impls):
 
 
 def signature_of(instance, fn):
-    """A function that C has by hand, or for which it asks memcmp: its head, with nothing inside. A result that says no more than whether there was an error is
+    """A function that C has by hand: its head, with nothing inside. A result that says no more than whether there was an error is
     left out: no function here may read it."""
     try:
         reading = Reading(instance, fn, {})
         locals_ = [Local(reading.type(x['ty']), False) for x in fn['locals'][:fn['params'] + 1]]
         if locals_[0].type[0] == 'Named' and locals_[0].type[1].startswith('core::result::Result<unit, '):
             locals_[0].type = ('Unit',)
-        return Function(instance.name, fn['params'], locals_, [], reading.shapes, {}, instance.symbol, instance.is_of_bytes)
+        return Function(instance.name, fn['params'], locals_, [], reading.shapes, {}, instance.symbol)
     except Unknown as e:
         raise Unknown(f'{instance.name}: {e}') from None
 

@@ -5,7 +5,7 @@ from .live import derefs, stored
 from .mir import Assign, Copy, Int, Loop, Op2
 
 SMALL = 24    # statements of a small function
-LARGEST = 200    # of one that is called in several places, with those of the small functions that it calls
+LARGEST = 360    # of one that is called in several places, with those of the small functions that it calls
 MOST_TURNS = 32    # of a loop that is unrolled, or whose test is `!=`
 
 
@@ -29,7 +29,7 @@ class Small:
         """(whether it is small, its statements with those of the small functions that it calls)"""
         if name not in self.found:
             fn = self.functions[name]
-            inside = [self.looked_up(callee) for callee in mir.callees(fn) if not self.functions[callee].is_of_bytes]
+            inside = [self.looked_up(callee) for callee in mir.callees(fn)]
             whole = self.lengths[name] + sum(length for small, length in inside if small)
             loops = any(isinstance(s, Loop) for s in mir.statements(fn.body))
             once = self.called.get(name) == 1

@@ -160,7 +160,6 @@ class Function:
     shapes: dict = field(default_factory=dict)    # the declared types that it names: ('Fields', types) or ('Variants', lists)
     statics: dict = field(default_factory=dict)    # by a local's number: the value of the constant that it stands for, a number or a tuple of its parts
     symbol: str = None    # its name in the source: its own, without the arguments of an instance
-    is_of_bytes: bool = False    # whether C asks memcmp in its place
 
     def __post_init__(self):
         self.symbol = self.symbol or self.name

@@ -142,7 +142,7 @@ class Proved:
             if instance.name in self.functions:
                 continue
             of = self.found(instance.symbol)
-            if instance.symbol in by_hand or instance.is_of_bytes:
+            if instance.symbol in by_hand:
                 self.functions[instance.name] = signature_of(instance, of)
                 continue
             self.functions[instance.name], calls = function_of(instance, of, self.impls)

@@ -107,18 +107,12 @@ class Types:
         self.declared.append((name, lines))
 
     def slice(self, element):
-        """A slice is its first element's address and its length, which stays 64 bits wide, as proved. Numbers are equal
-        where their bytes are."""
+        """A slice is its first element's address and its length, which stays 64 bits wide, as proved."""
         name = f'dm_slice_{self.short(element)}'
         c = self.pointer(element)
         self.say(name, [f'typedef struct {{ {c}at; uint64_t length; }} {name};'])
         self.say(f'{name}_of', [f'static inline {name} {name}_of({c}at, uint64_t length)', '{', f'    {name} slice;', '    slice.at = at;',
                                 '    slice.length = length;', '    return slice;', '}'])
-        if element[0] in ('Int', 'Bool'):
-            self.say(f'{name}_equal', [f'static inline bool {name}_equal({name} a, {name} b)', '{', '    uint64_t i = 0u;',
-                                       '    if (a.length != b.length) {', '        return false;', '    }',
-                                       '    while (i < a.length && a.at[i] == b.at[i]) {', '        i += 1u;', '    }',
-                                       '    return i == a.length;', '}'])
         return name
 
     def array(self, t):

@@ -259,8 +259,6 @@ class Values:
                 continue
             t = callee.locals[i].type
             args.append(self.lent(x, t) if i in self.program.lent(e.name) else self.as_type(x, t).text)
-        if callee.is_of_bytes:
-            return Value(f"{self.types.c(callee.locals[1].type)}_equal({', '.join(args)})", POSTFIX, ('Bool',))
         return Value(f"{self.program.c_name(e.name)}({', '.join(args)})", POSTFIX, callee.locals[0].type)
 
     def lent(self, x, t):
