@@ -38,6 +38,7 @@ fn value_at(values: Lent<'_>, i: usize) -> Value
 // The bits of field i + 1 by its row, and its code if that needs
 // no table search, else `codes::NO_CODE`. Kept small so that it is
 // inlined into the loops below and the row stays in registers.
+#[inline(always)]
 fn quick_code(row: Row, values: Lent<'_>, i: usize) -> CodedField
     requires { Sound row × LentLengths values.tags.now values.wholes.now values.singles.now × (i < 21) }
     ensures { Quick row values.entry.tags.now values.entry.wholes.now values.entry.singles.now i result }

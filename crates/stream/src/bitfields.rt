@@ -153,6 +153,7 @@ pub fn put(sizes: Sizes, image: &mut [u8], at: usize, width: usize, code: u64)
 
 // Writes a code into the field of `width` bits at bit `at` of the stream.
 // Requires that every stream bit from `at` on is 0, and is faster for it.
+#[inline(always)]
 pub fn append(sizes: Sizes, image: &mut [u8], at: usize, width: usize, code: u64)
     requires in_stream { InStream sizes image.old at width × (code < 2 ^ width) }
     requires image_bound { stream_number sizes image.old < 2 ^ at }

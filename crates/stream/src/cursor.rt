@@ -103,6 +103,8 @@ impl Cursor {
 
     // Writes a code into the field of `width` bits at the cursor, and returns the
     // cursor after it. Requires that every stream bit from the cursor on is 0.
+    // Inlined into the loops of a build, which call it for each seven bytes.
+    #[inline(always)]
     pub fn append(self, sizes: Sizes, image: &mut [u8], width: usize, code: u64) -> Self
         requires in_stream { InStream sizes image.old self.at width × (code < 2 ^ width) }
         requires image_bound { stream_number sizes image.old < 2 ^ self.at }

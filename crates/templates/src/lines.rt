@@ -180,6 +180,7 @@ pub fn resistance_row(precision: u64, field: u64) -> Row
 }
 
 // The row of a field, counted from 1.
+#[inline(always)]
 pub fn row_of(layout: Layout, field: u64) -> Row
     requires { (1 ≤ field) × (field ≤ last_field layout.template) }
     ensures { result ≡ row_of layout field }
